@@ -1,22 +1,19 @@
 -- What the counts cover in the diagram as drawn.
-use Rattle.std.proofs.Common.{◌≡◌, ℕ, ◌*◌, ◌<◌, ◌≤◌, Bool, true, false, List, ◌||◌, refl, sym, ap, ap₂, ◌∙◌, subst, arith}
-use Rattle.std.proofs.Math.Nat.{eq_of_mul-eq-mul_left}
+use Rattle.std.proofs.Common.{◌≡◌, ℕ, ◌<◌, Bool, true, false, List, ◌||◌, refl, ap₂, subst}
 use Rattle.std.proofs.lemmas.List.Elements.{All-weaker}
 use Rattle.mixed_graph.specs.Bits.{has}
 use Rattle.mixed_graph.specs.Graphs.{MixedGraph, IsMixedGraph}
 use Rattle.mixed_graph.specs.Shown.{graph_of}
 use Rattle.fractions.specs.Fractions.{Fraction, over, IsEqual}
-use Rattle.finite_models.specs.Models.{FiniteModel, Fits, weight_of, total}
+use Rattle.finite_models.specs.Models.{FiniteModel, Fits}
 use Rattle.finite_models.proofs.Following.{follows_of}
-use Rattle.latent_projection.specs.Renumbering.{IsObserved}
 use Rattle.prob_expr.specs.Tree.{PlainTarget}
-use Rattle.prob_expr.specs.Values.{Weights, effect}
+use Rattle.prob_expr.specs.Values.{effect}
 use Rattle.dag_reader.specs.declared.graph.ReadGraph.{ReadGraph}
-use Rattle.hidden_models.specs.Folding.{Folds, IsMatchedAsDrawn, drawn_weights, drawn_effect, values_after}
+use Rattle.hidden_models.specs.Folding.{drawn_effect, values_after}
 use Rattle.hidden_models.proofs.Depends.{weight_depends}
-use Rattle.hidden_models.proofs.Drawn.{drawn_weight, folded_is_positive, folded_keeps_effects}
+use Rattle.hidden_models.proofs.Drawn.{matched_folded, folded_is_positive, folded_keeps_effects}
 use Rattle.hidden_models.proofs.Folded.{each_has_folded}
-use Rattle.hidden_models.proofs.Totals.{total_positive}
 use Rattle.quantity.specs.Exacts.{exact, Equals}
 use Rattle.quantity.specs.Intervals.{bounds, Covers}
 use Rattle.quantity.specs.Kinds.{Pair, Kind}
@@ -25,7 +22,6 @@ use Rattle.quantity.specs.Laws.Exact.{exact_lawful}
 use Rattle.quantity.specs.Laws.Interval.{bounds_lawful}
 use Rattle.count_rows.specs.Rows.{Table}
 use Rattle.count_table.specs.Cells as cells
-use Rattle.count_eval.specs.Laws.{IsMatched}
 use Rattle.count_eval.specs.Programs.{weights_in, is_used, cell_of}
 use Rattle.replies.specs.declared.outcome.Outcome.TheVariants.{Yes}
 use Rattle.replies.specs.Observed.{Names, IsObservedGraph}
@@ -34,28 +30,6 @@ use Rattle.evaluate_command.specs.Cells.{CellValue}
 use Rattle.evaluate_command.specs.Effects.{PlainEffect, target_of, Identifies}
 use Rattle.evaluate_command.specs.Ways.{Way}
 use Rattle.causal_cli.specs.Drawn.{CoversAsDrawn, EachCoversAsDrawn}
-
--- a factor is carried from one proportion to another
-carried : (d n w a t t' : ℕ) → 1 ≤ t → d * t' ≡ n * t → d * a ≡ w * t → n * a ≡ w * t'
-carried d n w a t t' pos e f = eq_of_mul-eq-mul_left t pos (n * a) (w * t')
-    ((let r : t * (n * a) ≡ (n * t) * a = omega arith in r) ∙ ap (λ k. k * a) (sym e) ∙ (let r : (d * t') * a ≡ (d * a) * t' = omega arith in r)
-    ∙ ap (λ k. k * t') f
-    ∙ (let r : (w * t) * t' ≡ t * (w * t') = omega arith in r))
-
-module _ (g : MixedGraph) (ok : IsMixedGraph g) (l : ℕ → Bool) (q : MixedGraph) (is : IsObserved g l q) (m m' : FiniteModel) (fit : Fits g m)
-    (fit' : Fits q m') (folds : Folds l m m') where
-  -- what folds a model that the counts match is matched by them
-  pub matched_folded : (used : ℕ → Bool) (w : Weights) (all : ℕ) → IsMatchedAsDrawn l used w all m → IsMatched used w all m'
-  matched_folded used w all h = record {
-    vertices = h.vertices ∙ sym folds.vertices;
-    sizes = λ v lt u. h.sizes v (subst (λ n. v < n) (sym (h.vertices ∙ sym folds.vertices)) lt) u ∙ sym (folds.sizes v lt);
-    some = h.some;
-    weights = λ a u s hs. carried ((drawn_weights l m).weight (λ k. false) a s) (weight_of m' (λ k. false) a s) (w.weight (λ k. false) a s) all (total m)
-        (total m') (total_positive g m fit)
-        (drawn_weight g ok l q is m m' fit fit' folds (λ k. false) a s hs)
-        (h.weights a u s (λ k lt. let lt' : k < m'.vertices = subst (λ n. k < n) (sym folds.vertices) lt in
-        subst (λ n. s k < n) (folds.sizes k lt') (hs k lt')));
-  }
 
 -- an effect depends on the values of the model's vertices alone
 same_effect : (q : MixedGraph) → IsMixedGraph q → (m : FiniteModel) → Fits q m → (t : PlainTarget) (s r : ℕ → ℕ) → ((v : ℕ) → v < m.vertices → s v ≡ r v)

@@ -10,6 +10,7 @@ use Rattle.mixed_graph.specs.Shown.{graph_of}
 use Rattle.do_rules.specs.Rules.{AreIndependent}
 use Rattle.command_words.specs.Form.{Text, Use}
 use Rattle.dag_reader.specs.declared.graph.ReadGraph.{ReadGraph}
+use Rattle.hidden_models.proofs.Drawn.{matched_folded}
 use Rattle.hidden_models.proofs.Folded.{each_has_folded}
 use Rattle.hidden_models.proofs.Statements.{independence_is_drawn}
 use Rattle.count_rows.specs.Rows.{Table}
@@ -17,10 +18,11 @@ use Rattle.count_table.specs.Cells as cells
 use Rattle.count_eval.specs.Programs.{weights_in, is_used}
 use Rattle.implications.specs.Separable.{only}
 use Rattle.implications.specs.declared.pairs.Implication.{Implication}
+use Rattle.implied_differences.specs.Laws.{IsZeroIfMatched}
 use Rattle.implied_differences.specs.declared.largest.Difference.{Difference}
 use Rattle.replies.specs.declared.outcome.Outcome.TheVariants.{Yes}
 use Rattle.replies.specs.Observed.{HoldsGraph, IsObservedGraph}
-use Rattle.implications_command.specs.Answers.{FirstAnswer, DifferencesAnswer, IsZeroIfMatched}
+use Rattle.implications_command.specs.Answers.{FirstAnswer, DifferencesAnswer}
 use Rattle.implications_command.specs.Lines.{Measured}
 use Rattle.implications_command.specs.Pairs.{PlainPairs, ArePairsOf}
 use Rattle.command_run.specs.Answers.{HoldsAnswer, DefinedWith}
@@ -31,7 +33,6 @@ use Rattle.causal_cli.specs.Commands.{commands}
 use Rattle.causal_cli.specs.Drawn.{IsIndependentAsDrawn, ArePairsAsDrawn, IsZeroAsDrawn, AreDifferencesAsDrawn, AreImpliedAsDrawn, ImpliedAsDrawn}
 use Rattle.causal_cli.specs.declared.commands.Command.TheVariants.{Implications}
 use Rattle.causal_cli.proofs.CallAnswers.{CallAnswer, on_words, on_file, on_both, under_name, under_names}
-use Rattle.causal_cli.proofs.DrawnCounts.{matched_folded}
 
 -- each pair is independent in the diagram as drawn
 independent : (g : ReadGraph) (p : PlainPairs) → ArePairsOf g p → All (IsIndependentAsDrawn g) p.list

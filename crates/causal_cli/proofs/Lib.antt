@@ -6,7 +6,7 @@ mod DrawnPairs
 pub mod DrawnRuns
 pub mod Headlines
 pub mod LongInputs
-mod OneDerivation
+mod OneFault
 mod Readable
 pub mod RefutedRuns
 mod Texts

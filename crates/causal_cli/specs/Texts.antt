@@ -1,27 +1,51 @@
--- That the text of an answer is fixed by what is asked for and by the bytes of the file.
-use Rattle.std.specs.Prelude.{ℕ, ◌≡◌, false, List}
-use Rattle.replies.specs.declared.outcome.Outcome.TheVariants.{Yes}
+-- That the text of an answer is fixed by what is asked for and by the bytes of the inputs.
+use Rattle.std.specs.Prelude.{ℕ, ◌≡◌, ◌≢◌, Bool, true, false, List}
+use Rattle.replies.specs.declared.outcome.Outcome.{Outcome}
+use Rattle.replies.specs.declared.outcome.Outcome.TheVariants.{No}
+use Rattle.replies.specs.Command.{CommandForm}
 use Rattle.replies.specs.OneOutcome.{IsAnswerOn}
-use Rattle.separation_commands.specs.GraphAnswers.{GraphAnswer}
-use Rattle.separation_commands.specs.GraphRequests as of_graph
-use Rattle.separation_commands.specs.SeparateAnswers.{SeparateAnswer}
-use Rattle.separation_commands.specs.SeparateRequests as of_separate
-use Rattle.separation_commands.specs.RuleAnswers.{RuleAnswer}
-use Rattle.separation_commands.specs.RuleRequests as of_rule
-use Rattle.identify_command.specs.Conditions.{IdentifyAnswerGiven}
-use Rattle.identify_command.specs.Requests as of_identify
-use Rattle.surrogate_command.specs.Answers.{SurrogateAnswer}
-use Rattle.surrogate_command.specs.Requests as of_surrogate
+use Rattle.separation_commands.specs.GraphCommand.{graph_command}
+use Rattle.separation_commands.specs.SeparateCommand.{separate_command}
+use Rattle.separation_commands.specs.RuleCommand.{rule_command}
+use Rattle.identify_command.specs.Command.{identify_command}
+use Rattle.identify_command.specs.declared.form.Writing.TheVariants.{Certificate}
+use Rattle.evaluate_command.specs.Command.{evaluate_command}
+use Rattle.evaluate_command.specs.Ways.{Way, by_procedure, by_adjusting, by_condition}
+use Rattle.implications_command.specs.Command.{implications_command}
+use Rattle.survey_command.specs.Command.{survey_command}
+use Rattle.surrogate_command.specs.Command.{surrogate_command}
+use Rattle.surrogate_command.specs.declared.form.Form.TheVariants as surrogate_form
 
 -- any two texts that are so are one
 abbrev pub IsOneText : (List ℕ → Type 0) → Type 0
 IsOneText is_so = (text line : List ℕ) → is_so text → is_so line → line ≡ text
 
--- on the bytes of one file, a request has one text that says yes; a request for a short formula may have several
-pub record YesTextsAreOne : Type 0 where
-  pub graph : (q : of_graph.Request) (bytes : List ℕ) → IsOneText (IsAnswerOn bytes (λ g. GraphAnswer q.project g) Yes)
-  pub separate : (q : of_separate.Request) (bytes : List ℕ) → IsOneText (IsAnswerOn bytes (λ g. SeparateAnswer g q.x q.y q.given) Yes)
-  pub rule : (q : of_rule.Request) (bytes : List ℕ) → IsOneText (IsAnswerOn bytes (λ g. RuleAnswer q.rule g q.y q.x q.z q.given) Yes)
-  pub identify : (q : of_identify.Request) → q.form.short ≡ false → (bytes : List ℕ)
-      → IsOneText (IsAnswerOn bytes (λ g. IdentifyAnswerGiven q.form g q.x q.y q.given) Yes)
-  pub surrogate : (q : of_surrogate.Request) (bytes : List ℕ) → IsOneText (IsAnswerOn bytes (λ g. SurrogateAnswer q.form g q.x q.y q.experiments) Yes)
+-- on the bytes of one file, answers to the request with this outcome have one text
+abbrev pub HaveOneText : (c : CommandForm) → c.Request → Outcome → Type 0
+HaveOneText c q o = (bytes : List ℕ) → IsOneText (IsAnswerOn bytes (λ g. c.by_graph q g) o)
+
+-- and on the bytes of two inputs, where the graph is accepted for the second
+abbrev pub HaveOneTextOnBoth : (c : CommandForm) → c.Request → Outcome → Type 0
+HaveOneTextOnBoth c q o = (bytes other : List ℕ) → IsOneText (IsAnswerOn bytes (λ g. c.by_both q g other) o)
+
+-- `evaluate` is asked for a set
+abbrev pub adjusts : Way → Bool
+adjusts (by_procedure short) = false
+adjusts (by_adjusting back_door set) = true
+adjusts (by_condition short given) = false
+
+-- Answers with one outcome have one text. It is left open for a no of `separate` and `rule`, which may show one of several open paths; for what `evaluate`
+-- says of a set before it reads counts; for a yes of `identify` and of `evaluate` by a short formula; and for the certificate of a hedge.
+pub record TextsAreOne : Type 0 where
+  pub survey : (q : survey_command.Request) (o : Outcome) → IsOneText (survey_command.by_words q o)
+  pub graph : (q : graph_command.Request) (o : Outcome) → HaveOneText graph_command q o
+  pub separate : (q : separate_command.Request) (o : Outcome) → o ≢ No → HaveOneText separate_command q o
+  pub rule : (q : rule_command.Request) (o : Outcome) → o ≢ No → HaveOneText rule_command q o
+  pub identify : (q : identify_command.Request) → q.form.short ≡ false → (o : Outcome) → o ≢ No → HaveOneText identify_command q o
+  pub identify_no : (q : identify_command.Request) → q.form.writing ≢ Certificate → HaveOneText identify_command q No
+  pub surrogate : (q : surrogate_command.Request) (o : Outcome) → o ≢ No → HaveOneText surrogate_command q o
+  pub surrogate_no : (q : surrogate_command.Request) → q.form ≢ surrogate_form.Certificate → HaveOneText surrogate_command q No
+  pub implications : (q : implications_command.Request) (o : Outcome) → HaveOneText implications_command q o
+  pub implications_over_counts : (q : implications_command.Request) (o : Outcome) → HaveOneTextOnBoth implications_command q o
+  pub evaluate_before_counts : (q : evaluate_command.Request) → adjusts q.way ≡ false → (o : Outcome) → HaveOneText evaluate_command q o
+  pub evaluate_over_counts : (q : evaluate_command.Request) → evaluate_command.is_fixed q → (o : Outcome) → HaveOneTextOnBoth evaluate_command q o

@@ -4,6 +4,7 @@ use Rattle.std.specs.Prelude.{IfOk}
 use Rattle.mixed_graph.specs.Graphs.{MixedGraph}
 use Rattle.prob_expr.specs.Tree.{PlainFormula, PlainTarget}
 use Rattle.do_derivation.specs.Plans.{PlainDerivation}
+use Rattle.hedge.specs.Entries.{HasEntries}
 use Rattle.hedge.specs.declared.hedge.Hedge.{Hedge}
 use Rattle.certificate.specs.Plain.{formula, hedge, hedge_view}
 use Rattle.certificate.specs.Reading.{certificate_in}
@@ -13,7 +14,7 @@ use Rattle.replies.specs.declared.outcome.Outcome.TheVariants.{Yes, No}
 use Rattle.replies.specs.declared.outcome.Reply.{Reply}
 use Rattle.replies.proofs.Results.{mapped}
 use Rattle.replies.specs.Observed.{observed_names, IsObservedGraph}
-use Rattle.check_command.specs.Answers.{HoldsCertificate, FormulaAnswer, HedgeAnswer, HasEntries, CertificateAnswer, of_formula, of_hedge}
+use Rattle.check_command.specs.Answers.{HoldsCertificate, FormulaAnswer, HedgeAnswer, CertificateAnswer, of_formula, of_hedge}
 use Rattle.check_command.specs.Answers.{ObservedAnswer, AnswerOver}
 use Rattle.check_command.specs.Replies.{AnswersFormula, AnswersHedge}
 

@@ -5,6 +5,7 @@ use Rattle.prob_expr.specs.Tree.{PlainFormula, PlainTarget}
 use Rattle.do_derivation.specs.Accepts.{AcceptsNot}
 use Rattle.do_derivation.specs.Plans.{PlainDerivation}
 use Rattle.do_derivation.proofs.Exact.{accepts_either}
+use Rattle.hedge.specs.Entries.{HasEntries}
 use Rattle.hedge.specs.Faults.{IsFirstHedgeFault}
 use Rattle.hedge.specs.declared.hedge.Hedge.{Hedge}
 use Rattle.certificate.specs.Plain.{PlainCertificate, hedge_view}
@@ -23,7 +24,7 @@ use Rattle.experiment_lists.specs.Sets.{experiments_fault, AreExperimentSets}
 use Rattle.experiment_lists.specs.Words.{Lists}
 use Rattle.experiment_lists.proofs.NoFault.{no_experiments_fault}
 use Rattle.experiment_lists.proofs.OneSet.{one_by_one}
-use Rattle.check_command.specs.Answers.{HoldsCertificate, AcceptsFormula, RefusesFormula, AcceptsHedge, RefusesHedge, MeetsExperiment, HasEntries}
+use Rattle.check_command.specs.Answers.{HoldsCertificate, AcceptsFormula, RefusesFormula, AcceptsHedge, RefusesHedge, MeetsExperiment}
 use Rattle.check_command.specs.Answers.{CertificateAnswer, of_formula, of_hedge, IsCertificateRefusal, too_long, faulty}
 use Rattle.check_command.specs.Answers.{ObservedAnswer, AnswerOver, AreExperimentsOn, CheckAnswer, CheckFirst}
 use Rattle.check_command.proofs.OneHedge.{hedge_from_view, no_hedge_fault}

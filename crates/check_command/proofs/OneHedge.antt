@@ -10,6 +10,7 @@ use Rattle.std.proofs.lemmas.Slice.Zip.{firsts-zip, seconds-zip}
 use Rattle.mixed_graph.specs.Bits.{has}
 use Rattle.mixed_graph.specs.Graphs.{MixedGraph}
 use Rattle.mixed_graph.specs.declared.sets.VSet.{VSet}
+use Rattle.hedge.specs.Entries.{HasEntries}
 use Rattle.hedge.specs.declared.joined_sets.lists.Links.{Links}
 use Rattle.hedge.specs.declared.joined_sets.lists.Choice.{Choice}
 use Rattle.hedge.specs.Faults.{IsFirstHedgeFault, IsWrongLink}
@@ -18,7 +19,6 @@ use Rattle.hedge.specs.declared.hedge.Hedge.{Hedge}
 use Rattle.hedge.specs.declared.hedge.HedgeFault.{HedgeFault}
 use Rattle.hedge.specs.declared.hedge.HedgeFault.TheVariants as wrong
 use Rattle.certificate.specs.Plain.{PlainHedge, links_view, hedge_view}
-use Rattle.check_command.specs.Answers.{HasEntries}
 
 -- ---- links, choices and hedges by their entries
 

@@ -10,6 +10,7 @@ use Rattle.prob_expr.specs.Values.{EqualsEffect}
 use Rattle.do_derivation.specs.Accepts.{Accepts, AcceptsNot}
 use Rattle.do_derivation.specs.Plans.{PlainDerivation}
 use Rattle.do_derivation.specs.declared.faults.CheckFault.{CheckFault}
+use Rattle.hedge.specs.Entries.{HasEntries}
 use Rattle.hedge.specs.Faults.{IsFirstHedgeFault}
 use Rattle.hedge.specs.Hedges.{IsHedge}
 use Rattle.hedge.specs.Shapes.{FormHedge}
@@ -97,11 +98,6 @@ abbrev pub HedgeAnswer : MixedGraph → List (List ℕ) → List ℕ → PlainTa
 HedgeAnswer q names zs t h Yes text = AcceptsHedge q names zs t h text
 HedgeAnswer q names zs t h No text = RefusesHedge q names t h text ⊎ MeetsExperiment q zs t h text
 HedgeAnswer q names zs t h o text = ⊥
-
--- its links are two arrays of 64 entries
-pub record HasEntries (h : Hedge) : Type 0 where
-  pub found : length h.links.found ≡ 64
-  pub partner : length h.links.partner ≡ 64
 
 -- the bytes are a certificate of a formula or of a hedge, and this is its answer with experiments on the sets zs
 pub data CertificateAnswer (q : MixedGraph) (names : List (List ℕ)) (zs bytes : List ℕ) (o : Outcome) (text : List ℕ) : Type 0 where

@@ -7,8 +7,8 @@ ghost use Rattle.mixed_graph.specs.Sets.{Within};
 ghost use Rattle.mixed_graph.specs.Shown.{graph_of};
 ghost use Rattle.prob_expr.specs.Listed.{masks_of};
 ghost use Rattle.prob_expr.specs.View.{target_view};
+ghost use Rattle.hedge.specs.Entries.{HasEntries};
 ghost use Rattle.hedge.specs.Hedges.{IsHedge};
-ghost use Rattle.check_command.specs.Answers.{HasEntries};
 ghost use Rattle.check_command.specs.Lines.{heading_over};
 ghost use Rattle.check_command.specs.Replies.{IsSoundTarget, AnswersHedge, is_harmless};
 
@@ -36,7 +36,7 @@ pub fn check_hedge(
     ensures answer { IfOk result (AnswersHedge (graph_of seen.now.graph) seen.now.names (masks_of experiments.now) (target_view target.now) hedge.now) }
     ensures entries { HasEntries hedge.now }
 {
-    has_entries(hedge);
+    hedge.has_entries();
     match holds(&seen.graph, target.x, target.y, hedge) {
         Ok(()) => check_experiments(alloc, seen, experiments, target, hedge),
         Err(fault) => Ok(Reply {
@@ -44,14 +44,6 @@ pub fn check_hedge(
             text: hedge_text(alloc, &seen.names, fault)?,
         }),
     }
-}
-
-/// The links of a hedge are two arrays of 64 entries.
-fn has_entries(hedge: &Hedge)
-    ensures { HasEntries hedge.now }
-{
-    let _ = hedge.links.found[0];
-    let _ = hedge.links.partner[0];
 }
 
 /// Whether an experiment leaves the larger set of a hedge alone, or sets a member of the smaller one.

@@ -21,7 +21,7 @@ use Rattle.prob_expr.specs.Uses.{uses_only, use_only, defs_use_only, formula_use
 use Rattle.count_eval.proofs.Used.{used_is, used_in_range}
 
 -- the members of a mask are those with the property
-abbrev Same : ℕ → (ℕ → Bool) → Type 0
+abbrev pub Same : ℕ → (ℕ → Bool) → Type 0
 Same set used = (v : ℕ) → has set v ≡ used v
 
 part_used : (set a : ℕ) (used : ℕ → Bool) → Same set used → is_inside a set ≡ true → (v : ℕ) → has a v ≡ true → used v ≡ true
@@ -78,7 +78,7 @@ defs_only set used same [] h = refl
 defs_only set used same (d ∷ ds) h = and_from (uses_only set d) (defs_use_only set ds) (tree_only set used same d h.0) (defs_only set used same ds h.1)
 
 -- the mask of a table's vertices has exactly the used ones
-same_members : (t : Table) (u : ℕ) → AreCounts t → members_below (has u) 64 ≡ t.vertices → u < 2 ^ 64 → Same u (is_used t)
+pub same_members : (t : Table) (u : ℕ) → AreCounts t → members_below (has u) 64 ≡ t.vertices → u < 2 ^ 64 → Same u (is_used t)
 same_members t u are e fits v = elim (cases_lt v 64) [
   | inl lt ↦ used_is t u v are e lt
   | inr le ↦ has-above u v fits le ∙ sym (unused (is_used t v) refl le)

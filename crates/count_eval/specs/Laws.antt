@@ -1,6 +1,6 @@
 -- What values in a kind of quantity have to do with true values, over counts and in models.
-use Rattle.std.specs.Prelude.{ℕ, ◌*◌, ◌≡◌, ◌≤◌, ◌<◌, Bool, true, false, List, [], ◌∷◌, Result, Ok, Err}
-use Rattle.finite_models.specs.Models.{FiniteModel, IsPositiveModel, IsAssignment, Fits, weight_of, total}
+use Rattle.std.specs.Prelude.{ℕ, ◌≡◌, Bool, true, false, List, [], ◌∷◌, Result, Ok, Err}
+use Rattle.finite_models.specs.Models.{FiniteModel, IsPositiveModel, IsAssignment, Fits, total}
 use Rattle.mixed_graph.specs.Graphs.{MixedGraph, IsMixedGraph}
 use Rattle.mixed_graph.specs.Bits.{has}
 use Rattle.prob_expr.specs.Tree.{Tree, prob, sum, product, quotient, named, Trees, no_trees, tree, PlainFormula}
@@ -8,6 +8,7 @@ use Rattle.prob_expr.specs.Terms.{is_do_free}
 use Rattle.fractions.specs.Fractions.{Fraction, over, IsEqual}
 use Rattle.prob_expr.specs.Tree.{PlainTarget}
 use Rattle.prob_expr.specs.Values.{effect, EqualsEffect, Weights, weights_of, values_from, value_of}
+use Rattle.prob_expr.specs.Proportional.{AreProportional}
 use Rattle.quantity.specs.declared.fault.QuantityFault.TheVariants.{ZeroBelow}
 use Rattle.quantity.specs.Kinds.{Pair, Kind}
 use Rattle.count_eval.specs.Rules.{rule, plain}
@@ -43,12 +44,8 @@ AllUsed used [] = Unit {0}
 AllUsed used (d ∷ ds) = IsUsed used d × AllUsed used ds
 
 -- the model's observed weights are those of the counts, up to one factor
-pub record IsMatched (used : ℕ → Bool) (w : Weights) (all : ℕ) (m : FiniteModel) : Type 0 where
-  pub vertices : w.vertices ≡ m.vertices
-  pub sizes : (v : ℕ) → v < m.vertices → used v ≡ true → w.size v ≡ m.size v
-  pub some : 1 ≤ all
-  pub weights : (a : ℕ → Bool) → ((v : ℕ) → a v ≡ true → used v ≡ true) → (s : ℕ → ℕ) → IsAssignment m.vertices m.size s
-      → weight_of m (λ v. false) a s * all ≡ w.weight (λ v. false) a s * total m
+abbrev pub IsMatched : (ℕ → Bool) → Weights → ℕ → FiniteModel → Type 0
+IsMatched used w all m = AreProportional used w all (weights_of m) (total m)
 
 -- over any weights, what a kind gives by the first rule is covered
 abbrev pub EachIsCovered : Kind → (Pair → Fraction → Type 0) → Type 0

@@ -1,6 +1,5 @@
 //! Whether a formula can be evaluated over a table.
 
-ghost use Rattle.std.specs.Prelude.{◌≡◌, ◌<◌, ◌^◌};
 ghost use Rattle.std.specs.Bool.{OnTrue, OnFalse};
 ghost use Rattle.prob_expr.specs.View.{formula_view};
 ghost use Rattle.count_table.specs.Tables.{HasLevels};
@@ -9,13 +8,7 @@ ghost use Rattle.count_eval.specs.Programs.{is_used};
 ghost use Rattle.count_eval.specs.Levels.{HasLevel};
 
 use count_table::Counts;
-use mixed_graph::VSet;
 use prob_expr::{Formula, check, formula_uses_only, is_do_free};
-
-/// A set is a mask of 64 bits.
-fn sized(set: VSet)
-    ensures { set.bits < 2 ^ 64 }
-{}
 
 /// Whether `value` may be asked for a formula of a graph on n vertices over a table: there are at most 64
 /// vertices, the used ones among them, `check` finds no fault in the formula, and it has used vertices alone and no
@@ -25,7 +18,6 @@ pub fn is_evaluable(n: u32, f: &Formula, c: &Counts) -> bool
     ensures no { OnFalse result (IsEvaluable n c.now (formula_view f.now) → ⊥) }
 {
     let used = c.used();
-    sized(used);
     if n > 64 {
         return false;
     }
@@ -59,8 +51,7 @@ pub fn is_cell(c: &Counts, at: &[u32]) -> bool
     ensures yes { OnTrue result (HasLevels c.now (is_used c.now) at.now) }
     ensures no { OnFalse result (HasLevels c.now (is_used c.now) at.now → ⊥) }
 {
-    let _used = c.used();
-    for v in 0..64u8 {
+    'members: for v in c.used().iter() {
         if !has_level(c, at, v) {
             return false;
         }

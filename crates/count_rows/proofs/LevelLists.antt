@@ -1,5 +1,5 @@
 -- Levels in order of first appearance.
-use Rattle.std.proofs.Common.{◌≡◌, ℕ, ◌+◌, ◌<◌, ◌^◌, Bool, true, false, cond, ◌||◌, not, List, [], ◌∷◌, ◌++◌, length, length-append, inl, inr, get_or}
+use Rattle.std.proofs.Common.{◌≡◌, ℕ, zero, suc, ◌+◌, ◌<◌, ◌^◌, Bool, true, false, cond, ◌||◌, not, List, [], ◌∷◌, ◌++◌, length, length-append, inl, inr, get_or}
 use Rattle.std.proofs.Common.{refl, ap, sym, ◌∙◌, arith}
 use Rattle.std.specs.Prelude.{◌≢◌, map, fold}
 use Rattle.std.specs.Str.{bytes_eq}
@@ -9,7 +9,8 @@ use Rattle.std.proofs.lemmas.List.{map-append}
 use Rattle.std.proofs.lemmas.List.Folds.{list_any-append, list_any_at}
 use Rattle.std.proofs.lemmas.List.Quantifiers.{all_pairs_push}
 use Rattle.std.proofs.lemmas.Slice.Eq.{bytes_eq-Decides}
-use Rattle.mixed_graph.specs.Names.{index_of, is_named, with_name}
+use Rattle.std.specs.Global.{Vec}
+use Rattle.mixed_graph.specs.Names.{index_of, is_named, with_name, texts}
 use Rattle.count_rows.specs.Levels.{AreLevels}
 use Rattle.count_rows.specs.Records.{Record, field_in, levels_at}
 
@@ -86,3 +87,9 @@ index_of-with_name_self names x = elim (cases_Bool (is_named names x)) [
   | inl there ↦ ap (λ b. index_of (cond b names (names ++ x ∷ [])) x) there
   | inr absent ↦ ap (λ b. index_of (cond b names (names ++ x ∷ [])) x) absent ∙ index_of-last names x absent
 ]
+
+-- a kept level's text
+pub text_at : (ks : List (Vec ℕ)) (i : ℕ) (k : Vec ℕ) → i < length ks → k ≡ get_or ks i k → get_or (texts ks) i [] ≡ k.items
+text_at [] i k h is = absurd (omega (arith, h))
+text_at (x ∷ ks) zero k h is = ap (λ (v : Vec ℕ). v.items) (sym is)
+text_at (x ∷ ks) (suc i) k h is = text_at ks i k (omega (arith, h)) is

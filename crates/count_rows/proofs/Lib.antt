@@ -5,3 +5,7 @@ pub mod LevelLists
 pub mod HeaderSteps
 pub mod TallySteps
 pub mod RowFaults
+pub mod FieldLists
+pub mod RecordSteps
+pub mod Splitting
+pub mod QuotedSteps

@@ -1,6 +1,6 @@
 -- The first fault of the rows.
 use Rattle.std.proofs.Common.{◌≡◌, ◌≢◌, ℕ, ◌+◌, ◌<◌, cond, List, [], ◌∷◌, ◌++◌, length, refl, ap, sym, ◌∙◌, arith, subst, Option, Some, None, Result}
-use Rattle.std.proofs.Common.{Ok, Err, Bor}
+use Rattle.std.proofs.Common.{Ok, Err}
 use Rattle.std.specs.Prelude.{IfOk, IfErr, MatchResult, map, slice_get}
 use Rattle.std.specs.Option.{option_to_list}
 use Rattle.std.proofs.Common.{get_or}
@@ -8,7 +8,6 @@ use Rattle.std.proofs.lemmas.Option.{get_or_from_slice_get}
 use Rattle.mixed_graph.specs.Names.{name_of}
 use Rattle.std.proofs.lemmas.Bool.{ne_eqb, eq-eqb}
 use Rattle.std.proofs.lemmas.List.{append_assoc, append-nil}
-use Rattle.csv.specs.declared.reader.Reader.{Reader}
 use Rattle.count_rows.specs.declared.fault.CountFault.{CountFault}
 use Rattle.count_rows.specs.declared.fault.CountFault.TheVariants.{NotCsv, NoColumn, NoRows}
 use Rattle.count_rows.specs.declared.tally.Tally.{Tally}
@@ -66,12 +65,12 @@ refused text header rows more r l f is fine bad =
     (ap (rows_fault (length header) l []) behind ∙ rows_fault-first (length header) l rows more r f fine bad)
 
 -- a row that was read, and refused
-pub row_refused : (text : List ℕ) (header : Record) (rows : List Record) (r : Record) (reader : Reader (Bor (List ℕ))) (l : Layout) (f : CountFault)
-    → HasRead text ((header ∷ rows) ++ r ∷ []) reader →
+pub row_refused : (text : List ℕ) (header : Record) (rows : List Record) (r : Record) (at : ℕ) (l : Layout) (f : CountFault)
+    → HasRead text ((header ∷ rows) ++ r ∷ []) at →
     length r ≡ length header → rows_fault (length header) l [] rows ≡ None → row_fault (length r) l rows r ≡ Some f →
     or_else (rows_fault (length header) l [] (rows_of (records_of text))) (empty_fault l (rows_of (records_of text))) ≡ Some f
-row_refused text header rows r reader l f read long fine bad =
-    refused text header rows _ r l f (split text ((header ∷ rows) ++ r ∷ []) reader read ∙ append_assoc (header ∷ rows) (r ∷ []) _) fine
+row_refused text header rows r at l f read long fine bad =
+    refused text header rows _ r l f (split text ((header ∷ rows) ++ r ∷ []) at read ∙ append_assoc (header ∷ rows) (r ∷ []) _) fine
     (ap (λ w. row_fault w l rows r) (sym long) ∙ bad)
 
 wrong : (width : ℕ) (rows : List Record) (other : Record) (l : Layout) → length other ≢ width → row_fault width l rows other ≡ Some (NotCsv (length rows + 1))
@@ -79,12 +78,12 @@ unfolding row_fault
 wrong width rows other l d = rw (ne_eqb (length other) width d) refl
 
 -- a row of another length
-pub row_too_long : (text : List ℕ) (header : Record) (rows more : List Record) (other : Record) (l : Layout) → records_of text ≡ (header ∷ rows) ++ other
-    ∷ more → length other ≢ length header →
-    rows_fault (length header) l [] rows ≡ None →
+pub row_too_long : (text : List ℕ) (header : Record) (rows : List Record) (r : Record) (at : ℕ) (l : Layout)
+    → HasRead text ((header ∷ rows) ++ r ∷ []) at → length r ≢ length header → rows_fault (length header) l [] rows ≡ None →
     or_else (rows_fault (length header) l [] (rows_of (records_of text))) (empty_fault l (rows_of (records_of text))) ≡ Some (NotCsv (length rows + 1))
-row_too_long text header rows more other l is long fine = refused text header rows more other l (NotCsv (length rows + 1)) is fine
-    (wrong (length header) rows other l long)
+row_too_long text header rows r at l read long fine =
+    refused text header rows _ r l (NotCsv (length rows + 1)) (split text ((header ∷ rows) ++ r ∷ []) at read ∙ append_assoc (header ∷ rows) (r ∷ []) _) fine
+    (wrong (length header) rows r l long)
 
 -- all rows were read
 pub ended : (text : List ℕ) (header : Record) (rows : List Record) (l : Layout) (tally : Tally) (result : Result Tally CountFault) → records_of text ≡ header
@@ -161,5 +160,5 @@ err_both (Ok t) Q Q' f h = tt
 err_both (Err e) Q Q' f h = f e h
 
 -- the header is the record that was read first
-pub header_first : (text : List ℕ) (header : Record) (reader : Reader (Bor (List ℕ))) → HasRead text (header ∷ []) reader → header_of (records_of text) ≡ header
-header_first text header reader read = ap header_of (split text (header ∷ []) reader read)
+pub header_first : (text : List ℕ) (header : Record) (at : ℕ) → HasRead text (header ∷ []) at → header_of (records_of text) ≡ header
+header_first text header at read = ap header_of (split text (header ∷ []) at read)

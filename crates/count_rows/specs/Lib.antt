@@ -3,6 +3,8 @@ pub mod Numbers
 pub mod Records
 pub mod Rows
 pub mod Faults
+pub mod Fields
 pub mod Reader
+pub mod Quoted
 pub mod Tally
 pub mod FaultTexts

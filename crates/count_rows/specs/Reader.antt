@@ -1,46 +1,46 @@
--- How far a reader has come in a text.
-use Rattle.std.specs.Prelude.{ℕ, ◌≡◌, ◌≢◌, false, List, [], ◌∷◌, ◌++◌, length, Option, Some, None, IfSome, IsSomeAnd}
-use Rattle.std.specs.Borrow.{Bor}
-use Rattle.csv.specs.declared.reader.Reader.{Reader}
-use Rattle.csv.specs.declared.error.ErrorKind.{ErrorKind}
-use Rattle.csv.specs.declared.error.ErrorKind.TheVariants as kind
+-- How far a text was read, record by record.
+use Rattle.std.specs.Prelude.{ℕ, ◌≡◌, ◌⊎◌, ◌≤◌, ◌+◌, ◌==◌, ◌||◌, not, Bool, List, [], ◌∷◌, ◌++◌, length, drop, Some}
+use Rattle.csv.specs.Machine.{next_record}
+use Rattle.csv.specs.Reading.{Reached, default_config, strip_bom}
+use Rattle.csv.specs.declared.parser.State.{State}
 use Rattle.csv.specs.declared.parser.State.TheVariants as st
-use Rattle.csv.specs.declared.reader.Trim.TheVariants as trim
-use Rattle.csv.specs.Reading.{Reached, Ready, default_config, source_of, strip_bom, reader_trim, reader_config, is_flexible, expected_len, reader_state}
+use Rattle.count_rows.specs.Fields.{cut_from, AreEnds}
 use Rattle.count_rows.specs.declared.reader.NextRecord.{NextRecord}
 use Rattle.count_rows.specs.declared.reader.NextRecord.TheVariants as next
 use Rattle.count_rows.specs.Records.{Record, records_of}
 
--- the number of fields that each record must have: that of the first
-abbrev pub width_of : List Record → Option ℕ
-width_of [] = None
-width_of (h ∷ rows) = Some (length h)
+-- a state of CSV's reader between two records
+abbrev pub IsBetween : State → Type 0
+IsBetween s = (s ≡ st.StartRecord) ⊎ (s ≡ st.AfterCr)
 
--- the reader has read these records of the text, one after the other, and goes on behind them
-pub record HasRead (text : List ℕ) (records : List Record) (reader : Reader (Bor (List ℕ))) : Type 0 where
-  pub untrimmed : reader_trim reader ≡ trim.None
-  pub ready : Ready reader
-  pub default : reader_config reader ≡ default_config
-  pub strict : is_flexible reader ≡ false
-  pub width : expected_len reader ≡ width_of records
-  pub rest : List ℕ
-  pub pending : source_of (λ s. Some s.now) reader ≡ Some rest
-  pub reached : Reached default_config st.StartRecord (strip_bom text) records (reader_state reader) rest
+-- a carriage return or a line feed
+abbrev pub is_line_end : ℕ → Bool
+is_line_end b = (b == 13) || (b == 10)
 
--- what one more read of a text says, behind these records: another record, with the fields r; that these are all;
--- or that the next one has another number of fields than the first
-unfoldable pub GivesNext : List ℕ → List Record → Reader (Bor (List ℕ)) → Record → NextRecord → Type 0
-GivesNext text before reader r next.Record = HasRead text (before ++ r ∷ []) reader × IfSome (width_of before) (λ width. length r ≡ width)
-GivesNext text before reader r next.End = records_of text ≡ before
-GivesNext text before reader r next.OtherLength =
-    (other : Record) × (more : List Record) × (records_of text ≡ before ++ other ∷ more) × IsSomeAnd (width_of before) (λ width. length other ≢ width)
-GivesNext text before reader r next.NoMemory = Unit {0}
+-- a byte that only goes on with a field: no comma, no quotation mark and no line end
+abbrev pub is_plain : ℕ → Bool
+is_plain b = not ((b == 44) || (b == 34) || is_line_end b)
 
--- what a failure of a reader means: a record of another length, or else want of memory
-abbrev pub failure_of : ErrorKind → NextRecord
-failure_of (kind.UnequalLengths pos expected len) = next.OtherLength
-failure_of (kind.Io e) = next.NoMemory
-failure_of (kind.Utf8 pos err) = next.NoMemory
-failure_of kind.OutOfMemory = next.NoMemory
-failure_of (kind.Serialize text) = next.NoMemory
-failure_of (kind.Deserialize pos err) = next.NoMemory
+-- a text that begins no line goes on with a record of these fields, and other records follow behind this place
+pub record GoesOn (text : List ℕ) (r : Record) (behind : ℕ) : Type 0 where
+  pub state : State
+  pub between : IsBetween state
+  pub is : next_record default_config st.StartField [] [] text ≡ Some (r, state, drop behind text)
+
+-- such a text goes on with a record whose fields end at these places, the last of them at `end`
+pub record EndsAt (text ends : List ℕ) (end : ℕ) : Type 0 where
+  pub ordered : AreEnds 0 ends (end + 1)
+  pub within : end ≤ length text
+  pub goes : GoesOn text (cut_from 0 ends text) (end + 1)
+
+-- these records of a text were read, one after the other, and the next one is sought from this place on
+pub record HasRead (text : List ℕ) (records : List Record) (at : ℕ) : Type 0 where
+  pub state : State
+  pub between : IsBetween state
+  pub reached : Reached default_config st.StartRecord (strip_bom text) records state (drop at text)
+
+-- what one more read of a text gives, behind these records: another one, with the fields r, or that these are all
+unfoldable pub GivesNext : List ℕ → List Record → Record → NextRecord → Type 0
+GivesNext text before r (next.Record behind) = HasRead text (before ++ r ∷ []) behind
+GivesNext text before r next.End = records_of text ≡ before
+GivesNext text before r next.NoMemory = Unit {0}

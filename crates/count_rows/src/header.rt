@@ -3,38 +3,26 @@
 ghost use Rattle.std.specs.Prelude.{ℕ, ◌≡◌, ◌<◌, ◌≤◌, ◌+◌, None, Some, All, IfOk, IfErr, drop, length, map, option_map};
 ghost use Rattle.std.specs.List.{position_or_len};
 ghost use Rattle.std.specs.Str.{bytes_eq};
-ghost use Rattle.csv.specs.Records.{fields_of};
 ghost use Rattle.mixed_graph.specs.Names.{index_of, name_of};
-ghost use Rattle.count_rows.specs.Records.{field_in};
 ghost use Rattle.count_rows.specs.Faults.{name_fault, header_fault, IsExpectedFault};
 
 use crate::fault::CountFault;
-use csv::ByteRecord;
+use crate::fields::Fields;
 use mixed_graph::{Names, Text};
 use std::alloc::Global;
 
-/// The field of a record in a column; empty where the record is too short.
-pub fn field(row: &ByteRecord, place: usize) -> &[u8]
-    ensures { result.now ≡ field_in place (fields_of row.now) }
-{
-    match row.get(place) {
-        Some(field) => field,
-        None => &[],
-    }
-}
-
 /// The first column from `from` on with this name, or the number of columns.
-fn column_from(header: &ByteRecord, name: &[u8], from: usize) -> usize
-    requires { from ≤ length (fields_of header.now) }
-    ensures place { result ≡ from + position_or_len (bytes_eq name.now) (drop from (fields_of header.now)) }
-    ensures within { result ≤ length (fields_of header.now) }
+fn column_from(header: &Fields, name: &[u8], from: usize) -> usize
+    requires { from ≤ length header.now }
+    ensures place { result ≡ from + position_or_len (bytes_eq name.now) (drop from header.now) }
+    ensures within { result ≤ length header.now }
 {
-    for at in from..header.len() {
-        if name == field(header, at) {
+    for at in from..header.count() {
+        if name == header.get(at) {
             return at;
         }
     }
-    header.len()
+    header.count()
 }
 
 /// The fault of a name that isn't in the header.
@@ -58,16 +46,16 @@ fn two_columns(alloc: Global, name: &[u8]) -> CountFault
 }
 
 /// The column of a name, which must be in the header once.
-pub fn column(alloc: Global, header: &ByteRecord, name: &[u8]) -> Result<usize, CountFault>
-    ensures place { IfOk result (λ place. place ≡ index_of (fields_of header.now) name.now) }
-    ensures fit { IfOk result (λ place. name_fault (fields_of header.now) name.now ≡ None) }
-    ensures fault { IfErr result (IsExpectedFault (name_fault (fields_of header.now) name.now)) }
+pub fn column(alloc: Global, header: &Fields, name: &[u8]) -> Result<usize, CountFault>
+    ensures place { IfOk result (λ place. place ≡ index_of header.now name.now) }
+    ensures fit { IfOk result (λ place. name_fault header.now name.now ≡ None) }
+    ensures fault { IfErr result (IsExpectedFault (name_fault header.now name.now)) }
 {
     let first = column_from(header, name, 0);
-    if first == header.len() {
+    if first == header.count() {
         return Err(no_column(alloc, name));
     }
-    if column_from(header, name, first + 1) < header.len() {
+    if column_from(header, name, first + 1) < header.count() {
         return Err(two_columns(alloc, name));
     }
     Ok(first)
@@ -76,14 +64,14 @@ pub fn column(alloc: Global, header: &ByteRecord, name: &[u8]) -> Result<usize, 
 /// The columns of the vertices' names, in their order, each of which must be in the header once.
 pub fn columns(
     alloc: Global,
-    header: &ByteRecord,
+    header: &Fields,
     names: &Names,
     vertices: &[u8],
 ) -> Result<Vec<usize>, CountFault>
     requires { All (λ v. v < length names.now) vertices.now }
-    ensures places { IfOk result (λ places. places.items ≡ map (index_of (fields_of header.now)) (map (name_of names.now) vertices.now)) }
-    ensures fit { IfOk result (λ places. header_fault (fields_of header.now) (map (name_of names.now) vertices.now) ≡ None) }
-    ensures fault { IfErr result (IsExpectedFault (header_fault (fields_of header.now) (map (name_of names.now) vertices.now))) }
+    ensures places { IfOk result (λ places. places.items ≡ map (index_of header.now) (map (name_of names.now) vertices.now)) }
+    ensures fit { IfOk result (λ places. header_fault header.now (map (name_of names.now) vertices.now) ≡ None) }
+    ensures fault { IfErr result (IsExpectedFault (header_fault header.now (map (name_of names.now) vertices.now))) }
 {
     let mut places = Vec::new(alloc);
     for v in vertices {

@@ -1,7 +1,7 @@
 //! The levels of a vertex.
 
-ghost use Rattle.std.specs.Prelude.{◌≡◌, ◌<◌, List, ℕ, [], length, OnOk, IfOk, slice_get};
-ghost use Rattle.mixed_graph.specs.Names.{with_name, index_of, texts};
+ghost use Rattle.std.specs.Prelude.{◌≡◌, ◌<◌, List, ℕ, [], true, length, is_some, OnOk, OnSome, IfOk, IfSome, slice_get};
+ghost use Rattle.mixed_graph.specs.Names.{with_name, index_of, is_named, texts};
 ghost use Rattle.count_rows.specs.Levels.{AreLevels};
 
 use indexmap::IndexSet;
@@ -26,6 +26,37 @@ impl Model for Levels {
     ghost view = { λ s. texts s.set.keys };
 
     ghost invariant = { λ s. AreLevels (texts s.set.keys) };
+}
+
+/// So many levels are compared before one is sought by its hash.
+const FIRST_LEVELS: usize = 8;
+
+/// The number of a level, if it is among the first.
+#[inline(always)]
+fn first_number(levels: &[Vec<u8>], level: &[u8]) -> Option<usize>
+    ensures number { IfSome result (λ k. k ≡ index_of (texts levels.now) level.now) }
+    ensures within { IfSome result (λ k. k < length (texts levels.now)) }
+    ensures there { OnSome result (is_named (texts levels.now) level.now ≡ true) }
+{
+    for k in 0..levels.len().min(FIRST_LEVELS) {
+        if level == levels[k].as_slice() {
+            return Some(k);
+        }
+    }
+    None
+}
+
+/// The number of a level, if it is there.
+#[inline(always)]
+fn number_in(set: &IndexSet<Vec<u8>>, level: &[u8]) -> Option<usize>
+    ensures number { IfSome result (λ k. k ≡ index_of (texts set.now.keys) level.now) }
+    ensures within { IfSome result (λ k. k < length (texts set.now.keys)) }
+    ensures there { is_some result ≡ is_named (texts set.now.keys) level.now }
+{
+    match first_number(set.as_slice(), level) {
+        Some(k) => Some(k),
+        None => set.get_index_of(level),
+    }
 }
 
 impl Levels {
@@ -64,7 +95,7 @@ impl Levels {
         ensures within { IfOk result (λ k. k < length self.new) }
     {
         let number = self.set.len();
-        if let Some(number) = self.set.get_index_of(level) {
+        if let Some(number) = number_in(&self.set, level) {
             return Ok(number as u32);
         }
         // Numbers have 32 bits. So many levels are far beyond what a table may have.

@@ -5,8 +5,11 @@
 
 mod digits;
 mod fault;
+mod fields;
 mod header;
 mod levels;
+mod lines;
+mod quoted;
 mod reader;
 mod rows;
 mod tally;

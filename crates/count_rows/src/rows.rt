@@ -2,7 +2,6 @@
 
 ghost use Rattle.std.specs.Prelude.{ℕ, ◌≡◌, ◌<◌, ◌++◌, ◌∷◌, [], List, None, All, IfOk, IfErr, MatchResult, length, map, option_map};
 ghost use Rattle.std.specs.Option.{option_to_list};
-ghost use Rattle.csv.specs.Records.{fields_of};
 ghost use Rattle.mixed_graph.specs.Names.{name_of, index_of};
 ghost use Rattle.count_rows.specs.Records.{Record, records_of, header_of, rows_of, layout_of};
 ghost use Rattle.count_rows.specs.Faults.{name_fault, header_fault, rows_fault, empty_fault, or_else, records_fault, used_names, IsExpectedFault};
@@ -12,26 +11,26 @@ ghost use Rattle.count_rows.specs.Reader.{HasRead};
 ghost use Rattle.count_rows.specs.Tally.{layout_from, HoldsRecords};
 
 use crate::fault::CountFault;
+use crate::fields::Fields;
 use crate::header::{column, columns, no_column};
 use crate::reader::{NextRecord, open, read};
 use crate::tally::{Columns, Tally};
-use csv::{ByteRecord, Reader};
 use mixed_graph::{Names, VSet};
 use std::alloc::Global;
 
 /// Where the records have the used vertices and the counts.
 fn layout(
     alloc: Global,
-    header: &ByteRecord,
+    header: &Fields,
     names: &Names,
     vertices: &[u8],
     count_column: Option<&[u8]>,
 ) -> Result<Columns, CountFault>
     requires { All (λ v. v < length names.now) vertices.now }
     ensures layout { IfOk result (λ c. layout_from c
-        ≡ layout_of (fields_of header.now) (map (name_of names.now) vertices.now) (option_map (λ s. s.now) count_column.entry)) }
-    ensures fit { IfOk result (λ c. header_fault (fields_of header.now) (map (name_of names.now) vertices.now ++ option_to_list (option_map (λ s. s.now) count_column.entry)) ≡ None) }
-    ensures fault { IfErr result (IsExpectedFault (header_fault (fields_of header.now) (map (name_of names.now) vertices.now ++ option_to_list (option_map (λ s. s.now) count_column.entry)))) }
+        ≡ layout_of header.now (map (name_of names.now) vertices.now) (option_map (λ s. s.now) count_column.entry)) }
+    ensures fit { IfOk result (λ c. header_fault header.now (map (name_of names.now) vertices.now ++ option_to_list (option_map (λ s. s.now) count_column.entry)) ≡ None) }
+    ensures fault { IfErr result (IsExpectedFault (header_fault header.now (map (name_of names.now) vertices.now ++ option_to_list (option_map (λ s. s.now) count_column.entry)))) }
 {
     let places = match columns(alloc, header, names, vertices) {
         Ok(places) => places,
@@ -63,33 +62,39 @@ fn finished(tally: Tally) -> Result<Tally, CountFault>
     Ok(tally)
 }
 
-/// Reads the rows under a header.
+/// Reads the rows behind a header of so many fields, from a place on.
 fn read_rows_under(
     alloc: Global,
-    reader: &mut Reader<&[u8]>,
+    text: &[u8],
+    start: usize,
+    width: usize,
     columns: &Columns,
 ) -> Result<Tally, CountFault>
-    ensures { (text : List ℕ) (header : Record) → HasRead text (header ∷ []) reader.old →
+    ensures { (header : Record) → HasRead text.now (header ∷ []) start → width ≡ length header →
         MatchResult result
-        (λ t. HoldsRecords (layout_from columns.now) (rows_of (records_of text)) t
-        × (or_else (rows_fault (length header) (layout_from columns.now) [] (rows_of (records_of text))) (empty_fault (layout_from columns.now) (rows_of (records_of text))) ≡ None))
-        (IsExpectedFault (or_else (rows_fault (length header) (layout_from columns.now) [] (rows_of (records_of text))) (empty_fault (layout_from columns.now) (rows_of (records_of text))))) }
+        (λ t. HoldsRecords (layout_from columns.now) (rows_of (records_of text.now)) t
+        × (or_else (rows_fault (length header) (layout_from columns.now) [] (rows_of (records_of text.now))) (empty_fault (layout_from columns.now) (rows_of (records_of text.now))) ≡ None))
+        (IsExpectedFault (or_else (rows_fault (length header) (layout_from columns.now) [] (rows_of (records_of text.now))) (empty_fault (layout_from columns.now) (rows_of (records_of text.now))))) }
 {
     let Ok(mut tally) = Tally::empty(alloc, columns.places.len()) else {
         return Err(CountFault::NoMemory);
     };
-    let mut row = ByteRecord::new(alloc);
+    let mut row = Fields::none(alloc);
+    let mut at = start;
     for number in 1..usize::MAX {
-        match read(reader, &mut row) {
-            NextRecord::Record => {}
+        let next = match read(alloc, text, at, &mut row) {
+            NextRecord::Record(next) => next,
             NextRecord::End => return finished(tally),
-            NextRecord::OtherLength => return Err(CountFault::NotCsv(number)),
             NextRecord::NoMemory => return Err(CountFault::NoMemory),
+        };
+        if row.count() != width {
+            return Err(CountFault::NotCsv(number));
         }
         match tally.add(alloc, &row, number, columns) {
             Ok(()) => {}
             Err(fault) => return Err(fault),
         }
+        at = next;
     }
     // So many records don't fit in memory.
     Err(CountFault::NoMemory)
@@ -110,18 +115,17 @@ fn read_rows_of(
     ensures fit { IfOk result (λ t. records_fault (records_of text.now) (map (name_of names.now) vertices.now) (option_map (λ s. s.now) count_column.entry) ≡ None) }
     ensures fault { IfErr result (IsExpectedFault (records_fault (records_of text.now) (map (name_of names.now) vertices.now) (option_map (λ s. s.now) count_column.entry))) }
 {
-    let mut reader = open(alloc, text);
-    let mut header = ByteRecord::new(alloc);
-    match read(&mut reader, &mut header) {
-        NextRecord::Record => {}
+    let mut header = Fields::none(alloc);
+    let start = match read(alloc, text, open(text), &mut header) {
+        NextRecord::Record(next) => next,
         NextRecord::End => return Err(no_column(alloc, names.get(vertices[0]))),
-        NextRecord::OtherLength | NextRecord::NoMemory => return Err(CountFault::NoMemory),
-    }
+        NextRecord::NoMemory => return Err(CountFault::NoMemory),
+    };
     let columns = match layout(alloc, &header, names, vertices, count_column) {
         Ok(columns) => columns,
         Err(fault) => return Err(fault),
     };
-    read_rows_under(alloc, &mut reader, &columns)
+    read_rows_under(alloc, text, start, header.count(), &columns)
 }
 
 /// Reads the rows of a text of CSV: the levels of the vertices, and each record as a row.

@@ -1,7 +1,6 @@
 //! What the records so far give.
 
 ghost use Rattle.std.specs.Prelude.{ℕ, ◌≡◌, ◌<◌, ◌≤◌, ◌+◌, ◌^◌, ◌++◌, ◌∷◌, [], List, None, All, OnOk, IfOk, MatchResult, replicate, not, nat_le, length, slice_index, slice_index_or};
-ghost use Rattle.csv.specs.Records.{fields_of};
 ghost use Rattle.mixed_graph.specs.Names.{with_name, index_of};
 ghost use Rattle.count_rows.specs.Records.{Record, field_in, count_of, cell_count};
 ghost use Rattle.count_rows.specs.Rows.{list_below};
@@ -9,9 +8,8 @@ ghost use Rattle.count_rows.specs.Faults.{most_cells, row_fault, IsExpectedFault
 
 use crate::digits::{MOST, read_count};
 use crate::fault::CountFault;
-use crate::header::field;
+use crate::fields::Fields;
 use crate::levels::Levels;
-use csv::ByteRecord;
 use std::alloc::{AllocError, Global};
 
 /// The most cells that a table may have.
@@ -41,12 +39,12 @@ pub struct Tally {
 }
 
 /// The count of a record: 1 without a column of counts.
-fn count_in_record(row: &ByteRecord, place: Option<usize>) -> Option<u64>
-    ensures { result ≡ count_of place (fields_of row.now) }
+fn count_in_record(row: &Fields, place: Option<usize>) -> Option<u64>
+    ensures { result ≡ count_of place row.now }
 {
     match place {
         None => Some(1),
-        Some(place) => read_count(field(row, place)),
+        Some(place) => read_count(row.get(place)),
     }
 }
 
@@ -55,17 +53,17 @@ fn add_fields(
     alloc: Global,
     levels: &mut [Levels],
     cells: &mut Vec<u32>,
-    row: &ByteRecord,
+    row: &Fields,
     places: &[usize],
 ) -> Result<(), AllocError>
     requires { length levels.old ≡ length places.now }
     ensures levels { OnOk result ((i : ℕ) → i < length places.now →
-        slice_index_or levels.new i [] ≡ with_name (slice_index_or levels.old i []) (field_in (slice_index places.now i) (fields_of row.now))) }
+        slice_index_or levels.new i [] ≡ with_name (slice_index_or levels.old i []) (field_in (slice_index places.now i) row.now)) }
     ensures cells { OnOk result (cells.new.items ≡ cells.old.items
-        ++ list_below (length places.now) (λ i. index_of (slice_index_or levels.old i []) (field_in (slice_index places.now i) (fields_of row.now)))) }
+        ++ list_below (length places.now) (λ i. index_of (slice_index_or levels.old i []) (field_in (slice_index places.now i) row.now))) }
 {
     for i in 0..places.len() {
-        let number = levels[i].add(alloc, field(row, places[i]))?;
+        let number = levels[i].add(alloc, row.get(places[i]))?;
         cells.push(number)?;
     }
     Ok(())
@@ -112,7 +110,7 @@ impl Tally {
     pub fn add(
         &mut self,
         alloc: Global,
-        row: &ByteRecord,
+        row: &Fields,
         number: usize,
         columns: &Columns,
     ) -> Result<(), CountFault>
@@ -120,9 +118,9 @@ impl Tally {
         ensures width { length self.new.levels.items ≡ length self.old.levels.items }
         ensures row { (rows : List Record) → HoldsRecords (layout_from columns.now) rows self.old → number ≡ length rows + 1 →
             MatchResult result
-            (λ _. HoldsRecords (layout_from columns.now) (rows ++ fields_of row.now ∷ []) self.new
-            × (row_fault (length (fields_of row.now)) (layout_from columns.now) rows (fields_of row.now) ≡ None))
-            (IsExpectedFault (row_fault (length (fields_of row.now)) (layout_from columns.now) rows (fields_of row.now))) }
+            (λ _. HoldsRecords (layout_from columns.now) (rows ++ row.now ∷ []) self.new
+            × (row_fault (length row.now) (layout_from columns.now) rows row.now ≡ None))
+            (IsExpectedFault (row_fault (length row.now) (layout_from columns.now) rows row.now)) }
     {
         let Some(count) = count_in_record(row, columns.count_place) else {
             return Err(CountFault::Count(number));

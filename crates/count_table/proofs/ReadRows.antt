@@ -217,6 +217,7 @@ are_kept used vertices levels numbers counts cells codes members pos small match
     let most = rows.most in
     record {
       members = members;
+      fits = small;
       counted = long;
       coded = coded;
       table = record {

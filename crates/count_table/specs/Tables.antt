@@ -32,9 +32,10 @@ pub record AreCounts (t : Table) : Type 0 where
 abbrev pub HasLevels : Table → (ℕ → Bool) → List ℕ → Type 0
 HasLevels t of at = (v : ℕ) → IsTrue (of v) → (v < length at) × (slice_index at v < length (levels_in t.vertices t.levels v))
 
--- how a table is kept: the used vertices in index order, the levels of each, and a count and a code for each cell
+-- how a table is kept: the used vertices as a mask of 64 bits and in index order, the levels of each, and a count and a code for each cell
 pub record IsKeptTable (used : ℕ) (vertices : List ℕ) (levels : List (List Field)) (cells codes : List ℕ) : Type 0 where
   pub members : vertices ≡ members_below (has used) 64
+  pub fits : used < 2 ^ 64
   pub counted : length cells ≡ cell_count levels
   pub coded : codes ≡ map (code_of_cell (sizes_of levels)) (cells_of (sizes_of levels))
   pub table : AreCounts (record { vertices = vertices; levels = levels; rows = rows_with (cells_of (sizes_of levels)) cells })

@@ -1,6 +1,6 @@
 //! A table of counts, and the sums over it.
 
-ghost use Rattle.std.specs.Prelude.{ℕ, ◌≡◌, ◌<◌, ◌≤◌, ◌==◌, Bool, [], Some, All, IsTrue, IfOk, MatchOption, bit_and, length, map, slice_get, slice_index};
+ghost use Rattle.std.specs.Prelude.{ℕ, ◌≡◌, ◌<◌, ◌≤◌, ◌^◌, ◌==◌, Bool, [], Some, All, IsTrue, IfOk, MatchOption, bit_and, length, map, slice_get, slice_index};
 ghost use Rattle.mixed_graph.specs.Bits.{has, members_below};
 ghost use Rattle.count_rows.specs.Rows.{agrees, counted};
 ghost use Rattle.count_table.specs.Cells.{sizes_of, rows_from};
@@ -91,6 +91,7 @@ impl Counts {
     /// The used vertices.
     pub fn used(&self) -> VSet
         ensures members { members_below (has result.bits) 64 ≡ self.now.vertices }
+        ensures fits { result.bits < 2 ^ 64 }
         ensures table { AreCounts self.now }
     {
         self.used

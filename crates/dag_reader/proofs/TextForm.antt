@@ -141,6 +141,10 @@ run_goes p (b ∷ bs) some here = rw here (ap (λ l. 1 + prefix_len p l) (sym (t
 pub white_stays : (bytes : List ℕ) → 1 ≤ length bytes → is_white (get_or bytes 0 0) ≡ false → past_white bytes ≡ bytes
 white_stays bytes some out = ap (λ n. drop n bytes) (run_stays is_white bytes some out)
 
+pub white_none : (bytes : List ℕ) → length bytes < 1 → past_white bytes ≡ bytes
+white_none [] h = refl
+white_none (b ∷ bs) h = absurd (omega (arith, h))
+
 pub white_goes : (bytes : List ℕ) → 1 ≤ length bytes → is_white (get_or bytes 0 0) ≡ true
     → past_white (take (length bytes - 1) (drop 1 bytes)) ≡ past_white bytes
 white_goes [] some here = absurd (omega arith)

@@ -17,6 +17,9 @@ fn group(marks: &[Remark]) -> VSet
     requires { list_all (is_inside 64) marks.now ≡ true }
     ensures { (v : ℕ) → has result.bits v ≡ list_any (λ r. v == r) (members marks.now) }
 {
+    if let [Remark::Member(v), Remark::Begins, ..] = marks {
+        return VSet::one(*v);
+    }
     let mut set = VSet::empty();
     for mark in marks {
         match *mark {

@@ -108,7 +108,13 @@ fn past_white(bytes: &[u8]) -> &[u8]
     ensures text { is_utf8 result.now ≡ true }
     ensures within { length result.now ≤ length bytes.now }
 {
-    let (_, rest) = split_run(Class::White, bytes);
+    let mut rest = bytes;
+    while let [byte, after @ ..] = rest {
+        if !is_white(*byte) {
+            return rest;
+        }
+        rest = after;
+    }
     rest
 }
 

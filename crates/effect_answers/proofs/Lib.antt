@@ -1,6 +1,9 @@
 pub mod Belows
 pub mod Found
 pub mod Exclusive
+pub mod OneHedge
+pub mod HedgeTexts
+pub mod OneNo
 pub mod Shallow
 pub mod Within
 pub mod Writing

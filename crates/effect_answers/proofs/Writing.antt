@@ -13,6 +13,7 @@ use Rattle.do_rules.specs.Rules.{AreThreeSets}
 use Rattle.prob_expr.specs.Tree.{PlainTarget, effect_on}
 use Rattle.mixed_graph.proofs.MaskLaws.{below_from, has_none}
 use Rattle.do_derivation.proofs.TermSets.{apart_back, term_test}
+use Rattle.hedge.specs.Entries.{HasEntries}
 use Rattle.hedge.specs.Hedges.{IsHedge}
 use Rattle.hedge.specs.declared.hedge.Hedge.{Hedge}
 use Rattle.certificate.specs.Plain.{hedge_view}
@@ -63,9 +64,8 @@ pairs_within n c found partner first second = All-from_get_or (λ (l : ℕ × �
     ))
 
 -- a hedge that holds names vertices of the graph alone
-pub hedge_within : (g : MixedGraph) (x y : ℕ) (h : Hedge) → length h.links.found ≡ 64 → length h.links.partner ≡ 64 → IsHedge g x y h
-    → IsHedgeWithin g.vertices (hedge_view h)
-hedge_within g x y h sized_found sized_partner hedge = record {
+pub hedge_within : (g : MixedGraph) (x y : ℕ) (h : Hedge) → HasEntries h → IsHedge g x y h → IsHedgeWithin g.vertices (hedge_view h)
+hedge_within g x y h entries hedge = record {
   big = below_from g.vertices h.big.bits low;
   small = below_from g.vertices h.small.bits (λ v i. low v (hedge.sets.small_inside v i));
   roots = below_from g.vertices h.roots.bits (λ v i. low v (hedge.sets.small_inside v (hedge.sets.roots_inside v i)));
@@ -75,8 +75,8 @@ hedge_within g x y h sized_found sized_partner hedge = record {
         arith,
         some,
         few,
-        sized_found,
-        sized_partner,
+        entries.found,
+        entries.partner,
         length-zip (take h.links.count h.links.found) (take h.links.count h.links.partner),
         length-take h.links.count h.links.found,
         length-take h.links.count h.links.partner,

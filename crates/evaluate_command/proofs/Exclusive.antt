@@ -161,7 +161,7 @@ unfolding values_of
 of_table rule e t = refl
 
 -- bytes are the text of one table, as far as values hang on it
-same_values : (rule : Rule) (e : PlainEffect) (bytes : List ℕ) (count : Option Field) (t u : Table) → IsTableOf bytes e.names (used_in e) count t
+pub same_values : (rule : Rule) (e : PlainEffect) (bytes : List ℕ) (count : Option Field) (t u : Table) → IsTableOf bytes e.names (used_in e) count t
     → IsTableOf bytes e.names (used_in e) count u
     → values_at (value_in rule e u) (printed_cells e u) ≡ values_at (value_in rule e t) (printed_cells e t)
 same_values rule e bytes count t u a b =
@@ -249,7 +249,8 @@ module _ (g h : ReadGraph) (s : AreSame g h) (x y : Names) (e f : PlainEffect) (
       (derived_is_conditional f.graph (target_of f) f.formula b.1.derivation b.1.derived)) in
       (ts, one_conditional e.graph (target_of e) f.formula e.formula found (derived_is_conditional e.graph (target_of e) e.formula a.1.derivation a.1.derived))
 
-same_effect : (way : Way) → FixesFormula way → (g h : ReadGraph) → AreSame g h → (x y : Names) (e f : PlainEffect) → Identifies way g x y e → Identifies way h x y f → f ≡ e
+pub same_effect : (way : Way) → FixesFormula way → (g h : ReadGraph) → AreSame g h → (x y : Names) (e f : PlainEffect) → Identifies way g x y e
+    → Identifies way h x y f → f ≡ e
 same_effect way fixed g h s x y e f a b =
     let ns : f.names ≡ e.names = b.names ∙ same_observed_names g h s ∙ sym a.names in
     let qs : f.graph ≡ e.graph = sym (one_observed_graph g h s e.graph f.graph a.graph b.graph) in
@@ -259,6 +260,7 @@ same_effect way fixed g h s x y e f a b =
 
 pub evaluate_once : (bytes other : List ℕ) (is_exact zero : Bool) (way : Way) → FixesFormula way → (x y : Names) (count : Option Field)
     → OneOutcome (IsAnswerOn bytes (λ g. EvaluateAnswer is_exact zero way g x y count other))
-evaluate_once bytes other is_exact zero way fixed x y count = one_on_graph bytes (λ g. EvaluateAnswer is_exact zero way g x y count other) (λ g h s o p text line a b.
+evaluate_once bytes other is_exact zero way fixed x y count = one_on_graph bytes (λ g. EvaluateAnswer is_exact zero way g x y count other)
+    (λ g h s o p text line a b.
     counts_once a.0 other count is_exact zero o p text line a.2 (subst (λ (e : PlainEffect). CountsAnswer is_exact zero e count other p line)
     (same_effect way fixed g h s x y a.0 b.0 a.1 b.1) b.2))

@@ -12,3 +12,4 @@ pub mod FirstAnswers
 pub mod Adjusted
 pub mod Exclusive
 pub mod Lawful
+pub mod OneText

@@ -85,6 +85,7 @@ fn values_reply<Q: Quantity>(
     requires used { counts.now.vertices ≡ members_below (has (used_in (effect_view found.now))) 64 }
     ensures { IfOk result (λ r. TableAnswer (rule Q.kind zero) Q.covers sign.now (effect_view found.now) counts.now r.outcome r.text.items) }
 {
+    // The clause `table` of `used` is needed: each used vertex has a level, and none other.
     let _used = counts.used();
     let n = found.seen.graph.n;
     let prepared: Prepared<Q> = prepare(alloc, n, &found.formula, counts, zero)?;

@@ -1,5 +1,7 @@
 //! Hedges as data, and their faults.
 
+ghost use Rattle.hedge.specs.Entries.{HasEntries};
+
 use crate::joined_sets::{Choice, Links};
 use mixed_graph::VSet;
 
@@ -11,6 +13,16 @@ pub struct Hedge {
     pub roots: VSet,
     pub choice: Choice,
     pub links: Links,
+}
+
+impl Hedge {
+    /// Brings into a proof what the type alone keeps: the links are two arrays of 64 entries.
+    pub fn has_entries(&self)
+        ensures { HasEntries self.now }
+    {
+        let _ = self.links.found[0];
+        let _ = self.links.partner[0];
+    }
 }
 
 /// What keeps data from being a hedge.

@@ -1,6 +1,7 @@
 -- What folds an observed-positive model is positive and keeps the values of formulas and effects: so what is right in the observed graph is right in
 -- the diagram as drawn.
-use Rattle.std.proofs.Common.{ℕ, ◌*◌, ◌≡◌, ◌<◌, ◌≤◌, Bool, true, false, not, cond, ◌&&◌, ◌||◌, nat_lt, refl, sym, ap, ap₂, ◌∙◌, subst, mul-pos}
+use Rattle.std.proofs.Common.{ℕ, ◌*◌, ◌≡◌, ◌<◌, ◌≤◌, Bool, true, false, not, cond, ◌&&◌, ◌||◌, nat_lt, refl, sym, ap, ap₂, ◌∙◌, subst, mul-pos, arith}
+use Rattle.std.proofs.Math.Nat.{eq_of_mul-eq-mul_left}
 use Rattle.std.proofs.lemmas.Bool.{not_from_false, lt-ltb}
 use mathlib.Core.Path.{fun_ext}
 use Rattle.mixed_graph.specs.Bits.{has}
@@ -17,8 +18,9 @@ use Rattle.latent_projection.specs.Renumbering.{observed_below, renumbered_set, 
 use Rattle.latent_projection.proofs.Numbering.{IsMixedGraph-renumbered}
 use Rattle.latent_projection.proofs.Projected.{IsMixedGraph-projection}
 use Rattle.prob_expr.specs.Tree.{PlainFormula, PlainTarget}
-use Rattle.prob_expr.specs.Values.{weights_of, term_value, value_of, effect}
-use Rattle.hidden_models.specs.Folding.{Folds, IsObservedPositive, values_after, values_before, set_before, drawn_weights, drawn_effect}
+use Rattle.prob_expr.specs.Values.{Weights, weights_of, term_value, value_of, effect}
+use Rattle.prob_expr.specs.Proportional.{AreProportional}
+use Rattle.hidden_models.specs.Folding.{Folds, IsObservedPositive, IsMatchedAsDrawn, values_after, values_before, set_before, drawn_weights, drawn_effect}
 use Rattle.hidden_models.specs.FoldingLaws.{FoldedIsPositive, FoldedKeepsWeights, FoldedKeepsValues, FoldedKeepsEffects, RightIsRightAsDrawn}
 use Rattle.prob_expr.proofs.Alike.{Events, left_positive, term_alike, formula_alike, asks_any, all_ask_any}
 use Rattle.hidden_models.proofs.Depends.{weight_depends}
@@ -35,6 +37,13 @@ and_false false = refl
 and_true : (c : Bool) → (c && true) ≡ c
 and_true true = refl
 and_true false = refl
+
+-- a factor is carried from one proportion to another
+carried : (d n w a t t' : ℕ) → 1 ≤ t → d * t' ≡ n * t → d * a ≡ w * t → n * a ≡ w * t'
+carried d n w a t t' pos e f = eq_of_mul-eq-mul_left t pos (n * a) (w * t')
+    ((let r : t * (n * a) ≡ (n * t) * a = omega arith in r) ∙ ap (λ k. k * a) (sym e) ∙ (let r : (d * t') * a ≡ (d * a) * t' = omega arith in r)
+    ∙ ap (λ k. k * t') f
+    ∙ (let r : (w * t) * t' ≡ t * (w * t') = omega arith in r))
 
 -- all events
 abbrev Any : Events
@@ -86,6 +95,18 @@ module _ (g : MixedGraph) (ok : IsMixedGraph g) (l : ℕ → Bool) (q : MixedGra
       ∙ ap (λ n. n * total m) (weight_depends q m' q_ok (follows_of q m' fit') (renumbered_set (observed_below l m.vertices) (set_before l b)) b
       (renumbered_set (observed_below l m.vertices) (set_before l a)) a
       (values_after l m.vertices (values_before l s)) s (same_set b) (same_set a) (λ k kl e. same_value s k kl) (λ k kl e. same_value s k kl))
+
+  -- what is proportional to the weights of a model as drawn is so to those of what folds it
+  pub matched_folded : (used : ℕ → Bool) (w : Weights) (all : ℕ) → IsMatchedAsDrawn l used w all m → AreProportional used w all (weights_of m') (total m')
+  matched_folded used w all h = record {
+    vertices = h.vertices ∙ sym folds.vertices;
+    sizes = λ k lt u. h.sizes k (below k lt) u ∙ sym (folds.sizes k lt);
+    some = h.some;
+    weights = λ a u s hs. carried ((drawn_weights l m).weight (λ k. false) a s) (weight_of m' (λ k. false) a s) (w.weight (λ k. false) a s) all (total m)
+        (total m') (total_positive g m fit) (drawn_weight (λ k. false) a s hs)
+        (h.weights a u s (λ k lt. let lt' : k < m'.vertices = subst (λ n. k < n) (sym folds.vertices) lt in
+        subst (λ n. s k < n) (folds.sizes k lt') (hs k lt')));
+  }
 
   module _ (observed : IsObservedPositive l m) where
     none_observed : (s : ℕ → ℕ) → weight_of m (set_before l (λ k. false)) (set_before l (λ k. true)) (values_before l s)

@@ -1,5 +1,5 @@
 -- A model of a diagram with hidden vertices, and the models of its observed graph that give every observed probability the same value.
-use Rattle.std.specs.Prelude.{ℕ, ◌*◌, ◌≡◌, ◌<◌, ◌≤◌, Bool, true, false, not, ◌&&◌, if◌then◌else◌, length, slice_index}
+use Rattle.std.specs.Prelude.{ℕ, ◌*◌, ◌≡◌, ◌<◌, ◌≤◌, Bool, not, ◌&&◌, if◌then◌else◌, length, slice_index}
 use Rattle.mixed_graph.specs.Bits.{has}
 use Rattle.mixed_graph.specs.Sets.{Apart}
 use Rattle.fractions.specs.Fractions.{Fraction}
@@ -7,6 +7,7 @@ use Rattle.finite_models.specs.Models.{FiniteModel, IsAssignment, event_weight, 
 use Rattle.latent_projection.specs.Renumbering.{observed_below, renumbered_set}
 use Rattle.prob_expr.specs.Tree.{PlainTarget}
 use Rattle.prob_expr.specs.Values.{Weights}
+use Rattle.prob_expr.specs.Proportional.{AreProportional}
 
 -- the number of the observed vertex v among the observed ones: how many of them are below it
 abbrev pub new_number : (ℕ → Bool) → ℕ → ℕ
@@ -49,10 +50,6 @@ drawn_weights l m = record {
 abbrev pub drawn_effect : (ℕ → Bool) → FiniteModel → PlainTarget → (ℕ → ℕ) → Fraction
 drawn_effect l m t s = probability m (set_before l (has t.x)) (set_before l (has t.y)) (set_before l (has t.given)) s
 
--- The model's weights of events of the vertices that are used, observed ones in their new numbers, are those of w, whose total is `all`, up to one factor.
-pub record IsMatchedAsDrawn (l : ℕ → Bool) (used : ℕ → Bool) (w : Weights) (all : ℕ) (m : FiniteModel) : Type 0 where
-  pub vertices : w.vertices ≡ (drawn_weights l m).vertices
-  pub sizes : (k : ℕ) → k < w.vertices → used k ≡ true → w.size k ≡ (drawn_weights l m).size k
-  pub some : 1 ≤ all
-  pub weights : (a : ℕ → Bool) → ((k : ℕ) → a k ≡ true → used k ≡ true) → (s : ℕ → ℕ) → IsAssignment (drawn_weights l m).vertices (drawn_weights l m).size s
-      → (drawn_weights l m).weight (λ k. false) a s * all ≡ w.weight (λ k. false) a s * total m
+-- the model's observed weights, the vertices in their new numbers, are those of w, whose total is `all`, up to one factor
+abbrev pub IsMatchedAsDrawn : (l used : ℕ → Bool) → Weights → ℕ → FiniteModel → Type 0
+IsMatchedAsDrawn l used w all m = AreProportional used w all (drawn_weights l m) (total m)

@@ -121,14 +121,14 @@ where_stopped g o _ _ small big (StopsAt.after {k = k} {cs = cs} {ds = ds} n f r
 
 -- where the procedure stops, its two sets with the roots of the smaller one are a hedge for the effect of x on y
 pub stop_is_hedge : StopIsHedge
-stop_is_hedge g ok x y small big roots tgt i r = let u = i.stop in let q = where_stopped g i.order 0 u.districts small big u.stops in
+stop_is_hedge g ok x y small big roots tgt i r = let u = i.stop.split in let q = where_stopped g i.order 0 u.districts small big i.stop.stops in
     hedge g ok i.order (order_of g i.order i.is_order) x y tgt u.d u.is_d small
     (part_among g u.d small u.districts (are_parts g ok u.d 0 i.order u.districts u.are_districts) q.among)
     (home_of g u.d 0 i.order u.districts small u.are_districts q.among) q.a big q.stops roots r
 
 -- what stops meets x
 stop_meets : (g : MixedGraph) → IsMixedGraph g → (x y small big : ℕ) → IsTarget g x y → IsUnidentified g x y small big → Meets (has big) (has x)
-stop_meets g ok x y small big tgt i = let u = i.stop in let q = where_stopped g i.order 0 u.districts small big u.stops in
+stop_meets g ok x y small big tgt i = let u = i.stop.split in let q = where_stopped g i.order 0 u.districts small big i.stop.stops in
     meets g ok i.order (order_of g i.order i.is_order) x y tgt u.d u.is_d small
     (part_among g u.d small u.districts (are_parts g ok u.d 0 i.order u.districts u.are_districts) q.among)
     (home_of g u.d 0 i.order u.districts small u.are_districts q.among) q.a big q.stops

@@ -125,5 +125,5 @@ product_flat (tree e (tree f fs)) h = flat_flat (tree e (tree f fs)) h
 -- main is at most 7 nodes deep, a definition at most 5
 pub tree_flat : (g : MixedGraph) (o : List ℕ) (x y : ℕ) (f : PlainFormula) → IsComposed g o x y f → (are_defs_within 5 f.defs ≡ true)
     × (is_tree_within 7 f.main ≡ true)
-tree_flat g o x y f t = let h = districts_flat g o 0 t.districts f.defs t.factors t.are_factored in
-    (h.0, rw t.main (sum_flat 6 (minus t.d y) (product_of t.factors) (product_flat t.factors h.1)))
+tree_flat g o x y f t = let h = districts_flat g o 0 t.split.districts f.defs t.factors t.are_factored in
+    (h.0, rw t.main (sum_flat 6 (minus t.split.d y) (product_of t.factors) (product_flat t.factors h.1)))

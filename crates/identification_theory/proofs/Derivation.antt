@@ -84,31 +84,32 @@ module _ (g : MixedGraph) (is_graph : IsMixedGraph g) (o : List ℕ) (order : Is
   -- the composed formula has a derivation by the same order, and it is accepted
   pub procedure : Derived
   procedure = record {
-    derivation = record { lemmas = w.lemmas; main = Plan.Then (main_steps g.vertices x y made.d rest) };
+    derivation = record { lemmas = w.lemmas; main = Plan.Then (main_steps g.vertices x y made.split.d rest) };
     by = record { composed = made; lists = w.lists; are = w.are; main = refl };
     accepted = record {
       lemmas_deep = w.lemmas_deep;
-      main_deep = main_deep g is_graph o order x y tgt made.d made.is_d rest
-          (districts_deep g is_graph o order made.d low tgt.some (y_in g is_graph o order x y tgt made.d made.is_d tgt.some tgt.some_in)
-          made.districts w.lists made.factors w.deep);
+      main_deep = main_deep g is_graph o order x y tgt made.split.d made.split.is_d rest
+          (districts_deep g is_graph o order made.split.d low tgt.some (y_in g is_graph o order x y tgt made.split.d made.split.is_d tgt.some tgt.some_in)
+          made.split.districts w.lists made.factors w.deep);
       accepted = record {
         sets = w.sets;
         define = w.define [] refl;
-        main = subst (λ z. MakesAll g (sets_of w.lemmas) (main_steps g.vertices x y made.d rest) (prob y x 0) z) (sym made.main)
-            (main_made g is_graph o order x y tgt made.d made.is_d (sets_of w.lemmas) rest (product_of made.factors)
-            (districts_made g is_graph o order made.d low tgt.some (y_in g is_graph o order x y tgt made.d made.is_d tgt.some tgt.some_in) (sets_of w.lemmas)
-            made.districts w.lists made.factors made.are_districts (w.made (sets_of w.lemmas) (all_cited [] w.lemmas 0 refl))));
+        main = subst (λ z. MakesAll g (sets_of w.lemmas) (main_steps g.vertices x y made.split.d rest) (prob y x 0) z) (sym made.main)
+            (main_made g is_graph o order x y tgt made.split.d made.split.is_d (sets_of w.lemmas) rest (product_of made.factors)
+            (districts_made g is_graph o order made.split.d low tgt.some (y_in g is_graph o order x y tgt made.split.d made.split.is_d tgt.some tgt.some_in)
+            (sets_of w.lemmas) made.split.districts w.lists made.factors made.split.are_districts (w.made (sets_of w.lemmas) (all_cited [] w.lemmas 0 refl))));
         listed = tree_free g o x y f made;
       };
     };
   }
     where
-      low : (u : ℕ) → has made.d u ≡ true → u < g.vertices
-      low = d_low g is_graph o order x y tgt made.d made.is_d
+      low : (u : ℕ) → has made.split.d u ≡ true → u < g.vertices
+      low = d_low g is_graph o order x y tgt made.split.d made.split.is_d
 
-      w : Whole g is_graph o order 0 made.districts f.defs made.factors
-      w = whole g is_graph o order made.d 0 made.districts f.defs made.factors low (are_parts g is_graph made.d 0 o made.districts made.are_districts)
+      w : Whole g is_graph o order 0 made.split.districts f.defs made.factors
+      w = whole g is_graph o order made.split.d 0 made.split.districts f.defs made.factors low
+          (are_parts g is_graph made.split.d 0 o made.split.districts made.split.are_districts)
           made.are_factored
 
       rest : Plans
-      rest = district_steps o made.d made.districts w.lists made.factors
+      rest = district_steps o made.split.d made.split.districts w.lists made.factors

@@ -221,24 +221,27 @@ module _ (g : MixedGraph) (is_graph : IsMixedGraph g) (o : List ℕ) (order : Is
 
 module _ (g : MixedGraph) (is_graph : IsMixedGraph g) (o : List ℕ) (order : IsOrderFrom g 0 o) (x y : ℕ) (tgt : IsTarget g x y) (f : PlainFormula)
     (made : IsComposed g o x y f) where
-  some_in : has made.d tgt.some ≡ true
-  some_in = made.is_d.complete tgt.some (record { vertex = tgt.y_low tgt.some tgt.some_in; path = []; end = tgt.some; leads = refl; inside = tgt.some_in })
+  some_in : has made.split.d tgt.some ≡ true
+  some_in = made.split.is_d.complete tgt.some
+      (record { vertex = tgt.y_low tgt.some tgt.some_in; path = []; end = tgt.some; leads = refl; inside = tgt.some_in })
 
   -- the composed formula has its form
   pub composed_formed : IsFormedFormula g.vertices f
-  composed_formed = let h = districts_formed g is_graph o order made.d 0 made.districts f.defs made.factors
-      (d_low g is_graph o order x y tgt made.d made.is_d) (are_parts g is_graph made.d 0 o made.districts made.are_districts) made.are_factored in (
+  composed_formed = let h = districts_formed g is_graph o order made.split.d 0 made.split.districts f.defs made.factors
+      (d_low g is_graph o order x y tgt made.split.d made.split.is_d)
+      (are_parts g is_graph made.split.d 0 o made.split.districts made.split.are_districts) made.are_factored in (
         h.0,
-        rw made.main (sum_formed g is_graph o order (minus made.d y) (length f.defs) (product_of made.factors)
-            (λ u e. (d_low g is_graph o order x y tgt made.d made.is_d) u (and_l (has made.d u) (not (has y u)) (rw (has-minus made.d y u) at e)))
+        rw made.main (sum_formed g is_graph o order (minus made.split.d y) (length f.defs) (product_of made.factors)
+            (λ u e. (d_low g is_graph o order x y tgt made.split.d made.split.is_d) u
+            (and_l (has made.split.d u) (not (has y u)) (rw (has-minus made.split.d y u) at e)))
             (product_formed g is_graph o order (length f.defs) made.factors some_factor
             (formed_more_each g.vertices (0 + length f.defs) (length f.defs) made.factors (omega arith) h.1))),
       )
     where
       some_factor : made.factors ≡ no_trees → ⊥
-      some_factor q = absurd (let c : count made.districts tgt.some ≡ 1 =
-          once g is_graph made.d o made.districts made.are_districts tgt.some some_in
-          (in_list g 0 tgt.some o order ((d_low g is_graph o order x y tgt made.d made.is_d) tgt.some some_in) (has-zero tgt.some)) in
-          let e : made.districts ≡ [] = no_districts g is_graph o order 0 made.districts f.defs
-          (subst (AreFactored g o 0 made.districts f.defs) q made.are_factored) in
+      some_factor q = absurd (let c : count made.split.districts tgt.some ≡ 1 =
+          once g is_graph made.split.d o made.split.districts made.split.are_districts tgt.some some_in
+          (in_list g 0 tgt.some o order ((d_low g is_graph o order x y tgt made.split.d made.split.is_d) tgt.some some_in) (has-zero tgt.some)) in
+          let e : made.split.districts ≡ [] = no_districts g is_graph o order 0 made.split.districts f.defs
+          (subst (AreFactored g o 0 made.split.districts f.defs) q made.are_factored) in
           let z : 0 ≡ 1 = rw e at c in omega (arith, z))

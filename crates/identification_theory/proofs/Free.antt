@@ -92,5 +92,6 @@ module _ (ok : List ℕ) where
   free_product (tree e (tree f fs)) h = free_flat (tree e (tree f fs)) h
 
 pub tree_free : (g : MixedGraph) (o : List ℕ) (x y : ℕ) (f : PlainFormula) → IsComposed g o x y f → is_do_free f ≡ true
-tree_free g o x y f t = let h = free_all [] g o 0 t.districts f.defs t.factors t.are_factored in
-    both_true (all_under [] f.defs) (is_under [] f.main) h.0 (rw t.main (free_sum [] (minus t.d y) (product_of t.factors) (free_product [] t.factors h.1)))
+tree_free g o x y f t = let h = free_all [] g o 0 t.split.districts f.defs t.factors t.are_factored in
+    both_true (all_under [] f.defs) (is_under [] f.main) h.0
+    (rw t.main (free_sum [] (minus t.split.d y) (product_of t.factors) (free_product [] t.factors h.1)))

@@ -123,15 +123,16 @@ module _ (g : MixedGraph) (is_graph : IsMixedGraph g) (o : List ℕ) (order : Is
 
 module _ (g : MixedGraph) (is_graph : IsMixedGraph g) (o : List ℕ) (order : IsOrderFrom g 0 o) (x y : ℕ) (z : ℕ → Type 0) (tgt : IsTarget g x y)
     (y_in : (u : ℕ) → has y u ≡ true → z u) (closed : (p u : ℕ) → g.arrow p u ≡ true → z u → z p) (f : PlainFormula) (made : IsComposed g o x y f) where
-  d_in : (u : ℕ) → has made.d u ≡ true → z u
+  d_in : (u : ℕ) → has made.split.d u ≡ true → z u
   d_in u e = closed_above (induced g (has (minus (all g.vertices) x))) (λ w. z w) (has y)
-      (λ p w a i. closed p w (and_l (g.arrow p w) (has (minus (all g.vertices) x) p && has (minus (all g.vertices) x) w) a) i) y_in u (made.is_d.sound u e)
+      (λ p w a i. closed p w (and_l (g.arrow p w) (has (minus (all g.vertices) x) p && has (minus (all g.vertices) x) w) a) i) y_in u
+      (made.split.is_d.sound u e)
 
-  d_low : (u : ℕ) → has made.d u ≡ true → u < g.vertices
+  d_low : (u : ℕ) → has made.split.d u ≡ true → u < g.vertices
   d_low u e = go u r.path r.leads
     where
       r : IsAncestor (induced g (has (minus (all g.vertices) x))) (has y) u
-      r = made.is_d.sound u e
+      r = made.split.is_d.sound u e
 
       go : (u : ℕ) (xs : List ℕ) → IsDirectedPath (induced g (has (minus (all g.vertices) x))) u xs r.end → u < g.vertices
       go u [] p = tgt.y_low u (rw p r.inside)
@@ -139,14 +140,14 @@ module _ (g : MixedGraph) (is_graph : IsMixedGraph g) (o : List ℕ) (order : Is
 
   -- the formula names only members of a set that holds y and its members' parents
   pub composed_names : FormulaNamesOnly z f
-  composed_names = let h = names_all g is_graph o order z made.d 0 made.districts f.defs made.factors d_low up
-      (are_parts g is_graph made.d 0 o made.districts made.are_districts) made.are_factored in (
+  composed_names = let h = names_all g is_graph o order z made.split.d 0 made.split.districts f.defs made.factors d_low up
+      (are_parts g is_graph made.split.d 0 o made.split.districts made.split.are_districts) made.are_factored in (
         h.0,
-        rw made.main (sum_in g is_graph o order z (minus made.d y) (product_of made.factors) (less g is_graph o order z made.d y d_in)
+        rw made.main (sum_in g is_graph o order z (minus made.split.d y) (product_of made.factors) (less g is_graph o order z made.split.d y d_in)
             (product_in g is_graph o order z made.factors h.1)),
       )
     where
-      up : (c a : ℕ) → ((u : ℕ) → has c u ≡ true → has made.d u ≡ true) → AreAncestorsIn g (all g.vertices) c a → AreAll z a
+      up : (c a : ℕ) → ((u : ℕ) → has c u ≡ true → has made.split.d u ≡ true) → AreAncestorsIn g (all g.vertices) c a → AreAll z a
       up c a within n u e = closed_above (induced g (has (all g.vertices))) (λ w. z w) (has c)
           (λ p w b i. closed p w (and_l (g.arrow p w) (has (all g.vertices) p && has (all g.vertices) w) b) i) (λ w i. d_in w (within w i)) u (n.sound u e)
 

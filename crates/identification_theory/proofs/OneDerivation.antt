@@ -78,14 +78,14 @@ module _ (g : MixedGraph) (o : List ℕ) where
       p = parts_one g o x y f h s.composed t.composed
 
       same : SameAll d.lemmas s.lists e.lemmas t.lists
-      same = all_one 0 s.composed.districts d.lemmas e.lemmas s.lists t.lists s.are
+      same = all_one 0 s.composed.split.districts d.lemmas e.lemmas s.lists t.lists s.are
           (subst (λ z. AreAllSteps g o 0 z e.lemmas t.lists) (sym p.districts_same) t.are)
 
-      mains : main_steps g.vertices x y s.composed.d (district_steps o s.composed.d s.composed.districts s.lists s.composed.factors)
-          ≡ main_steps g.vertices x y t.composed.d (district_steps o t.composed.d t.composed.districts t.lists t.composed.factors)
+      mains : main_steps g.vertices x y s.composed.split.d (district_steps o s.composed.split.d s.composed.split.districts s.lists s.composed.factors)
+          ≡ main_steps g.vertices x y t.composed.split.d (district_steps o t.composed.split.d t.composed.split.districts t.lists t.composed.factors)
       mains = ap₂ (λ a (w : Plans). main_steps g.vertices x y a w) p.d_same
           (ap₂ (λ a (q : List ℕ). district_steps o a q s.lists s.composed.factors) p.d_same p.districts_same
-          ∙ ap₂ (λ (u : Lists) w. district_steps o t.composed.d t.composed.districts u w) same.lists p.factors_same)
+          ∙ ap₂ (λ (u : Lists) w. district_steps o t.composed.split.d t.composed.split.districts u w) same.lists p.factors_same)
 
       derivation_same : (d e : PlainDerivation) → d.lemmas ≡ e.lemmas → d.main ≡ e.main → d ≡ e
       derivation_same d e p q = ap₂ (λ a b. record { lemmas = a; main = b }) p q

@@ -6,7 +6,7 @@ use Rattle.identification_theory.proofs.Bools.{clash}
 use Rattle.identification_theory.specs.Procedure.IsFactor.{whole, summed, further}
 use Rattle.identification_theory.specs.Procedure.IsStopped.{here, later}
 use Rattle.identification_theory.specs.Procedure.{AreAncestorsIn, AreFactored, AreFactors, IsBody, IsComposed, IsFactor, IsStopped, IsUnidentifiedBy}
-use Rattle.identification_theory.specs.Procedure.{Source, StopsAt, conditional, product_of, sum_if}
+use Rattle.identification_theory.specs.Procedure.{Source, Split, StopsAt, conditional, product_of, sum_if}
 use Rattle.mixed_graph.proofs.Masks.{same_from_has}
 use Rattle.mixed_graph.specs.Bits.{has}
 use Rattle.mixed_graph.specs.Graphs.{MixedGraph}
@@ -85,7 +85,7 @@ module _ (g : MixedGraph) (o : List ℕ) where
       stopped_one c a2 big big2 r (subst (λ z. IsStopped g c z big2) (one_set a3 a2 _ n2 (subst (λ x. AreAncestorsIn g x c a2) (one_set t t2 _ d d2) n)) r2)
 
   -- an order gives one list of districts
-  pub districts_one : (d seen : ℕ) (o2 ts us : List ℕ) → AreDistricts g d seen o2 ts → AreDistricts g d seen o2 us → ts ≡ us
+  districts_one : (d seen : ℕ) (o2 ts us : List ℕ) → AreDistricts g d seen o2 ts → AreDistricts g d seen o2 us → ts ≡ us
   districts_one d seen _ _ _ AreDistricts.none AreDistricts.none = refl
   districts_one d seen _ _ _ (AreDistricts.skip {o = o2} {ts = ts} q r) (AreDistricts.skip {ts = us} q2 r2) = districts_one d seen o2 ts us r r2
   districts_one d seen _ _ _ (AreDistricts.skip {v = v} q r) (AreDistricts.take i n k r2) = absurd (pick q)
@@ -101,6 +101,12 @@ module _ (g : MixedGraph) (o : List ℕ) where
   districts_one d seen _ _ _ (AreDistricts.take {v = v} {t = t} {o = o2} {ts = ts} i n k r) (AreDistricts.take {t = u} {ts = us} i2 n2 k2 r2) = let s : t
       ≡ u = one_set t u _ k k2 in
       ap₂ (λ x y. x ∷ y) s (districts_one d (union seen t) o2 ts us r (subst (λ z. AreDistricts g d (union seen z) o2 us) (sym s) r2))
+
+  -- by one order what leads to y is split in one way
+  pub split_one : (x y : ℕ) (s t : Split g o x y) → (s.d ≡ t.d) × (s.districts ≡ t.districts)
+  split_one x y s t =
+      let e = one_set s.d t.d _ s.is_d t.is_d in
+      (e, districts_one s.d 0 o s.districts t.districts s.are_districts (subst (λ z. AreDistricts g z 0 o t.districts) (sym e) t.are_districts))
 
   pub record SameAll (ds : List Tree) (fs : Trees) (es : List Tree) (gs : Trees) : Type 0 where
     pub defs : ds ≡ es
@@ -125,23 +131,20 @@ module _ (g : MixedGraph) (o : List ℕ) where
 
   -- two composed formulas have the same parts
   pub record SameParts (x y : ℕ) (f h : PlainFormula) (t : IsComposed g o x y f) (u : IsComposed g o x y h) : Type 0 where
-    pub d_same : t.d ≡ u.d
-    pub districts_same : t.districts ≡ u.districts
+    pub d_same : t.split.d ≡ u.split.d
+    pub districts_same : t.split.districts ≡ u.split.districts
     pub defs_same : f.defs ≡ h.defs
     pub factors_same : t.factors ≡ u.factors
 
   pub parts_one : (x y : ℕ) (f h : PlainFormula) (t : IsComposed g o x y f) (u : IsComposed g o x y h) → SameParts x y f h t u
-  parts_one x y f h t u = record { d_same = d_same; districts_same = ts_same; defs_same = same.defs; factors_same = same.factors }
+  parts_one x y f h t u = record { d_same = split.0; districts_same = split.1; defs_same = same.defs; factors_same = same.factors }
     where
-      d_same : t.d ≡ u.d
-      d_same = one_set t.d u.d _ t.is_d u.is_d
-
-      ts_same : t.districts ≡ u.districts
-      ts_same = districts_one t.d 0 o t.districts u.districts t.are_districts (subst (λ z. AreDistricts g z 0 o u.districts) (sym d_same) u.are_districts)
+      split : (t.split.d ≡ u.split.d) × (t.split.districts ≡ u.split.districts)
+      split = split_one x y t.split u.split
 
       same : SameAll f.defs t.factors h.defs u.factors
-      same = factored_one 0 t.districts f.defs h.defs t.factors u.factors t.are_factored
-          (subst (λ z. AreFactored g o 0 z h.defs u.factors) (sym ts_same) u.are_factored)
+      same = factored_one 0 t.split.districts f.defs h.defs t.factors u.factors t.are_factored
+          (subst (λ z. AreFactored g o 0 z h.defs u.factors) (sym split.1) u.are_factored)
 
   pub tree_one : (x y : ℕ) (f h : PlainFormula) → IsComposed g o x y f → IsComposed g o x y h → f ≡ h
   tree_one x y f h t u = let s = parts_one x y f h t u in
@@ -151,9 +154,8 @@ module _ (g : MixedGraph) (o : List ℕ) where
       formula_same f h p q = ap₂ (λ a b. record { defs = a; main = b }) p q
 
   pub tree_or_stop : (x y small big : ℕ) (f : PlainFormula) → IsComposed g o x y f → IsUnidentifiedBy g o x y small big → ⊥
-  tree_or_stop x y small big f t u = factored_or_stopped 0 t.districts f.defs t.factors small big t.are_factored
-      (subst (λ z. StopsAt g o 0 z small big) (sym (districts_one t.d 0 o t.districts u.districts t.are_districts
-      (subst (λ z. AreDistricts g z 0 o u.districts) (sym (one_set t.d u.d _ t.is_d u.is_d)) u.are_districts))) u.stops)
+  tree_or_stop x y small big f t u = factored_or_stopped 0 t.split.districts f.defs t.factors small big t.are_factored
+      (subst (λ z. StopsAt g o 0 z small big) (sym (split_one x y t.split u.split).1) u.stops)
 
   stops_one : (k : ℕ) (cs : List ℕ) (small big small2 big2 : ℕ) → StopsAt g o k cs small big → StopsAt g o k cs small2 big2 → (small ≡ small2) × (big ≡ big2)
   stops_one k _ _ big _ big2 (StopsAt.first {c = c} {a = a} n s) (StopsAt.first {a = b} n2 s2) =
@@ -168,6 +170,5 @@ module _ (g : MixedGraph) (o : List ℕ) where
       stops_one (k + length ds) cs small big small2 big2 r (subst (λ z. StopsAt g o (k + length z) cs small2 big2) (sym same.defs) r2)
 
   pub stop_one : (x y small big small2 big2 : ℕ) → IsUnidentifiedBy g o x y small big → IsUnidentifiedBy g o x y small2 big2 → (small ≡ small2) × (big ≡ big2)
-  stop_one x y small big small2 big2 t u = stops_one 0 t.districts small big small2 big2 t.stops
-      (subst (λ z. StopsAt g o 0 z small2 big2) (sym (districts_one t.d 0 o t.districts u.districts t.are_districts
-      (subst (λ z. AreDistricts g z 0 o u.districts) (sym (one_set t.d u.d _ t.is_d u.is_d)) u.are_districts))) u.stops)
+  stop_one x y small big small2 big2 t u = stops_one 0 t.split.districts small big small2 big2 t.stops
+      (subst (λ z. StopsAt g o 0 z small2 big2) (sym (split_one x y t.split u.split).1) u.stops)

@@ -190,8 +190,9 @@ main_steps n x y d rest = with_set (minus (minus (all n) x) d) (Plan.Make (Move.
 pub record IsComposedAndDerived (g : MixedGraph) (order : List ℕ) (x y : ℕ) (f : PlainFormula) (d : PlainDerivation) : Type 0 where
   pub composed : IsComposed g order x y f
   pub lists : Lists
-  pub are : AreAllSteps g order 0 composed.districts d.lemmas lists
-  pub main : d.main ≡ Plan.Then (main_steps g.vertices x y composed.d (district_steps order composed.d composed.districts lists composed.factors))
+  pub are : AreAllSteps g order 0 composed.split.districts d.lemmas lists
+  pub main : d.main
+      ≡ Plan.Then (main_steps g.vertices x y composed.split.d (district_steps order composed.split.d composed.split.districts lists composed.factors))
 
 -- by this order P(y | do(x)) has that formula with that derivation: no step where x is empty
 abbrev pub IsDerivedBy : MixedGraph → List ℕ → (x y : ℕ) → PlainFormula → PlainDerivation → Type 0

@@ -87,15 +87,19 @@ product_of no_trees = product no_trees
 product_of (tree e no_trees) = e
 product_of (tree e (tree f fs)) = product (flat (tree e (tree f fs)))
 
--- The formula: with d the ancestors of y once x is left out, the product of the factors of the districts of d, summed down to y (lines 3 and 4).
-pub record IsComposed (g : MixedGraph) (order : List ℕ) (x y : ℕ) (f : PlainFormula) : Type 0 where
+-- what leads to y is split: d, the ancestors of y once x is left out, and its districts in the order
+pub record Split (g : MixedGraph) (order : List ℕ) (x y : ℕ) : Type 0 where
   pub d : ℕ
   pub is_d : AreAncestorsIn g (minus (all g.vertices) x) y d
   pub districts : List ℕ
   pub are_districts : AreDistricts g d 0 order districts
+
+-- The formula: the product of the factors of the districts of d, summed down to y (lines 3 and 4).
+pub record IsComposed (g : MixedGraph) (order : List ℕ) (x y : ℕ) (f : PlainFormula) : Type 0 where
+  pub split : Split g order x y
   pub factors : Trees
-  pub are_factored : AreFactored g order 0 districts f.defs factors
-  pub main : f.main ≡ sum_if (minus d y) (product_of factors)
+  pub are_factored : AreFactored g order 0 split.districts f.defs factors
+  pub main : f.main ≡ sum_if (minus split.d y) (product_of factors)
 
 -- the first district, in the order, whose factor stops, and where
 pub data StopsAt (g : MixedGraph) (order : List ℕ) : (k : ℕ) → List ℕ → (small big : ℕ) → Type 0 where
@@ -109,11 +113,8 @@ IsIdentifiedBy g order x y f = ((x ≡ 0) × (f ≡ record { defs = []; main = p
 
 -- by this order the procedure stops at the district `small` of d, inside `big`
 pub record IsUnidentifiedBy (g : MixedGraph) (order : List ℕ) (x y small big : ℕ) : Type 0 where
-  pub d : ℕ
-  pub is_d : AreAncestorsIn g (minus (all g.vertices) x) y d
-  pub districts : List ℕ
-  pub are_districts : AreDistricts g d 0 order districts
-  pub stops : StopsAt g order 0 districts small big
+  pub split : Split g order x y
+  pub stops : StopsAt g order 0 split.districts small big
 
 -- the formula that the procedure answers for P(y | do(x)), in the graph's order
 pub record IsIdentified (g : MixedGraph) (x y : ℕ) (f : PlainFormula) : Type 0 where

@@ -18,10 +18,7 @@ pub with_steps : (g : MixedGraph) (order ts : List ℕ) (x y d : ℕ) (made : Fa
     → (f : PlainFormula) (t : PlainDerivation) → AreAssembled g.vertices order ts x y d made f t → IsComposedAndDerived g order x y f t
 with_steps g order ts x y d made is_d districts of f t a = record {
   composed = record {
-    d = d;
-    is_d = is_d;
-    districts = ts;
-    are_districts = districts;
+    split = record { d = d; is_d = is_d; districts = ts; are_districts = districts };
     factors = views made.values.items;
     are_factored = subst (λ z. AreFactored g order 0 ts z (views made.values.items)) (sym a.defs) of.formulas;
     main = a.main;

@@ -18,7 +18,7 @@ use Rattle.do_derivation.proofs.Accepted.{accepted_is_effect}
 use Rattle.identification_theory.proofs.Bools.{both_true, clash, not_i}
 use Rattle.identification_theory.proofs.Sets.{below, apart, not_empty}
 use Rattle.identification_theory.specs.Derivations.{IsDerived}
-use Rattle.identification_theory.specs.Procedure.{AreAncestorsIn, IsTarget, IsUnidentified, StopsAt}
+use Rattle.identification_theory.specs.Procedure.{AreAncestorsIn, IsTarget, IsUnidentified, Split, StopsAt}
 use Rattle.hedge.specs.Hedges.{IsHedge}
 use Rattle.hedge.specs.declared.hedge.Hedge.{Hedge as HedgeData}
 use Rattle.hedge.proofs.Shaping.{sets_form_hedge}
@@ -93,7 +93,8 @@ shallow_formula g x y f d i = let k = formula_is_shallow g x y f (derived_is_ide
 pub unidentified : (g : MixedGraph) (order ts : List ℕ) (x y d small big : ℕ) → IsOrder g order (length order)
     → AreAncestorsIn g (minus (all g.vertices) x) y d → AreDistricts g d 0 order ts → StopsAt g order 0 ts small big → IsUnidentified g x y small big
 unidentified g order ts x y d small big is_order is_d districts stops =
-    record { order = order; is_order = is_order; stop = record { d = d; is_d = is_d; districts = ts; are_districts = districts; stops = stops } }
+    let split : Split g order x y = record { d = d; is_d = is_d; districts = ts; are_districts = districts } in
+    record { order = order; is_order = is_order; stop = record { split = split; stops = stops } }
 
 -- the same of a hedge of these sets
 pub unidentified_at : (g : MixedGraph) (x y : ℕ) (small big : VSet) (h : HedgeData) → h.small ≡ small → h.big ≡ big → IsUnidentified g x y small.bits big.bits

@@ -2,4 +2,5 @@ pub mod Lists
 pub mod Outcomes
 pub mod Exclusive
 pub mod Lawful
+pub mod OneText
 mod Shallow

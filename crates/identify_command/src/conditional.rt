@@ -13,7 +13,6 @@ use crate::form::Form;
 use crate::texts::{formula_text, joint_text};
 use conditional_id::{Conditional, identify_given};
 use dag_reader::ReadGraph;
-use effect_answers::certificates::sized;
 use latent_projection::Observed;
 use prob_expr::Target;
 use replies::{AskedLists, Outcome, Reply, asked_lists, refuse};
@@ -84,7 +83,7 @@ fn decide_given(
             pair,
             ..
         } => {
-            sized(&hedge);
+            hedge.has_entries();
             let sets = EffectSets { x, y };
             Ok(Reply {
                 outcome: Outcome::No,

@@ -12,7 +12,6 @@ use crate::conditional::conditional_reply;
 use crate::form::Form;
 use crate::texts::{formula_text, hedge_text, target_of};
 use dag_reader::ReadGraph;
-use effect_answers::certificates::sized;
 use effect_answers::{Asked, asked_effect};
 use identify::{Answer, identify};
 use latent_projection::Observed;
@@ -91,7 +90,7 @@ fn decide(alloc: Global, seen: &Observed, sets: EffectSets, form: Form) -> Resul
             })
         }
         Answer::Hedge(hedge, pair) => {
-            sized(&hedge);
+            hedge.has_entries();
             Ok(Reply {
                 outcome: Outcome::No,
                 text: hedge_text(alloc, &seen.names, sets, hedge, &pair, form.writing)?,

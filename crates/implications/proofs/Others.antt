@@ -42,19 +42,24 @@ others_from g a b above is v = (forth, back)
         (not_from_false (pair_of a b v) (or_from (eqb v a) (eqb v b) (ne_eqb v a o.not_a) (ne_eqb v b o.not_b)))
 
 -- the ancestors of a pair without the pair
-pub others_are : (g : MixedGraph) (a b : ℕ) (pair above others : ℕ → Bool) → pair ≡ pair_of a b → ((v : ℕ) → IsTrue (above v) ↔ IsAncestor g pair v)
+pub others_are : (g : MixedGraph) (a b : ℕ) (pair above others : ℕ → Bool) → pair ≡ pair_of a b → ((v : ℕ) → IsTrue (above v) ↔ IsAncestor g (pair_of a b) v)
     → ((v : ℕ) → others v ≡ (above v && not (pair v))) → AreOtherAncestors g a b others
 others_are g a b pair above others e is o =
-    subst (λ f. AreOtherAncestors g a b f) (sym (fun_ext (λ v. o v ∙ ap (λ f. above v && not (f v)) e)))
-    (others_from g a b above (subst (λ f. (v : ℕ) → IsTrue (above v) ↔ IsAncestor g f v) e is))
+    subst (λ f. AreOtherAncestors g a b f) (sym (fun_ext (λ v. o v ∙ ap (λ f. above v && not (f v)) e))) (others_from g a b above is)
 
 pub others_within : (g : MixedGraph) (a b : ℕ) (z : ℕ → Bool) → AreOtherAncestors g a b z → Within g.vertices z
 others_within g a b z is v h = ((is v).0 h).above.vertex
 
+pub others_without_first : (g : MixedGraph) (a b : ℕ) (z : ℕ → Bool) → AreOtherAncestors g a b z → z a ≡ false
+others_without_first g a b z is = false_from_ne_true (z a) (λ h. ((is a).0 h).not_a refl)
+
+pub others_without_last : (g : MixedGraph) (a b : ℕ) (z : ℕ → Bool) → AreOtherAncestors g a b z → z b ≡ false
+others_without_last g a b z is = false_from_ne_true (z b) (λ h. ((is b).0 h).not_b refl)
+
 pub others_separating : (g : MixedGraph) (a b : ℕ) (z : ℕ → Bool) → AreOtherAncestors g a b z → IsSeparated g (only a) (only b) z → IsSeparatingSet g a b z
 others_separating g a b z is sep = record {
   within = others_within g a b z is;
-  without_a = false_from_ne_true (z a) (λ h. ((is a).0 h).not_a refl);
-  without_b = false_from_ne_true (z b) (λ h. ((is b).0 h).not_b refl);
+  without_a = others_without_first g a b z is;
+  without_b = others_without_last g a b z is;
   separates = sep;
 }

@@ -20,7 +20,7 @@ rest_other kept v u d = go (kept u) (eqb u v) (ne_eqb u v d)
     go false e s = refl
     go true true s = absurd (both_ways true s refl)
 
-rest_itself : (kept : ℕ → Bool) (v : ℕ) → rest_of kept v v ≡ false
+pub rest_itself : (kept : ℕ → Bool) (v : ℕ) → rest_of kept v v ≡ false
 rest_itself kept v = go (kept v) (eqb v v) (eq-eqb v v refl)
   where
     go : (k e : Bool) → e ≡ true → (k && not e) ≡ false

@@ -1,4 +1,5 @@
 pub mod Implications
 pub mod Laws
+pub mod Links
 pub mod Separable
 pub mod Steps

@@ -3,6 +3,7 @@
 //! `implications(alloc, &graph)` gives each such pair once, sorted, with one such set.
 #![tactic(auto)]
 
+mod links;
 mod pairs;
 mod sets;
 mod theory;

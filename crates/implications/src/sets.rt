@@ -1,67 +1,82 @@
 //! A separating set without members that it doesn't need.
 
-ghost use Rattle.std.specs.Prelude.{ℕ, ◌<◌, ◌||◌, IfSome, IfNone};
+ghost use Rattle.std.specs.Prelude.{◌≡◌, ℕ, ◌<◌, ◌||◌, ◌⊎◌, IfSome, IfNone};
 ghost use Rattle.std.specs.Bool.{OnTrue, OnFalse};
 ghost use Rattle.mixed_graph.specs.Bits.{has};
-ghost use Rattle.mixed_graph.specs.Sets.{Within};
 ghost use Rattle.mixed_graph.specs.Shown.{graph_of};
-ghost use Rattle.m_separation.specs.Walks.{HasOpenWalk, IsSeparated};
-ghost use Rattle.implications.specs.Separable.{only, IsSeparatingSet, IsSeparable, AreOtherAncestors, IsThinned, IsGivenSet};
+ghost use Rattle.implications.specs.Separable.{IsSeparable, IsThinned, IsGivenSet, IsSeparatingSet};
+ghost use Rattle.implications.specs.Links.{IsNextTo, AreAbove, IsCut};
 ghost use Rattle.implications.specs.Steps.{IsStep};
 
-use m_separation::separated;
+use crate::links::{grown, is_next_to, reached_by_links};
 use mixed_graph::{Graph, VSet};
 
-/// Whether a set separates two vertices.
-fn separates(g: &Graph, a: u8, b: u8, w: VSet) -> bool
-    requires a { a < g.now.n }
-    requires b { b < g.now.n }
-    requires w { Within g.now.n (has w.bits) }
-    ensures apart { OnTrue result (IsSeparated (graph_of g.now) (only a) (only b) (has w.bits)) }
-    ensures open { OnFalse result (HasOpenWalk (graph_of g.now) (only a) (only b) (has w.bits)) }
-{
-    separated(g, VSet::one(a), VSet::one(b), w)
+/// Two vertices, and their ancestors.
+#[derive(Clone, Copy)]
+pub struct Pair {
+    pub a: u8,
+    pub b: u8,
+    pub above: VSet,
 }
 
-/// The set without v, where v is a member and the rest still separates a and b; else the set.
-fn without(g: &Graph, a: u8, b: u8, kept: VSet, v: u8) -> VSet
-    requires a { a < g.now.n }
-    requires b { b < g.now.n }
-    requires v { v < 64 }
-    requires separates { IsSeparatingSet (graph_of g.now) a b (has kept.bits) }
-    ensures step { IsStep (graph_of g.now) a b v (has kept.bits) (has result.bits) }
-    ensures separates { IsSeparatingSet (graph_of g.now) a b (has result.bits) }
+/// A set that separates a pair, and what links reach from either vertex of it.
+#[derive(Clone, Copy)]
+pub struct Cut {
+    pub kept: VSet,
+    pub first: VSet,
+    pub second: VSet,
+}
+
+/// Whether a vertex is next to both sides.
+fn is_needed(g: &Graph, cut: Cut, v: u8) -> bool
+    requires { v < 64 }
+    ensures both { OnTrue result (IsNextTo (graph_of g.now) (has cut.first.bits) v × IsNextTo (graph_of g.now) (has cut.second.bits) v) }
+    ensures one { OnFalse result ((IsNextTo (graph_of g.now) (has cut.first.bits) v → ⊥) ⊎ (IsNextTo (graph_of g.now) (has cut.second.bits) v → ⊥)) }
 {
-    if !kept.has(v) {
-        return kept;
+    if is_next_to(g, cut.first, v) {
+        is_next_to(g, cut.second, v)
+    } else {
+        false
     }
-    let rest = kept.difference(VSet::one(v));
-    if separates(g, a, b, rest) { rest } else { kept }
+}
+
+/// The set without v, where v is a member and the rest still separates the pair; else the set.
+fn without(g: &Graph, pair: Pair, cut: Cut, v: u8) -> Cut
+    requires a { pair.a < g.now.n }
+    requires b { pair.b < g.now.n }
+    requires v { v < 64 }
+    requires above { AreAbove (graph_of g.now) pair.a pair.b (has pair.above.bits) }
+    requires cut { IsCut (graph_of g.now) pair cut }
+    ensures step { IsStep (graph_of g.now) pair.a pair.b v (has cut.kept.bits) (has result.kept.bits) }
+    ensures cut { IsCut (graph_of g.now) pair result }
+{
+    if !cut.kept.has(v) {
+        return cut;
+    }
+    if is_needed(g, cut, v) {
+        return cut;
+    }
+    Cut {
+        kept: cut.kept.difference(VSet::one(v)),
+        first: grown(g, pair.above, pair.a, cut.first, cut.kept, v),
+        second: grown(g, pair.above, pair.b, cut.second, cut.kept, v),
+    }
 }
 
 /// What stays of a separating set where each member, from the highest down, is dropped if the rest still separates.
-fn thinned(g: &Graph, a: u8, b: u8, all: VSet) -> VSet
-    requires a { a < g.now.n }
-    requires b { b < g.now.n }
-    requires separates { IsSeparatingSet (graph_of g.now) a b (has all.bits) }
-    ensures thinned { IsThinned (graph_of g.now) a b (has all.bits) (has result.bits) }
-    ensures separates { IsSeparatingSet (graph_of g.now) a b (has result.bits) }
+fn thinned(g: &Graph, pair: Pair, all: Cut) -> VSet
+    requires a { pair.a < g.now.n }
+    requires b { pair.b < g.now.n }
+    requires above { AreAbove (graph_of g.now) pair.a pair.b (has pair.above.bits) }
+    requires cut { IsCut (graph_of g.now) pair all }
+    ensures thinned { IsThinned (graph_of g.now) pair.a pair.b (has all.kept.bits) (has result.bits) }
+    ensures separates { IsSeparatingSet (graph_of g.now) pair.a pair.b (has result.bits) }
 {
-    let mut kept = all;
+    let mut cut = all;
     'down: for v in (0..64u8).rev() {
-        kept = without(g, a, b, kept, v);
+        cut = without(g, pair, cut, v);
     }
-    kept
-}
-
-/// The ancestors of two vertices other than these.
-fn other_ancestors(g: &Graph, a: u8, b: u8) -> VSet
-    requires a { a < g.now.n }
-    requires b { b < g.now.n }
-    ensures { AreOtherAncestors (graph_of g.now) a b (has result.bits) }
-{
-    let pair = VSet::one(a).union(VSet::one(b));
-    g.ancestors(pair).difference(pair)
+    cut.kept
 }
 
 /// The set that is given for two vertices, if some set separates them.
@@ -71,10 +86,19 @@ pub fn given_set(g: &Graph, a: u8, b: u8) -> Option<VSet>
     ensures given { IfSome result (λ w. IsGivenSet (graph_of g.now) a b (has w.bits)) }
     ensures none { IfNone result (IsSeparable (graph_of g.now) a b → ⊥) }
 {
-    let others = other_ancestors(g, a, b);
-    if separates(g, a, b, others) {
-        Some(thinned(g, a, b, others))
-    } else {
-        None
+    let ends = VSet::one(a).union(VSet::one(b));
+    let above = g.ancestors(ends);
+    let others = above.difference(ends);
+    let first = reached_by_links(g, others, VSet::one(a), above);
+    if first.has(b) {
+        return None;
     }
+    let second = reached_by_links(g, others, VSet::one(b), above);
+    let pair = Pair { a, b, above };
+    let all = Cut {
+        kept: others,
+        first,
+        second,
+    };
+    Some(thinned(g, pair, all))
 }

@@ -4,5 +4,7 @@ mod Using
 mod Measuring
 pub mod Outcomes
 mod OneList
+mod SameList
 pub mod Exclusive
 pub mod Lawful
+pub mod OneText

@@ -7,7 +7,8 @@ use Rattle.std.proofs.lemmas.Grind.{flat_map-append}
 use Rattle.count_rows.specs.Rows.{Table}
 use Rattle.implications.specs.declared.pairs.Implication.{Implication}
 use Rattle.implied_differences.specs.Differences.{IsLargest}
-use Rattle.implications_command.specs.Answers.{AreMeasured, IsZeroIfMatched}
+use Rattle.implied_differences.specs.Laws.{IsZeroIfMatched}
+use Rattle.implications_command.specs.Answers.{AreMeasured}
 use Rattle.implications_command.specs.Lines.{Measured, measured_lines}
 use Rattle.implications_command.specs.Pairs.{PlainPairs}
 use Rattle.implications_command.specs.Printing.{Appends}

@@ -47,7 +47,7 @@ module _ (g : MixedGraph) (a b : ℕ) (all kept also : ℕ → Bool) (n : ℕ) (
       same_truth (kept v) (also v) (kept_too g a b all kept also t u v above) (kept_too g a b all also kept u t v (λ w lt. sym (above w lt)))
 
 -- a pair has one set
-one_given : (g : MixedGraph) (a b : ℕ) (w z : ℕ → Bool) → IsGivenSet g a b w → IsGivenSet g a b z → (v : ℕ) → w v ≡ z v
+pub one_given : (g : MixedGraph) (a b : ℕ) (w z : ℕ → Bool) → IsGivenSet g a b w → IsGivenSet g a b z → (v : ℕ) → w v ≡ z v
 one_given g a b w z s t v =
     let others : t.others ≡ s.others = fun_ext (λ k. same_truth (t.others k) (s.others k) (λ e. (s.ancestors k).1 ((t.ancestors k).0 e))
     (λ e. (t.ancestors k).1 ((s.ancestors k).0 e))) in

@@ -1,8 +1,7 @@
 -- The answer of `implications`: the pairs of observed vertices that some set separates, and how far counts are from each.
-use Rattle.std.specs.Prelude.{ℕ, ◌≡◌, List, All, map, Option, Some, None, pos}
+use Rattle.std.specs.Prelude.{ℕ, ◌≡◌, List, All, map, Option, Some, None}
 use Rattle.std.specs.List.{flat_map}
 use Rattle.mixed_graph.specs.Graphs.{MixedGraph}
-use Rattle.finite_models.specs.Models.{FiniteModel}
 use Rattle.command_words.specs.Form.{Text}
 use Rattle.dag_reader.specs.declared.graph.ReadGraph.{ReadGraph}
 use Rattle.replies.specs.declared.outcome.Outcome.{Outcome}
@@ -13,9 +12,8 @@ use Rattle.count_rows.specs.Rows.{Table}
 use Rattle.count_answers.specs.Reads.{HoldsCounts, AreRefusedCounts}
 use Rattle.implications.specs.declared.pairs.Implication.{Implication}
 use Rattle.implications.specs.Separable.{IsSeparable, AreIndependentGivenSome}
-use Rattle.implied_differences.specs.declared.largest.Difference.{Difference}
 use Rattle.implied_differences.specs.Differences.{IsLargest}
-use Rattle.implied_differences.specs.Laws.{IsMatchedBy}
+use Rattle.implied_differences.specs.Laws.{IsZeroIfMatched}
 use Rattle.implications_command.specs.Pairs.{PlainPairs, ArePairsOf}
 use Rattle.implications_command.specs.Used.{used_in}
 use Rattle.implications_command.specs.Lines.{none_line, pair_lines, Measured, measured_lines}
@@ -53,10 +51,6 @@ FirstAnswer None g o text = PairsAnswer g o text
 FirstAnswer (Some counts) g o text = NoPairs g o text
 
 -- ---- over a table of counts
-
--- The difference is 0 wherever a model that fits the graph, positive or not, has the counts: its observed weights are those of the counts, up to one factor.
-abbrev pub IsZeroIfMatched : MixedGraph → Table → Difference → Type 0
-IsZeroIfMatched g t d = (m : FiniteModel) → IsMatchedBy g t m → d.value ≡ pos 0
 
 -- these pairs with their largest differences, each of which is 0 in a model that has the counts, and their lines
 pub record AreMeasured (names : List (List ℕ)) (g : MixedGraph) (t : Table) (list : List Implication) (text : List ℕ) : Type 0 where

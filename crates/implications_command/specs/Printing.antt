@@ -4,7 +4,7 @@ use Rattle.count_rows.specs.Rows.{Table}
 use Rattle.implications.specs.declared.pairs.Implication.{Implication}
 use Rattle.implied_differences.specs.declared.largest.Difference.{Difference}
 use Rattle.implied_differences.specs.Differences.{IsLargest}
-use Rattle.implications_command.specs.Answers.{IsZeroIfMatched}
+use Rattle.implied_differences.specs.Laws.{IsZeroIfMatched}
 use Rattle.implications_command.specs.Lines.{measured_lines}
 use Rattle.implications_command.specs.Pairs.{PlainPairs}
 

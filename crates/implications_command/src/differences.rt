@@ -45,6 +45,7 @@ pub fn difference_lines(
     requires used { counts.now.vertices ≡ members_below (has (used_in (pairs_view pairs.now).list)) 64 }
     ensures { IfOk result (λ v. ShowsDifferences (pairs_view pairs.now) counts.now v.items) }
 {
+    // The clause `table` of `used` is needed: each used vertex has a level, so each pair can be asked about.
     let _used = counts.used();
     let mut text = Vec::new(alloc);
     for i in &pairs.list {

@@ -23,9 +23,13 @@ MatchedDifferencesVanish = (g : MixedGraph) → IsMixedGraph g → (i : Implicat
     → ((v : ℕ) → IsTrue (whole_of i v) → IsTrue (is_used t v))
     → (m : FiniteModel) → IsMatchedBy g t m → (s : ℕ → ℕ) → IsAssignment m.vertices m.size s → difference t i s ≡ pos 0
 
--- so the difference is 0 wherever there is such a model of a graph with the implication
+-- the difference is 0 wherever a model that fits the graph, positive or not, has the counts: its observed weights are those of the counts, up to one factor
+abbrev pub IsZeroIfMatched : MixedGraph → Table → Difference → Type 0
+IsZeroIfMatched g t d = (m : FiniteModel) → IsMatchedBy g t m → d.value ≡ pos 0
+
+-- so it is in each graph that has the implication
 abbrev pub IsZeroWhereMatched : Table → Implication → Difference → Type 0
-IsZeroWhereMatched t i d = (g : MixedGraph) → IsMixedGraph g → IsImplication g i → (m : FiniteModel) → IsMatchedBy g t m → d.value ≡ pos 0
+IsZeroWhereMatched t i d = (g : MixedGraph) → IsMixedGraph g → IsImplication g i → IsZeroIfMatched g t d
 
 -- each difference is a number of 128 bits with a sign: from -2 ^ 127 up to 2 ^ 127 - 1
 abbrev pub DifferencesFit : Type 0

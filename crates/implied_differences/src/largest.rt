@@ -68,6 +68,7 @@ pub fn largest_difference(
     ensures largest { IfOk result (λ d. IsLargest c.now i.now d) }
     ensures matched { IfOk result (λ d. IsZeroWhereMatched c.now i.now d) }
 {
+    // The clause `table` of `used` is needed: used vertices are below 64, there are at most 2^20 cells, and counts come to at most 10^15.
     let _used = c.used();
     let given = Places::of(alloc, c, i.given)?;
     let layout = layout_of(alloc, c, i)?;

@@ -119,6 +119,7 @@ pub fn layout_of(alloc: Global, c: &Counts, i: &Implication) -> Result<Layout, A
     requires { IsReadable c.now i.now }
     ensures { IfOk result (λ l. IsLayoutOf c.now i.now l) }
 {
+    // The clause `table` of `used` is needed: used vertices are below 64, and there are at most 2^20 cells.
     let _used = c.used();
     let count = cell_count(alloc, c, i.given)?;
     let between = cell_count(alloc, c, between(i))?;

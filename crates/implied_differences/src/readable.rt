@@ -1,18 +1,11 @@
 //! Whether an implication can be asked about over a table.
 
-ghost use Rattle.std.specs.Prelude.{ℕ, ◌<◌, ◌^◌};
 ghost use Rattle.std.specs.Bool.{OnTrue, OnFalse};
 ghost use Rattle.implied_differences.specs.Differences.{IsReadable};
 
 use crate::sets::vertices_of;
 use count_table::Counts;
 use implications::Implication;
-use mixed_graph::VSet;
-
-/// A set is a mask of 64 bits.
-fn sized(set: VSet)
-    ensures { set.bits < 2 ^ 64 }
-{}
 
 /// Whether `largest_difference` may be asked for an implication over a table: a is below b, neither is given, and the
 /// table has levels of each vertex of the implication.
@@ -21,7 +14,6 @@ pub fn is_readable(c: &Counts, i: &Implication) -> bool
     ensures no { OnFalse result (IsReadable c.now i.now → ⊥) }
 {
     let used = c.used();
-    sized(used);
     if i.a >= i.b {
         return false;
     }
@@ -34,10 +26,5 @@ pub fn is_readable(c: &Counts, i: &Implication) -> bool
     if i.given.has(i.b) {
         return false;
     }
-    let unused = vertices_of(i).difference(used);
-    sized(unused);
-    if !unused.is_empty() {
-        return false;
-    }
-    true
+    vertices_of(i).is_inside(used)
 }

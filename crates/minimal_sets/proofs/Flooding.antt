@@ -1,7 +1,6 @@
 -- What is reached outside a set is what is reached inside all other vertices.
-use Rattle.std.proofs.Common.{◌≡◌, ℕ, ◌^◌, ◌<◌, Bool, true, false, not, ◌&&◌, nat_lt, inl, inr, arith}
+use Rattle.std.proofs.Common.{◌≡◌, ℕ, ◌<◌, Bool, true, false, not, ◌&&◌, nat_lt, arith}
 use Rattle.std.proofs.lemmas.Bool.{lt-ltb}
-use Rattle.mixed_graph.specs.Bits.{has}
 use Rattle.mixed_graph.specs.Reached as inside
 use Rattle.minimal_sets.specs.Separators.{Reached, start, step}
 

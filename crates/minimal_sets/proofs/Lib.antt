@@ -10,6 +10,5 @@ pub mod Forks
 pub mod ListFacts
 pub mod SoFar
 pub mod Spreads
-pub mod Middles
 pub mod Ordered
 pub mod Endings

@@ -1,6 +1,10 @@
 -- Lists that grow and shrink at the end.
-use Rattle.std.proofs.Common.{ℕ, zero, suc, ◌<◌, List, [], ◌∷◌, ◌++◌, ◌⊎◌, inl, inr, refl, get_or, length, arith}
-use Rattle.std.specs.List.{All, AllPairs, Any}
+use Rattle.std.proofs.Common.{ℕ, zero, suc, ◌≡◌, ◌<◌, List, [], ◌∷◌, ◌++◌, ◌⊎◌, inl, inr, refl, sym, ap, ◌∙◌, get_or, length, arith}
+use Rattle.std.specs.List.{All, Any, swap}
+use Rattle.std.specs.List.Sorted.{IsPermutation}
+use Rattle.std.proofs.lemmas.Bool.{cases_eq, cases_lt}
+use Rattle.std.proofs.lemmas.List.Edits.{Swapped, swapped_from_swap, length-swap}
+use Rattle.std.proofs.lemmas.List.Sorted.{Contains-permutation, IsPermutation-keeps}
 use Rattle.minimal_sets.specs.Lists.{Each, SomeOf, Pairwise}
 
 pub each_push : {A : Type 0} (P : A → Type 0) (xs : List A) (x : A) → Each P xs → P x → Each P (xs ++ x ∷ [])
@@ -67,10 +71,61 @@ pairwise_at R (x ∷ xs) p i zero d lt below = absurd (omega arith)
 pairwise_at R (x ∷ xs) p zero (suc j) d lt below = each_at (R x) xs p.0 j d (omega arith)
 pairwise_at R (x ∷ xs) p (suc i) (suc j) d lt below = pairwise_at R xs p.1 i j d (omega arith) (omega arith)
 
-pub pairwise_all : {A : Type 0} (R : A → A → Type 0) (xs : List A) → Pairwise R xs → AllPairs R xs
-pairwise_all R xs p = λ i j d lt below. pairwise_at R xs p i j d lt below
-
 pub some_any : {A : Type 0} (P : A → Type 0) (xs : List A) → SomeOf P xs → Any P xs
 some_any P [] s = absurd s
 some_any P (x ∷ xs) (inl p) = (0, x, omega arith, refl, p)
 some_any P (x ∷ xs) (inr s) = let r = some_any P xs s in (suc r.0, r.1, (let lt = r.2 in omega arith), r.3, r.4)
+
+-- ---- in another order
+pub any_permuted : {A : Type 0} (P : A → Type 0) (xs ys : List A) → IsPermutation xs ys → Any P xs → Any P ys
+any_permuted P xs ys moved (k, x, lt, is, p) = let c = Contains-permutation xs ys x moved (k, lt, is) in (c.0, x, c.1, c.2, p)
+
+module _ {A : Type 0} (R : A → A → Type 0) (turn : (a b : A) → R a b → R b a) where
+  -- two different places stand in the relation
+  abbrev Apart : List A → Type 0
+  Apart xs = (i j : ℕ) (d : A) → (i ≡ j → ⊥) → i < length xs → j < length xs → R (get_or xs i d) (get_or xs j d)
+
+  apart_from : (xs : List A) → Pairwise R xs → (i j : ℕ) (d : A) → (i ≡ j → ⊥) → i < length xs → j < length xs → R (get_or xs i d) (get_or xs j d)
+  apart_from xs p i j d other il jl = elim (cases_lt i j) [
+    | inl lt ↦ pairwise_at R xs p i j d lt jl
+    | inr ge ↦ turn (get_or xs j d) (get_or xs i d) (pairwise_at R xs p j i d (omega (arith, ge, other)) il)
+  ]
+
+  apart_swapped : (xs : List A) (a b : ℕ) → a < length xs → b < length xs
+      → ((i j : ℕ) (d : A) → (i ≡ j → ⊥) → i < length xs → j < length xs → R (get_or xs i d) (get_or xs j d))
+      → (i j : ℕ) (d : A) → (i ≡ j → ⊥) → i < length (swap xs a b) → j < length (swap xs a b) → R (get_or (swap xs a b) i d) (get_or (swap xs a b) j d)
+  apart_swapped xs a b al bl h i j d other il jl = go (cases_eq i a) (cases_eq i b) (cases_eq j a) (cases_eq j b)
+    where
+      s : Swapped (λ k. get_or xs k d) (λ k. get_or (swap xs a b) k d) a b
+      s = swapped_from_swap xs (swap xs a b) a b d al bl refl
+
+      -- an element of the new list is one of the old
+      from : (p q : ℕ) → get_or (swap xs a b) i d ≡ get_or xs p d → get_or (swap xs a b) j d ≡ get_or xs q d → (p ≡ q → ⊥) → p < length xs → q < length xs
+          → R (get_or (swap xs a b) i d) (get_or (swap xs a b) j d)
+      from p q e f n pl ql = rw (e, f) (h p q d n pl ql)
+
+      long : length (swap xs a b) ≡ length xs
+      long = length-swap xs a b
+
+      at_a : (k : ℕ) → k ≡ a → get_or (swap xs a b) k d ≡ get_or xs b d
+      at_a k e = ap (λ n. get_or (swap xs a b) n d) e ∙ s.0
+
+      at_b : (k : ℕ) → k ≡ b → get_or (swap xs a b) k d ≡ get_or xs a d
+      at_b k e = ap (λ n. get_or (swap xs a b) n d) e ∙ s.1
+
+      go : (i ≡ a) ⊎ (i ≡ a → ⊥) → (i ≡ b) ⊎ (i ≡ b → ⊥) → (j ≡ a) ⊎ (j ≡ a → ⊥) → (j ≡ b) ⊎ (j ≡ b → ⊥)
+          → R (get_or (swap xs a b) i d) (get_or (swap xs a b) j d)
+      go (inl e) y (inl f) w = absurd (other (e ∙ sym f))
+      go (inl e) y (inr z) (inl f) = from b a (at_a i e) (at_b j f) (λ n. other (e ∙ sym n ∙ sym f)) bl al
+      go (inl e) y (inr z) (inr w) = from b j (at_a i e) (s.2 j z w) (λ n. w (sym n)) bl (omega (arith, long, jl))
+      go (inr x) (inl e) (inl f) w = from a b (at_b i e) (at_a j f) (λ n. other (e ∙ sym n ∙ sym f)) al bl
+      go (inr x) (inl e) (inr z) (inl f) = absurd (other (e ∙ sym f))
+      go (inr x) (inl e) (inr z) (inr w) = from a j (at_b i e) (s.2 j z w) (λ n. z (sym n)) al (omega (arith, long, jl))
+      go (inr x) (inr y) (inl f) w = from i b (s.2 i x y) (at_a j f) y (omega (arith, long, il)) bl
+      go (inr x) (inr y) (inr z) (inl f) = from i a (s.2 i x y) (at_b j f) x (omega (arith, long, il)) al
+      go (inr x) (inr y) (inr z) (inr w) = from i j (s.2 i x y) (s.2 j z w) other (omega (arith, long, il)) (omega (arith, long, jl))
+
+  -- a relation between each two stays where the order changes
+  pub pairwise_permuted : (xs ys : List A) → Pairwise R xs → IsPermutation xs ys → (i j : ℕ) (d : A) → (i ≡ j → ⊥) → i < length ys → j < length ys
+      → R (get_or ys i d) (get_or ys j d)
+  pairwise_permuted xs ys p moved = IsPermutation-keeps xs Apart (apart_from xs p) (λ l a b al bl h. apart_swapped l a b al bl h) ys moved

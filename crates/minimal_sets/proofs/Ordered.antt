@@ -1,23 +1,26 @@
 -- Ascending lists of sets.
 use Rattle.std.proofs.Common.{true≢false}
-use Rattle.std.proofs.Common.{◌≡◌, ℕ, zero, suc, ◌+◌, ◌<◌, Bool, true, false, cond, ◌&&◌, ◌||◌, ◌==◌, inl, inr, refl, sym, ap, ◌∙◌, List, [], ◌∷◌}
-use Rattle.std.proofs.Common.{◌++◌, get_or, take, drop, length, nat_lt, length-append, arith, subst}
+use Rattle.std.proofs.Common.{◌≡◌, ℕ, zero, suc, ◌<◌, Bool, true, false, cond, ◌&&◌, ◌||◌, ◌==◌, inl, inr, refl, sym, ap, ◌∙◌, List, [], ◌∷◌}
+use Rattle.std.proofs.Common.{◌++◌, get_or, length, nat_lt, arith, Bor}
+use denote.Param.Members.{Mut}
+use Rattle.std.specs.Cmp.{IsStrictWeakOrder}
 use Rattle.std.specs.Cmp.Lexicographic.{slice_cmp, nat_list_cmp_total}
-use Rattle.std.specs.List.{AllWithin, HoldsAt}
-use Rattle.std.specs.List.Sorted.{IsPartitionedBy}
+use Rattle.std.specs.Fn.{Called, ComparesAs}
+use Rattle.std.specs.List.{AllPairs}
+use Rattle.std.specs.List.Sorted.{IsPermutation, IsSortedBy}
 use Rattle.std.specs.Ordering.{nat_cmp, ordering_then, ordering_reverse, is_lt}
 use Rattle.std.specs.declared.cmp.Ordering.{Ordering}
 use Rattle.std.specs.declared.cmp.Ordering.TheVariants.{Less, Equal, Greater}
 use Rattle.std.proofs.lemmas.Bool.{cases_lt, cases_eq, eqb-true, eq-eqb, ne_eqb, lt-ltb, le-ltb, false_from_ne_true}
-use Rattle.std.proofs.lemmas.List.{take-append-drop}
+use Rattle.std.proofs.lemmas.Fn.{always_returns_same}
+use Rattle.std.proofs.lemmas.List.Sorted.{ranks_by, sorted_far}
 use Rattle.mixed_graph.specs.Bits.{has, members_below}
 use Rattle.mixed_graph.specs.declared.sets.VSet.{VSet}
 use Rattle.mixed_graph.proofs.Masks.{same_from_has}
 use Rattle.minimal_sets.specs.Listings.{IsBefore}
-use Rattle.minimal_sets.specs.Lists.{Each, Pairwise}
-use Rattle.minimal_sets.specs.Progress.{AreOther, IsPlaced, comes_before}
-use Rattle.minimal_sets.proofs.ListFacts.{each_map, each_at, pairwise_at}
-use Rattle.minimal_sets.proofs.Middles.{ordered_middle}
+use Rattle.minimal_sets.specs.Lists.{Pairwise}
+use Rattle.minimal_sets.specs.Progress.{AreOther}
+use Rattle.minimal_sets.proofs.ListFacts.{pairwise_permuted}
 
 -- ---- sets with one list of members are one
 contains : ℕ → List ℕ → Bool
@@ -96,9 +99,6 @@ equal_lists (x ∷ xs) (y ∷ ys) e = go (nat_lt x y) (x == y) refl e (equal_lis
     go false true q e ih = let h = eqb-true x y q in let t = ih e in cc
     go false false q e ih = absurd (cc)
 
-before_trans : (s t u : VSet) → IsBefore s t → IsBefore t u → IsBefore s u
-before_trans s t u a b = nat_list_cmp_total.trans (members_below (has s.bits) 64) (members_below (has t.bits) 64) (members_below (has u.bits) 64) a b
-
 before_other : (s t : VSet) → (IsBefore t s → ⊥) → AreOther s t → IsBefore s t
 before_other s t never other = go (slice_cmp nat_cmp (members_below (has t.bits) 64) (members_below (has s.bits) 64)) refl
   where
@@ -107,51 +107,24 @@ before_other s t never other = go (slice_cmp nat_cmp (members_below (has t.bits)
     go Equal e = absurd (other (sym (equal_lists (members_below (has t.bits) 64) (members_below (has s.bits) 64) e)))
     go Greater e = nat_list_cmp_total.antisymm (members_below (has s.bits) 64) (members_below (has t.bits) 64) ∙ ap ordering_reverse e
 
-each_to : {A : Type 0} (P : A → Type 0) (xs : List A) (i : ℕ) → ((k : ℕ) (d : A) → k < i → P (get_or xs k d)) → Each P (take i xs)
-each_to P [] zero h = tt
-each_to P [] (suc i) h = tt
-each_to P (x ∷ xs) zero h = tt
-each_to P (x ∷ xs) (suc i) h = (h 0 x (omega arith), each_to P xs i (λ k d lt. h (suc k) d (omega arith)))
+-- a list in ascending order, of which no two sets are the same
+pub before_later : (sets : List VSet) → IsSortedBy (λ s t. is_lt (slice_cmp nat_cmp (members_below (has s.bits) 64) (members_below (has t.bits) 64))) sets
+    → ((i j : ℕ) (d : VSet) → (i ≡ j → ⊥) → i < length sets → j < length sets → AreOther (get_or sets i d) (get_or sets j d)) → AllPairs IsBefore sets
+before_later sets up other i j d lt below = before_other (get_or sets i d) (get_or sets j d)
+    (λ b. true≢false (sym (ap is_lt b)
+    ∙ sorted_far (λ s t. is_lt (slice_cmp nat_cmp (members_below (has s.bits) 64) (members_below (has t.bits) 64)))
+    (ranks_by nat_list_cmp_total (λ s. members_below (has s.bits) 64)) sets up i j d (omega arith) below))
+    (other i j d (λ e. omega (arith, e, lt)) (omega arith) below)
 
-each_from : (s : VSet) (sets : List VSet) → Pairwise IsBefore sets → (i : ℕ) → (i < length sets → (d : VSet) → IsBefore s (get_or sets i d))
-    → Each (IsBefore s) (drop i sets)
-each_from s [] p zero h = tt
-each_from s [] p (suc i) h = tt
-each_from s (t ∷ ts) p zero h = let k = h (omega arith) t in (k, each_map (IsBefore t) (IsBefore s) ts (λ u l. before_trans s t u k l) p.0)
-each_from s (t ∷ ts) p (suc i) h = each_from s ts p.1 i (λ lt d. h (omega arith) d)
-
--- a set put before the first that isn't before it
-pub placed : (sets : List VSet) (s : VSet) (i : ℕ) (new : List VSet) → Pairwise IsBefore sets → Each (AreOther s) sets → AllWithin (λ t. IsBefore t s) sets 0 i
-    → (i < length sets → HoldsAt (λ t. IsBefore t s → ⊥) sets i) → new ≡ take i sets ++ s ∷ drop i sets → IsPlaced sets s new
-placed sets s i new sorted others before here e = record {
-  before = take i sets;
-  after = drop i sets;
-  old_is = sym (take-append-drop i sets);
-  new_is = e;
-  sorted = rw e (ordered_middle IsBefore (take i sets) s (drop i sets) (subst (λ l. Pairwise IsBefore l) (sym (take-append-drop i sets)) sorted)
-      (each_to (λ t. IsBefore t s) sets i (λ k d lt. before k d (omega arith) lt))
-      (each_from s sets sorted i (λ lt d. before_other s (get_or sets i d) (here lt d) (each_at (AreOther s) sets others i d lt))));
-}
-
-pub placed_more : (old new : List VSet) (s : VSet) → IsPlaced old s new → length new ≡ length old + 1
-placed_more old new s p = rw (p.new_is, p.old_is) (omega (arith, length-append p.before p.after, length-append p.before (s ∷ p.after)))
-
--- ---- the place, by halving
-lt_is_less : (o : Ordering) → is_lt o ≡ true → o ≡ Less
-lt_is_less Less e = refl
-lt_is_less Equal e = absurd (cc)
-lt_is_less Greater e = absurd (cc)
-
--- in an ascending list no set before s comes after one that isn't
-pub parted : (s : VSet) (sets : List VSet) → Pairwise IsBefore sets → IsPartitionedBy (comes_before s) sets
-parted s sets sorted i j d le lt e = elim (cases_eq i j) [
-  | inl same ↦ rw same e
-  | inr other ↦ ap is_lt (before_trans (get_or sets i d) (get_or sets j d) s (pairwise_at IsBefore sets sorted i j d (omega arith) lt) (lt_is_less _ e))
-]
-
-pub all_before : (s : VSet) (sets : List VSet) (i : ℕ) → AllWithin (λ t. comes_before s t ≡ true) sets 0 i → AllWithin (λ t. IsBefore t s) sets 0 i
-all_before s sets i h = λ k d ge lt. lt_is_less _ (h k d ge lt)
-
-pub none_before : (s : VSet) (sets : List VSet) (i : ℕ) → AllWithin (λ t. comes_before s t ≡ false) sets i (length sets) → i < length sets
-    → HoldsAt (λ t. IsBefore t s → ⊥) sets i
-none_before s sets i h lt = λ d b. absurd (true≢false (sym (ap is_lt b) ∙ h i d (omega arith) lt))
+-- what a sort by a closure gives that compares the lists of members
+pub sorted_sets : {F : Type 0} {g : Mut F (Bor VSet × (Bor VSet × Unit {0})) Ordering} {f : F} (old new : List VSet)
+    → ((lt : VSet → VSet → Bool) → IsStrictWeakOrder lt → ComparesAs g lt f → IsSortedBy lt new)
+    → ((a : Bor VSet × (Bor VSet × Unit {0})) (r : Ordering) (f' : F) → Called g f a r f'
+    → (r ≡ slice_cmp nat_cmp (members_below (has a.0.now.bits) 64) (members_below (has a.1.0.now.bits) 64)) × (f' ≡ f))
+    → Pairwise AreOther old → IsPermutation old new → AllPairs IsBefore new
+sorted_sets {g = g} {f = f} old new up h other moved = before_later new
+    (up (λ s t. is_lt (slice_cmp nat_cmp (members_below (has s.bits) 64) (members_below (has t.bits) 64)))
+    (ranks_by nat_list_cmp_total (λ s. members_below (has s.bits) 64))
+    (always_returns_same g (λ a r. is_lt r ≡ is_lt (slice_cmp nat_cmp (members_below (has a.0.now.bits) 64) (members_below (has a.1.0.now.bits) 64))) f
+    (λ a r f' k. (ap is_lt (h a r f' k).0, (h a r f' k).1))))
+    (pairwise_permuted AreOther (λ s t o e. o (sym e)) old new other moved)

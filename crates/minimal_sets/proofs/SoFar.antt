@@ -7,7 +7,7 @@ use Rattle.mixed_graph.specs.Bits.{has}
 use Rattle.mixed_graph.specs.declared.sets.VSet.{VSet}
 use Rattle.minimal_sets.specs.Separators.{Reached, start, IsMinimalSeparator, IsOnSide, IsClosest, IsInseparable}
 use Rattle.minimal_sets.proofs.SeparatorLaws.{outside, either_way, alone, part_false}
-use Rattle.minimal_sets.specs.Lists.{Each}
+use Rattle.minimal_sets.specs.Lists.{Each, Pairwise}
 use Rattle.minimal_sets.specs.Branches.{IsNode, IsIn, IsForked, IsStill}
 use Rattle.minimal_sets.specs.Frames.{IsFrame}
 use Rattle.minimal_sets.specs.Listings.{IsTestOf}
@@ -163,11 +163,12 @@ module _ (near : ℕ → ℕ → Bool) (R X Y : ℕ → Bool) where
       own : IsIn near R X Y n (has n.separator.bits)
       own = record { minimal = w.node.here.minimal; side = w.node.here.side_is; keeps = w.node.kept }
 
--- the set listed last differs from the others
-pub others_of : (near : ℕ → ℕ → Bool) (R X Y : ℕ → Bool) → ((v : ℕ) → R v ≡ true → v < 64) → (done : List VSet) (s : VSet) (todo : List Node)
-    → IsSoFar near R X Y (done ++ s ∷ []) todo → Each (AreOther s) done
-others_of near R X Y low done s todo l =
-    let e = each_pop (λ t. IsMinimalSeparator near R X Y (has t.bits)) done s l.each in
-    let o = pairwise_pop (λ t u. t.bits ≡ u.bits → ⊥) done s l.once in
-    each_both (λ t. IsMinimalSeparator near R X Y (has t.bits)) (λ t. t.bits ≡ s.bits → ⊥) (AreOther s) done
-    (λ t m d same. d (same_bits t.bits s.bits (λ v h. low v (m.within v h)) (λ v h. low v (e.1.within v h)) (sym same))) e.0 o.1
+-- minimal separators whose masks differ have other members
+pub all_other : (near : ℕ → ℕ → Bool) (R X Y : ℕ → Bool) → ((v : ℕ) → R v ≡ true → v < 64) → (done : List VSet)
+    → Each (λ s. IsMinimalSeparator near R X Y (has s.bits)) done → Pairwise (λ s t. s.bits ≡ t.bits → ⊥) done → Pairwise AreOther done
+all_other near R X Y low [] e o = tt
+all_other near R X Y low (s ∷ done) e o = (
+  each_both (λ t. IsMinimalSeparator near R X Y (has t.bits)) (λ t. s.bits ≡ t.bits → ⊥) (AreOther s) done
+      (λ t m d same. d (same_bits s.bits t.bits (λ v h. low v (e.0.within v h)) (λ v h. low v (m.within v h)) same)) e.1 o.0,
+  all_other near R X Y low done e.1 o.1,
+)

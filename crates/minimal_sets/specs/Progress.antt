@@ -1,12 +1,11 @@
 -- How far the listing of minimal separators has come. Words for code inside this crate.
-use Rattle.std.specs.Prelude.{ℕ, ◌≡◌, Bool, List, ◌∷◌, ◌++◌, ◌⊎◌}
-use Rattle.std.specs.Ordering.{is_lt, nat_cmp}
-use Rattle.std.specs.Cmp.Lexicographic.{slice_cmp}
+use Rattle.std.specs.Prelude.{ℕ, ◌≡◌, ◌≢◌, ◌≤◌, Bool, true, false, List, ◌⊎◌, length, All}
+use Rattle.std.specs.List.{Any}
 use Rattle.mixed_graph.specs.Bits.{has, members_below}
 use Rattle.mixed_graph.specs.declared.sets.VSet.{VSet}
 use Rattle.minimal_sets.specs.Branches.{IsNode, IsIn}
 use Rattle.minimal_sets.specs.Separators.{IsMinimalSeparator}
-use Rattle.minimal_sets.specs.Listings.{IsTestOf, IsBefore}
+use Rattle.minimal_sets.specs.Listings.{IsTestOf}
 use Rattle.minimal_sets.specs.Lists.{Each, SomeOf, Pairwise}
 use Rattle.minimal_sets.specs.declared.separators.branching.Node.{Node}
 
@@ -40,18 +39,15 @@ module _ (near : ℕ → ℕ → Bool) (R X Y : ℕ → Bool) where
     pub away : Each (Away done) todo
     pub all : (z : ℕ → Bool) → IsMinimalSeparator near R X Y z → SomeOf (IsTestOf z) done ⊎ (SomeOf (λ n. IsIn near R X Y n z) todo ⊎ IsIn near R X Y n z)
 
--- whether the ascending list of the members of t is before that of s
-abbrev pub comes_before : VSet → VSet → Bool
-comes_before s t = is_lt (slice_cmp nat_cmp (members_below (has t.bits) 64) (members_below (has s.bits) 64))
-
 -- the two sets differ
 abbrev pub AreOther : VSet → VSet → Type 0
 AreOther s t = members_below (has s.bits) 64 ≡ members_below (has t.bits) 64 → ⊥
 
--- the separator stands in the list where the order wants it; the others stay
-pub record IsPlaced (old : List VSet) (separator : VSet) (new : List VSet) : Type 0 where
-  pub before : List VSet
-  pub after : List VSet
-  pub old_is : old ≡ before ++ after
-  pub new_is : new ≡ before ++ separator ∷ after
-  pub sorted : Pairwise IsBefore new
+-- the sets are sets of a kind, each once: all of them, or `most` where there are more
+pub record AreGathered (P : (ℕ → Bool) → Type 0) (most : ℕ) (sets : List VSet) (more : Bool) : Type 0 where
+  pub each : All (λ s. P (has s.bits)) sets
+  pub once : Pairwise AreOther sets
+  pub few : length sets ≤ most
+  pub all : more ≡ false → (z : ℕ → Bool) → P z → Any (IsTestOf z) sets
+  pub full : more ≡ true → length sets ≡ most
+  pub another : more ≡ true → (s : VSet) × P (has s.bits) × All (λ t. t.bits ≢ s.bits) sets

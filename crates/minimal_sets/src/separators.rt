@@ -2,8 +2,8 @@
 mod branching;
 mod floods;
 mod listing;
-mod places;
 mod problem;
+mod sorting;
 mod steps;
 
 pub use floods::beside;

@@ -7,6 +7,7 @@ pub mod Free
 pub mod Laws
 pub mod Listed
 pub mod Mentioned
+pub mod Proportional
 pub mod Same
 pub mod TermSets
 pub mod Terms

@@ -4,3 +4,5 @@ pub mod Answering
 pub mod Outcomes
 pub mod Exclusive
 pub mod Lawful
+mod OneDerivation
+pub mod OneText

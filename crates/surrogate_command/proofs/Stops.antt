@@ -38,5 +38,5 @@ common_named g valid zs x y district None n e few in_y right shown = tt
 common_named g valid zs x y district (Some k) n e few in_y right shown = record {
   hedge = subst (λ m. IsHedgeBelow m k.hedge) (sym e) (hedge_below g x y k.hedge few shown.hedge);
   models = subst (λ m. ArePairBelow m k.pair) (sym e) (pair_below g valid x y k.hedge k.pair in_y shown.models right.hedge.counter);
-  written = λ found partner. subst (λ m. IsHedgeWithin m (hedge_view k.hedge)) (sym e) (hedge_within g x y k.hedge found partner shown.hedge);
+  written = λ entries. subst (λ m. IsHedgeWithin m (hedge_view k.hedge)) (sym e) (hedge_within g x y k.hedge entries shown.hedge);
 }

@@ -7,6 +7,7 @@ ghost use Rattle.prob_expr.specs.Check.{fault_in};
 ghost use Rattle.prob_expr.specs.View.{target_view, formula_view};
 ghost use Rattle.do_derivation.specs.View.{derivation_view};
 ghost use Rattle.prob_expr.specs.Tree.{effect_on};
+ghost use Rattle.hedge.specs.Entries.{HasEntries};
 ghost use Rattle.identify_text.specs.Below.{IsHedgeBelow, ArePairBelow};
 ghost use Rattle.certificate.specs.Plain.{hedge_view, formula as formula_case, hedge as hedge_case};
 ghost use Rattle.certificate.specs.Reading.{certificate_in};
@@ -22,7 +23,7 @@ use answer_text::{Notation, push_set};
 use certificate::Certificate;
 use counter_models::CounterPair;
 use do_derivation::Derivation;
-use effect_answers::certificates::{certificate_line, sized};
+use effect_answers::certificates::certificate_line;
 use experiment_lists::unidentifiable_text;
 use hedge::Hedge;
 use identify_text::{answer_in, effect_text, push_hedge_sets, push_models};
@@ -153,11 +154,11 @@ fn hedge_certificate(
     hedge: Hedge,
 ) -> Result<Vec<u8>, AllocError>
     requires target { IsBareTarget (length names.now) (target_view target) }
-    requires data { length hedge.links.found ≡ 64 → length hedge.links.partner ≡ 64 → IsHedgeWithin (length names.now) (hedge_view hedge) }
+    requires data { HasEntries hedge → IsHedgeWithin (length names.now) (hedge_view hedge) }
     ensures text { IfOk result (λ v. v.items ≡ certificate_line names.now (hedge_case (target_view target) (hedge_view hedge))) }
     ensures reads_back { IfOk result (λ v. certificate_in names.now (certificate_text names.now (hedge_case (target_view target) (hedge_view hedge))) ≡ Ok (hedge_case (target_view target) (hedge_view hedge))) }
 {
-    sized(&hedge);
+    hedge.has_entries();
     let certificate = Certificate::Hedge(target, hedge);
     certificate_line(alloc, &certificate, names)
 }

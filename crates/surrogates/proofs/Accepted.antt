@@ -119,39 +119,39 @@ module _ (g : MixedGraph) (ok : IsMixedGraph g) (o : List ℕ) (order : IsOrderF
     pub accepted : (f : PlainFormula) (t : PlainDerivation) → IsComposedBySteps g o zs x y f t → IsAcceptedWith g zs x y f t
     accepted f t made = record {
       lemmas_deep = w.lemmas_deep;
-      main_deep = subst (λ p. is_main p) (sym made.steps) (main_deep g ok o order x y tgt made.d made.is_d rest
-          (districts_deep g ok o order made.d low tgt.some some_in made.districts made.lists made.factors w.deep));
+      main_deep = subst (λ p. is_main p) (sym made.steps) (main_deep g ok o order x y tgt made.split.d made.split.is_d rest
+          (districts_deep g ok o order made.split.d low tgt.some some_in made.split.districts made.lists made.factors w.deep));
       accepted = record {
         sets = w.sets;
         define = w.define [] refl;
         main = subst (λ p. Rattle.do_derivation.specs.Steps.Makes g (sets_of t.lemmas) p (prob y x 0) f.main) (sym made.steps)
-            (subst (λ z. MakesAll g (sets_of t.lemmas) (main_steps g.vertices x y made.d rest) (prob y x 0) z) (sym made.main)
-            (main_made g ok o order x y tgt made.d made.is_d (sets_of t.lemmas) rest (product_of made.factors)
-            (districts_made g ok o order made.d low tgt.some some_in (sets_of t.lemmas) made.districts made.lists made.factors made.are_districts
-            (w.made (sets_of t.lemmas) (all_cited [] t.lemmas 0 refl)))));
+            (subst (λ z. MakesAll g (sets_of t.lemmas) (main_steps g.vertices x y made.split.d rest) (prob y x 0) z) (sym made.main)
+            (main_made g ok o order x y tgt made.split.d made.split.is_d (sets_of t.lemmas) rest (product_of made.factors)
+            (districts_made g ok o order made.split.d low tgt.some some_in (sets_of t.lemmas) made.split.districts made.lists made.factors
+            made.split.are_districts (w.made (sets_of t.lemmas) (all_cited [] t.lemmas 0 refl)))));
         listed = both_true (all_under zs f.defs) (is_under zs f.main) under.0
-            (rw made.main (free_sum zs (minus made.d y) (product_of made.factors) (free_product zs made.factors under.1)));
+            (rw made.main (free_sum zs (minus made.split.d y) (product_of made.factors) (free_product zs made.factors under.1)));
       };
     }
       where
         is_main : Plan → Type 0
         is_main p = Rattle.identification_theory.specs.Depth.is_plan_within 14 p ≡ true
 
-        low : (u : ℕ) → has made.d u ≡ true → u < g.vertices
-        low = d_low g ok o order x y tgt made.d made.is_d
+        low : (u : ℕ) → has made.split.d u ≡ true → u < g.vertices
+        low = d_low g ok o order x y tgt made.split.d made.split.is_d
 
-        some_in : has made.d tgt.some ≡ true
-        some_in = y_in g ok o order x y tgt made.d made.is_d tgt.some tgt.some_in
+        some_in : has made.split.d tgt.some ≡ true
+        some_in = y_in g ok o order x y tgt made.split.d made.split.is_d tgt.some tgt.some_in
 
-        w : Whole 0 made.districts f.defs made.factors t.lemmas made.lists
-        w = whole made.d 0 made.districts f.defs made.factors t.lemmas made.lists low (are_parts g ok made.d 0 o made.districts made.are_districts)
-            made.are_derived
+        w : Whole 0 made.split.districts f.defs made.factors t.lemmas made.lists
+        w = whole made.split.d 0 made.split.districts f.defs made.factors t.lemmas made.lists low
+            (are_parts g ok made.split.d 0 o made.split.districts made.split.are_districts) made.are_derived
 
         rest : Plans
-        rest = district_steps o made.d made.districts made.lists made.factors
+        rest = district_steps o made.split.d made.split.districts made.lists made.factors
 
         under : (all_under zs f.defs ≡ true) × (are_under zs made.factors ≡ true)
-        under = allowed_all 0 made.districts f.defs made.factors t.lemmas made.lists made.are_derived
+        under = allowed_all 0 made.split.districts f.defs made.factors t.lemmas made.lists made.are_derived
 
 -- P(y) is P(y | do(nothing)) without a step
 pub observed_with : (g : MixedGraph) (zs : List ℕ) (x y : ℕ) (f : PlainFormula) (t : PlainDerivation) → x ≡ 0 → f ≡ record { defs = []; main = prob y 0 0 }

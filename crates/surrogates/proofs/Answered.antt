@@ -36,12 +36,9 @@ derived_is_surrogate g zs x y f t s = record { order = s.order; is_order = s.is_
     go (inr c) = inr (
       c.0,
       record {
-        d = c.1.d;
-        is_d = c.1.is_d;
-        districts = c.1.districts;
-        are_districts = c.1.are_districts;
+        split = c.1.split;
         factors = c.1.factors;
-        are_factored = factors_of g zs 0 c.1.districts f.defs c.1.factors t.lemmas c.1.lists c.1.are_derived;
+        are_factored = factors_of g zs 0 c.1.split.districts f.defs c.1.factors t.lemmas c.1.lists c.1.are_derived;
         main = c.1.main;
       },
     )
@@ -72,10 +69,7 @@ pub stop_is_first_blocked : StopIsFirstBlocked
 stop_is_first_blocked g ok zs x y small big roots tgt s are = record {
   order = s.order;
   is_order = s.is_order;
-  d = s.d;
-  is_d = s.is_d;
-  districts = s.districts;
-  are_districts = s.are_districts;
+  split = s.split;
   first = first_blocked g ok zs x y small big roots tgt s are;
 }
 

@@ -17,10 +17,7 @@ pub by_steps : (g : MixedGraph) (zs order ts : List ℕ) (x y d : ℕ) (made : F
     → AreDistricts g d 0 order ts → AreFactorsWith g zs ts made
     → (f : PlainFormula) (t : PlainDerivation) → AreAssembled g.vertices order ts x y d made f t → IsComposedBySteps g order zs x y f t
 by_steps g zs order ts x y d made is_d districts of f t a = record {
-  d = d;
-  is_d = is_d;
-  districts = ts;
-  are_districts = districts;
+  split = record { d = d; is_d = is_d; districts = ts; are_districts = districts };
   factors = views made.values.items;
   lists = lists_view made.lists.items;
   are_derived = subst (λ z. AreDerivedWith g zs 0 ts z (views made.values.items) t.lemmas (lists_view made.lists.items)) (sym a.defs)

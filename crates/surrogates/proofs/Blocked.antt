@@ -1,7 +1,7 @@
 -- Where all tries of a district stop it is blocked, and a blocked district has no factor.
 use Rattle.std.proofs.Common.{ℕ, suc, ◌+◌, ◌≡◌, ◌<◌, Bool, true, false, eqb, not, refl, sym, subst, ◌∙◌, ◌&&◌, ◌⊎◌, inl, inr, List, [], ◌∷◌, length}
 use Rattle.std.proofs.Common.{arith, eqb-true}
-use Rattle.hedge.specs.Linked.{AreDistricts, IsLinked}
+use Rattle.hedge.specs.Linked.{IsLinked}
 use Rattle.hedge.specs.Linked.IsLinked.{at, by}
 use Rattle.hedge.specs.Hedges.{outside}
 use Rattle.hedge.specs.Shapes.{AreSetsOfHedge}
@@ -10,12 +10,11 @@ use Rattle.identification_theory.proofs.Body.{order_in}
 use Rattle.identification_theory.proofs.Bools.{and_l, and_r, both_true, clash, not_e, not_i, or_e, or_l}
 use Rattle.identification_theory.proofs.Front.{closed_above}
 use Rattle.identification_theory.proofs.Groups.{Among, IsPart, are_parts, part_among}
-use Rattle.identification_theory.proofs.Orders.{IsOrderFrom, order_of, one_order}
+use Rattle.identification_theory.proofs.Orders.{IsOrderFrom, order_of}
 use Rattle.identification_theory.proofs.Sets.{all-below, all-is, has-minus, one-is, one-self}
 use Rattle.identification_theory.specs.Procedure.IsFactor.{whole, summed, further}
 use Rattle.identification_theory.specs.Procedure.{AreAncestorsIn, IsFactor, IsStopped, IsTarget, Source}
 use Rattle.identification_theory.proofs.Stops.{IsHome, hedge, home_of, kept_inside}
-use Rattle.identification_theory.proofs.Unique.{districts_one, one_set}
 use Rattle.identification_theory.specs.AnswerLaws.{AreRoots}
 use Rattle.mixed_graph.proofs.Masks.{has-zero}
 use Rattle.mixed_graph.specs.Bits.{has}
@@ -24,6 +23,7 @@ use Rattle.mixed_graph.specs.Masks.{all, is_apart, minus, one}
 use Rattle.prob_expr.specs.Terms.{is_listed}
 use Rattle.prob_expr.specs.Tree.{Tree, Trees, PlainFormula}
 use Rattle.surrogates.proofs.Induced.{inner_graph, inside_of, above_inside, link_in, stopped_out}
+use Rattle.surrogates.proofs.Unique.{same_districts}
 use Rattle.surrogates.proofs.Rooms.{Chosen, chosen, zero_apart, c_room, a_room, c_in_a}
 use Rattle.surrogates.specs.Common.{IsHedgeApart, StopUnderHasHedge}
 use Rattle.surrogates.specs.Surrogates.{without, ComesFirst, IsFactorUnder, IsStoppedUnder, AllStop, AreFactoredWith, IsComposedOver, IsSurrogate}
@@ -188,15 +188,13 @@ blocked_none g ok zs x y b f s = go s.answer
     order = order_of g q.order q.is_order
 
     go : ((x ≡ 0) × (f ≡ record { defs = []; main = Rattle.prob_expr.specs.Tree.prob y 0 0 })) ⊎ ((x ≡ 0 → ⊥) × IsComposedOver g s.order zs x y f) → ⊥
-    go (inl e) = never_blocked g ok x y b.district q.d e.0 q.is_d (part_among g q.d b.district q.districts
-        (are_parts g ok q.d 0 q.order q.districts q.are_districts) (to_among b.district q.districts q.among))
+    go (inl e) = never_blocked g ok x y b.district q.split.d e.0 q.split.is_d (part_among g q.split.d b.district q.split.districts
+        (are_parts g ok q.split.d 0 q.order q.split.districts q.split.are_districts) (to_among b.district q.split.districts q.among))
         (b.blocked 0 (or_l (eqb 0 0) (is_listed 0 zs) refl) (zero_apart b.district))
-    go (inr t) = free_among g zs b.district 0 t.1.districts f.defs t.1.factors t.1.are_factored (subst (IsAmong b.district) (sym same) q.among) b.blocked
+    go (inr t) = free_among g zs b.district 0 t.1.split.districts f.defs t.1.factors t.1.are_factored (subst (IsAmong b.district) (sym same) q.among) b.blocked
       where
-        same : t.1.districts ≡ q.districts
-        same = districts_one g s.order t.1.d 0 s.order t.1.districts q.districts t.1.are_districts
-            (subst (λ w. AreDistricts g w 0 s.order q.districts) (sym (one_set t.1.d q.d _ t.1.is_d q.is_d))
-            (subst (λ o. AreDistricts g q.d 0 o q.districts) (one_order g q.order s.order q.is_order s.is_order) q.are_districts))
+        same : t.1.split.districts ≡ q.split.districts
+        same = same_districts g x y q.order s.order q.is_order s.is_order q.split t.1.split
 
 -- ---- where a try stops, there is a hedge in the graph without z
 module _ (g : MixedGraph) (ok : IsMixedGraph g) (d c : ℕ) (low : (u : ℕ) → has d u ≡ true → u < g.vertices) (part : IsPart g d c) (hm : IsHome g d c)
@@ -306,23 +304,24 @@ module _ (g : MixedGraph) (ok : IsMixedGraph g) (zs : List ℕ) (x y small big r
   o : IsOrderFrom g 0 s.order
   o = order_of g s.order s.is_order
 
-  q : StopAt g zs s.districts small big
-  q = stop_at g zs 0 s.districts small big s.stops
+  q : StopAt g zs s.split.districts small big
+  q = stop_at g zs 0 s.split.districts small big s.stops
 
-  part_of : IsPart g s.d small
-  part_of = part_among g s.d small s.districts (are_parts g ok s.d 0 s.order s.districts s.are_districts) (to_among small s.districts q.among)
+  part_of : IsPart g s.split.d small
+  part_of = part_among g s.split.d small s.split.districts (are_parts g ok s.split.d 0 s.order s.split.districts s.split.are_districts)
+      (to_among small s.split.districts q.among)
 
-  home_at : IsHome g s.d small
-  home_at = home_of g s.d 0 s.order s.districts small s.are_districts (to_among small s.districts q.among)
+  home_at : IsHome g s.split.d small
+  home_at = home_of g s.split.d 0 s.order s.split.districts small s.split.are_districts (to_among small s.split.districts q.among)
 
-  d_below : (u : ℕ) → has s.d u ≡ true → u < g.vertices
-  d_below = d_low g ok s.order o x y tgt2 s.d s.is_d
+  d_below : (u : ℕ) → has s.split.d u ≡ true → u < g.vertices
+  d_below = d_low g ok s.order o x y tgt2 s.split.d s.split.is_d
 
   small_below : (u : ℕ) → has small u ≡ true → u < g.vertices
   small_below u i = d_below u (part_of.t_in u i)
 
   pub own_hedge : AreSetsOfHedge g x y big small roots
-  own_hedge = hedge g ok s.order o x y tgt2 s.d s.is_d small part_of home_at q.stop.a big
+  own_hedge = hedge g ok s.order o x y tgt2 s.split.d s.split.is_d small part_of home_at q.stop.a big
       (stopped_out g (minus (all g.vertices) 0) s.order small small_below q.stop.a big
       (a_room g ok 0 small (zero_apart small) small_below q.stop.a q.stop.ancestors)
       (c_in_a g ok 0 small (zero_apart small) small_below q.stop.a q.stop.ancestors) q.stop.stop) roots are
@@ -332,10 +331,10 @@ module _ (g : MixedGraph) (ok : IsMixedGraph g) (zs : List ℕ) (x y small big r
   stops_at z (inr e) off = q.all_stop z e off
 
   blocked : IsBlocked g zs small
-  blocked z e off = stopped_hedge g ok s.d small d_below part_of home_at roots are s.order o z off (stops_at z (or_e (eqb z 0) (is_listed z zs) e) off)
+  blocked z e off = stopped_hedge g ok s.split.d small d_below part_of home_at roots are s.order o z off (stops_at z (or_e (eqb z 0) (is_listed z zs) e) off)
 
-  pub first_blocked : IsFirstBlocked g zs small s.districts
-  first_blocked = first_one g zs 0 s.districts small big s.stops blocked
+  pub first_blocked : IsFirstBlocked g zs small s.split.districts
+  first_blocked = first_one g zs 0 s.split.districts small big s.stops blocked
 
   -- a stopped factor ends inside the set from which it starts
   stop_inside : (h : MixedGraph) → h.vertices ≡ g.vertices → (a t : ℕ) → IsStopped h small a t → ((v : ℕ) → has small v ≡ true → has a v ≡ true) → (v : ℕ)
@@ -348,7 +347,7 @@ module _ (g : MixedGraph) (ok : IsMixedGraph g) (zs : List ℕ) (x y small big r
   -- the district stops under u too, and the hedge there leaves u alone
   pub apart_hedge : (u b : ℕ) → is_apart u small ≡ true → IsStoppedUnder g u small b → IsHedgeApart g x y u b small roots
   apart_hedge u b off w = record {
-    hedge = hedge g ok s.order o x y tgt2 s.d s.is_d small part_of home_at w.a b
+    hedge = hedge g ok s.order o x y tgt2 s.split.d s.split.is_d small part_of home_at w.a b
         (stopped_out g (minus (all g.vertices) u) s.order small small_below w.a b (a_room g ok u small off small_below w.a w.ancestors)
         (c_in_a g ok u small off small_below w.a w.ancestors) w.stop) roots are;
     apart = λ v e. not_e (has u v) (and_r (has (all g.vertices) v) (not (has u v)) (rw (has-minus (all g.vertices) u v) at

@@ -43,26 +43,27 @@ module _ (g : MixedGraph) (ok : IsMixedGraph g) (o : List ℕ) (order : IsOrderF
       )
 
   module _ (x y : ℕ) (tgt : IsTarget g x y) (f : PlainFormula) (made : IsComposedOver g o zs x y f) where
-    low : (u : ℕ) → has made.d u ≡ true → u < g.vertices
-    low = d_low g ok o order x y tgt made.d made.is_d
+    low : (u : ℕ) → has made.split.d u ≡ true → u < g.vertices
+    low = d_low g ok o order x y tgt made.split.d made.split.is_d
 
     some_factor : made.factors ≡ no_trees → ⊥
     some_factor q = absurd (
-        let c : count made.districts tgt.some ≡ 1 = once g ok made.d o made.districts made.are_districts tgt.some in_d
-        (in_list g 0 tgt.some o order (d_low g ok o order x y tgt made.d made.is_d tgt.some in_d) (has-zero tgt.some)) in
-        let e : made.districts ≡ [] = no_districts g zs 0 made.districts f.defs (subst (AreFactoredWith g zs 0 made.districts f.defs) q made.are_factored) in
+        let c : count made.split.districts tgt.some ≡ 1 = once g ok made.split.d o made.split.districts made.split.are_districts tgt.some in_d
+        (in_list g 0 tgt.some o order (d_low g ok o order x y tgt made.split.d made.split.is_d tgt.some in_d) (has-zero tgt.some)) in
+        let e : made.split.districts ≡ [] = no_districts g zs 0 made.split.districts f.defs
+        (subst (AreFactoredWith g zs 0 made.split.districts f.defs) q made.are_factored) in
         let z : 0 ≡ 1 = rw e at c in omega (arith, z))
       where
-        in_d : has made.d tgt.some ≡ true
-        in_d = y_in g ok o order x y tgt made.d made.is_d tgt.some tgt.some_in
+        in_d : has made.split.d tgt.some ≡ true
+        in_d = y_in g ok o order x y tgt made.split.d made.split.is_d tgt.some tgt.some_in
 
     pub composed_formed : IsFormedFormula g.vertices f
     unfolding low
-    composed_formed = let forms = districts_formed made.d 0 made.districts f.defs made.factors low
-        (are_parts g ok made.d 0 o made.districts made.are_districts) made.are_factored in (
+    composed_formed = let forms = districts_formed made.split.d 0 made.split.districts f.defs made.factors low
+        (are_parts g ok made.split.d 0 o made.split.districts made.split.are_districts) made.are_factored in (
           forms.0,
-          rw made.main (sum_formed g ok o order (minus made.d y) (length f.defs) (product_of made.factors)
-              (λ u e. low u (and_l (has made.d u) (not (has y u)) (rw (has-minus made.d y u) at e)))
+          rw made.main (sum_formed g ok o order (minus made.split.d y) (length f.defs) (product_of made.factors)
+              (λ u e. low u (and_l (has made.split.d u) (not (has y u)) (rw (has-minus made.split.d y u) at e)))
               (product_formed g ok o order (length f.defs) made.factors some_factor
               (formed_more_each g.vertices (0 + length f.defs) (length f.defs) made.factors (omega arith) forms.1))),
         )

@@ -54,12 +54,9 @@ plain_first g ok zs x y f i = record { order = i.order; is_order = i.is_order; a
     go (inr t) = inr (
       t.0,
       record {
-        d = t.1.d;
-        is_d = t.1.is_d;
-        districts = t.1.districts;
-        are_districts = t.1.are_districts;
+        split = t.1.split;
         factors = t.1.factors;
-        are_factored = plain_all g ok i.order i.is_order zs 0 t.1.districts f.defs t.1.factors t.1.are_factored;
+        are_factored = plain_all g ok i.order i.is_order zs 0 t.1.split.districts f.defs t.1.factors t.1.are_factored;
         main = t.1.main;
       },
     )

@@ -55,13 +55,10 @@ some_blocked g zs x y c f = record {
   is_district = record {
     order = f.order;
     is_order = f.is_order;
-    d = f.d;
-    is_d = f.is_d;
-    districts = f.districts;
-    are_districts = f.are_districts;
-    among = among_first g zs c f.districts f.first;
+    split = f.split;
+    among = among_first g zs c f.split.districts f.first;
   };
-  blocked = blocked_first g zs c f.districts f.first;
+  blocked = blocked_first g zs c f.split.districts f.first;
 }
 
 -- where the procedure stops, with the hedge that was made for it

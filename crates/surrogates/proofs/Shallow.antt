@@ -95,5 +95,5 @@ surrogate_is_shallow g zs x y f s = go s.answer
     go (inl e) = subst (λ f. (are_defs_within 5 f.defs ≡ true) × (is_tree_within 7 f.main ≡ true)) (sym e.1) (refl, refl)
     go (inr c) =
         let t = c.1 in
-        let h = factored_within g zs 0 t.districts f.defs t.factors t.are_factored in
-        (h.0, rw t.main (sum_within 6 (minus t.d y) (product_of t.factors) (product_within t.factors h.1)))
+        let h = factored_within g zs 0 t.split.districts f.defs t.factors t.are_factored in
+        (h.0, rw t.main (sum_within 6 (minus t.split.d y) (product_of t.factors) (product_within t.factors h.1)))

@@ -1,13 +1,12 @@
 -- The formula over experiments is fixed, and so is where the procedure stops.
 use Rattle.std.proofs.Common.{ℕ, ◌+◌, ◌≡◌, true, eqb, refl, sym, ap₂, subst, ◌∙◌, ◌⊎◌, inl, inr, List, [], ◌∷◌, ◌++◌, length, eqb-true}
-use Rattle.hedge.specs.Linked.{AreDistricts}
 use Rattle.identification_theory.proofs.Bools.{clash, or_e}
 use Rattle.identification_theory.proofs.Orders.{one_order}
-use Rattle.identification_theory.specs.Procedure.{AreAncestorsIn, IsFactor, IsStopped, Source, product_of, sum_if}
-use Rattle.identification_theory.proofs.Unique.{districts_one, factor_one, made_or_stopped, one_set, stopped_one}
+use Rattle.identification_theory.specs.Procedure.{IsFactor, IsStopped, Source, Split, product_of, sum_if}
+use Rattle.identification_theory.proofs.Unique.{factor_one, made_or_stopped, one_set, split_one, stopped_one}
 use Rattle.mixed_graph.specs.Graphs.{MixedGraph}
 use Rattle.mixed_graph.specs.Orders.{IsOrder}
-use Rattle.mixed_graph.specs.Masks.{all, is_apart, minus}
+use Rattle.mixed_graph.specs.Masks.{is_apart, minus}
 use Rattle.prob_expr.specs.Terms.{is_listed}
 use Rattle.prob_expr.specs.Tree.{PlainFormula, Tree, Trees, prob, tree}
 use Rattle.surrogates.proofs.Rooms.{Chosen, chosen}
@@ -93,25 +92,24 @@ module _ (g : MixedGraph) where
   first_blocked_same zs c e _ (IsFirstBlocked.after {cs = cs} n r) (IsFirstBlocked.after m s) = first_blocked_same zs c e cs r s
 
 module _ (g : MixedGraph) (x y : ℕ) where
-  same_districts : (d e : ℕ) (o p ts us : List ℕ) → IsOrder g o (length o) → IsOrder g p (length p) → AreAncestorsIn g (minus (all g.vertices) x) y d
-      → AreAncestorsIn g (minus (all g.vertices) x) y e
-      → AreDistricts g d 0 o ts → AreDistricts g e 0 p us → us ≡ ts
-  same_districts d e o p ts us io ip n m r s = sym (districts_one g o d 0 o ts us r
-      (subst (λ z. AreDistricts g z 0 o us) (sym (one_set d e _ n m)) (subst (λ q. AreDistricts g e 0 q us) (one_order g p o ip io) s)))
+  -- what leads to y is split in one way
+  pub same_districts : (o p : List ℕ) → IsOrder g o (length o) → IsOrder g p (length p) → (s : Split g o x y) (t : Split g p x y)
+      → t.districts ≡ s.districts
+  same_districts o p io ip s t = subst (λ q. (r : Split g q x y) → r.districts ≡ s.districts) (one_order g o p io ip)
+      (λ r. sym (split_one g o x y s r).1) t
 
   module _ (zs : List ℕ) where
     composed_one : (o p : List ℕ) (f h : PlainFormula) → IsOrder g o (length o) → IsOrder g p (length p) → IsComposedOver g o zs x y f
         → IsComposedOver g p zs x y h → f ≡ h
     composed_one o p f h io ip t u = formula_same f h same.defs (t.main
-        ∙ (ap₂ (λ a b. sum_if (minus a y) (product_of b)) (one_set t.d u.d _ t.is_d u.is_d) same.factors ∙ sym u.main))
+        ∙ (ap₂ (λ a b. sum_if (minus a y) (product_of b)) (one_set t.split.d u.split.d _ t.split.is_d u.split.is_d) same.factors ∙ sym u.main))
       where
         formula_same : (f h : PlainFormula) → f.defs ≡ h.defs → f.main ≡ h.main → f ≡ h
         formula_same f h p q = ap₂ (λ a b. record { defs = a; main = b }) p q
 
         same : All f.defs h.defs t.factors u.factors
-        same = all_same g zs 0 t.districts f.defs h.defs t.factors u.factors t.are_factored
-            (subst (λ z. AreFactoredWith g zs 0 z h.defs u.factors) (same_districts t.d u.d o p t.districts u.districts io ip t.is_d u.is_d t.are_districts
-            u.are_districts) u.are_factored)
+        same = all_same g zs 0 t.split.districts f.defs h.defs t.factors u.factors t.are_factored
+            (subst (λ z. AreFactoredWith g zs 0 z h.defs u.factors) (same_districts o p io ip t.split u.split) u.are_factored)
 
     pub surrogate_one : (f h : PlainFormula) → IsSurrogate g zs x y f → IsSurrogate g zs x y h → f ≡ h
     surrogate_one f h s t = go s.answer t.answer
@@ -124,11 +122,10 @@ module _ (g : MixedGraph) (x y : ℕ) where
         go (inr a) (inr b) = composed_one s.order t.order f h s.is_order t.is_order a.1 b.1
 
     pub stop_same : (small big small2 big2 : ℕ) → IsStoppedWith g zs x y small big → IsStoppedWith g zs x y small2 big2 → (small ≡ small2) × (big ≡ big2)
-    stop_same small big small2 big2 s u = stops_same g zs 0 s.districts small big small2 big2 s.stops
-        (subst (λ z. StopsWith g zs 0 z small2 big2) (same_districts s.d u.d s.order u.order s.districts u.districts s.is_order u.is_order s.is_d u.is_d
-        s.are_districts u.are_districts) u.stops)
+    stop_same small big small2 big2 s u = stops_same g zs 0 s.split.districts small big small2 big2 s.stops
+        (subst (λ z. StopsWith g zs 0 z small2 big2) (same_districts s.order u.order s.is_order u.is_order s.split u.split) u.stops)
 
     -- at most one district is the first that is blocked
     pub first_blocked_one : (c e : ℕ) → IsFirstBlockedFor g zs x y c → IsFirstBlockedFor g zs x y e → c ≡ e
-    first_blocked_one c e b d = first_blocked_same g zs c e b.districts b.first (subst (IsFirstBlocked g zs e)
-        (same_districts b.d d.d b.order d.order b.districts d.districts b.is_order d.is_order b.is_d d.is_d b.are_districts d.are_districts) d.first)
+    first_blocked_one c e b d = first_blocked_same g zs c e b.split.districts b.first (subst (IsFirstBlocked g zs e)
+        (same_districts b.order d.order b.is_order d.is_order b.split d.split) d.first)

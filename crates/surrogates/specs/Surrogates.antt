@@ -5,13 +5,12 @@ use Rattle.std.specs.Prelude.{ℕ, ◌+◌, ◌≡◌, ◌≢◌, ◌⊎◌, fal
 use Rattle.mixed_graph.specs.Bits.{has}
 use Rattle.mixed_graph.specs.Graphs.{MixedGraph, induced}
 use Rattle.mixed_graph.specs.Orders.{IsOrder}
-use Rattle.hedge.specs.Linked.{AreDistricts}
 use Rattle.hedge.specs.Shapes.{AreSetsOfHedge}
 use Rattle.mixed_graph.specs.Masks.{minus, all, is_apart}
 use Rattle.prob_expr.specs.Terms.{is_listed}
 use Rattle.prob_expr.specs.Tree.{prob, Tree, Trees, no_trees, tree, PlainFormula}
 use Rattle.do_derivation.specs.Plans.{Plan, Plans, no_plans, PlainLemma, PlainDerivation}
-use Rattle.identification_theory.specs.Procedure.{AreAncestorsIn, Source, IsFactor, IsStopped, product_of, sum_if}
+use Rattle.identification_theory.specs.Procedure.{AreAncestorsIn, Source, IsFactor, IsStopped, Split, product_of, sum_if}
 use Rattle.identification_theory.specs.Derivations.{Lists, no_more, more, AreFactorSteps, district_steps, main_steps}
 
 -- the graph without the edges at z, whose members stay as vertices
@@ -62,15 +61,12 @@ pub data AreDerivedWith (g : MixedGraph) (zs : List ℕ) : (k : ℕ) → List �
       → ComesFirst g c z (0 ∷ zs) → IsDerivedUnder g z c k ds e ls l
       → AreDerivedWith g zs (k + length ds) cs es fs more_ls lists → AreDerivedWith g zs k (c ∷ cs) (ds ++ es) (tree e fs) (ls ++ more_ls) (more l lists)
 
--- The formula: with d the ancestors of y once x is left out, the product of the factors of the districts of d, summed down to y.
+-- the formula: with d the ancestors of y once x is left out, the product of the factors of the districts of d, summed down to y
 pub record IsComposedOver (g : MixedGraph) (order zs : List ℕ) (x y : ℕ) (f : PlainFormula) : Type 0 where
-  pub d : ℕ
-  pub is_d : AreAncestorsIn g (minus (all g.vertices) x) y d
-  pub districts : List ℕ
-  pub are_districts : AreDistricts g d 0 order districts
+  pub split : Split g order x y
   pub factors : Trees
-  pub are_factored : AreFactoredWith g zs 0 districts f.defs factors
-  pub main : f.main ≡ sum_if (minus d y) (product_of factors)
+  pub are_factored : AreFactoredWith g zs 0 split.districts f.defs factors
+  pub main : f.main ≡ sum_if (minus split.d y) (product_of factors)
 
 -- the formula over experiments: P(y) where x is empty, else the composed one
 pub record IsSurrogate (g : MixedGraph) (zs : List ℕ) (x y : ℕ) (f : PlainFormula) : Type 0 where
@@ -80,15 +76,12 @@ pub record IsSurrogate (g : MixedGraph) (zs : List ℕ) (x y : ℕ) (f : PlainFo
 
 -- the composed formula with its derivation
 pub record IsComposedBySteps (g : MixedGraph) (order zs : List ℕ) (x y : ℕ) (f : PlainFormula) (t : PlainDerivation) : Type 0 where
-  pub d : ℕ
-  pub is_d : AreAncestorsIn g (minus (all g.vertices) x) y d
-  pub districts : List ℕ
-  pub are_districts : AreDistricts g d 0 order districts
+  pub split : Split g order x y
   pub factors : Trees
   pub lists : Lists
-  pub are_derived : AreDerivedWith g zs 0 districts f.defs factors t.lemmas lists
-  pub main : f.main ≡ sum_if (minus d y) (product_of factors)
-  pub steps : t.main ≡ Plan.Then (main_steps g.vertices x y d (district_steps order d districts lists factors))
+  pub are_derived : AreDerivedWith g zs 0 split.districts f.defs factors t.lemmas lists
+  pub main : f.main ≡ sum_if (minus split.d y) (product_of factors)
+  pub steps : t.main ≡ Plan.Then (main_steps g.vertices x y split.d (district_steps order split.d split.districts lists factors))
 
 -- the formula over experiments and its derivation, which for an empty x has no step
 pub record IsSurrogateBySteps (g : MixedGraph) (zs : List ℕ) (x y : ℕ) (f : PlainFormula) (t : PlainDerivation) : Type 0 where
@@ -107,11 +100,8 @@ pub data StopsWith (g : MixedGraph) (zs : List ℕ) : (k : ℕ) → List ℕ →
 pub record IsStoppedWith (g : MixedGraph) (zs : List ℕ) (x y small big : ℕ) : Type 0 where
   pub order : List ℕ
   pub is_order : IsOrder g order (length order)
-  pub d : ℕ
-  pub is_d : AreAncestorsIn g (minus (all g.vertices) x) y d
-  pub districts : List ℕ
-  pub are_districts : AreDistricts g d 0 order districts
-  pub stops : StopsWith g zs 0 districts small big
+  pub split : Split g order x y
+  pub stops : StopsWith g zs 0 split.districts small big
 
 -- ---- what blocks a district
 
@@ -135,11 +125,8 @@ IsAmong c (t ∷ ts) = (c ≡ t) ⊎ IsAmong c ts
 pub record IsDistrictFor (g : MixedGraph) (x y c : ℕ) : Type 0 where
   pub order : List ℕ
   pub is_order : IsOrder g order (length order)
-  pub d : ℕ
-  pub is_d : AreAncestorsIn g (minus (all g.vertices) x) y d
-  pub districts : List ℕ
-  pub are_districts : AreDistricts g d 0 order districts
-  pub among : IsAmong c districts
+  pub split : Split g order x y
+  pub among : IsAmong c split.districts
 
 -- c is the first blocked one of the list
 pub data IsFirstBlocked (g : MixedGraph) (zs : List ℕ) (c : ℕ) : List ℕ → Type 0 where
@@ -150,11 +137,8 @@ pub data IsFirstBlocked (g : MixedGraph) (zs : List ℕ) (c : ℕ) : List ℕ �
 pub record IsFirstBlockedFor (g : MixedGraph) (zs : List ℕ) (x y c : ℕ) : Type 0 where
   pub order : List ℕ
   pub is_order : IsOrder g order (length order)
-  pub d : ℕ
-  pub is_d : AreAncestorsIn g (minus (all g.vertices) x) y d
-  pub districts : List ℕ
-  pub are_districts : AreDistricts g d 0 order districts
-  pub first : IsFirstBlocked g zs c districts
+  pub split : Split g order x y
+  pub first : IsFirstBlocked g zs c split.districts
 
 -- some district is blocked
 pub record SomeBlocked (g : MixedGraph) (zs : List ℕ) (x y : ℕ) : Type 0 where

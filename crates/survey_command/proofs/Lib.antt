@@ -5,6 +5,7 @@ mod Tallying
 pub mod Outcomes
 pub mod Exclusive
 pub mod Lawful
+pub mod OneText
 pub mod Counting
 pub mod Drawing
 pub mod Stepping

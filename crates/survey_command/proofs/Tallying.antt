@@ -12,7 +12,7 @@ use Rattle.survey_command.specs.Tallies.{IsAnswerFor, IsRowTally, IsTally, count
 use Rattle.survey_command.specs.declared.tally.Tally.{Tally}
 
 -- sets that are the same below k have as many members there
-length-members-same : (s t : ℕ → Bool) (k : ℕ) → ((v : ℕ) → v < k → s v ≡ t v) → length (members_below s k) ≡ length (members_below t k)
+pub length-members-same : (s t : ℕ → Bool) (k : ℕ) → ((v : ℕ) → v < k → s v ≡ t v) → length (members_below s k) ≡ length (members_below t k)
 length-members-same s t zero same = length-members-zero s ∙ sym (length-members-zero t)
 length-members-same s t (suc k) same =
     let low = length-members-same s t k (λ v lt. same v (omega arith)) in

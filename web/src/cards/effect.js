@@ -60,7 +60,8 @@ function condition(ctx, given) {
 }
 
 function view({ ctx, form, tex, given, doing: xs, isDirect, isUnchanged, more }) {
-  const { words, said: { out: printed } } = form, ys = withRole(ctx, "outcome"), notes = notesOn(printed, xs, ys);
+  const { words, said: { out: printed } } = form, ys = withRole(ctx, "outcome");
+  const notes = [form.note && h("li", {}, form.note), ...notesOn(printed, xs, ys)].filter(Boolean);
   const [effect] = printed.split(" = "), among = given.names.length ? [" given ", listed(given.names)] : "";
   const claim = xs.length
     ? [isDirect ? "The effect of setting " : "The effect of ", listed(xs), " on ", listed(ys), among, ": ", h("code", {}, effect), " equals this formula at every "
@@ -70,8 +71,7 @@ function view({ ctx, form, tex, given, doing: xs, isDirect, isUnchanged, more })
     verdict("yes", "Identifiable", claim),
     isUnchanged ? h("p", { class: "reason" }, "No directed path leads from ", listed(xs), " to ", listed(ys), ", so ", listed(ys),
       ys.length > 1 ? " aren't" : " isn't", " changed by ", listed(xs), ".") : null,
-    formulaBox(tex, printed),
-    form.row(),
+    formulaBox(tex, printed, form.choice()),
     notes.length ? h("ul", { class: "notes" }, notes) : null,
     source(words, printed),
     fold(ctx, "derivation", "Derivation in the do-calculus", () => derivation(ctx, words)),

@@ -10,29 +10,31 @@ export const inChosenForm = ({ memory }, words) => (memory.procedure ? words : [
 export const askedAhead = (words) => [words, [...words, SHORT], [...words, SHORT, "--latex"]];
 
 /**
- * The form that is chosen of a formula: what was said, the words for it, and what these have more than the procedure's; and the
- * choice, where the two forms differ.
- * @typedef {{said: import("../runner.js").Answer, words: string[], more: string[], row: () => Node | null}} Form
+ * The form that is chosen of a formula: what was said, the words for it, and what these have more than the procedure's; and where the
+ * two forms differ, the choice, with a sentence about it.
+ * @typedef {{said: import("../runner.js").Answer, words: string[], more: string[], choice: () => Node | null, note: string | null}} Form
  */
 
 /** The form that is chosen of the formula that these words ask for. @param {import("./parts.js").Context} ctx @returns {Promise<Form>} */
 export async function chosenForm(ctx, words) {
   const [said, short] = await Promise.all([ctx.ask(words), ctx.ask([...words, SHORT])]);
   const isShorter = short.status === 0 && short.out !== said.out, more = isShorter && !ctx.memory.procedure ? [SHORT] : [];
-  return { said: more.length ? short : said, words: [...words, ...more], more, row: () => (isShorter ? row(ctx) : null) };
+  return {
+    said: more.length ? short : said, words: [...words, ...more], more,
+    choice: () => (isShorter ? tickBox(ctx) : null), note: isShorter ? noteOn(more) : null,
+  };
 }
 
-function row(ctx) {
+function tickBox(ctx) {
   const { memory } = ctx;
   const choose = (e) => {
     memory.procedure = e.target.checked;
     ctx.refresh();
   };
-  return h("div", { class: "stack" },
-    h("label", { class: "tick-box" },
-      h("input", { type: "checkbox", id: "procedure", checked: memory.procedure, data: { key: "procedure" }, onchange: choose }),
-      " as the procedure gives it"),
-    h("p", { class: "small-print" }, memory.procedure ? "The form that the identification procedure gives; a short one is no longer. "
-      : "A short form (--short), no longer than the one that the identification procedure gives. ",
-    "Both equal the effect; over a sample their values may differ."));
+  return h("label", { class: "tick-box" },
+    h("input", { type: "checkbox", id: "procedure", checked: memory.procedure, data: { key: "procedure" }, onchange: choose }),
+    " as the procedure gives it");
 }
+
+const noteOn = (more) => (more.length ? "A short form (--short), no longer than the identification procedure's. "
+  : "The identification procedure's form; a short one is no longer. ") + "Both equal the effect; over a sample their values may differ.";

@@ -61,7 +61,8 @@ function row(ctx, ways, way, picker, form) {
   const option = ({ by, label }) => h("option", { value: by, selected: by === way.by }, label);
   return h("div", { class: "stack" },
     h("label", { class: "count" }, "Formula ", h("select", { id: "by", data: { key: "by" }, onchange: choose }, ways.map(option))),
-    picker && h("div", { class: "pickers" }, picker.row()), picker && howToChoose(), form?.row());
+    picker && h("div", { class: "pickers" }, picker.row()), picker && howToChoose(),
+    form?.choice(), form?.note && h("p", { class: "small-print" }, form.note));
 }
 
 // ---- Where some combination of levels has no record

@@ -94,8 +94,8 @@ export const isRefused = (answer) => answer.status > 1 || answer.status < 0;
 
 export const pathMarks = (printed) => readPath(printed).map((e) => ({ ...e, cls: "open" }));
 
-/** A formula with its ways out: its LaTeX, and a larger view. */
-export function formulaBox(tex, printed) {
+/** A formula with its ways out: its LaTeX, and a larger view; and beside them the choice of its form, where there is one. */
+export function formulaBox(tex, printed, choice = null) {
   const enlarge = () => {
     const close = h("form", { method: "dialog" }, h("button", { class: "small" }, "Close"));
     const box = h("dialog", { class: "large", "aria-label": "Formula", onclose: () => box.remove() }, close,
@@ -104,7 +104,7 @@ export function formulaBox(tex, printed) {
     box.showModal();
   };
   return h("div", {}, h("div", { class: "formula" }, formula(tex, printed)),
-    h("div", { class: "row end" }, copyButton(tex.join("\n"), "LaTeX", "Copy LaTeX"), button("Enlarge", enlarge)));
+    h("div", { class: "row end" }, choice, copyButton(tex.join("\n"), "LaTeX", "Copy LaTeX"), button("Enlarge", enlarge)));
 }
 
 /** Saving the certificate of the answer to these words, and having it checked. */

@@ -9,7 +9,6 @@ ghost use Rattle.effect_answers.specs.Lines.{certificate_line};
 
 use certificate::Certificate;
 use certificate_writing::write_answer;
-use hedge::Hedge;
 use mixed_graph::Names;
 use std::alloc::{AllocError, Global};
 
@@ -27,13 +26,4 @@ pub fn certificate_line(
     let mut text = write_answer(alloc, certificate, names)?;
     text.push(b'\n')?;
     Ok(text)
-}
-
-/// How many places a hedge has for links.
-pub fn sized(hedge: &Hedge)
-    ensures found { length hedge.now.links.found ≡ 64 }
-    ensures partner { length hedge.now.links.partner ≡ 64 }
-{
-    let _ = hedge.links.found[0];
-    let _ = hedge.links.partner[0];
 }

@@ -3,14 +3,13 @@
 ghost use Rattle.std.specs.Prelude.{◌≡◌, ◌+◌, ◌*◌, ◌≤◌, OnOk, IfOk, length};
 ghost use Rattle.mixed_graph.specs.Bits.{has};
 ghost use Rattle.minimal_sets.specs.Separators.{IsMinimalSeparator};
-ghost use Rattle.minimal_sets.specs.Listings.{IsBefore, IsListingOf};
-ghost use Rattle.minimal_sets.specs.Lists.{Pairwise};
-ghost use Rattle.minimal_sets.specs.Progress.{IsSoFar, IsAtWork};
+ghost use Rattle.minimal_sets.specs.Listings.{IsListingOf};
+ghost use Rattle.minimal_sets.specs.Progress.{IsSoFar, IsAtWork, AreGathered};
 ghost use Rattle.minimal_sets.specs.Rows.{is_near};
 
 use crate::separators::branching::{Node, begin, spread};
-use crate::separators::places::place_in;
 use crate::separators::problem::SeparationProblem;
+use crate::separators::sorting::sort_sets;
 use crate::separators::steps::Steps;
 use mixed_graph::VSet;
 use std::alloc::{AllocError, Global};
@@ -32,14 +31,35 @@ fn turn<L: Ledger>(
     steps: &mut Steps<L>,
 ) -> Result<(), AllocError>
     requires work { IsAtWork (is_near p.now.near) (has p.now.allowed.bits) (has p.now.x.bits) (has p.now.y.bits) sets.old.items node todo.old.items }
-    requires sorted { Pairwise IsBefore sets.old.items }
     ensures listed { OnOk result (IsSoFar (is_near p.now.near) (has p.now.allowed.bits) (has p.now.x.bits) (has p.now.y.bits) sets.new.items todo.new.items) }
-    ensures sorted { OnOk result (Pairwise IsBefore sets.new.items) }
     ensures grows { OnOk result (length sets.new.items ≡ length sets.old.items + 1) }
     ensures cost { steps.new ≤ steps.old + p.now.n }
 {
     spread(p, node, todo, steps)?;
-    place_in(sets, node.separator)
+    sets.push(node.separator)?;
+    Ok(())
+}
+
+/// The minimal separators in the order in which the branches give them.
+fn gather<L: Ledger>(
+    alloc: Global,
+    p: &SeparationProblem,
+    most: u32,
+    steps: &mut Steps<L>,
+) -> Result<Listing, AllocError>
+    ensures gathered { IfOk result (λ l. AreGathered (IsMinimalSeparator (is_near p.now.near) (has p.now.allowed.bits) (has p.now.x.bits) (has p.now.y.bits)) most l.sets.items l.more) }
+    ensures cost { IfOk result (λ l. steps.new ≤ steps.old + 1 + p.now.n * length l.sets.items) }
+{
+    let mut sets = Vec::new(alloc);
+    let mut todo = begin(alloc, p, steps)?;
+    'turns: for i in 0..most {
+        let Some(node) = todo.pop() else {
+            return Ok(Listing { sets, more: false });
+        };
+        turn(p, node, &mut sets, &mut todo, steps)?;
+    }
+    let more = !todo.is_empty();
+    Ok(Listing { sets, more })
 }
 
 /// The minimal separators between x and y by allowed vertices, in ascending order; `most` of them where there are more.
@@ -54,14 +74,7 @@ pub fn list_separators<L: Ledger>(
     ensures listed { IfOk result (λ l. IsListingOf (IsMinimalSeparator (is_near p.now.near) (has p.now.allowed.bits) (has p.now.x.bits) (has p.now.y.bits)) most l.sets.items l.more) }
     ensures cost { IfOk result (λ l. steps.new ≤ steps.old + 1 + p.now.n * length l.sets.items) }
 {
-    let mut sets = Vec::new(alloc);
-    let mut todo = begin(alloc, p, steps)?;
-    'turns: for i in 0..most {
-        let Some(node) = todo.pop() else {
-            return Ok(Listing { sets, more: false });
-        };
-        turn(p, node, &mut sets, &mut todo, steps)?;
-    }
-    let more = !todo.is_empty();
-    Ok(Listing { sets, more })
+    let mut listing = gather(alloc, p, most, steps)?;
+    sort_sets(&mut listing.sets);
+    Ok(listing)
 }

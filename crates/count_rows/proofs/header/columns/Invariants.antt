@@ -1,11 +1,10 @@
 use Rattle.std.proofs.Common.{◌≡◌, map, take, None}
-use Rattle.csv.specs.Records.{fields_of}
 use Rattle.mixed_graph.specs.Names.{index_of, name_of}
 use Rattle.count_rows.specs.Faults.{header_fault}
 use Rattle.count_rows.proofs.header.columns.Given as goal
 
 abbrev pub invariant-loop-v : goal.invariant-loop-v
 invariant-loop-v l = record {
-  places : l.places.items ≡ map (index_of (fields_of l.header)) (map (name_of l.names) (take l.v-index l.vertices));
-  fit : header_fault (fields_of l.header) (map (name_of l.names) (take l.v-index l.vertices)) ≡ None;
+  places : l.places.items ≡ map (index_of l.header) (map (name_of l.names) (take l.v-index l.vertices));
+  fit : header_fault l.header (map (name_of l.names) (take l.v-index l.vertices)) ≡ None;
 }

@@ -1,19 +1,13 @@
-use Rattle.std.proofs.Common.{◌∙◌, refl, sym, inr}
-use Rattle.csv.specs.Reading.{Reached, strip_bom}
+use Rattle.std.proofs.Common.{◌∙◌, sym, arith}
+use Rattle.csv.proofs.ReadFacts.{strip-short}
+use Rattle.count_rows.proofs.ReadingSteps.{opened, unmarked, marked}
 use Rattle.count_rows.proofs.reader.open.Goals as goal
 
+pub returns-then-text-lt3 : goal.returns-then-text-lt3
+returns-then-text-lt3 c = opened c.args.text.now 0 (strip-short c.args.text.now (omega arith))
+
+pub returns-then-is_mark : goal.returns-then-is_mark
+returns-then-is_mark c = opened c.args.text.now 3 (marked c.args.text.now (omega arith) (sym c.is_mark.ensures ∙ c.if-is_mark.true))
+
 pub returns : goal.returns
-unfolding Reached
-returns c =
-    let fr = c.from_reader.ensures in
-    let e = c.has_headers.ensures in
-    record {
-      untrimmed = rw e at fr.trim ∙ c.new.ensures.trim;
-      ready = inr (inr (rw e at fr.has_headers, fr.headers));
-      default = rw e at fr.config ∙ c.new.ensures.config;
-      strict = rw e at fr.flexible ∙ c.new.ensures.flexible;
-      width = fr.expected;
-      rest = strip_bom c.args.text.now;
-      pending = fr.source;
-      reached = (sym fr.state, refl);
-    }
+returns c = opened c.args.text.now 0 (unmarked c.args.text.now (omega arith) (sym c.is_mark.ensures ∙ c.if-is_mark.false))

@@ -1,19 +1,21 @@
-use Rattle.csv.specs.Records.{fields_of}
-use Rattle.count_rows.proofs.ReadingSteps.{another, all_read, failed}
+use Rattle.std.proofs.Common.{arith}
+use Rattle.std.proofs.lemmas.List.{take_rest}
+use Rattle.count_rows.specs.Reader.{GivesNext}
+use Rattle.count_rows.proofs.ReadingSteps.{another, all_read}
 use Rattle.count_rows.proofs.reader.read.Goals as goal
 
-pub returns-in-Ok-true : goal.returns-in-Ok-true
-returns-in-Ok-true c text before h =
-    let r = c.in-Ok-true.ensures.reads h.untrimmed h.ready in
-    another text before c.args.reader.now c.read_byte_record.new.self (fields_of c.read_byte_record.new.row) h (rw (c.in-Ok-true.field-0-test) at r)
-    (c.in-Ok-true.ensures.ready h.untrimmed) c.in-Ok-true.ensures.flexible
+pub returns-then-from-text : goal.returns-then-from-text
+unfolding GivesNext
+returns-then-from-text c before h =
+    all_read c.args.text.now before c.args.at c.skip_line_ends-from.result h c.skip_line_ends-from.ensures.same (omega arith)
 
-pub returns-in-Ok-false : goal.returns-in-Ok-false
-returns-in-Ok-false c text before h =
-    let r = c.in-Ok-false.ensures.reads h.untrimmed h.ready in
-    all_read text before c.args.reader.now c.read_byte_record.new.self (fields_of c.read_byte_record.new.row) h (rw (c.in-Ok-false.field-0-test) at r)
+pub returns-in-Ok : goal.returns-in-Ok
+unfolding GivesNext
+returns-in-Ok c before h =
+    another c.args.text.now before c.args.at c.skip_line_ends-from.result c.in-Ok.next c.take_record.new.into h c.skip_line_ends-from.ensures.same
+    (omega arith) (c.skip_line_ends-from.ensures.begins (omega arith))
+    (rw (take_rest c.args.text.now c.skip_line_ends-from.result) at c.in-Ok.ensures.fields)
 
 pub returns-in-Err : goal.returns-in-Err
-returns-in-Err c text before h =
-    rw (c.failed_read.ensures) (failed text before c.args.reader.now c.read_byte_record.new.self (fields_of c.read_byte_record.new.row) c.in-Err.error.kind h
-    (c.in-Err.ensures.why h.ready))
+unfolding GivesNext
+returns-in-Err c before h = tt

@@ -1,5 +1,4 @@
-use Rattle.std.proofs.Common.{◌≡◌, ◌∙◌, ◌+◌, sym, ap, refl, arith, List, ℕ, [], ◌∷◌, ◌++◌, Some, replicate, length, length-append}
-use Rattle.csv.specs.Records.{fields_of}
+use Rattle.std.proofs.Common.{◌≡◌, ◌≢◌, ◌∙◌, ◌+◌, sym, ap, refl, arith, List, ℕ, [], ◌∷◌, ◌++◌, Some, replicate, length, length-append}
 use Rattle.count_rows.specs.declared.fault.CountFault.TheVariants.{NotCsv}
 use Rattle.count_rows.specs.Faults.{row_fault}
 use Rattle.count_rows.specs.Reader.{GivesNext}
@@ -14,7 +13,7 @@ loop-number-init c =
     let levels : c.in-Ok.tally.levels.items ≡ replicate (length c.args.columns.now.places.items) [] = c.in-Ok.ensures.levels ∙ ap (λ k. replicate k []) n in
     record {
       width = ap (λ (l : List (List (List ℕ))). length l) levels ∙ length-replicate (length c.args.columns.now.places.items) [];
-      so_far = λ text header h. (
+      so_far = λ header h w. (
         [],
         h,
         holds-nil (layout_from c.args.columns.now)
@@ -26,35 +25,39 @@ loop-number-init c =
 
 pub returns-in-End : goal.returns-in-End
 unfolding GivesNext
-returns-in-End c text header h =
-    let (rows, at, held, fine, number) = c.loop-number.invariant.so_far text header h in
-    ended text header rows (layout_from c.args.columns.now) c.loop-number.tally c.finished.result (c.in-End.ensures text (header ∷ rows) at)
+returns-in-End c header h w =
+    let (rows, at, held, fine, number) = c.loop-number.invariant.so_far header h w in
+    ended c.args.text.now header rows (layout_from c.args.columns.now) c.loop-number.tally c.finished.result (c.in-End.ensures (header ∷ rows) at)
     fine held c.finished.ensures.ok c.finished.ensures.empty
 
-pub returns-in-OtherLength : goal.returns-in-OtherLength
+pub returns-then-count-width : goal.returns-then-count-width
 unfolding GivesNext
-returns-in-OtherLength c text header h n =
-    let (rows, at, held, fine, number) = c.loop-number.invariant.so_far text header h in
-    let (other, more, is, long) = c.in-OtherLength.ensures text (header ∷ rows) at in
-    row_too_long text header rows more other (layout_from c.args.columns.now) is long fine ∙ ap (λ k. Some (NotCsv k)) (sym number)
+returns-then-count-width c header h w n =
+    let (rows, at, held, fine, number) = c.loop-number.invariant.so_far header h w in
+    let read = c.in-Record.ensures (header ∷ rows) at in
+    let long : length c.read.new.into ≢ length header = λ e. c.if-count-width.true (c.count.ensures ∙ e ∙ sym w) in
+    row_too_long c.args.text.now header rows c.read.new.into c.in-Record.next (layout_from c.args.columns.now) read long fine
+    ∙ ap (λ k. Some (NotCsv k)) (sym number)
 
 pub returns-in-Err : goal.returns-in-Err
 unfolding GivesNext
-returns-in-Err c text header h n =
-    let (rows, at, held, fine, number) = c.loop-number.invariant.so_far text header h in
-    let (read, long) = c.in-Record.ensures text (header ∷ rows) at in
-    row_refused text header rows (fields_of c.read.new.into) c.read.new.reader (layout_from c.args.columns.now) c.in-Err.fault read long fine
+returns-in-Err c header h w n =
+    let (rows, at, held, fine, number) = c.loop-number.invariant.so_far header h w in
+    let read = c.in-Record.ensures (header ∷ rows) at in
+    let long : length c.read.new.into ≡ length header = sym c.count.ensures ∙ c.if-count-width.false ∙ w in
+    row_refused c.args.text.now header rows c.read.new.into c.in-Record.next (layout_from c.args.columns.now) c.in-Err.fault read long fine
     (c.in-Err.ensures.row rows held number n)
 
 pub loop-number-preserved : goal.loop-number-preserved
 unfolding GivesNext
 loop-number-preserved c = record {
   width = c.add.ensures.width ∙ c.loop-number.invariant.width;
-  so_far = λ text header h.
-      let (rows, at, held, fine, number) = c.loop-number.invariant.so_far text header h in
-      let (read, long) = c.in-Record.ensures text (header ∷ rows) at in
+  so_far = λ header h w.
+      let (rows, at, held, fine, number) = c.loop-number.invariant.so_far header h w in
+      let read = c.in-Record.ensures (header ∷ rows) at in
+      let long : length c.read.new.into ≡ length header = sym c.count.ensures ∙ c.if-count-width.false ∙ w in
       let (more, fit) = c.in-Ok-add.ensures.row rows held number in
-      let r = fields_of c.read.new.into in
+      let r = c.read.new.into in
       let n : c.loop-number.number + 1 ≡ length (rows ++ r ∷ []) + 1 = omega (arith, number, length-append rows (r ∷ [])) in (
         rows ++ r ∷ [],
         read,

@@ -1,4 +1,4 @@
-use Rattle.std.proofs.Common.{ℕ, ◌≡◌, ◌∷◌, ◌+◌, [], List, None, length}
+use Rattle.std.proofs.Common.{◌≡◌, ◌∷◌, ◌+◌, [], List, None, length}
 use Rattle.count_rows.specs.Records.{Record}
 use Rattle.count_rows.specs.Faults.{rows_fault}
 use Rattle.count_rows.specs.Reader.{HasRead}
@@ -8,7 +8,7 @@ use Rattle.count_rows.proofs.rows.read_rows_under.Given as goal
 abbrev pub invariant-loop-number : goal.invariant-loop-number
 invariant-loop-number l = record {
   width : length l.tally.levels.items ≡ length l.columns.places.items;
-  so_far : (text : List ℕ) (header : Record) → HasRead text (header ∷ []) l.fn.reader →
-      (rows : List Record) × HasRead text (header ∷ rows) l.reader × HoldsRecords (layout_from l.columns) rows l.tally
+  so_far : (header : Record) → HasRead l.fn.text (header ∷ []) l.fn.start → l.fn.width ≡ length header →
+      (rows : List Record) × HasRead l.fn.text (header ∷ rows) l.at × HoldsRecords (layout_from l.columns) rows l.tally
       × (rows_fault (length header) (layout_from l.columns) [] rows ≡ None) × (l.number ≡ length rows + 1);
 }

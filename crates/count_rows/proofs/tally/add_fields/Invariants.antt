@@ -1,5 +1,4 @@
 use Rattle.std.proofs.Common.{◌≡◌, ◌<◌, ◌≤◌, ◌++◌, ℕ, [], get_or}
-use Rattle.csv.specs.Records.{fields_of}
 use Rattle.mixed_graph.specs.Names.{with_name, index_of}
 use Rattle.count_rows.specs.Records.{field_in}
 use Rattle.count_rows.specs.Rows.{list_below}
@@ -7,7 +6,7 @@ use Rattle.count_rows.proofs.tally.add_fields.Given as goal
 
 abbrev pub invariant-loop-i : goal.invariant-loop-i
 invariant-loop-i l = record {
-  before : (k : ℕ) → k < l.i → get_or l.levels k [] ≡ with_name (get_or l.fn.levels k []) (field_in (get_or l.places k 0) (fields_of l.row));
+  before : (k : ℕ) → k < l.i → get_or l.levels k [] ≡ with_name (get_or l.fn.levels k []) (field_in (get_or l.places k 0) l.row);
   behind : (k : ℕ) → l.i ≤ k → get_or l.levels k [] ≡ get_or l.fn.levels k [];
-  cells : l.cells.items ≡ l.fn.cells.items ++ list_below l.i (λ k. index_of (get_or l.fn.levels k []) (field_in (get_or l.places k 0) (fields_of l.row)));
+  cells : l.cells.items ≡ l.fn.cells.items ++ list_below l.i (λ k. index_of (get_or l.fn.levels k []) (field_in (get_or l.places k 0) l.row));
 }

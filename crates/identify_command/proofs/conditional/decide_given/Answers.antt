@@ -102,7 +102,7 @@ joint_text-requires c =
           shown.models
           (subst (λ a. IfJoint a (λ x y b h pair. AreCounterModels g x.bits y.bits pair)) c.in-Joint.is c.in_ok-formula.ensures.counter));
       «data» = on_names (λ n. IsHedgeWithin n (hedge_view c.in-Joint.hedge))
-          (hedge_within g c.in-Joint.x.bits c.in-Joint.y.bits c.in-Joint.hedge c.sized.ensures.found c.sized.ensures.partner shown.hedge);
+          (hedge_within g c.in-Joint.x.bits c.in-Joint.y.bits c.in-Joint.hedge c.has_entries.ensures shown.hedge);
     }
 
 pub returns-in_ok-joint_text-in-Joint : goal.returns-in_ok-joint_text-in-Joint

@@ -131,7 +131,7 @@ pub hedge_text-requires-clause-data : goal.hedge_text-requires-clause-data
 hedge_text-requires-clause-data c =
     let g = graph_of c.args.seen.now.graph in
     subst (λ n. IsHedgeWithin n (hedge_view c.in-Hedge.hedge)) (sym c.requires.named)
-    (hedge_within g c.args.sets.x.bits c.args.sets.y.bits c.in-Hedge.hedge c.sized.ensures.found c.sized.ensures.partner
+    (hedge_within g c.args.sets.x.bits c.args.sets.y.bits c.in-Hedge.hedge c.has_entries.ensures
     (subst (λ a. IfHedge a (λ h pair. IsHedge g c.args.sets.x.bits c.args.sets.y.bits h)) c.in-Hedge.is c.in_ok-formula.ensures.hedge))
 
 pub returns-in_ok-hedge_text-in-Hedge : goal.returns-in_ok-hedge_text-in-Hedge

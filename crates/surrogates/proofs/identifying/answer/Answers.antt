@@ -33,10 +33,12 @@ stop_at : (c : After-districts-parts) → (small big : ℕ)
 stop_at c small big stops = record {
   order = listed c.order_of-order.result;
   is_order = c.order_of-order.ensures.listed;
-  d = c.ancestors_outside-d.result.bits;
-  is_d = c.ancestors_outside-d.ensures;
-  districts = first_masks c.districts-parts.result.sets c.districts-parts.result.count;
-  are_districts = are_districts c;
+  split = record {
+    d = c.ancestors_outside-d.result.bits;
+    is_d = c.ancestors_outside-d.ensures;
+    districts = first_masks c.districts-parts.result.sets c.districts-parts.result.count;
+    are_districts = are_districts c;
+  };
   stops = stops;
 }
 

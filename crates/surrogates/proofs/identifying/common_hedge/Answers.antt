@@ -12,7 +12,7 @@ use Rattle.surrogates.proofs.identifying.common_hedge.Goals as goal
 
 pub common_stop-requires-clause-stopped : goal.common_stop-requires-clause-stopped
 common_stop-requires-clause-stopped c = stops_alone (graph_of c.args.g.now)
-    (masks_of c.args.experiments.now) c.requires.stop.districts c.args.small.bits c.args.big.bits c.requires.stop.stops
+    (masks_of c.args.experiments.now) c.requires.stop.split.districts c.args.small.bits c.args.big.bits c.requires.stop.stops
 
 pub hedge_of-requires-clause-hedge : goal.hedge_of-requires-clause-hedge
 hedge_of-requires-clause-hedge c =

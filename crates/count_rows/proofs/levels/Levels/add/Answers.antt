@@ -1,10 +1,7 @@
 use Rattle.std.proofs.Common.{◌≡◌, ◌∙◌, true, false, [], ◌∷◌, ◌++◌, cond, length, length-append, ap, arith, sym, subst}
 use Rattle.std.proofs.lemmas.List.{length-map}
-use Rattle.std.specs.Str.{bytes_eq}
 use Rattle.mixed_graph.specs.Names.{texts, is_named, with_name, index_of}
-use Rattle.mixed_graph.proofs.NameLists.{list_any-texts, position_or_len-texts, position-index, texts-insert, index_of-new}
-use Rattle.std.specs.Global.{Vec}
-use Rattle.std.specs.Prelude.{ℕ, Some}
+use Rattle.mixed_graph.proofs.NameLists.{texts-insert, index_of-new}
 use Rattle.count_rows.specs.Levels.{AreLevels}
 use Rattle.count_rows.proofs.LevelLists.{AreLevels-append}
 use Rattle.count_rows.proofs.levels.Levels.add.Goals as goal
@@ -13,16 +10,15 @@ use Rattle.count_rows.proofs.levels.Levels.add.Goals.{In_ok-insert}
 pub returns-in-Some-clause-added : goal.returns-in-Some-clause-added
 returns-in-Some-clause-added c =
     let names = texts c.self.inside.set.keys in
-    let there : is_named names c.args.level.now ≡ true = list_any-texts (bytes_eq c.args.level.now) c.self.inside.set.keys ∙ sym c.in-Some.ensures.found in
+    let there : is_named names c.args.level.now ≡ true = sym c.in-Some.ensures.there in
     subst (λ l. l ≡ with_name l c.args.level.now) c.self.view_is (ap (λ b. cond b names (names ++ c.args.level.now ∷ [])) (sym there))
 
 pub returns-in-Some-clause-number : goal.returns-in-Some-clause-number
 returns-in-Some-clause-number c =
-    (position-index {X = Vec ℕ} (λ k. bytes_eq c.args.level.now k.items) c.self.inside.set.keys (Some c.in-Some.number) c.in-Some.ensures.index).0
-    ∙ sym (position_or_len-texts (bytes_eq c.args.level.now) c.self.inside.set.keys) ∙ ap (λ l. index_of l c.args.level.now) c.self.view_is
+    c.in-Some.ensures.number ∙ ap (λ l. index_of l c.args.level.now) c.self.view_is
 
 absent : (c : In_ok-insert) → is_named (texts c.self.inside.set.keys) c.args.level.now ≡ false
-absent c = list_any-texts (bytes_eq c.args.level.now) c.self.inside.set.keys ∙ sym c.in_default.ensures.found
+absent c = sym c.in_default.ensures.there
 
 grown : (c : In_ok-insert) → texts c.insert.new.self.keys ≡ texts c.self.inside.set.keys ++ c.args.level.now ∷ []
 grown c = rw c.in_ok-insert.ensures.keys (texts-insert c.self.inside.set.keys c.in_ok-owned.owned c.args.level.now c.in_ok-owned.ensures.items (absent c))

@@ -1,33 +1,18 @@
-use Rattle.std.proofs.Common.{◌≡◌, not, length, ap, ◌∙◌, subst, arith}
-use Rattle.std.specs.Vec.{vec_len}
+use Rattle.std.proofs.Common.{◌+◌, ◌*◌, ◌≤◌, sym, subst}
+use Rattle.std.proofs.lemmas.List.Sorted.{length_permutation}
 use Rattle.mixed_graph.specs.Bits.{has}
-use Rattle.minimal_sets.specs.Progress.{IsSoFar}
 use Rattle.minimal_sets.specs.Rows.{is_near}
-use Rattle.minimal_sets.proofs.Endings.{ended, either_end, empty_items, not_empty, is_zero}
-use Rattle.minimal_sets.proofs.SoFar.{working_begin}
+use Rattle.minimal_sets.specs.Separators.{IsMinimalSeparator}
+use Rattle.minimal_sets.proofs.Endings.{sorted_listing}
 use Rattle.minimal_sets.proofs.separators.listing.list_separators.Goals as goal
-
-pub returns-in_default-clause-listed : goal.returns-in_default-clause-listed
-returns-in_default-clause-listed g c =
-    ended (is_near c.args.p.now.near) (has c.args.p.now.allowed.bits) (has c.args.p.now.x.bits) (has c.args.p.now.y.bits)
-    c.args.most c.turns.sets.items c.turns.todo.items
-    c.turns.invariant.0 c.turns.invariant.1 (let f = c.turns-test.true in let l = c.turns.invariant.2 in omega arith)
-    (empty_items c.turns.todo.items (let k = c.turns.todo.ok in let z = c.in_default.ensures.cases.0 in omega arith))
-
-pub turn-requires-clause-work : goal.turn-requires-clause-work
-turn-requires-clause-work g c =
-    working_begin (is_near c.args.p.now.near) (has c.args.p.now.allowed.bits) (has c.args.p.now.x.bits) (has c.args.p.now.y.bits)
-    c.turns.sets.items c.pop.new.self.items c.in-Some.node
-    (subst (λ t. IsSoFar (is_near c.args.p.now.near) (has c.args.p.now.allowed.bits) (has c.args.p.now.x.bits) (has c.args.p.now.y.bits) c.turns.sets.items t)
-    c.in-Some.ensures.items c.turns.invariant.0)
 
 pub returns-clause-listed : goal.returns-clause-listed
 returns-clause-listed g c =
-    let e : c.turns.i ≡ c.args.most = (let f = c.turns-test.false in let h = c.turns.auto.i-end in omega arith) in
-    either_end (is_near c.args.p.now.near) (has c.args.p.now.allowed.bits) (has c.args.p.now.x.bits) (has c.args.p.now.y.bits)
-    c.args.most c.turns.sets.items c.turns.todo.items (not c.is_empty-more.result)
-    c.turns.invariant.0 c.turns.invariant.1 (c.turns.invariant.2 ∙ e)
-    (λ m e. not_empty (vec_len c.turns.todo) c.is_empty-more.result c.is_empty-more.ensures m
-    (let k = c.turns.todo.ok in let z : length c.turns.todo.items ≡ 0 = ap length e in omega arith))
-    (λ m. empty_items c.turns.todo.items (let k = c.turns.todo.ok in let z =
-    is_zero (vec_len c.turns.todo) c.is_empty-more.result c.is_empty-more.ensures m in omega arith))
+    sorted_listing (IsMinimalSeparator (is_near c.args.p.now.near) (has c.args.p.now.allowed.bits) (has c.args.p.now.x.bits) (has c.args.p.now.y.bits))
+    c.args.most c.in_ok-listing.listing.sets.items c.sort_sets.new.sets.items c.in_ok-listing.listing.more c.in_ok-listing.ensures.gathered
+    c.sort_sets.ensures.permutation c.sort_sets.ensures.sorted
+
+pub returns-clause-cost : goal.returns-clause-cost
+returns-clause-cost g c =
+    subst (λ k. c.gather.new.steps ≤ c.args.steps.now + 1 + c.args.p.now.n * k)
+    (sym (length_permutation c.in_ok-listing.listing.sets.items c.sort_sets.new.sets.items c.sort_sets.ensures.permutation)) c.in_ok-listing.ensures.cost

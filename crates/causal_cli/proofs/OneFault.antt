@@ -1,0 +1,87 @@
+-- Lists that are refused have one fault, and so one line.
+use Rattle.std.proofs.Common.{◌≡◌, ℕ, List, [], Option, Some, None, refl, sym, ap, ◌∙◌}
+use Rattle.std.proofs.lemmas.Option.{none-some, same_Some}
+use Rattle.answer_text.specs.Lines.{line_of}
+use Rattle.targets.specs.declared.fault.TargetFault.{TargetFault}
+use Rattle.targets.specs.declared.fault.TargetFault.TheVariants.{Unknown, Latent, Twice, EmptyY, EmptyX}
+use Rattle.targets.specs.FaultTexts.{target_fault_text}
+use Rattle.targets.specs.Targets.{NameFault, unknown, latent, twice, IsFaultOfTarget, Lists, fault_in, IsListFault, RuleLists, rule_fault, EffectLists}
+use Rattle.targets.specs.Targets.{effect_fault, IsEffectFault}
+use Rattle.replies.specs.Observed.{IsTargetRefusal}
+use Rattle.effect_answers.specs.Effects.{IsEffectRefusal}
+use Rattle.identify_command.specs.Conditions.{IsListRefusal}
+use Rattle.separation_commands.specs.RuleAnswers.{IsRuleRefusal}
+use Rattle.surrogate_command.specs.Sets.{SurrogateLists, surrogate_fault, IsSurrogateFault}
+use Rattle.surrogate_command.specs.Asked.{IsRefusal}
+use Rattle.causal_cli.specs.Texts.{IsOneText}
+
+-- the fault of a target that a name at fault makes
+abbrev named : NameFault → TargetFault
+named (unknown n) = Unknown n
+named (latent n) = Latent n
+named (twice n) = Twice n
+
+-- what a fault says of the first name at fault and of the lists: that it is this one, or that there is none and y, or else x, is empty
+data IsKindOf (first : Option NameFault) (y x : List (List ℕ)) : TargetFault → Type 0 where
+  name : (n : NameFault) → first ≡ Some n → IsKindOf first y x (named n)
+  empty_y : first ≡ None → y ≡ [] → IsKindOf first y x EmptyY
+  empty_x : first ≡ None → (y ≡ [] → ⊥) → IsKindOf first y x EmptyX
+
+kind_of : (first : Option NameFault) (y x : List (List ℕ)) (f : TargetFault) → IsFaultOfTarget first y x f → IsKindOf first y x f
+kind_of first y x (Unknown n) h = name (unknown n) h
+kind_of first y x (Latent n) h = name (latent n) h
+kind_of first y x (Twice n) h = name (twice n) h
+kind_of first y x EmptyY h = empty_y h.0 h.1
+kind_of first y x EmptyX h = empty_x h.0 h.1
+kind_of first y x f h = absurd h
+
+one_kind : (first : Option NameFault) (y x : List (List ℕ)) (f k : TargetFault) → IsKindOf first y x f → IsKindOf first y x k → k ≡ f
+one_kind first y x _ _ (name n a) (name m b) = ap named (same_Some m n (sym b ∙ a))
+one_kind first y x _ _ (name n a) (empty_y b c) = absurd (none-some n (sym b ∙ a))
+one_kind first y x _ _ (name n a) (empty_x b c) = absurd (none-some n (sym b ∙ a))
+one_kind first y x _ _ (empty_y a c) (name m b) = absurd (none-some m (sym a ∙ b))
+one_kind first y x _ _ (empty_y a c) (empty_y b d) = refl
+one_kind first y x _ _ (empty_y a c) (empty_x b d) = absurd (d c)
+one_kind first y x _ _ (empty_x a c) (name m b) = absurd (none-some m (sym a ∙ b))
+one_kind first y x _ _ (empty_x a c) (empty_y b d) = absurd (c d)
+one_kind first y x _ _ (empty_x a c) (empty_x b d) = refl
+
+-- lists have one fault
+one_fault : (first : Option NameFault) (y x : List (List ℕ)) (f k : TargetFault) → IsFaultOfTarget first y x f → IsFaultOfTarget first y x k → k ≡ f
+one_fault first y x f k a b = one_kind first y x f k (kind_of first y x f a) (kind_of first y x k b)
+
+-- and one line
+one_line : (first : Option NameFault) (y x : List (List ℕ)) (f k : TargetFault) (text line : List ℕ) → IsFaultOfTarget first y x f
+    → IsFaultOfTarget first y x k → text ≡ line_of (target_fault_text f) → line ≡ line_of (target_fault_text k) → line ≡ text
+one_line first y x f k text line a b p q = q ∙ ap (λ (e : TargetFault). line_of (target_fault_text e)) (one_fault first y x f k a b) ∙ sym p
+
+pub one_target_refusal : (l : Lists) → IsOneText (IsTargetRefusal l)
+one_target_refusal l text line a b = one_line (fault_in l) l.y l.x a.fault b.fault text line a.is_fault b.is_fault a.prints b.prints
+
+pub one_rule_refusal : (l : RuleLists) → IsOneText (IsRuleRefusal l)
+one_rule_refusal l text line a b = one_line (rule_fault l) l.y l.z a.fault b.fault text line a.is_fault b.is_fault a.prints b.prints
+
+-- an empty x is no fault of some lists
+list_fault : (l : Lists) (f : TargetFault) → IsListFault l f → IsFaultOfTarget (fault_in l) l.y l.x f
+list_fault l EmptyX h = absurd h
+list_fault l f h = h
+
+pub one_list_refusal : (l : Lists) → IsOneText (IsListRefusal l)
+one_list_refusal l text line a b = one_line (fault_in l) l.y l.x a.fault b.fault text line (list_fault l a.fault a.is_fault) (list_fault l b.fault b.is_fault)
+    a.prints b.prints
+
+of_effect : (l : EffectLists) (f : TargetFault) → IsEffectFault l f → IsFaultOfTarget (effect_fault l) l.y l.x f
+of_effect l EmptyX h = absurd h
+of_effect l f h = h
+
+pub one_effect_refusal : (l : EffectLists) → IsOneText (IsEffectRefusal l)
+one_effect_refusal l text line a b = one_line (effect_fault l) l.y l.x a.fault b.fault text line (of_effect l a.fault a.is_fault)
+    (of_effect l b.fault b.is_fault) a.prints b.prints
+
+of_surrogate : (l : SurrogateLists) (f : TargetFault) → IsSurrogateFault l f → IsFaultOfTarget (surrogate_fault l) l.effect.y l.effect.x f
+of_surrogate l EmptyX h = absurd h
+of_surrogate l f h = h
+
+pub one_surrogate_refusal : (l : SurrogateLists) → IsOneText (IsRefusal l)
+one_surrogate_refusal l text line a b = one_line (surrogate_fault l) l.effect.y l.effect.x a.fault b.fault text line (of_surrogate l a.fault a.is_fault)
+    (of_surrogate l b.fault b.is_fault) a.prints b.prints

@@ -1,0 +1,119 @@
+-- A yes has one text, and so has a no, but for the certificate of a common hedge.
+use Rattle.std.proofs.Common.{◌≡◌, ◌≤◌, ℕ, List, [], ◌++◌, Option, Some, None, refl, sym, ap, ap₂, ◌∙◌, subst}
+use Rattle.std.specs.Prelude.{◌↔◌, IsSome, IfSome}
+use Rattle.std.proofs.lemmas.Bool.{false≢true}
+use Rattle.mixed_graph.specs.Graphs.{MixedGraph, IsMixedGraph}
+use Rattle.mixed_graph.specs.declared.sets.VSet.{VSet}
+use Rattle.hedge.specs.declared.hedge.Hedge.{Hedge}
+use Rattle.counter_models.specs.declared.counter_pair.CounterPair.{CounterPair}
+use Rattle.prob_expr.specs.Tree.{PlainFormula, effect_on}
+use Rattle.do_derivation.specs.Plans.{PlainDerivation}
+use Rattle.identification_theory.specs.Procedure.{IsStopped}
+use Rattle.identification_theory.proofs.Unique.{one_set, stopped_one}
+use Rattle.identify_text.specs.PairLines.{models_text}
+use Rattle.surrogates.specs.Common.{around}
+use Rattle.surrogates.specs.Surrogates.{without, IsStoppedUnder}
+use Rattle.surrogates.specs.Answers.{IsStopShown, IsBlockShown}
+use Rattle.surrogates.specs.declared.answer.CommonHedge.{CommonHedge}
+use Rattle.surrogates.proofs.Answered.{one_surrogate, one_stop_with}
+use Rattle.experiment_lists.specs.Lines.{unidentifiable_with_line}
+use Rattle.experiment_lists.proofs.OneSet.{one_by_one}
+use Rattle.replies.specs.declared.outcome.Outcome.TheVariants.{Yes, No}
+use Rattle.replies.proofs.OneTarget.{same_two}
+use Rattle.effect_answers.proofs.OneHedge.{AreAlike, hedges_alike}
+use Rattle.effect_answers.proofs.HedgeTexts.{sets_alike, models_alike}
+use Rattle.surrogate_command.specs.declared.form.Form.{Form}
+use Rattle.surrogate_command.specs.declared.form.Form.TheVariants.{Plain, Models, Certificate}
+use Rattle.surrogate_command.specs.Answers.{ShowsFormula, ShowsStop, ListsAnswer}
+use Rattle.surrogate_command.specs.Lines.{formula_text, unfound_line, district_line, stop_answer, common_answer, stopped_text}
+use Rattle.surrogate_command.specs.Sets.{SurrogateLists}
+use Rattle.surrogate_command.proofs.OneDerivation.{one_derivation_over}
+
+-- ---- yes
+
+-- one formula over experiments with one derivation has one text
+over_experiments_once : (form : Form) (q : MixedGraph) (names : List (List ℕ)) (zs : List ℕ) (x y : ℕ) (text line : List ℕ)
+    → ShowsFormula form q names zs x y text → ShowsFormula form q names zs x y line → line ≡ text
+over_experiments_once form q names zs x y text line a b =
+    let fs : b.formula ≡ a.formula = one_surrogate q zs x y b.formula a.formula b.stated a.stated in
+    let ds : b.derivation ≡ a.derivation = one_derivation_over q zs x y b.formula a.formula b.derivation a.derivation b.derived a.derived in
+    b.prints
+    ∙ ap (λ (f : PlainFormula). formula_text form names (effect_on x y) f b.derivation) fs
+    ∙ ap (λ (d : PlainDerivation). formula_text form names (effect_on x y) a.formula d) ds
+    ∙ sym a.prints
+
+pub surrogate_yes_once : (form : Form) (q : MixedGraph) (l : SurrogateLists) (text line : List ℕ) → ListsAnswer form q l Yes text
+    → ListsAnswer form q l Yes line → line ≡ text
+surrogate_yes_once form q l text line a b = over_experiments_once form q l.effect.observed a.experiments a.x a.y text line a.answer
+    (subst (λ (zs : List ℕ). ShowsFormula form q l.effect.observed zs a.x a.y line)
+    (one_by_one l.effect.observed l.experiments a.experiments b.experiments a.sets.experiments b.sets.experiments)
+    (same_two (λ u v. ShowsFormula form q l.effect.observed b.experiments u v line) l.effect a.x a.y b.x b.y a.sets.effect b.sets.effect b.answer))
+
+-- ---- no
+
+-- under an intervention a factor stops inside one set
+one_stopped_under : (g : MixedGraph) (z c big more : ℕ) → IsStoppedUnder g z c big → IsStoppedUnder g z c more → big ≡ more
+one_stopped_under g z c big more s t = stopped_one (without g z) [] c s.a big more s.stop
+    (subst (λ (b : ℕ). IsStopped (without g z) c b more) (one_set t.a s.a _ t.ancestors s.ancestors) t.stop)
+
+module _ (q : MixedGraph) (valid : IsMixedGraph q) (few : q.vertices ≤ 64) (zs : List ℕ) (x y : ℕ) where
+  -- the districts at which the procedure stops are one
+  district_same : (d e : VSet) (h k : Hedge) (pair other : CounterPair) → IsStopShown q zs x y d h pair → IsStopShown q zs x y e k other → e.bits ≡ d.bits
+  district_same d e h k pair other a b = sym (one_stop_with q zs x y d.bits h.big.bits e.bits k.big.bits a.stop b.stop).0
+
+  -- and so are their hedges
+  stops_alike : (d e : VSet) (h k : Hedge) (pair other : CounterPair) → IsStopShown q zs x y d h pair → IsStopShown q zs x y e k other → AreAlike h k
+  stops_alike d e h k pair other a b =
+      let stop = one_stop_with q zs x y d.bits h.big.bits e.bits k.big.bits a.stop b.stop in
+      hedges_alike q h k (sym stop.1) (ap (λ (s : VSet). s.bits) b.small ∙ sym stop.0 ∙ ap (λ (s : VSet). s.bits) (sym a.small)) a.hedge.sets.small_inside
+      a.built b.built
+
+  -- the common hedges of a district are one
+  blocks_alike : (d e : VSet) (h k : Hedge) (pair other : CounterPair) → e.bits ≡ d.bits → IsBlockShown q zs x y d h pair → IsBlockShown q zs x y e k other
+      → AreAlike h k
+  blocks_alike d e h k pair other same a b =
+      let stop : IsStoppedUnder q (around d.bits zs) d.bits k.big.bits = subst (λ (c : ℕ). IsStoppedUnder q (around c zs) c k.big.bits) same b.stop in
+      hedges_alike q h k (sym (one_stopped_under q (around d.bits zs) d.bits h.big.bits k.big.bits a.stop stop))
+      (ap (λ (s : VSet). s.bits) b.small ∙ same ∙ ap (λ (s : VSet). s.bits) (sym a.small)) a.hedge.sets.small_inside a.built b.built
+
+  common_same : (names : List (List ℕ)) (d e : VSet) (h k : Hedge) (pair other : CounterPair) → e.bits ≡ d.bits → IsBlockShown q zs x y d h pair
+      → IsBlockShown q zs x y e k other → common_answer names x y e.bits k other ≡ common_answer names x y d.bits h pair
+  common_same names d e h k pair other same a b =
+      let alike = blocks_alike d e h k pair other same a b in
+      let sets = a.hedge.sets in
+      let models : models_text names k other ≡ models_text names h pair =
+      models_alike q valid few x y h k alike sets.low sets.small_inside sets.roots_inside pair other a.models b.models names in
+      ap₂ (λ (c : ℕ) (l : List ℕ). unidentifiable_with_line names x y ++ (district_line names c ++ l)) same
+      (ap₂ (λ (l m : List ℕ). l ++ m) (sets_alike names h k alike.big alike.small alike.roots) models)
+
+  -- the text of a stop, where there is a common hedge and where there is none
+  stopped_same : (form : Form) → (form ≡ Certificate → ⊥) → (names : List (List ℕ)) (d e : VSet) (h k : Hedge) (c m : Option CommonHedge) (P : Type 0)
+      → e.bits ≡ d.bits → stop_answer names x y e.bits k ≡ stop_answer names x y d.bits h → (IsSome c ↔ P) → (IsSome m ↔ P)
+      → IfSome c (λ i. IsBlockShown q zs x y d i.hedge i.pair) → IfSome m (λ i. IsBlockShown q zs x y e i.hedge i.pair)
+      → stopped_text form names x y e.bits k m ≡ stopped_text form names x y d.bits h c
+  stopped_same form plain names d e h k None None P same stop a b i j = stop
+  stopped_same form plain names d e h k None (Some m) P same stop a b i j = absurd (false≢true (a.1 (b.0 refl)))
+  stopped_same form plain names d e h k (Some c) None P same stop a b i j = absurd (false≢true (b.1 (a.0 refl)))
+  stopped_same Plain plain names d e h k (Some c) (Some m) P same stop a b i j = stop
+  stopped_same Models plain names d e h k (Some c) (Some m) P same stop a b i j = common_same names d e c.hedge m.hedge c.pair m.pair same i j
+  stopped_same Certificate plain names d e h k (Some c) (Some m) P same stop a b i j = absurd (plain refl)
+
+  -- a stop has one text
+  stop_once : (form : Form) → (form ≡ Certificate → ⊥) → (names : List (List ℕ)) (text line : List ℕ) → ShowsStop form q names zs x y text
+      → ShowsStop form q names zs x y line → line ≡ text
+  stop_once form plain names text line a b =
+      let same = district_same a.district b.district a.hedge b.hedge a.pair b.pair a.stop b.stop in
+      let alike = stops_alike a.district b.district a.hedge b.hedge a.pair b.pair a.stop b.stop in
+      let stop : stop_answer names x y b.district.bits b.hedge ≡ stop_answer names x y a.district.bits a.hedge =
+      ap₂ (λ (c : ℕ) (l : List ℕ). unfound_line names x y ++ (district_line names c ++ l)) same
+      (sets_alike names a.hedge b.hedge alike.big alike.small alike.roots) in
+      b.prints ∙ stopped_same form plain names a.district b.district a.hedge b.hedge a.common b.common _ same stop a.exact b.exact a.shown b.shown
+      ∙ sym a.prints
+
+-- the answer for lists of names
+pub surrogate_no_once : (form : Form) → (form ≡ Certificate → ⊥) → (q : MixedGraph) → IsMixedGraph q → q.vertices ≤ 64 → (l : SurrogateLists)
+    (text line : List ℕ) → ListsAnswer form q l No text → ListsAnswer form q l No line → line ≡ text
+surrogate_no_once form plain q valid few l text line a b = stop_once q valid few a.experiments a.x a.y form plain l.effect.observed text line a.answer
+    (subst (λ (zs : List ℕ). ShowsStop form q l.effect.observed zs a.x a.y line)
+    (one_by_one l.effect.observed l.experiments a.experiments b.experiments a.sets.experiments b.sets.experiments)
+    (same_two (λ u v. ShowsStop form q l.effect.observed b.experiments u v line) l.effect a.x a.y b.x b.y a.sets.effect b.sets.effect b.answer))
