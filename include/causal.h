@@ -51,7 +51,7 @@ enum causal_status {
     CAUSAL_SECOND = 4,     /* the second input is refused, likewise */
     CAUSAL_NO_VALUE = 5,   /* the formula has no value over the counts; where a support is missing the line in `err` has the cell */
     CAUSAL_NO_INPUT = 6,   /* the words name an input that isn't there; `err` has a line */
-    CAUSAL_CUT_SHORT = 7,  /* memory was refused while the answer was stored: `out` has a front of it, `err` a line */
+    CAUSAL_CUT_SHORT = 7,  /* that of the program where a write fails; it doesn't come here */
     CAUSAL_NO_MEMORY = 8,  /* memory was refused before; `err` has a line */
     CAUSAL_NOT_TEXT = 9,   /* a word isn't UTF-8; nothing is written */
     CAUSAL_NO_WORDS = 10,  /* there is no memory for the words; nothing is written */
@@ -189,7 +189,7 @@ uint8_t causal_separated(const causal_diagram *diagram, uint64_t x, uint64_t y, 
  * names, names_size    the names that causal_keep wrote, all of them
  *
  * The diagram stands for the file of the command, whatever the words call it; another input of that name isn't it. A second input, as
- * the certificate of `check`, is found among the inputs. CAUSAL_CUT_SHORT doesn't come. CAUSAL_NOT_KEPT says that the diagram isn't kept
+ * the certificate of `check`, is found among the inputs. CAUSAL_NOT_KEPT says that the diagram isn't kept
  * with these names; nothing is written then, and both sizes are 0. */
 uint8_t causal_ask(const causal_diagram *diagram, const uint8_t *names, size_t names_size,
                    const uint8_t *bytes, size_t length,

@@ -1,15 +1,14 @@
 -- An admissible set, what breaks it and a refusal exclude each other; so do minimal sets and none.
 use Rattle.std.proofs.Common.{◌≡◌, ◌==◌, ℕ, List, [], ◌∷◌, length, inl, inr, refl, sym, ap, ◌∙◌, subst, arith}
-use Rattle.std.specs.Prelude.{slice_index, All}
+use Rattle.std.specs.Prelude.{slice_index, All, Some}
 use Rattle.std.proofs.lemmas.Bool.{eq-eqb, eqb-true}
 use Rattle.mixed_graph.specs.Bits.{has}
 use Rattle.mixed_graph.specs.Graphs.{MixedGraph}
+use Rattle.mixed_graph.specs.Shown.{graph_of}
 use Rattle.mixed_graph.specs.declared.sets.VSet.{VSet}
 use Rattle.mixed_graph.proofs.Masks.{has-pow}
 use Rattle.m_separation.specs.Walks.{IsOpenWalk, IsPath}
 use Rattle.do_derivation.proofs.TermSets.{apart_back}
-use Rattle.dag_reader.specs.declared.graph.ReadGraph.{ReadGraph}
-use Rattle.dag_reader.specs.RoundTrip.{AreSame}
 use Rattle.targets.specs.Targets.{Lists, AreSets}
 use Rattle.mixed_graph.specs.Masks.{one}
 use Rattle.adjustment.specs.declared.criteria.AdjFault.{AdjFault}
@@ -19,14 +18,15 @@ use Rattle.adjustment.specs.Faults.{IsAdjustmentFault, IsBackDoorFault, steps_of
 use Rattle.minimal_sets.specs.MinimalSets.{IsMinimalSet}
 use Rattle.replies.specs.declared.outcome.Outcome.{Outcome}
 use Rattle.replies.specs.declared.outcome.Outcome.TheVariants.{Yes, No, Graph}
-use Rattle.replies.specs.Observed.{Names}
+use Rattle.diagram.specs.declared.diagram.Diagram.{Diagram}
+use Rattle.diagram.specs.Sets.{Names}
+use Rattle.diagram.proofs.OneDiagram.{AreSameDiagrams, same_query_lists}
 use Rattle.replies.specs.OneOutcome.{OneOutcome, IsAnswerOn}
-use Rattle.replies.proofs.OneGraph.{observed_named}
-use Rattle.replies.proofs.OneOutcome.{IsOneOf, one_of_three, one_for_lists}
+use Rattle.replies.proofs.OneOutcome.{IsOneOf, one_of_three, one_for_diagrams}
 use Rattle.replies.proofs.OneTarget.{sets_refused, same_three}
 use Rattle.adjust_command.specs.Queries.{Query, by_set, by_back_door, listing}
 use Rattle.adjust_command.specs.Answers.{texts_of, ShowsAdmissible, ShowsFault, ShowsBackDoorSet, ShowsBackDoorFault, ShowsSets, ShowsNone}
-use Rattle.adjust_command.specs.Answers.{SetsAnswer, adjust_lists, IsAnswerOfSets, ListsAnswer, AdjustAnswer}
+use Rattle.adjust_command.specs.Answers.{SetsAnswer, set_of, adjust_lists, IsAnswerOfSets, ListsAnswer, AdjustAnswer}
 use Rattle.adjust_command.proofs.Lists.{three_sets}
 
 -- two vertices with one mask are the same
@@ -122,9 +122,10 @@ module _ (query : Query) (q : MixedGraph) (l : Lists) (named : length l.observed
   pub lists_once : OneOutcome (ListsAnswer query q l)
   lists_once = one_of_three Yes No Graph (ListsAnswer query q l) among apart yes_graph no_graph
 
-pub same_lists : (x y : Names) (query : Query) (g h : ReadGraph) → AreSame g h → adjust_lists h x y query ≡ adjust_lists g x y query
-same_lists x y query g h s = rw (s.names, s.vertices, s.latent, s.exposures, s.outcomes) refl
+pub same_lists : (x y : Names) (query : Query) (d e : Diagram) → AreSameDiagrams d e → adjust_lists e.read e.observed.names x y query
+    ≡ adjust_lists d.read d.observed.names x y query
+same_lists x y query d e s = same_query_lists x y (Some (set_of query)) d e s
 
-pub adjust_once : (bytes : List ℕ) (x y : Names) (query : Query) → OneOutcome (IsAnswerOn bytes (λ g. AdjustAnswer g x y query))
-adjust_once bytes x y query = one_for_lists bytes (λ g. adjust_lists g x y query) (λ q l. ListsAnswer query q l) (same_lists x y query)
-    (λ g q is. lists_once query q (adjust_lists g x y query) (observed_named g q is))
+pub adjust_once : (bytes : List ℕ) (x y : Names) (query : Query) → OneOutcome (IsAnswerOn bytes (λ d. AdjustAnswer d x y query))
+adjust_once bytes x y query = one_for_diagrams bytes (λ d. adjust_lists d.read d.observed.names x y query) (λ q l. ListsAnswer query q l)
+    (same_lists x y query) (λ d. lists_once query (graph_of d.observed.graph) (adjust_lists d.read d.observed.names x y query) d.observed.sized)

@@ -4,7 +4,7 @@ use Rattle.std.specs.Prelude.{codes, is_some}
 use Rattle.std.proofs.lemmas.Option.{same_Some}
 use Rattle.command_words.specs.Form.{Use, value_of, has_flag}
 use Rattle.command_words.proofs.OneValue.{one_listed, one_number_or}
-use Rattle.replies.specs.Observed.{Names}
+use Rattle.diagram.specs.Sets.{Names}
 use Rattle.adjust_command.specs.Queries.{query_for}
 use Rattle.replies.proofs.Commands.{IsLawful, lawful_on_file}
 use Rattle.adjust_command.specs.Requests.{Request, IsRequest}
@@ -32,4 +32,4 @@ one_request uses q r a b = λ i. record {
 
 -- what holds of each command holds of it
 pub adjust_lawful : IsLawful adjust_command
-adjust_lawful = lawful_on_file one_request (λ q g. adjust_answered g q.x q.y q.query) (λ q bytes. adjust_once bytes q.x q.y q.query)
+adjust_lawful = lawful_on_file one_request (λ q d. adjust_answered d q.x q.y q.query) (λ q bytes. adjust_once bytes q.x q.y q.query)

@@ -4,6 +4,7 @@ pub mod Verdicts
 pub mod Exposures
 pub mod Minimal
 pub mod Lists
+pub mod NameLists
 pub mod Outcomes
 pub mod Ranges
 mod NoQueries

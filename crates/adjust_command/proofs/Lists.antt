@@ -3,21 +3,18 @@ use Rattle.std.proofs.Common.{◌≡◌, ℕ, List, ◌++◌, length, Result, Ok
 use Rattle.std.specs.Prelude.{OnOk}
 use Rattle.std.proofs.lemmas.List.{append_assoc}
 use Rattle.mixed_graph.specs.Bits.{has}
-use Rattle.mixed_graph.specs.Graphs.{MixedGraph}
 use Rattle.do_rules.specs.Rules.{AreThreeSets}
-use Rattle.dag_reader.specs.declared.graph.ReadGraph.{ReadGraph}
 use Rattle.answer_text.specs.Lines.{line_of}
 use Rattle.targets.specs.declared.fault.TargetFault.{TargetFault}
 use Rattle.targets.specs.declared.fault.TargetFault.TheVariants.{NoMemory}
 use Rattle.targets.specs.FaultTexts.{target_fault_text}
-use Rattle.targets.specs.Targets.{listed, Lists, AreSets, IsTargetFault, OrMemory}
+use Rattle.targets.specs.Targets.{Lists, AreSets, IsTargetFault, OrMemory}
 use Rattle.targets.proofs.Disjoint.{disjoint_sets}
 use Rattle.targets.proofs.Faults.{not_memory}
-use Rattle.targets.proofs.Parts.{lists_of}
 use Rattle.replies.specs.declared.outcome.Outcome.{Outcome}
 use Rattle.replies.specs.declared.outcome.Outcome.TheVariants.{Graph}
 use Rattle.replies.specs.declared.outcome.Reply.{Reply}
-use Rattle.replies.specs.Observed.{Names, observed_names, IsObservedGraph, IsTargetRefusal, query_lists, IsOfThreeSets, AnswerForSets}
+use Rattle.replies.specs.Observed.{IsTargetRefusal, IsOfThreeSets, AnswerForSets}
 
 -- the sets of a query are those that the criteria ask for
 pub three_sets : (l : Lists) (n x y given : ℕ) → length l.observed ≡ n → AreSets l x y given → AreThreeSets n (has x) (has y) (has given)
@@ -31,47 +28,26 @@ pub for_sets : (l : Lists) (answer : (x y z : ℕ) → Outcome → List ℕ → 
 for_sets l answer Graph text h = inr h
 for_sets l answer o text h = h
 
-module _ (g : ReadGraph) (x y : Names) (given : List (List ℕ)) where
-  -- lists of these parts are those of the query
-  pub same_lists : (observed xs ys zs : List (List ℕ)) → observed ≡ observed_names g → xs ≡ listed g.names g.exposures.bits x → ys
-      ≡ listed g.names g.outcomes.bits y → zs ≡ given
-      → lists_of g.names observed xs ys zs ≡ query_lists g x y given
-  same_lists observed xs ys zs e f h k = λ i. record { all = g.names; observed = e i; x = f i; y = h i; given = k i }
+-- a fault of lists is answered by its refusal
+pub lists_refused : {E : Type 0} (l : Lists) (answer : (x y z : ℕ) → Outcome → List ℕ → Type 0) (fault : TargetFault) → OrMemory (IsTargetFault l) fault
+    → (r : Result Reply E) → IfOk r (λ (p : Reply). p.outcome ≡ Graph)
+    → IfOk r (λ (p : Reply). p.text.items ≡ line_of (target_fault_text fault))
+    → OnOk r (fault ≡ NoMemory → ⊥) → IfOk r (λ (p : Reply). AnswerForSets l answer p.outcome p.text.items)
+lists_refused l answer fault is (Err e) outcome line memory = tt
+lists_refused l answer fault is (Ok p) outcome line memory =
+    let refusal : IsTargetRefusal l p.text.items = record {
+      fault = fault;
+      is_fault = not_memory (IsTargetFault l) fault memory is;
+      prints = line;
+    } in
+    subst (λ (o : Outcome). AnswerForSets l answer o p.text.items) (sym outcome) (inl refusal)
 
-  -- a fault of them is answered by its refusal
-  pub lists_refused : {E : Type 0} (q : MixedGraph) → IsObservedGraph g q → (answer : MixedGraph → (x y z : ℕ) → Outcome → List ℕ → Type 0) (l : Lists) → l
-      ≡ query_lists g x y given
-      → (fault : TargetFault) → OrMemory (IsTargetFault l) fault → (r : Result Reply E) → IfOk r (λ (p : Reply). p.outcome ≡ Graph)
-      → IfOk r (λ (p : Reply). p.text.items ≡ line_of (target_fault_text fault))
-      → OnOk r (fault ≡ NoMemory → ⊥) → IfOk r (λ (p : Reply). (q : MixedGraph) × IsObservedGraph g q
-      × AnswerForSets (query_lists g x y given) (answer q) p.outcome p.text.items)
-  lists_refused q observed answer l same fault is (Err e) outcome line memory = tt
-  lists_refused q observed answer l same fault is (Ok p) outcome line memory =
-      let refusal : IsTargetRefusal (query_lists g x y given) p.text.items = record {
-        fault = fault;
-        is_fault = not_memory (IsTargetFault (query_lists g x y given)) fault memory (subst (λ (k : Lists). OrMemory (IsTargetFault k) fault) same is);
-        prints = line;
-      } in
-      subst (λ (o : Outcome). (q : MixedGraph) × IsObservedGraph g q × AnswerForSets (query_lists g x y given) (answer q) o p.text.items) (sym outcome)
-      (q, observed, inl refusal)
-
-  -- sets that they name are answered by the answer for these
-  pub lists_answered : {E : Type 0} (q : MixedGraph) → IsObservedGraph g q → (answer : MixedGraph → (x y z : ℕ) → Outcome → List ℕ → Type 0) (l : Lists) → l
-      ≡ query_lists g x y given
-      → (s t w : ℕ) → AreSets l s t w → (r : Result Reply E) → IfOk r (λ (p : Reply). answer q s t w p.outcome p.text.items)
-      → IfOk r (λ (p : Reply). (q : MixedGraph) × IsObservedGraph g q × AnswerForSets (query_lists g x y given) (answer q) p.outcome p.text.items)
-  lists_answered q observed answer l same s t w sets (Err e) h = tt
-  lists_answered q observed answer l same s t w sets (Ok p) h = (
-    q,
-    observed,
-    for_sets (query_lists g x y given) (answer q) p.outcome p.text.items (record {
-      x = s;
-      y = t;
-      z = w;
-      sets = subst (λ (k : Lists). AreSets k s t w) same sets;
-      answer = h;
-    }),
-  )
+-- sets that they name are answered by the answer for these
+pub lists_answered : {E : Type 0} (l : Lists) (answer : (x y z : ℕ) → Outcome → List ℕ → Type 0) (s t w : ℕ) → AreSets l s t w → (r : Result Reply E)
+    → IfOk r (λ (p : Reply). answer s t w p.outcome p.text.items)
+    → IfOk r (λ (p : Reply). AnswerForSets l answer p.outcome p.text.items)
+lists_answered l answer s t w sets (Err e) h = tt
+lists_answered l answer s t w sets (Ok p) h = for_sets l answer p.outcome p.text.items (record { x = s; y = t; z = w; sets = sets; answer = h })
 
 -- three texts one after another
 pub three_written : (a b d : List ℕ) (old one two out : List ℕ) → one ≡ old ++ a → two ≡ one ++ b → out ≡ two ++ d → out ≡ old ++ (a ++ (b ++ d))

@@ -1,5 +1,5 @@
 -- How many sets a listing may ask for.
-use Rattle.std.proofs.Common.{◌≡◌, ℕ, ◌≤◌, Bool, List, Option, Some, None, refl, ap, subst, ◌∙◌}
+use Rattle.std.proofs.Common.{◌≡◌, ℕ, ◌≤◌, List, Option, Some, None, refl, ap, subst}
 use Rattle.std.specs.Prelude.{is_some, option_map}
 use Rattle.adjust_command.specs.Queries.{Query, by_set, by_back_door, listing, IsInRange, HasRange}
 

@@ -1,8 +1,8 @@
--- The answer of `adjust`: whether a set may be adjusted for to compute the effect of x on y, or the minimal such sets, in the observed graph of the
--- one that was read.
-use Rattle.std.specs.Prelude.{ℕ, ◌≡◌, ◌↔◌, Bool, true, false, List, [], All, codes}
+-- The answer of `adjust`: whether a set may be adjusted for to compute the effect of x on y, or the minimal such sets, in the observed graph of a diagram.
+use Rattle.std.specs.Prelude.{ℕ, ◌≡◌, ◌↔◌, Bool, true, false, List, [], All, Some, codes}
 use Rattle.mixed_graph.specs.Bits.{has}
 use Rattle.mixed_graph.specs.Graphs.{MixedGraph}
+use Rattle.mixed_graph.specs.Shown.{graph_of}
 use Rattle.mixed_graph.specs.declared.sets.VSet.{VSet}
 use Rattle.dag_reader.specs.declared.graph.ReadGraph.{ReadGraph}
 use Rattle.do_rules.specs.Rules.{AreThreeSets}
@@ -12,7 +12,9 @@ use Rattle.answer_text.specs.Lines.{line_of}
 use Rattle.targets.specs.FaultTexts.{target_fault_text}
 use Rattle.replies.specs.declared.outcome.Outcome.{Outcome}
 use Rattle.replies.specs.declared.outcome.Outcome.TheVariants.{Yes, No, Graph}
-use Rattle.replies.specs.Observed.{Names, IsObservedGraph, query_lists, IsOfThreeSets, AnswerForSets}
+use Rattle.diagram.specs.declared.diagram.Diagram.{Diagram}
+use Rattle.diagram.specs.Sets.{Names, query_lists}
+use Rattle.replies.specs.Observed.{IsOfThreeSets, AnswerForSets}
 use Rattle.mixed_graph.specs.Masks.{one}
 use Rattle.prob_expr.specs.Failing.{FailsSomewhere}
 use Rattle.prob_expr.specs.Values.{EqualsEffect}
@@ -121,7 +123,7 @@ SetsAnswer (by_set set) q names x y z o text = CriterionAnswer false q (texts_of
 SetsAnswer (by_back_door set) q names x y z o text = CriterionAnswer true q (texts_of names) x y z o text
 SetsAnswer (listing most) q names x y z o text = ListingAnswer q names x y most o text
 
--- ---- answers on a graph that was read
+-- ---- answers on a diagram
 
 -- the names of the set that is asked about; a listing has none
 abbrev pub set_of : Query → List (List ℕ)
@@ -129,9 +131,9 @@ set_of (by_set set) = set
 set_of (by_back_door set) = set
 set_of (listing most) = []
 
--- the lists of a query: those that are given, or else the exposures and the outcomes; and the set
-abbrev pub adjust_lists : ReadGraph → Names → Names → Query → Lists
-adjust_lists g x y query = query_lists g x y (set_of query)
+-- the lists of a query, on a graph with these observed names: those that are given, or else the exposures and the outcomes; and the set
+abbrev pub adjust_lists : ReadGraph → (observed : List (List ℕ)) → (x y : Names) → Query → Lists
+adjust_lists g observed x y query = query_lists g observed x y (Some (set_of query))
 
 -- the lists name three sets, for which the answer is given
 abbrev pub IsAnswerOfSets : Query → MixedGraph → Lists → Outcome → List ℕ → Type 0
@@ -141,6 +143,6 @@ IsAnswerOfSets query q l o text = IsOfThreeSets l (λ x y z. SetsAnswer query q 
 abbrev pub ListsAnswer : Query → MixedGraph → Lists → Outcome → List ℕ → Type 0
 ListsAnswer query q l o text = AnswerForSets l (SetsAnswer query q l.observed) o text
 
--- the answer on a graph that was read, in its observed graph
-abbrev pub AdjustAnswer : ReadGraph → Names → Names → Query → Outcome → List ℕ → Type 0
-AdjustAnswer g x y query o text = (q : MixedGraph) × IsObservedGraph g q × ListsAnswer query q (adjust_lists g x y query) o text
+-- the answer on a diagram, in its observed graph
+abbrev pub AdjustAnswer : Diagram → (x y : Names) → Query → Outcome → List ℕ → Type 0
+AdjustAnswer d x y query o text = ListsAnswer query (graph_of d.observed.graph) (adjust_lists d.read d.observed.names x y query) o text

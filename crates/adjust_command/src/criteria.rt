@@ -1,6 +1,6 @@
 //! What either criterion says of the set that is asked about.
 
-ghost use Rattle.std.specs.Prelude.{◌≡◌, ◌<◌, true, IfOk, length};
+ghost use Rattle.std.specs.Prelude.{◌<◌, true, IfOk};
 ghost use Rattle.mixed_graph.specs.Bits.{has};
 ghost use Rattle.mixed_graph.specs.Shown.{graph_of};
 ghost use Rattle.do_rules.specs.Rules.{AreThreeSets};
@@ -9,7 +9,7 @@ ghost use Rattle.adjust_command.specs.Verdicts.{IsVerdict};
 
 use crate::texts::{admissible_text, not_admissible_text};
 use adjustment::{AdjFault, adjusts, back_door};
-use latent_projection::Observed;
+use dag_reader::ReadGraph;
 use mixed_graph::{Graph, VSet};
 use replies::{Outcome, Reply, refuse};
 use std::alloc::{AllocError, Global};
@@ -60,11 +60,10 @@ fn back_door_verdict(graph: &Graph, sets: Sets) -> Verdict
 /// The answer by one of the two criteria.
 pub fn by_criterion(
     alloc: Global,
-    seen: &Observed,
+    seen: &ReadGraph,
     sets: Sets,
     by_back_door: bool,
 ) -> Result<Reply, AllocError>
-    requires named { length seen.now.names ≡ seen.now.graph.n }
     requires sets { AreThreeSets seen.now.graph.n (has sets.x.bits) (has sets.y.bits) (has sets.given.bits) }
     requires some_x { 0 < sets.x.bits }
     requires some_y { 0 < sets.y.bits }

@@ -7,6 +7,7 @@ mod listing;
 mod query;
 mod reply;
 mod request;
+mod set_lines;
 mod texts;
 
 pub use criteria::{Verdict, judge};

@@ -1,13 +1,13 @@
 //! The listing of the minimal sets.
 
-ghost use Rattle.std.specs.Prelude.{ℕ, ◌≡◌, ◌<◌, ◌≤◌, IfOk, length};
+ghost use Rattle.std.specs.Prelude.{ℕ, ◌≡◌, ◌<◌, ◌≤◌, IfOk};
 ghost use Rattle.mixed_graph.specs.Bits.{has};
 ghost use Rattle.mixed_graph.specs.Shown.{graph_of};
 ghost use Rattle.do_rules.specs.Rules.{AreThreeSets};
 ghost use Rattle.adjust_command.specs.Answers.{ListingAnswer};
 
-use crate::texts::listing_text;
-use latent_projection::Observed;
+use crate::set_lines::listing_text;
+use dag_reader::ReadGraph;
 use minimal_sets::{Listing, Steps, list};
 use replies::{Outcome, Reply};
 use std::alloc::{AllocError, Global};
@@ -16,8 +16,12 @@ use std::sync::ledger::{Blank, Ledger};
 use targets::Sets;
 
 /// The answer of a listing.
-pub fn list_sets(alloc: Global, seen: &Observed, sets: Sets, most: u32) -> Result<Reply, AllocError>
-    requires named { length seen.now.names ≡ seen.now.graph.n }
+pub fn list_sets(
+    alloc: Global,
+    seen: &ReadGraph,
+    sets: Sets,
+    most: u32,
+) -> Result<Reply, AllocError>
     requires sets { AreThreeSets seen.now.graph.n (has sets.x.bits) (has sets.y.bits) (has sets.given.bits) }
     requires most { 1 ≤ most }
     ensures { IfOk result (λ r. ListingAnswer (graph_of seen.now.graph) seen.now.names sets.x.bits sets.y.bits most r.outcome r.text.items) }
@@ -29,14 +33,13 @@ pub fn list_sets(alloc: Global, seen: &Observed, sets: Sets, most: u32) -> Resul
 fn list_counted<L: Ledger>(
     alloc: Global,
     blank: Blank,
-    seen: &Observed,
+    seen: &ReadGraph,
     sets: Sets,
     most: u32,
 ) -> Result<Reply, AllocError>
     requires name { blank.name ≡ L.name }
     requires parts { blank.parts ≡ L.parts }
     requires some { 0 < blank.parts }
-    requires named { length seen.now.names ≡ seen.now.graph.n }
     requires sets { AreThreeSets seen.now.graph.n (has sets.x.bits) (has sets.y.bits) (has sets.given.bits) }
     requires most { 1 ≤ most }
     ensures { IfOk result (λ r. ListingAnswer (graph_of seen.now.graph) seen.now.names sets.x.bits sets.y.bits most r.outcome r.text.items) }

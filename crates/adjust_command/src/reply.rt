@@ -1,11 +1,10 @@
 //! The answer of `adjust`.
 
-ghost use Rattle.std.specs.Prelude.{◌≡◌, ◌<◌, IfOk, length, option_map};
+ghost use Rattle.std.specs.Prelude.{◌≡◌, ◌<◌, IfOk};
 ghost use Rattle.mixed_graph.specs.Bits.{has};
 ghost use Rattle.mixed_graph.specs.Names.{texts};
 ghost use Rattle.mixed_graph.specs.Shown.{graph_of};
 ghost use Rattle.do_rules.specs.Rules.{AreThreeSets};
-ghost use Rattle.command_words.specs.ListViews.{names_in};
 ghost use Rattle.adjust_command.specs.Queries.{query_of, IsInRange};
 ghost use Rattle.adjust_command.specs.Answers.{set_of, SetsAnswer, AdjustAnswer};
 ghost use Rattle.adjust_command.specs.Requests.{request_of};
@@ -15,10 +14,10 @@ use crate::listing::list_sets;
 use crate::query::Query;
 use crate::request::Request;
 use dag_reader::ReadGraph;
-use latent_projection::Observed;
-use replies::{AskedLists, Reply, asked_lists, refuse};
+use diagram::{Diagram, asked_query};
+use replies::{Reply, refuse};
 use std::alloc::{AllocError, Global};
-use targets::{Sets, find_sets};
+use targets::Sets;
 
 /// Whether a set may be adjusted for to compute the effect of x on y, in the observed graph, or the minimal
 /// sets that may (Shpitser, VanderWeele and Robins; van der Zander, Liskiewicz and Textor; Pearl).
@@ -27,28 +26,15 @@ use targets::{Sets, find_sets};
 /// most 10,000.
 pub fn adjust_reply(
     alloc: Global,
-    graph: &ReadGraph,
-    request: Request<'_>,
+    diagram: &Diagram,
+    asked: &Request<'_>,
 ) -> Result<Reply, AllocError>
-    ensures { IfOk result (λ r. AdjustAnswer graph.now (request_of request.entry).x (request_of request.entry).y (request_of request.entry).query r.outcome r.text.items) }
+    ensures { let q = request_of asked.now in IfOk result (λ r. AdjustAnswer diagram.now q.x q.y q.query r.outcome r.text.items) }
 {
-    reply_for(alloc, graph, request.x, request.y, request.query)
-}
-
-/// The answer for lists and a query.
-fn reply_for(
-    alloc: Global,
-    graph: &ReadGraph,
-    x: Option<Vec<Vec<u8>>>,
-    y: Option<Vec<Vec<u8>>>,
-    query: Query,
-) -> Result<Reply, AllocError>
-    requires most { IsInRange (query_of query) }
-    ensures { IfOk result (λ r. AdjustAnswer graph.now (option_map names_in x) (option_map names_in y) (query_of query) r.outcome r.text.items) }
-{
-    let AskedLists { seen, x, y } = asked_lists(alloc, graph, x, y)?;
-    match find_sets(alloc, &graph.names, &seen.names, &x, &y, set_of(&query)) {
-        Ok(sets) => decide(alloc, &seen, sets, &query),
+    let (x, y) = (asked.x.as_deref(), asked.y.as_deref());
+    let set = set_of(&asked.query);
+    match asked_query(alloc, diagram, x, y, Some(set)) {
+        Ok(sets) => decide(alloc, &diagram.observed, sets, &asked.query),
         Err(fault) => refuse(alloc, &fault),
     }
 }
@@ -65,8 +51,7 @@ fn set_of(query: &Query) -> &[Vec<u8>]
 }
 
 /// The answer for sets of the observed graph.
-fn decide(alloc: Global, seen: &Observed, sets: Sets, query: &Query) -> Result<Reply, AllocError>
-    requires named { length seen.now.names ≡ seen.now.graph.n }
+fn decide(alloc: Global, seen: &ReadGraph, sets: Sets, query: &Query) -> Result<Reply, AllocError>
     requires sets { AreThreeSets seen.now.graph.n (has sets.x.bits) (has sets.y.bits) (has sets.given.bits) }
     requires some_x { 0 < sets.x.bits }
     requires some_y { 0 < sets.y.bits }

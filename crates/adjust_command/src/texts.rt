@@ -1,11 +1,11 @@
-//! The texts of `adjust`: a set that is admissible, what breaks a criterion, and a listing.
+//! The texts of `adjust`: a set that is admissible, and what breaks a criterion.
 
-ghost use Rattle.std.specs.Prelude.{ℕ, ◌≡◌, ◌++◌, ◌<◌, IfOk, OnOk, All, length};
+ghost use Rattle.std.specs.Prelude.{ℕ, ◌≡◌, ◌++◌, ◌<◌, IfOk, OnOk, length};
 ghost use Rattle.mixed_graph.specs.Bits.{has};
 ghost use Rattle.mixed_graph.specs.Sets.{Within};
 ghost use Rattle.do_rules.specs.Rules.{AreThreeSets};
 ghost use Rattle.adjust_command.specs.Faults.{IsPrintable};
-ghost use Rattle.adjust_command.specs.Lines.{set_line, set_lines, admissible_text, forbidden_line, fault_line, not_admissible_text, listing_text};
+ghost use Rattle.adjust_command.specs.Lines.{set_line, admissible_text, forbidden_line, fault_line, not_admissible_text};
 
 use adjustment::{AdjFault, formula_for};
 use answer_text::{Notation, push_set, push_vertex};
@@ -81,34 +81,5 @@ pub fn not_admissible_text(
     let mut text = Vec::from_slice(alloc, b"not admissible: ")?;
     push_line(&mut text, names, set)?;
     push_fault(&mut text, names, fault)?;
-    Ok(text)
-}
-
-/// Appends each set on a line of its own.
-fn push_sets(out: &mut Vec<u8>, names: &Names, sets: &[VSet]) -> Result<(), AllocError>
-    requires { All (λ s. Within (length names.now) (has s.bits)) sets.now }
-    ensures { OnOk result (out.new.items ≡ out.old.items ++ set_lines names.now sets.now) }
-{
-    for set in sets {
-        push_line(out, names, *set)?;
-    }
-    Ok(())
-}
-
-/// The text of a listing.
-pub fn listing_text(
-    alloc: Global,
-    names: &Names,
-    sets: &[VSet],
-    more: bool,
-) -> Result<Vec<u8>, AllocError>
-    requires { All (λ s. Within (length names.now) (has s.bits)) sets.now }
-    ensures { IfOk result (λ v. v.items ≡ listing_text names.now sets.now more) }
-{
-    let mut text = Vec::new(alloc);
-    push_sets(&mut text, names, sets)?;
-    if more {
-        text.extend_from_slice(b"more\n")?;
-    }
     Ok(text)
 }

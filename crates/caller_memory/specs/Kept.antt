@@ -8,7 +8,8 @@ use Rattle.dag_reader.specs.declared.graph.ReadGraph.{ReadGraph}
 use Rattle.dag_reader.specs.declared.faults.GraphFault.{GraphFault}
 use Rattle.dag_reader.specs.declared.faults.GraphFault.TheVariants.{NoMemory}
 use Rattle.dag_reader.specs.Reads.{Reads}
-use Rattle.replies.specs.Observed.{HoldsGraph, IsObservedGraph}
+use Rattle.diagram.specs.Observed.{IsObservedGraph}
+use Rattle.replies.specs.Observed.{HoldsGraph}
 use Rattle.caller_memory.specs.declared.kept.kept.KeptGraph.{KeptGraph}
 use Rattle.caller_memory.specs.declared.kept.kept.KeptDiagram.{KeptDiagram}
 

@@ -1,15 +1,13 @@
-//! Words, inputs and outputs of a caller that passes them as spans of one run of bytes.
+//! Words and inputs of a caller that passes them as spans of one run of bytes.
 ghost use Rattle.std.specs.Prelude.{◌≡◌, List, ℕ};
 ghost use Rattle.caller_memory.specs.Parts.{part};
 
 mod fronts;
 mod shelf;
-mod sink;
 mod words;
 
 pub use fronts::copy_front;
 pub use shelf::{SpanShelf, content_named};
-pub use sink::GrowingSink;
 pub use words::{WordsFault, words_in};
 
 /// A part of some bytes: from `start` up to `end`. It is empty where `end` isn't behind `start`.

@@ -1,14 +1,14 @@
 //! The top call for C, Python, R and a web page.
 #![tactic(auto)]
 
-ghost use Rattle.std.specs.Prelude.{◌≡◌, ◌≤◌, ◌⊎◌, List, ℕ};
+ghost use Rattle.std.specs.Prelude.{◌≡◌, ◌≤◌, ◌⊎◌, List, ℕ, Some, None};
 ghost use Rattle.mixed_graph.specs.Bits.{has};
 ghost use Rattle.m_separation.specs.Walks.{IsSeparated, HasOpenWalk};
 ghost use Rattle.dag_reader.specs.declared.graph.ReadGraph.{ReadGraph};
 ghost use Rattle.caller_memory.specs.Kept.{AreAskable, KeepsText, IsNoGraphText, Keeps, graph_in};
-ghost use Rattle.span_call.specs.Asked.{Asked, HasKept};
-ghost use Rattle.span_call.specs.Called.{Called, LacksInput, IsCutShort};
+ghost use Rattle.span_call.specs.Called.{Called, LacksInput};
 ghost use Rattle.span_call.specs.Ends.{IsEnd};
+ghost use Rattle.span_call.specs.Keeping.{HasKept};
 ghost use Rattle.span_call.specs.Wanted.{TellsInputs, AskForNothing};
 ghost use Rattle.caller_memory.specs.Words.{AreTexts, IsNoText};
 ghost use Rattle.explain_call.specs.Calls.{Explained};
@@ -36,10 +36,10 @@ pub extern "C" fn causal_run(
     ensures end { IsEnd bytes.now words.now out.old out.new err.old err.new sizes.new result }
     ensures known { result ≤ 10 }
 
-    // 6: an input that the words name isn't there. 7: memory was refused for the answer.
-    ensures called { result ≤ 8 → Called bytes.now words.now inputs.now out.old out.new err.old err.new sizes.new result }
-    ensures lacked { result ≡ 6 → LacksInput bytes.now words.now inputs.now }
-    ensures cut_short { result ≡ 7 → IsCutShort bytes.now words.now inputs.now out.old out.new sizes.new }
+    // 6: an input that the words name isn't there. 7 doesn't come.
+    ensures called { result ≤ 8 → Called None bytes.now words.now inputs.now out.old out.new err.old err.new sizes.new result }
+    ensures lacked { result ≡ 6 → LacksInput None bytes.now words.now inputs.now }
+    ensures never_cut_short { result ≡ 7 → ⊥ }
 {
     let arguments = Arguments {
         bytes,
@@ -172,11 +172,15 @@ pub extern "C" fn causal_ask(
 ) -> u8
     // 9: a word is no text. 11: no diagram with these names is kept. Below 9 each word is a text. From 9 on nothing is written.
     ensures end { IsEnd bytes.now words.now out.old out.new err.old err.new sizes.new result }
+
+    // Answered as a run whose file the text stands for. 6: the second input that the words name isn't there. 7 doesn't come.
+    ensures called { result ≤ 8 → (text : List ℕ) → KeepsText text kept.now names.now
+        → Called (Some text) bytes.now words.now inputs.now out.old out.new err.old err.new sizes.new result }
+    ensures lacked { result ≡ 6 → (text : List ℕ) → KeepsText text kept.now names.now → LacksInput (Some text) bytes.now words.now inputs.now }
+    ensures never_cut_short { result ≡ 7 → (text : List ℕ) → KeepsText text kept.now names.now → ⊥ }
     ensures kept { result ≤ 7 → (g : ReadGraph) × Keeps kept.now names.now g }
     ensures not_kept { result ≡ 11 → (g : ReadGraph) → Keeps kept.now names.now g → ⊥ }
     ensures known { result ≤ 11 }
-    ensures asked { result ≤ 8 → (text : List ℕ) → KeepsText text kept.now names.now
-        → Asked text bytes.now words.now inputs.now out.old out.new err.old err.new sizes.new result }
 {
     let arguments = Arguments {
         bytes,

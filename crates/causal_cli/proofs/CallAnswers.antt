@@ -12,7 +12,7 @@ use Rattle.command_run.specs.Commands.{Request, of, command_of, file_of, second_
 use Rattle.command_run.specs.Run.{Run, Answers, by_words, by_file, by_both, Ends}
 use Rattle.command_run.proofs.Deliveries.{mapped}
 use Rattle.command_run.proofs.OneRequest.{words_ask_once}
-use Rattle.causal_cli.specs.Calls.{Call, call_on, IsCallOf, WrittenFor}
+use Rattle.causal_cli.specs.Calls.{Call, call_of, IsCallOf, WrittenFor}
 use Rattle.causal_cli.specs.Commands.{commands, form_of, table, row_for}
 use Rattle.causal_cli.proofs.Lawful.{lawful}
 use Rattle.causal_cli.specs.declared.commands.Command.{Command}
@@ -65,10 +65,6 @@ module _ (r : Call) (c : Command) (uses : List Use) (o : Outcome) (text : List �
       (on_both q is file second names names_second defined)
 
 -- ---- runs
-
--- the call of a run
-abbrev pub call_of : Run → Call
-call_of r = call_on r.words r.held r.out.before r.out.after
 
 call_answer : (r : Run) (o : Outcome) (text : List ℕ) → Answers commands r o text → (c : Command) (uses : List Use) → IsCallOf (row_for c) r.words uses
     → CallAnswer (call_of r) c uses o text

@@ -6,6 +6,12 @@ use Rattle.command_words.specs.Form.{Use}
 use Rattle.replies.specs.declared.outcome.Outcome.{Outcome}
 use Rattle.replies.specs.declared.outcome.Outcome.TheVariants.{Yes}
 use Rattle.replies.specs.Outcomes.{code_of}
+use Rattle.replies.specs.Observed.{HoldsDiagram}
+use Rattle.diagram.specs.declared.diagram.Diagram.{Diagram}
+use Rattle.diagram.proofs.ObservedParts.{as_read}
+use Rattle.experiment_lists.specs.Words.{Lists}
+use Rattle.check_command.specs.Answers as check
+use Rattle.check_command.specs.Answers.{CheckAnswer}
 use Rattle.command_run.specs.Answers.{HoldsAnswer, DefinedWith}
 use Rattle.command_run.specs.Commands.{of}
 use Rattle.causal_cli.specs.Commands.{commands}
@@ -13,6 +19,13 @@ use Rattle.causal_cli.specs.Calls.{Call}
 use Rattle.causal_cli.specs.Headline.{IsRightCertificate, Checked, HeadlineOfCheck}
 use Rattle.causal_cli.specs.declared.commands.Command.TheVariants.{Check}
 use Rattle.causal_cli.proofs.CallAnswers.{CallAnswer, on_words, on_file, on_both, Gave, under_name, under_names}
+
+-- an answer that accepts a certificate says that it is right
+is_right : (experiments : Lists) (bytes other text : List ℕ) (d : Diagram) → HoldsDiagram bytes d → CheckAnswer d experiments other Yes text
+    → IsRightCertificate experiments bytes other text
+is_right experiments bytes other text d holds a =
+    let k = as_read d (λ q names. check.ListsAnswer q d.read.names names experiments other Yes text) a in
+    record { graph = d.read; holds = holds; seen = k.0; observed = k.1; accepted = k.2 }
 
 -- a yes to a request of `check` is given on both inputs, and says that the certificate is right
 on_yes : (r : Call) (uses : List Use) (text : List ℕ) → Appends r.before r.after text → CallAnswer r Check uses Yes text → Checked r uses
@@ -31,7 +44,7 @@ on_yes r uses text whole (on_both q is file second names names_second h) = recor
   asks = is;
   right = under_names r.held r.held_second q.file file q.certificate second (λ bytes other. DefinedWith commands (of Check q) bytes other Yes text)
       (λ bytes other. IsRightCertificate q.experiments bytes other text)
-      (λ bytes other d. record { graph = d.0; holds = d.1; accepted = d.3 }) names names_second h;
+      (λ bytes other h. is_right q.experiments bytes other text h.0 h.1 h.3) names names_second h;
   whole = whole;
 }
 

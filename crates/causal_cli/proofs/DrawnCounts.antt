@@ -24,11 +24,10 @@ use Rattle.count_rows.specs.Rows.{Table}
 use Rattle.count_table.specs.Cells as cells
 use Rattle.count_eval.specs.Programs.{weights_in, is_used, cell_of}
 use Rattle.replies.specs.declared.outcome.Outcome.TheVariants.{Yes}
-use Rattle.replies.specs.Observed.{Names, IsObservedGraph}
+use Rattle.diagram.specs.Observed.{IsObservedGraph}
 use Rattle.evaluate_command.specs.Answers.{CoversEffect, QuantityAnswer}
 use Rattle.evaluate_command.specs.Cells.{CellValue}
-use Rattle.evaluate_command.specs.Effects.{PlainEffect, target_of, Identifies}
-use Rattle.evaluate_command.specs.Ways.{Way}
+use Rattle.evaluate_command.specs.Effects.{PlainEffect, target_of}
 use Rattle.causal_cli.specs.Drawn.{CoversAsDrawn, EachCoversAsDrawn}
 
 -- an effect depends on the values of the model's vertices alone
@@ -59,11 +58,11 @@ covers_as_drawn kind covers lawful g e is ok t v h m fit observed matched s hs a
     (folded_keeps_effects (graph_of g.graph) g.graph.valid l e.graph is m f.folded fit f.fits f.folds observed (target_of e) s hs))
 
 -- each value of the answer is so, in either kind of quantity
-pub each_covers : (is_exact zero : Bool) (g : ReadGraph) (e : PlainEffect) (t : Table) (text : List ℕ) (way : Way) (x y : Names) → Identifies way g x y e
+pub each_covers : (is_exact zero : Bool) (g : ReadGraph) (e : PlainEffect) (t : Table) (text : List ℕ) → IsObservedGraph g e.graph → IsMixedGraph e.graph
     → (shows : QuantityAnswer is_exact zero e t Yes text) → EachCoversAsDrawn is_exact zero g e t text shows
-each_covers true zero g e t text way x y id h =
+each_covers true zero g e t text is ok h =
     All-weaker (CoversEffect Equals e t) (CoversAsDrawn Equals g e t) (λ v c.
-    covers_as_drawn exact Equals exact_lawful g e id.graph id.identified.graph t v c) h.values.values h.values.effects
-each_covers false zero g e t text way x y id h =
+    covers_as_drawn exact Equals exact_lawful g e is ok t v c) h.values.values h.values.effects
+each_covers false zero g e t text is ok h =
     All-weaker (CoversEffect Covers e t) (CoversAsDrawn Covers g e t) (λ v c.
-    covers_as_drawn bounds Covers bounds_lawful g e id.graph id.identified.graph t v c) h.values.values h.values.effects
+    covers_as_drawn bounds Covers bounds_lawful g e is ok t v c) h.values.values h.values.effects

@@ -21,10 +21,13 @@ use Rattle.implications.specs.declared.pairs.Implication.{Implication}
 use Rattle.implied_differences.specs.Laws.{IsZeroIfMatched}
 use Rattle.implied_differences.specs.declared.largest.Difference.{Difference}
 use Rattle.replies.specs.declared.outcome.Outcome.TheVariants.{Yes}
-use Rattle.replies.specs.Observed.{HoldsGraph, IsObservedGraph}
-use Rattle.implications_command.specs.Answers.{FirstAnswer, DifferencesAnswer}
+use Rattle.diagram.specs.Observed.{IsObservedGraph, observed_names}
+use Rattle.diagram.specs.declared.diagram.Diagram.{Diagram}
+use Rattle.diagram.proofs.ObservedParts.{as_read}
+use Rattle.replies.specs.Observed.{HoldsDiagram}
+use Rattle.implications_command.specs.Answers.{ShowsPairs, FirstAnswer, DifferencesAnswer}
 use Rattle.implications_command.specs.Lines.{Measured}
-use Rattle.implications_command.specs.Pairs.{PlainPairs, ArePairsOf}
+use Rattle.implications_command.specs.Pairs.{ArePairs, pairs_of}
 use Rattle.command_run.specs.Answers.{HoldsAnswer, DefinedWith}
 use Rattle.command_run.specs.Commands.{of}
 use Rattle.command_run.proofs.Deliveries.{mapped}
@@ -35,10 +38,11 @@ use Rattle.causal_cli.specs.declared.commands.Command.TheVariants.{Implications}
 use Rattle.causal_cli.proofs.CallAnswers.{CallAnswer, on_words, on_file, on_both, under_name, under_names}
 
 -- each pair is independent in the diagram as drawn
-independent : (g : ReadGraph) (p : PlainPairs) → ArePairsOf g p → All (IsIndependentAsDrawn g) p.list
-independent g p are = All-weaker (λ (i : Implication). AreIndependent p.graph (only i.a) (only i.b) (has i.given.bits)) (IsIndependentAsDrawn g)
-    (λ i h. independence_is_drawn (graph_of g.graph) g.graph.valid (has g.latent.bits) p.graph are.graph (only i.a) (only i.b) (has i.given.bits) h)
-    p.list are.pairs.independent
+independent : (g : ReadGraph) (q : MixedGraph) → IsObservedGraph g q → (list : List Implication) → ArePairs (pairs_of q (observed_names g) list)
+    → All (IsIndependentAsDrawn g) list
+independent g q observed list are = All-weaker (λ (i : Implication). AreIndependent q (only i.a) (only i.b) (has i.given.bits)) (IsIndependentAsDrawn g)
+    (λ i h. independence_is_drawn (graph_of g.graph) g.graph.valid (has g.latent.bits) q observed (only i.a) (only i.b) (has i.given.bits) h)
+    list are.independent
 
 -- a difference that is 0 where a model of the observed graph has the counts is so where one of the diagram as drawn has them
 zero_as_drawn : (g : ReadGraph) (q : MixedGraph) → IsObservedGraph g q → (t : Table) (d : Difference) → IsZeroIfMatched q t d → IsZeroAsDrawn g q t d
@@ -52,17 +56,26 @@ zero_as_drawn g q observed t d zero m fit matched =
 
 -- ---- the answer without counts, and with them
 
--- a graph of the bytes, with its answer on the graph alone
+-- a diagram of the bytes, with its answer alone
 abbrev HoldsFirst : Option Text → List ℕ → List ℕ → Type 0
-HoldsFirst second bytes text = (g : ReadGraph) × HoldsGraph bytes g × FirstAnswer second g Yes text
+HoldsFirst second bytes text = (d : Diagram) × HoldsDiagram bytes d × FirstAnswer second (graph_of d.observed.graph) d.observed.names Yes text
 
 -- and with its answer over counts
 abbrev HoldsSecond : Option Text → List ℕ → List ℕ → List ℕ → Type 0
-HoldsSecond count bytes other text = (g : ReadGraph) × HoldsGraph bytes g × DifferencesAnswer g count other Yes text
+HoldsSecond count bytes other text = (d : Diagram) × HoldsDiagram bytes d × DifferencesAnswer (graph_of d.observed.graph) d.observed.names count other Yes text
 
 module _ (r : Call) (file : Text) (count : Option Text) (text : List ℕ) where
   pairs_as_drawn : (bytes : List ℕ) → HoldsFirst None bytes text → ArePairsAsDrawn bytes text
-  pairs_as_drawn bytes (g, holds, h) = record { graph = g; holds = holds; shows = h; independent = independent g h.pairs h.are }
+  pairs_as_drawn bytes (d, holds, h) =
+      let k = as_read d (λ q names. ShowsPairs q names text) h in
+      record {
+        graph = d.read;
+        holds = holds;
+        seen = k.0;
+        observed = k.1;
+        shows = k.2;
+        independent = independent d.read k.0 k.1 k.2.list k.2.are;
+      }
 
   -- no answer on the graph alone is a yes where counts are given
   first_as_drawn : (second : Option Text) → IfSome (r.held file) (λ bytes. HoldsFirst second bytes text) → AreImpliedAsDrawn r file second count text
@@ -71,18 +84,24 @@ module _ (r : Call) (file : Text) (count : Option Text) (text : List ℕ) where
       (λ bytes. IfSome (r.held_second name) (λ other. AreDifferencesAsDrawn count bytes other text)) (λ bytes a. absurd a.2) h
 
   differences_as_drawn : (bytes other : List ℕ) → HoldsSecond count bytes other text → AreDifferencesAsDrawn count bytes other text
-  differences_as_drawn bytes other (g, holds, (p, are, (t, read, shows))) = record {
-    graph = g;
-    holds = holds;
-    pairs = p;
-    are = are;
-    independent = independent g p are;
-    counted = t;
-    read = read;
-    shows = shows;
-    zero = All-weaker (λ (m : Measured). IsZeroIfMatched p.graph t m.difference) (λ (m : Measured). IsZeroAsDrawn g p.graph t m.difference)
-        (λ m h. zero_as_drawn g p.graph are.graph t m.difference h) shows.measured shows.matched;
-  }
+  differences_as_drawn bytes other (d, holds, h) =
+      let k = as_read d (λ q names. DifferencesAnswer q names count other Yes text) h in
+      let t = k.2.2.0 in
+      let shows = k.2.2.2 in
+      record {
+        graph = d.read;
+        holds = holds;
+        seen = k.0;
+        observed = k.1;
+        list = k.2.0;
+        are = k.2.1;
+        independent = independent d.read k.0 k.1 k.2.0 k.2.1;
+        counted = t;
+        read = k.2.2.1;
+        shows = shows;
+        zero = All-weaker (λ (m : Measured). IsZeroIfMatched k.0 t m.difference) (λ (m : Measured). IsZeroAsDrawn d.read k.0 t m.difference)
+            (λ m h. zero_as_drawn d.read k.0 k.1 t m.difference h) shows.measured shows.matched;
+      }
 
   both_as_drawn : (second : Option Text) (name : Text) → second ≡ Some name
       → IfSome (r.held file) (λ bytes. IfSome (r.held_second name) (λ other. HoldsSecond count bytes other text)) → AreImpliedAsDrawn r file second count text
@@ -101,7 +120,7 @@ implied r uses text whole (on_file q is name names h) = record {
   asks = is;
   right = first_as_drawn r q.file q.count text q.counts
       (under_name r.held q.file name (λ bytes. HoldsAnswer commands (of Implications q) bytes Yes text) (λ bytes. HoldsFirst q.counts bytes text)
-      (λ bytes a. (a.graph, a.holds, a.answer)) names h);
+      (λ bytes a. (a.diagram, a.holds, a.answer)) names h);
   whole = whole;
 }
 implied r uses text whole (on_both q is name second names names_second h) = record {

@@ -20,25 +20,35 @@ use Rattle.hidden_models.proofs.Statements.{independence_is_drawn, equation_is_d
 use Rattle.adjustment.specs.Formulas.{adjustment_formula}
 use Rattle.replies.specs.declared.outcome.Outcome.{Outcome}
 use Rattle.replies.specs.declared.outcome.Outcome.TheVariants.{Yes}
-use Rattle.replies.specs.Observed.{Names, HoldsGraph, IsObservedGraph, observed_names}
+use Rattle.diagram.specs.Observed.{IsObservedGraph, observed_names}
+use Rattle.diagram.specs.Sets.{Names, effect_lists, query_lists, rule_lists}
+use Rattle.diagram.specs.declared.diagram.Diagram.{Diagram}
+use Rattle.diagram.proofs.ObservedParts.{part_of, as_read}
+use Rattle.replies.specs.Observed.{HoldsGraph, HoldsDiagram}
 use Rattle.replies.specs.Outcomes.{code_of}
 use Rattle.identify_command.specs.declared.form.Form.{Form}
-use Rattle.identify_command.specs.Answers.{IdentifyAnswer}
+use Rattle.identify_command.specs.Answers.{EffectAnswer, IdentifyAnswer}
+use Rattle.identify_command.specs.Conditions as conditions
 use Rattle.identify_command.specs.Conditions.{IdentifyAnswerGiven}
-use Rattle.check_command.specs.Answers.{HoldsCertificate, ObservedAnswer, of_formula, of_hedge}
-use Rattle.adjust_command.specs.Answers.{AdjustAnswer, SetsAnswer}
+use Rattle.check_command.specs.Answers.{HoldsCertificate, CertificateAnswer, of_formula, of_hedge}
+use Rattle.adjust_command.specs.Answers.{AdjustAnswer, SetsAnswer, adjust_lists}
+use Rattle.adjust_command.specs.Answers as adjustments
 use Rattle.adjust_command.specs.Queries.{Query, by_set, by_back_door, listing}
 use Rattle.adjust_command.specs.Requests.{Request as AdjustRequest}
+use Rattle.surrogate_command.specs.Answers as surrogates
 use Rattle.surrogate_command.specs.Answers.{SurrogateAnswer}
 use Rattle.surrogate_command.specs.Requests.{Request as SurrogateRequest}
+use Rattle.surrogate_command.specs.Sets.{surrogate_lists}
 use Rattle.evaluate_command.specs.Answers.{EvaluateFirst}
-use Rattle.evaluate_command.specs.Effects.{target_of}
+use Rattle.evaluate_command.specs.Effects.{target_of, IsFoundBy}
 use Rattle.evaluate_command.specs.Ways.{Way, by_procedure, by_adjusting, by_condition}
 use Rattle.evaluate_command.specs.Requests.{Request as EvaluateRequest}
 use Rattle.separation_commands.specs.SeparateAnswers.{SeparateAnswer}
+use Rattle.separation_commands.specs.SeparateAnswers as separations
 use Rattle.separation_commands.specs.SeparateRequests.{Request as SeparateRequest}
 use Rattle.separation_commands.specs.SeparateRequests as separate_requests
 use Rattle.separation_commands.specs.RuleAnswers.{RuleAnswer}
+use Rattle.separation_commands.specs.RuleAnswers as rules
 use Rattle.separation_commands.specs.RuleRequests.{Request as RuleRequest}
 use Rattle.separation_commands.specs.RuleRequests as rule_requests
 use Rattle.command_run.specs.Answers.{HoldsAnswer, DefinedWith}
@@ -59,36 +69,47 @@ use Rattle.causal_cli.proofs.Headlines.{drawn}
 
 -- ---- identify
 
-module _ (form : Form) (bytes : List ℕ) (g : ReadGraph) (holds : HoldsGraph bytes g) (x y : Names) (text : List ℕ) where
+module _ (form : Form) (bytes : List ℕ) (d : Diagram) (holds : HoldsDiagram bytes d) (x y : Names) (text : List ℕ) where
   -- the formula of the answer without a condition is right in the diagram as drawn
-  bare_as_drawn : IdentifyAnswer form g x y Yes text → IsFormulaAsDrawn form bytes x y text
-  bare_as_drawn (q, observed, h) = record {
-    graph = g;
-    holds = holds;
-    seen = q;
-    observed = observed;
-    sets = record { x = h.x; y = h.y; sets = h.sets; answer = (h.answer, drawn g q observed (effect_on h.x h.y) h.answer.formula h.answer.right.effect) };
-  }
+  bare_as_drawn : IdentifyAnswer form d x y Yes text → IsFormulaAsDrawn form bytes x y text
+  bare_as_drawn a =
+      let k = as_read d (λ p ns. EffectAnswer form p (effect_lists d.read ns x y) Yes text) a in
+      let h = k.2 in
+      record {
+        graph = d.read;
+        holds = holds;
+        seen = k.0;
+        observed = k.1;
+        sets = record {
+          x = h.x;
+          y = h.y;
+          sets = h.sets;
+          answer = (h.answer, drawn d.read k.0 k.1 (effect_on h.x h.y) h.answer.formula h.answer.right.effect);
+        };
+      }
 
   -- and so is that of the answer of any words
-  text_as_drawn : (given : Names) → IdentifyAnswerGiven form g x y given Yes text → IsTextAsDrawn form bytes x y given text
-  text_as_drawn None h = bare_as_drawn h
-  text_as_drawn (Some []) h = bare_as_drawn h
-  text_as_drawn (Some (n ∷ ns)) (q, observed, h) = record {
-    graph = g;
-    holds = holds;
-    seen = q;
-    observed = observed;
-    target = h.target;
-    sets = h.sets;
-    shows = h.answer;
-    right = drawn g q observed h.target h.answer.formula h.answer.right.effect;
-  }
+  text_as_drawn : (given : Names) → IdentifyAnswerGiven form d x y given Yes text → IsTextAsDrawn form bytes x y given text
+  text_as_drawn None a = bare_as_drawn a
+  text_as_drawn (Some []) a = bare_as_drawn a
+  text_as_drawn (Some (n ∷ ns)) a =
+      let k = as_read d (λ p observed. conditions.ListsAnswer form p (query_lists d.read observed x y (Some (n ∷ ns))) Yes text) a in
+      let h = k.2 in
+      record {
+        graph = d.read;
+        holds = holds;
+        seen = k.0;
+        observed = k.1;
+        target = h.target;
+        sets = h.sets;
+        shows = h.answer;
+        right = drawn d.read k.0 k.1 h.target h.answer.formula h.answer.right.effect;
+      }
 
 identified : (r : Call) (uses : List Use) (text : List ℕ) → Appends r.before r.after text → CallAnswer r Identify uses Yes text → IdentifiedAsDrawn r uses
 identified r uses text = written_for r Identify uses Yes text (λ q. q.file) (λ q bytes line. IsTextAsDrawn q.form bytes q.x q.y q.given line) (λ q h. h)
     (λ q. refl) (λ q. refl)
-    (λ q is bytes a. text_as_drawn q.form bytes a.graph a.holds q.x q.y text q.given a.answer)
+    (λ q is bytes a. text_as_drawn q.form bytes a.diagram a.holds q.x q.y text q.given a.answer)
 
 -- ---- check
 
@@ -108,13 +129,14 @@ pub same_read : (r : Result PlainCertificate CertFault) (a b : PlainCertificate)
 same_read r a b p q = let e : Ok a ≡ Ok b = sym p ∙ q in cc
 
 -- an accepted certificate of a formula is right in the diagram as drawn
-certificate_as_drawn : (g : ReadGraph) (zs other text : List ℕ) → ObservedAnswer g zs other Yes text
+certificate_as_drawn : (g : ReadGraph) (q : MixedGraph) → IsObservedGraph g q → (zs other text : List ℕ)
+    → CertificateAnswer q (observed_names g) zs other Yes text
     → (t : PlainTarget) (f : PlainFormula) (d : PlainDerivation) → HoldsCertificate (observed_names g) other (certificates.formula t f d) → IsRightAsDrawn g t f
-certificate_as_drawn g zs other text (q, observed, of_formula u h e read answer) t f d is =
+certificate_as_drawn g q observed zs other text (of_formula u h e read answer) t f d is =
     let same = same_read _ (certificates.formula u h e) (certificates.formula t f d) read.reads is.reads in
     let right = drawn g q observed u h answer.effect in
     subst (λ x. IsRightAsDrawn g x f) (same_target u t h f e d same) (subst (λ x. IsRightAsDrawn g u x) (same_formula u t h f e d same) right)
-certificate_as_drawn g zs other text (q, observed, of_hedge u h entries read answer) t f d is =
+certificate_as_drawn g q observed zs other text (of_hedge u h entries read answer) t f d is =
     let same = same_read _ (certificates.hedge u (certificates.hedge_view h)) (certificates.formula t f d) read.reads is.reads in absurd (cc same)
 
 checked : (r : Call) (uses : List Use) → Checked r uses → CheckedAsDrawn r uses
@@ -130,8 +152,10 @@ checked r uses h = record {
       (λ other b. record {
         graph = b.graph;
         holds = b.holds;
+        seen = b.seen;
+        observed = b.observed;
         accepted = b.accepted;
-        right = certificate_as_drawn b.graph b.accepted.sets other h.text b.accepted.answer;
+        right = certificate_as_drawn b.graph b.seen b.observed b.accepted.sets other h.text b.accepted.answer;
       }) a) h.right;
   whole = h.whole;
 }
@@ -147,67 +171,80 @@ each_adjusts (listing most) g q observed x y z text h =
     All-weaker (λ (s : VSet). EqualsEffect q (effect_on x y) (adjustment_formula x y s.bits)) (λ (s : VSet). AdjustsAsDrawn g x y s.bits)
     (λ s e. drawn g q observed (effect_on x y) (adjustment_formula x y s.bits) e) h.sets h.effect
 
-adjusted_on : (q : AdjustRequest) (bytes text : List ℕ) (g : ReadGraph) → HoldsGraph bytes g → AdjustAnswer g q.x q.y q.query Yes text
+adjusted_on : (q : AdjustRequest) (bytes text : List ℕ) (d : Diagram) → HoldsDiagram bytes d → AdjustAnswer d q.x q.y q.query Yes text
     → IsAdjustmentAsDrawn q bytes text
-adjusted_on q bytes text g holds (p, observed, h) = record {
-  graph = g;
-  holds = holds;
-  seen = p;
-  observed = observed;
-  x = h.x;
-  y = h.y;
-  z = h.z;
-  sets = h.sets;
-  shows = h.answer;
-  right = each_adjusts q.query g p observed h.x h.y h.z text h.answer;
-}
+adjusted_on q bytes text d holds a =
+    let k = as_read d (λ p ns. adjustments.ListsAnswer q.query p (adjust_lists d.read ns q.x q.y q.query) Yes text) a in
+    let g = d.read in
+    let h = k.2 in
+    record {
+      graph = g;
+      holds = holds;
+      seen = k.0;
+      observed = k.1;
+      x = h.x;
+      y = h.y;
+      z = h.z;
+      sets = h.sets;
+      shows = h.answer;
+      right = each_adjusts q.query g k.0 k.1 h.x h.y h.z text h.answer;
+    }
 
 adjusted : (r : Call) (uses : List Use) (text : List ℕ) → Appends r.before r.after text → CallAnswer r Adjust uses Yes text → AdjustedAsDrawn r uses
 adjusted r uses text = written_for r Adjust uses Yes text (λ q. q.file) IsAdjustmentAsDrawn (λ q h. h) (λ q. refl) (λ q. refl)
-    (λ q is bytes a. adjusted_on q bytes text a.graph a.holds a.answer)
+    (λ q is bytes a. adjusted_on q bytes text a.diagram a.holds a.answer)
 
 -- ---- surrogate
 
-surrogated_on : (q : SurrogateRequest) (bytes text : List ℕ) (g : ReadGraph) → HoldsGraph bytes g → SurrogateAnswer q.form g q.x q.y q.experiments Yes text
+surrogated_on : (q : SurrogateRequest) (bytes text : List ℕ) (d : Diagram) → HoldsDiagram bytes d → SurrogateAnswer q.form d q.x q.y q.experiments Yes text
     → IsSurrogateAsDrawn q bytes text
-surrogated_on q bytes text g holds (p, observed, h) = record {
-  graph = g;
-  holds = holds;
-  seen = p;
-  observed = observed;
-  x = h.x;
-  y = h.y;
-  experiments = h.experiments;
-  sets = h.sets;
-  shows = h.answer;
-  right = drawn g p observed (effect_on h.x h.y) h.answer.formula h.answer.right.effect;
-}
+surrogated_on q bytes text d holds a =
+    let k = as_read d (λ p ns. surrogates.ListsAnswer q.form p (surrogate_lists d.read ns q.x q.y q.experiments) Yes text) a in
+    let h = k.2 in
+    record {
+      graph = d.read;
+      holds = holds;
+      seen = k.0;
+      observed = k.1;
+      x = h.x;
+      y = h.y;
+      experiments = h.experiments;
+      sets = h.sets;
+      shows = h.answer;
+      right = drawn d.read k.0 k.1 (effect_on h.x h.y) h.answer.formula h.answer.right.effect;
+    }
 
 surrogated : (r : Call) (uses : List Use) (text : List ℕ) → Appends r.before r.after text → CallAnswer r Surrogate uses Yes text → SurrogatedAsDrawn r uses
 surrogated r uses text = written_for r Surrogate uses Yes text (λ q. q.file) IsSurrogateAsDrawn (λ q h. h) (λ q. refl) (λ q. refl)
-    (λ q is bytes a. surrogated_on q bytes text a.graph a.holds a.answer)
+    (λ q is bytes a. surrogated_on q bytes text a.diagram a.holds a.answer)
 
 -- ---- evaluate
 
 evaluated_on : (q : EvaluateRequest) (bytes other text : List ℕ) → DefinedWith commands (of Evaluate q) bytes other Yes text
     → IsEvaluationAsDrawn q bytes other text
-evaluated_on q bytes other text (g, holds, needs, (e, identifies, (t, read, shows))) = record {
-  graph = g;
-  holds = holds;
-  effect = e;
-  identifies = identifies;
-  formula = drawn g e.graph identifies.graph (target_of e) e.formula identifies.identified.effect;
-  counted = t;
-  read = read;
-  shows = shows;
-  right = each_covers q.exact q.zero g e t text q.way q.x q.y identifies shows;
-}
+evaluated_on q bytes other text (d, holds, needs, (e, identifies, (t, read, shows))) =
+    let part = part_of d in
+    let observed = subst (IsObservedGraph d.read) (sym identifies.graph) part.graph in
+    record {
+      graph = d.read;
+      holds = holds;
+      effect = e;
+      names = identifies.names ∙ part.names;
+      observed = observed;
+      identified = identifies.identified;
+      found = subst (λ (names : List (List ℕ)). IsFoundBy q.way d.read names q.x q.y e) part.names identifies.found;
+      formula = drawn d.read e.graph observed (target_of e) e.formula identifies.identified.effect;
+      counted = t;
+      read = read;
+      shows = shows;
+      right = each_covers q.exact q.zero d.read e t text observed identifies.identified.graph shows;
+    }
 
 -- the answer on the file alone is no yes: where there is a formula, the counts are read
-no_yes_alone : (way : Way) (g : ReadGraph) (x y : Names) (text : List ℕ) → EvaluateFirst way g x y Yes text → ⊥
-no_yes_alone (by_procedure short) g x y text h = h
-no_yes_alone (by_adjusting back_door set) g x y text h = h.0 refl
-no_yes_alone (by_condition short given) g x y text h = h.0 refl
+no_yes_alone : (way : Way) (d : Diagram) (x y : Names) (text : List ℕ) → EvaluateFirst way d x y Yes text → ⊥
+no_yes_alone (by_procedure short) d x y text h = h
+no_yes_alone (by_adjusting back_door set) d x y text h = h.0 refl
+no_yes_alone (by_condition short given) d x y text h = h.0 refl
 
 evaluated : (r : Call) (uses : List Use) (text : List ℕ) → Appends r.before r.after text → CallAnswer r Evaluate uses Yes text → EvaluatedAsDrawn r uses
 evaluated r uses text whole (on_words q is h) = absurd h
@@ -217,7 +254,7 @@ evaluated r uses text whole (on_file q is file names h) = record {
   asks = is;
   right = under_name r.held q.file file (λ bytes. HoldsAnswer commands (of Evaluate q) bytes Yes text)
       (λ bytes. IfSome (r.held_second q.counts) (λ other. IsEvaluationAsDrawn q bytes other text))
-      (λ bytes a. absurd (no_yes_alone q.way a.graph q.x q.y text a.answer)) names h;
+      (λ bytes a. absurd (no_yes_alone q.way a.diagram q.x q.y text a.answer)) names h;
   whole = whole;
 }
 evaluated r uses text whole (on_both q is file second names names_second h) = record {
@@ -232,47 +269,55 @@ evaluated r uses text whole (on_both q is file second names names_second h) = re
 
 -- ---- separate and rule
 
-separated_on : (q : SeparateRequest) (bytes text : List ℕ) (g : ReadGraph) → HoldsGraph bytes g → SeparateAnswer g q.x q.y q.given Yes text
+separated_on : (q : SeparateRequest) (bytes text : List ℕ) (d : Diagram) → HoldsDiagram bytes d → SeparateAnswer d q.x q.y q.given Yes text
     → IsSeparationAsDrawn q bytes text
-separated_on q bytes text g holds (p, observed, h) = record {
-  graph = g;
-  holds = holds;
-  seen = p;
-  observed = observed;
-  x = h.x;
-  y = h.y;
-  w = h.w;
-  sets = h.sets;
-  shows = h.answer;
-  independent = independence_is_drawn (graph_of g.graph) g.graph.valid (has g.latent.bits) p observed (has h.x) (has h.y) (has h.w) h.answer.independent;
-}
+separated_on q bytes text d holds a =
+    let k = as_read d (λ p ns. separations.ListsAnswer p (query_lists d.read ns q.x q.y q.given) Yes text) a in
+    let g = d.read in
+    let h = k.2 in
+    record {
+      graph = g;
+      holds = holds;
+      seen = k.0;
+      observed = k.1;
+      x = h.x;
+      y = h.y;
+      w = h.w;
+      sets = h.sets;
+      shows = h.answer;
+      independent = independence_is_drawn (graph_of g.graph) g.graph.valid (has g.latent.bits) k.0 k.1 (has h.x) (has h.y) (has h.w) h.answer.independent;
+    }
 
 separated : (r : Call) (uses : List Use) (text : List ℕ) → Appends r.before r.after text → CallAnswer r Separate uses Yes text
     → WrittenFor separate_requests.IsRequest (λ q. q.file) IsSeparationAsDrawn r uses
 separated r uses text = written_for r Separate uses Yes text (λ q. q.file) IsSeparationAsDrawn (λ q h. h) (λ q. refl) (λ q. refl)
-    (λ q is bytes a. separated_on q bytes text a.graph a.holds a.answer)
+    (λ q is bytes a. separated_on q bytes text a.diagram a.holds a.answer)
 
-ruled_on : (q : RuleRequest) (bytes text : List ℕ) (g : ReadGraph) → HoldsGraph bytes g → RuleAnswer q.rule g q.y q.x q.z q.given Yes text
+ruled_on : (q : RuleRequest) (bytes text : List ℕ) (d : Diagram) → HoldsDiagram bytes d → RuleAnswer q.rule d q.y q.x q.z q.given Yes text
     → IsEquationAsDrawn q bytes text
-ruled_on q bytes text g holds (p, observed, h) = record {
-  graph = g;
-  holds = holds;
-  seen = p;
-  observed = observed;
-  y = h.y;
-  doing = h.x;
-  z = h.z;
-  given = h.given;
-  sets = h.sets;
-  shows = h.answer;
-  equation = equation_is_drawn (graph_of g.graph) g.graph.valid (has g.latent.bits) p observed (left_of q.rule (has h.x) (has h.y) (has h.z) (has h.given))
-      (right_of q.rule (has h.x) (has h.y) (has h.z) (has h.given)) h.answer.equation;
-}
+ruled_on q bytes text d holds a =
+    let k = as_read d (λ p ns. rules.ListsAnswer q.rule p (rule_lists d.read ns q.y q.x q.z q.given) Yes text) a in
+    let g = d.read in
+    let h = k.2 in
+    record {
+      graph = g;
+      holds = holds;
+      seen = k.0;
+      observed = k.1;
+      y = h.y;
+      doing = h.x;
+      z = h.z;
+      given = h.given;
+      sets = h.sets;
+      shows = h.answer;
+      equation = equation_is_drawn (graph_of g.graph) g.graph.valid (has g.latent.bits) k.0 k.1 (left_of q.rule (has h.x) (has h.y) (has h.z) (has h.given))
+          (right_of q.rule (has h.x) (has h.y) (has h.z) (has h.given)) h.answer.equation;
+    }
 
 ruled : (r : Call) (uses : List Use) (text : List ℕ) → Appends r.before r.after text → CallAnswer r Rule uses Yes text
     → WrittenFor rule_requests.IsRequest (λ q. q.file) IsEquationAsDrawn r uses
 ruled r uses text = written_for r Rule uses Yes text (λ q. q.file) IsEquationAsDrawn (λ q h. h) (λ q. refl) (λ q. refl)
-    (λ q is bytes a. ruled_on q bytes text a.graph a.holds a.answer)
+    (λ q is bytes a. ruled_on q bytes text a.diagram a.holds a.answer)
 
 -- ---- a run
 

@@ -13,9 +13,13 @@ use Rattle.hidden_models.proofs.Drawn.{right_as_drawn}
 use Rattle.replies.specs.declared.outcome.Outcome.{Outcome}
 use Rattle.replies.specs.declared.outcome.Outcome.TheVariants.{Yes, No}
 use Rattle.replies.specs.Outcomes.{code_of}
-use Rattle.replies.specs.Observed.{Names, HoldsGraph, IsObservedGraph}
+use Rattle.diagram.specs.Observed.{IsObservedGraph}
+use Rattle.diagram.specs.Sets.{Names, effect_lists}
+use Rattle.diagram.specs.declared.diagram.Diagram.{Diagram}
+use Rattle.diagram.proofs.ObservedParts.{as_read}
+use Rattle.replies.specs.Observed.{HoldsDiagram}
 use Rattle.identify_command.specs.declared.form.Form.{Form}
-use Rattle.identify_command.specs.Answers.{IdentifyAnswer}
+use Rattle.identify_command.specs.Answers.{EffectAnswer, IdentifyAnswer}
 use Rattle.identify_command.specs.Conditions.{IdentifyAnswerGiven}
 use Rattle.identify_command.specs.Requests.{Request as Asked}
 use Rattle.causal_cli.specs.Calls.{Call}
@@ -28,61 +32,67 @@ pub drawn : (g : ReadGraph) (q : MixedGraph) → IsObservedGraph g q → (t : Pl
 drawn g q observed t f right = right_as_drawn (graph_of g.graph) g.graph.valid (has g.latent.bits) q observed t f right
 
 -- where nothing is given, the answer is that for an effect
-bare : (form : Form) (g : ReadGraph) (x y given : Names) (o : Outcome) (text : List ℕ) → unwrap_or given [] ≡ [] → IdentifyAnswerGiven form g x y given o text
-    → IdentifyAnswer form g x y o text
-bare form g x y None o text none h = h
-bare form g x y (Some []) o text none h = h
-bare form g x y (Some (n ∷ ns)) o text none h = absurd (cc none)
+bare : (form : Form) (d : Diagram) (x y given : Names) (o : Outcome) (text : List ℕ) → unwrap_or given [] ≡ [] → IdentifyAnswerGiven form d x y given o text
+    → IdentifyAnswer form d x y o text
+bare form d x y None o text none h = h
+bare form d x y (Some []) o text none h = h
+bare form d x y (Some (n ∷ ns)) o text none h = absurd (cc none)
 
-shown_formula : (q : Asked) (bytes text : List ℕ) (g : ReadGraph) → HoldsGraph bytes g → IdentifyAnswer q.form g q.x q.y Yes text
+shown_formula : (q : Asked) (bytes text : List ℕ) (d : Diagram) → HoldsDiagram bytes d → IdentifyAnswer q.form d q.x q.y Yes text
     → IsShown ShowsRightFormula q bytes text
-shown_formula q bytes text g holds (seen, observed, h) = record {
-  graph = g;
-  holds = holds;
-  seen = seen;
-  observed = observed;
-  sets = record {
-    x = h.x;
-    y = h.y;
-    sets = h.sets;
-    answer = record {
-      formula = h.answer.formula;
-      derivation = h.answer.derivation;
-      right = h.answer.right;
-      drawn = drawn g seen observed (effect_on h.x h.y) h.answer.formula h.answer.right.effect;
-      prints = h.answer.prints;
-    };
-  };
-}
+shown_formula q bytes text d holds a =
+    let k = as_read d (λ p ns. EffectAnswer q.form p (effect_lists d.read ns q.x q.y) Yes text) a in
+    let h = k.2 in
+    record {
+      graph = d.read;
+      holds = holds;
+      seen = k.0;
+      observed = k.1;
+      sets = record {
+        x = h.x;
+        y = h.y;
+        sets = h.sets;
+        answer = record {
+          formula = h.answer.formula;
+          derivation = h.answer.derivation;
+          right = h.answer.right;
+          drawn = drawn d.read k.0 k.1 (effect_on h.x h.y) h.answer.formula h.answer.right.effect;
+          prints = h.answer.prints;
+        };
+      };
+    }
 
-shown_hedge : (q : Asked) (bytes text : List ℕ) (g : ReadGraph) → HoldsGraph bytes g → IdentifyAnswer q.form g q.x q.y No text
+shown_hedge : (q : Asked) (bytes text : List ℕ) (d : Diagram) → HoldsDiagram bytes d → IdentifyAnswer q.form d q.x q.y No text
     → IsShown ShowsRightHedge q bytes text
-shown_hedge q bytes text g holds (seen, observed, h) = record {
-  graph = g;
-  holds = holds;
-  seen = seen;
-  observed = observed;
-  sets = record {
-    x = h.x;
-    y = h.y;
-    sets = h.sets;
-    answer = record { hedge = h.answer.hedge; models = h.answer.pair; right = h.answer.found.right; prints = h.answer.prints };
-  };
-}
+shown_hedge q bytes text d holds a =
+    let k = as_read d (λ p ns. EffectAnswer q.form p (effect_lists d.read ns q.x q.y) No text) a in
+    let h = k.2 in
+    record {
+      graph = d.read;
+      holds = holds;
+      seen = k.0;
+      observed = k.1;
+      sets = record {
+        x = h.x;
+        y = h.y;
+        sets = h.sets;
+        answer = record { hedge = h.answer.hedge; models = h.answer.pair; right = h.answer.found.right; prints = h.answer.prints };
+      };
+    }
 
 -- a yes to a request of `identify`, on its file, shows a right formula
 formula_written : (r : Call) (uses : List Use) (text : List ℕ) → Appends r.before r.after text → CallAnswer r Identify uses Yes text
     → Identified ShowsRightFormula r uses
 formula_written r uses text = written_for r Identify uses Yes text (λ q. q.file)
     (λ q bytes line. unwrap_or q.given [] ≡ [] → IsShown ShowsRightFormula q bytes line) (λ q h. h) (λ q. refl) (λ q. refl)
-    (λ q is bytes a none. shown_formula q bytes text a.graph a.holds (bare q.form a.graph q.x q.y q.given Yes text none a.answer))
+    (λ q is bytes a none. shown_formula q bytes text a.diagram a.holds (bare q.form a.diagram q.x q.y q.given Yes text none a.answer))
 
 -- and a no a right hedge
 hedge_written : (r : Call) (uses : List Use) (text : List ℕ) → Appends r.before r.after text → CallAnswer r Identify uses No text
     → Identified ShowsRightHedge r uses
 hedge_written r uses text = written_for r Identify uses No text (λ q. q.file)
     (λ q bytes line. unwrap_or q.given [] ≡ [] → IsShown ShowsRightHedge q bytes line) (λ q h. h) (λ q. refl) (λ q. refl)
-    (λ q is bytes a none. shown_hedge q bytes text a.graph a.holds (bare q.form a.graph q.x q.y q.given No text none a.answer))
+    (λ q is bytes a none. shown_hedge q bytes text a.diagram a.holds (bare q.form a.diagram q.x q.y q.given No text none a.answer))
 
 -- a status that is none of an answer says nothing
 other_status : (r : Call) (code : ℕ) → 1 < code → Headline r code

@@ -1,7 +1,9 @@
 -- Of a second input that is too long each command answers the same, whatever its bytes are.
 use Rattle.std.proofs.Common.{◌≤◌, ◌<◌, inl, inr, ℕ, Bool, List, Option, length, arith}
 use Rattle.mixed_graph.specs.Graphs.{MixedGraph}
+use Rattle.mixed_graph.specs.Shown.{graph_of}
 use Rattle.dag_reader.specs.declared.graph.ReadGraph.{ReadGraph}
+use Rattle.diagram.specs.declared.diagram.Diagram.{Diagram}
 use Rattle.replies.specs.declared.outcome.Outcome.{Outcome}
 use Rattle.replies.specs.declared.outcome.Outcome.TheVariants.{Yes, No, Second, Evaluation}
 use Rattle.targets.specs.declared.query.Sets.{Sets}
@@ -33,24 +35,25 @@ certificate_short : (q : MixedGraph) (names : List (List ℕ)) (zs bytes : List 
 certificate_short q names zs bytes o text (check.of_formula t f d read answer) = read.small
 certificate_short q names zs bytes o text (check.of_hedge t h entries read answer) = read.small
 
-observed_short : (g : ReadGraph) (zs bytes : List ℕ) (o : Outcome) (text : List ℕ) → check.ObservedAnswer g zs bytes o text → length bytes ≤ 67108864
-observed_short g zs bytes o text h = certificate_short _ _ zs bytes o text h.2
-
 refused_certificate : (names : List (List ℕ)) (a b line : List ℕ) → 67108864 < length a → 67108864 < length b
     → check.IsCertificateRefusal names a line → check.IsCertificateRefusal names b line
 refused_certificate names a b line la lb (check.too_long l e) = check.too_long lb e
 refused_certificate names a b line la lb (check.faulty fault short p q e) = no_more 67108864 a la short
 
-over_long : (g : ReadGraph) (zs a b : List ℕ) → 67108864 < length a → 67108864 < length b → (o : Outcome) (text : List ℕ) → check.AnswerOver g zs a o text
-    → check.AnswerOver g zs b o text
-over_long g zs a b la lb Yes text h = no_more 67108864 a la (observed_short g zs a Yes text h)
-over_long g zs a b la lb No text h = no_more 67108864 a la (observed_short g zs a No text h)
-over_long g zs a b la lb Second text h = refused_certificate _ a b text la lb h
-over_long g zs a b la lb o text h = absurd h
+over_long : (q : MixedGraph) (names : List (List ℕ)) (zs a b : List ℕ) → 67108864 < length a → 67108864 < length b → (o : Outcome) (text : List ℕ)
+    → check.AnswerOver q names zs a o text → check.AnswerOver q names zs b o text
+over_long q names zs a b la lb Yes text h = no_more 67108864 a la (certificate_short q names zs a Yes text h)
+over_long q names zs a b la lb No text h = no_more 67108864 a la (certificate_short q names zs a No text h)
+over_long q names zs a b la lb Second text h = refused_certificate names a b text la lb h
+over_long q names zs a b la lb o text h = absurd h
 
-pub check_long : (g : ReadGraph) (experiments : Lists) (a b : List ℕ) → 67108864 < length a → 67108864 < length b → (o : Outcome) (text : List ℕ)
-    → check.CheckAnswer g experiments a o text → check.CheckAnswer g experiments b o text
-check_long g experiments a b la lb o text h = record { sets = h.sets; are = h.are; answer = over_long g h.sets a b la lb o text h.answer }
+pub check_long : (d : Diagram) (experiments : Lists) (a b : List ℕ) → 67108864 < length a → 67108864 < length b → (o : Outcome) (text : List ℕ)
+    → check.CheckAnswer d experiments a o text → check.CheckAnswer d experiments b o text
+check_long d experiments a b la lb o text h = record {
+  sets = h.sets;
+  are = h.are;
+  answer = over_long (graph_of d.observed.graph) d.observed.names h.sets a b la lb o text h.answer;
+}
 
 -- ---- evaluate
 
@@ -76,12 +79,12 @@ refused_second : (a b line : List ℕ) → 1048576 < length a → 1048576 < leng
 refused_second a b line la lb (equivalent.too_long l e) = equivalent.too_long lb e
 refused_second a b line la lb (equivalent.faulty fault short p q e) = no_more 1048576 a la short
 
-held_short : {A : Type 0} (g : ReadGraph) (s : Option Sets) (a : List ℕ) (o : Outcome) (text : List ℕ) → 1048576 < length a
-    → equivalent.HoldsAnswer g s a o text → A
-held_short g s a o text la h = no_more 1048576 a la h.1.small
+held_short : {A : Type 0} (d : Diagram) (s : Option Sets) (a : List ℕ) (o : Outcome) (text : List ℕ) → 1048576 < length a
+    → equivalent.HoldsAnswer d s a o text → A
+held_short d s a o text la h = no_more 1048576 a la h.1.small
 
-pub second_long : (g : ReadGraph) (s : Option Sets) (a b : List ℕ) → 1048576 < length a → 1048576 < length b → (o : Outcome) (text : List ℕ)
-    → equivalent.SecondAnswer g s a o text → equivalent.SecondAnswer g s b o text
-second_long g s a b la lb Second text (inl h) = inl (refused_second a b text la lb h)
-second_long g s a b la lb Second text (inr h) = held_short g s a Second text la h
-second_long g s a b la lb o text h = held_short g s a o text la h
+pub second_long : (d : Diagram) (s : Option Sets) (a b : List ℕ) → 1048576 < length a → 1048576 < length b → (o : Outcome) (text : List ℕ)
+    → equivalent.SecondAnswer d s a o text → equivalent.SecondAnswer d s b o text
+second_long d s a b la lb Second text (inl h) = inl (refused_second a b text la lb h)
+second_long d s a b la lb Second text (inr h) = held_short d s a Second text la h
+second_long d s a b la lb o text h = held_short d s a o text la h

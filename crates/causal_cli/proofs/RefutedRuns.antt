@@ -23,34 +23,44 @@ use Rattle.adjustment.specs.Criteria.{IsAdmissible}
 use Rattle.adjustment.specs.Formulas.{adjustment_formula}
 use Rattle.adjustment.proofs.Exceeding.{Exceeds, exceeds_fails}
 use Rattle.adjustment.proofs.FaultWalks.{forbidden_exceeds, unblocked_exceeds}
-use Rattle.replies.proofs.OneGraph.{observed_is_mixed}
+use Rattle.diagram.proofs.OneObserved.{observed_is_mixed}
 use Rattle.replies.specs.declared.outcome.Outcome.{Outcome}
 use Rattle.replies.specs.declared.outcome.Outcome.TheVariants.{Yes, No}
-use Rattle.replies.specs.Observed.{Names, HoldsGraph, IsObservedGraph, observed_names}
+use Rattle.diagram.specs.Observed.{IsObservedGraph, observed_names}
+use Rattle.diagram.specs.Sets.{Names, effect_lists, query_lists, rule_lists}
+use Rattle.diagram.specs.declared.diagram.Diagram.{Diagram}
+use Rattle.diagram.proofs.ObservedParts.{as_read}
+use Rattle.replies.specs.Observed.{HoldsGraph, HoldsDiagram}
 use Rattle.replies.specs.Outcomes.{code_of}
 use Rattle.effect_answers.specs.Hedges as hedges
 use Rattle.identify_command.specs.declared.form.Form.{Form}
 use Rattle.identify_command.specs.Forms.{plain_form}
-use Rattle.identify_command.specs.Answers.{ShowsHedge, IdentifyAnswer}
+use Rattle.identify_command.specs.Answers.{ShowsHedge, EffectAnswer, IdentifyAnswer}
+use Rattle.identify_command.specs.Conditions as conditions
 use Rattle.identify_command.specs.Conditions.{ConditionalAnswer, IdentifyAnswerGiven}
 use Rattle.identify_command.specs.Requests.{IsRequest}
-use Rattle.check_command.specs.Answers.{HoldsCertificate, ObservedAnswer, of_formula, of_hedge}
+use Rattle.check_command.specs.Answers.{HoldsCertificate, CertificateAnswer, of_formula, of_hedge}
 use Rattle.experiment_lists.specs.Words.{Lists}
 use Rattle.experiment_lists.proofs.OneSet.{one_by_one}
 use Rattle.surrogates.specs.Answers.{IsRightBlock}
 use Rattle.surrogates.specs.declared.answer.CommonHedge.{CommonHedge}
+use Rattle.surrogate_command.specs.Answers as surrogates
 use Rattle.surrogate_command.specs.Answers.{SurrogateAnswer}
 use Rattle.surrogate_command.specs.Requests.{Request as SurrogateRequest}
 use Rattle.surrogate_command.specs.Requests as surrogate_requests
+use Rattle.surrogate_command.specs.Sets.{surrogate_lists}
 use Rattle.evaluate_command.specs.Answers.{ProcedureFirst, EvaluateFirst}
 use Rattle.evaluate_command.specs.Ways.{Way, by_procedure, by_adjusting, by_condition, criterion_query}
 use Rattle.separation_commands.specs.SeparateAnswers.{SeparateAnswer}
+use Rattle.separation_commands.specs.SeparateAnswers as separations
 use Rattle.separation_commands.specs.SeparateRequests.{Request as SeparateRequest}
 use Rattle.separation_commands.specs.SeparateRequests as separate_requests
 use Rattle.separation_commands.specs.RuleAnswers.{RuleAnswer}
+use Rattle.separation_commands.specs.RuleAnswers as rules
 use Rattle.separation_commands.specs.RuleRequests.{Request as RuleRequest}
 use Rattle.separation_commands.specs.RuleRequests as rule_requests
-use Rattle.adjust_command.specs.Answers.{AdjustAnswer, SetsAnswer}
+use Rattle.adjust_command.specs.Answers.{AdjustAnswer, SetsAnswer, adjust_lists}
+use Rattle.adjust_command.specs.Answers as adjustments
 use Rattle.adjust_command.specs.Queries.{Query, by_set, by_back_door, listing}
 use Rattle.adjust_command.specs.Requests as adjust_requests
 use Rattle.command_run.proofs.Deliveries.{mapped}
@@ -110,43 +120,61 @@ refutes_adjustment g q observed (by_set set) x y z text h =
 refutes_adjustment g q observed (by_back_door set) x y z text h = tt
 refutes_adjustment g q observed (listing most) x y z text h = λ w sets right. h.none (has w) sets (admissible_as_drawn g q observed x y w sets right)
 
-adjusted_on : (x y : Names) (query : Query) (bytes text : List ℕ) (g : ReadGraph) → HoldsGraph bytes g → AdjustAnswer g x y query No text
+adjusted_on : (x y : Names) (query : Query) (bytes text : List ℕ) (d : Diagram) → HoldsDiagram bytes d → AdjustAnswer d x y query No text
     → IsNoAdjustmentFor x y query bytes text
-adjusted_on x y query bytes text g holds (p, observed, h) = record {
-  graph = g;
-  holds = holds;
-  seen = p;
-  observed = observed;
-  xs = h.x;
-  ys = h.y;
-  z = h.z;
-  sets = h.sets;
-  shows = h.answer;
-  refutes = refutes_adjustment g p observed query h.x h.y h.z text h.answer;
-}
+adjusted_on x y query bytes text d holds a =
+    let k = as_read d (λ p ns. adjustments.ListsAnswer query p (adjust_lists d.read ns x y query) No text) a in
+    let g = d.read in
+    let h = k.2 in
+    record {
+      graph = g;
+      holds = holds;
+      seen = k.0;
+      observed = k.1;
+      xs = h.x;
+      ys = h.y;
+      z = h.z;
+      sets = h.sets;
+      shows = h.answer;
+      refutes = refutes_adjustment g k.0 k.1 query h.x h.y h.z text h.answer;
+    }
 
 adjusted : (r : Call) (uses : List Use) (text : List ℕ) → Appends r.before r.after text → CallAnswer r Adjust uses No text
     → WrittenFor adjust_requests.IsRequest (λ q. q.file) IsNoAdjustmentAsDrawn r uses
 adjusted r uses text = written_for r Adjust uses No text (λ q. q.file) IsNoAdjustmentAsDrawn (λ q h. h) (λ q. refl) (λ q. refl)
-    (λ q is bytes a. adjusted_on q.x q.y q.query bytes text a.graph a.holds a.answer)
+    (λ q is bytes a. adjusted_on q.x q.y q.query bytes text a.diagram a.holds a.answer)
 
 -- ---- identify and evaluate
 
-bare_refuted : (form : Form) (bytes : List ℕ) (x y : Names) (text : List ℕ) (g : ReadGraph) → HoldsGraph bytes g → IdentifyAnswer form g x y No text
+bare_refuted : (form : Form) (bytes : List ℕ) (x y : Names) (text : List ℕ) (d : Diagram) → HoldsDiagram bytes d → IdentifyAnswer form d x y No text
     → IsHedgeAsDrawn (ShowsHedge form) bytes x y text
-bare_refuted form bytes x y text g holds (q, observed, h) = record {
-  graph = g;
-  holds = holds;
-  seen = q;
-  observed = observed;
-  sets = record { x = h.x; y = h.y; sets = h.sets; answer = (h.answer, effect_lost g q observed h.x h.y h.answer.pair h.answer.found.right.counter) };
-}
+bare_refuted form bytes x y text d holds a =
+    let k = as_read d (λ p ns. EffectAnswer form p (effect_lists d.read ns x y) No text) a in
+    let h = k.2 in
+    record {
+      graph = d.read;
+      holds = holds;
+      seen = k.0;
+      observed = k.1;
+      sets = record {
+        x = h.x;
+        y = h.y;
+        sets = h.sets;
+        answer = (h.answer, effect_lost d.read k.0 k.1 h.x h.y h.answer.pair h.answer.found.right.counter);
+      };
+    }
 
-joint_refuted : (form : Form) (bytes : List ℕ) (x y : Names) (given : List (List ℕ)) (text : List ℕ) (g : ReadGraph) → HoldsGraph bytes g
-    → ConditionalAnswer form g x y given No text
+joint_refuted : (form : Form) (bytes : List ℕ) (x y : Names) (given : List (List ℕ)) (text : List ℕ) (d : Diagram) → HoldsDiagram bytes d
+    → ConditionalAnswer form d x y given No text
     → IsJointAsDrawn form bytes x y given text
-joint_refuted form bytes x y given text g holds (q, observed, h) =
-    let a = h.answer in record {
+joint_refuted form bytes x y given text d holds b =
+    let g = d.read in
+    let k = as_read d (λ p ns. conditions.ListsAnswer form p (query_lists g ns x y (Some given)) No text) b in
+    let q = k.0 in
+    let observed = k.1 in
+    let h = k.2 in
+    let a = h.answer in
+    record {
       graph = g;
       holds = holds;
       seen = q;
@@ -162,34 +190,42 @@ joint_refuted form bytes x y given text g holds (q, observed, h) =
       differs = λ settled. not_identifiable g q observed a.x a.y a.pair a.found.right.counter h.target (a.differs settled);
     }
 
-given_refuted : (form : Form) (bytes : List ℕ) (x y given : Names) (text : List ℕ) (g : ReadGraph) → HoldsGraph bytes g
-    → IdentifyAnswerGiven form g x y given No text
+given_refuted : (form : Form) (bytes : List ℕ) (x y given : Names) (text : List ℕ) (d : Diagram) → HoldsDiagram bytes d
+    → IdentifyAnswerGiven form d x y given No text
     → IsUnidentifiedAsDrawn form bytes x y given text
-given_refuted form bytes x y None text g holds h = bare_refuted form bytes x y text g holds h
-given_refuted form bytes x y (Some []) text g holds h = bare_refuted form bytes x y text g holds h
-given_refuted form bytes x y (Some (n ∷ ns)) text g holds h = joint_refuted form bytes x y (n ∷ ns) text g holds h
+given_refuted form bytes x y None text d holds h = bare_refuted form bytes x y text d holds h
+given_refuted form bytes x y (Some []) text d holds h = bare_refuted form bytes x y text d holds h
+given_refuted form bytes x y (Some (n ∷ ns)) text d holds h = joint_refuted form bytes x y (n ∷ ns) text d holds h
 
 identified : (r : Call) (uses : List Use) (text : List ℕ) → Appends r.before r.after text → CallAnswer r Identify uses No text
     → WrittenFor IsRequest (λ q. q.file) (λ q bytes line. IsUnidentifiedAsDrawn q.form bytes q.x q.y q.given line) r uses
 identified r uses text = written_for r Identify uses No text (λ q. q.file) (λ q bytes line. IsUnidentifiedAsDrawn q.form bytes q.x q.y q.given line)
     (λ q h. h) (λ q. refl) (λ q. refl)
-    (λ q is bytes a. given_refuted q.form bytes q.x q.y q.given text a.graph a.holds a.answer)
+    (λ q is bytes a. given_refuted q.form bytes q.x q.y q.given text a.diagram a.holds a.answer)
 
-hedge_on : (bytes : List ℕ) (x y : Names) (text : List ℕ) (g : ReadGraph) → HoldsGraph bytes g → ProcedureFirst g x y No text
-    → IsHedgeAsDrawn hedges.ShowsHedge bytes x y text
-hedge_on bytes x y text g holds (q, observed, h) = record {
-  graph = g;
-  holds = holds;
-  seen = q;
-  observed = observed;
-  sets = record { x = h.x; y = h.y; sets = h.sets; answer = (h.answer, effect_lost g q observed h.x h.y h.answer.pair h.answer.found.right.counter) };
-}
+hedge_on : (bytes : List ℕ) (x y : Names) (text : List ℕ) (d : Diagram) → HoldsDiagram bytes d
+    → ProcedureFirst (graph_of d.observed.graph) (effect_lists d.read d.observed.names x y) No text → IsHedgeAsDrawn hedges.ShowsHedge bytes x y text
+hedge_on bytes x y text d holds a =
+    let k = as_read d (λ p ns. ProcedureFirst p (effect_lists d.read ns x y) No text) a in
+    let h = k.2 in
+    record {
+      graph = d.read;
+      holds = holds;
+      seen = k.0;
+      observed = k.1;
+      sets = record {
+        x = h.x;
+        y = h.y;
+        sets = h.sets;
+        answer = (h.answer, effect_lost d.read k.0 k.1 h.x h.y h.answer.pair h.answer.found.right.counter);
+      };
+    }
 
-evaluated_on : (way : Way) (bytes : List ℕ) (x y : Names) (text : List ℕ) (g : ReadGraph) → HoldsGraph bytes g → EvaluateFirst way g x y No text
+evaluated_on : (way : Way) (bytes : List ℕ) (x y : Names) (text : List ℕ) (d : Diagram) → HoldsDiagram bytes d → EvaluateFirst way d x y No text
     → IsUnevaluatedAsDrawn way bytes x y text
-evaluated_on (by_procedure short) bytes x y text g holds h = hedge_on bytes x y text g holds h
-evaluated_on (by_adjusting back_door set) bytes x y text g holds h = adjusted_on x y (criterion_query back_door set) bytes text g holds h.1
-evaluated_on (by_condition short given) bytes x y text g holds h = joint_refuted plain_form bytes x y given text g holds h.1
+evaluated_on (by_procedure short) bytes x y text d holds h = hedge_on bytes x y text d holds h
+evaluated_on (by_adjusting back_door set) bytes x y text d holds h = adjusted_on x y (criterion_query back_door set) bytes text d holds h.1
+evaluated_on (by_condition short given) bytes x y text d holds h = joint_refuted plain_form bytes x y given text d holds h.1
 
 if_told : (told : Option (List ℕ)) (P : Type 0) → P → IfSome told (λ other. P)
 if_told (Some other) P p = p
@@ -205,7 +241,7 @@ evaluated r uses text whole (on_file q is file names h) = record {
   right = under_name r.held q.file file (λ bytes. HoldsAnswer commands (of Evaluate q) bytes No text)
       (λ bytes. IfSome (r.held_second q.counts) (λ other. IsUnevaluatedAsDrawn q.way bytes q.x q.y text))
       (λ bytes a. if_told (r.held_second q.counts) (IsUnevaluatedAsDrawn q.way bytes q.x q.y text)
-      (evaluated_on q.way bytes q.x q.y text a.graph a.holds a.answer)) names h;
+      (evaluated_on q.way bytes q.x q.y text a.diagram a.holds a.answer)) names h;
   whole = whole;
 }
 evaluated r uses text whole (on_both q is file second names names_second h) = record {
@@ -220,23 +256,24 @@ evaluated r uses text whole (on_both q is file second names names_second h) = re
 -- ---- check
 
 -- an accepted certificate of a hedge says so of its effect
-hedge_as_drawn : (g : ReadGraph) (zs other text : List ℕ) → ObservedAnswer g zs other Yes text
+hedge_as_drawn : (g : ReadGraph) (q : MixedGraph) → IsObservedGraph g q → (zs other text : List ℕ) → CertificateAnswer q (observed_names g) zs other Yes text
     → (t : PlainTarget) (h : certificates.PlainHedge) → HoldsCertificate (observed_names g) other (certificates.hedge t h)
     → IsNotIdentifiable g (effect_on t.x t.y)
-hedge_as_drawn g zs other text (q, observed, of_formula u f d read answer) t h is =
+hedge_as_drawn g q observed zs other text (of_formula u f d read answer) t h is =
     let same = same_read _ (certificates.formula u f d) (certificates.hedge t h) read.reads is.reads in absurd (cc same)
-hedge_as_drawn g zs other text (q, observed, of_hedge u k entries read answer) t h is =
+hedge_as_drawn g q observed zs other text (of_hedge u k entries read answer) t h is =
     let same = same_read _ (certificates.hedge u (certificates.hedge_view k)) (certificates.hedge t h) read.reads is.reads in
     subst (λ x. IsNotIdentifiable g (effect_on x.x x.y)) (same_hedge_target u t (certificates.hedge_view k) h same)
     (effect_lost g q observed u.x u.y answer.pair answer.models)
 
 -- and of the experiments with which it was accepted
-hedge_over_as_drawn : (g : ReadGraph) (zs other text : List ℕ) → ObservedAnswer g zs other Yes text
+hedge_over_as_drawn : (g : ReadGraph) (q : MixedGraph) → IsObservedGraph g q → (zs other text : List ℕ)
+    → CertificateAnswer q (observed_names g) zs other Yes text
     → (t : PlainTarget) (h : certificates.PlainHedge) → HoldsCertificate (observed_names g) other (certificates.hedge t h)
     → IsNotIdentifiableOver g zs (effect_on t.x t.y)
-hedge_over_as_drawn g zs other text (q, observed, of_formula u f d read answer) t h is =
+hedge_over_as_drawn g q observed zs other text (of_formula u f d read answer) t h is =
     let same = same_read _ (certificates.formula u f d) (certificates.hedge t h) read.reads is.reads in absurd (cc same)
-hedge_over_as_drawn g zs other text (q, observed, of_hedge u k entries read answer) t h is =
+hedge_over_as_drawn g q observed zs other text (of_hedge u k entries read answer) t h is =
     let same = same_read _ (certificates.hedge u (certificates.hedge_view k)) (certificates.hedge t h) read.reads is.reads in
     subst (λ x. IsNotIdentifiableOver g zs (effect_on x.x x.y)) (same_hedge_target u t (certificates.hedge_view k) h same)
     (effect_lost_over g q observed u.x u.y answer.pair answer.models zs answer.under)
@@ -247,10 +284,13 @@ certificate_refutes experiments bytes other text b =
     let a = b.accepted in record {
       graph = b.graph;
       holds = b.holds;
+      seen = b.seen;
+      observed = b.observed;
       accepted = a;
-      not_identifiable = hedge_as_drawn b.graph a.sets other text a.answer;
+      not_identifiable = hedge_as_drawn b.graph b.seen b.observed a.sets other text a.answer;
       not_identifiable_over = λ t h is zs are. subst (λ (ws : List ℕ). IsNotIdentifiableOver b.graph ws (effect_on t.x t.y))
-          (sym (one_by_one (observed_names b.graph) experiments a.sets zs a.are.sets are.sets)) (hedge_over_as_drawn b.graph a.sets other text a.answer t h is);
+          (sym (one_by_one (observed_names b.graph) experiments a.sets zs a.are.sets are.sets))
+          (hedge_over_as_drawn b.graph b.seen b.observed a.sets other text a.answer t h is);
     }
 
 checked : (r : Call) (uses : List Use) → Checked r uses → CheckedHedgeAsDrawn r uses
@@ -274,70 +314,81 @@ common_lost : (g : ReadGraph) (q : MixedGraph) → IsObservedGraph g q → (zs :
 common_lost g q observed zs x y None right some = absurd (cc some)
 common_lost g q observed zs x y (Some k) right some = effect_lost_over g q observed x y k.pair right.hedge.counter zs right.under
 
-surrogated_on : (q : SurrogateRequest) (bytes text : List ℕ) (g : ReadGraph) → HoldsGraph bytes g → SurrogateAnswer q.form g q.x q.y q.experiments No text
+surrogated_on : (q : SurrogateRequest) (bytes text : List ℕ) (d : Diagram) → HoldsDiagram bytes d → SurrogateAnswer q.form d q.x q.y q.experiments No text
     → IsStopAsDrawn q bytes text
-surrogated_on q bytes text g holds (p, observed, h) = record {
-  graph = g;
-  holds = holds;
-  seen = p;
-  observed = observed;
-  x = h.x;
-  y = h.y;
-  experiments = h.experiments;
-  sets = h.sets;
-  shows = h.answer;
-  not_identifiable = effect_lost g p observed h.x h.y h.answer.pair h.answer.right.counter;
-  not_identifiable_over = common_lost g p observed h.experiments h.x h.y h.answer.common h.answer.blocked;
-}
+surrogated_on q bytes text d holds a =
+    let k = as_read d (λ p ns. surrogates.ListsAnswer q.form p (surrogate_lists d.read ns q.x q.y q.experiments) No text) a in
+    let h = k.2 in
+    record {
+      graph = d.read;
+      holds = holds;
+      seen = k.0;
+      observed = k.1;
+      x = h.x;
+      y = h.y;
+      experiments = h.experiments;
+      sets = h.sets;
+      shows = h.answer;
+      not_identifiable = effect_lost d.read k.0 k.1 h.x h.y h.answer.pair h.answer.right.counter;
+      not_identifiable_over = common_lost d.read k.0 k.1 h.experiments h.x h.y h.answer.common h.answer.blocked;
+    }
 
 surrogated : (r : Call) (uses : List Use) (text : List ℕ) → Appends r.before r.after text → CallAnswer r Surrogate uses No text
     → WrittenFor surrogate_requests.IsRequest (λ q. q.file) IsStopAsDrawn r uses
 surrogated r uses text = written_for r Surrogate uses No text (λ q. q.file) IsStopAsDrawn (λ q h. h) (λ q. refl) (λ q. refl)
-    (λ q is bytes a. surrogated_on q bytes text a.graph a.holds a.answer)
+    (λ q is bytes a. surrogated_on q bytes text a.diagram a.holds a.answer)
 
 -- ---- separate and rule
 
-separated_on : (q : SeparateRequest) (bytes text : List ℕ) (g : ReadGraph) → HoldsGraph bytes g → SeparateAnswer g q.x q.y q.given No text
+separated_on : (q : SeparateRequest) (bytes text : List ℕ) (d : Diagram) → HoldsDiagram bytes d → SeparateAnswer d q.x q.y q.given No text
     → IsDependenceAsDrawn q bytes text
-separated_on q bytes text g holds (p, observed, h) = record {
-  graph = g;
-  holds = holds;
-  seen = p;
-  observed = observed;
-  x = h.x;
-  y = h.y;
-  w = h.w;
-  sets = h.sets;
-  shows = h.answer;
-  dependent = dependence_is_drawn (graph_of g.graph) g.graph.valid (has g.latent.bits) p observed (has h.x) (has h.y) (has h.w) h.answer.dependent;
-}
+separated_on q bytes text d holds a =
+    let k = as_read d (λ p ns. separations.ListsAnswer p (query_lists d.read ns q.x q.y q.given) No text) a in
+    let g = d.read in
+    let h = k.2 in
+    record {
+      graph = g;
+      holds = holds;
+      seen = k.0;
+      observed = k.1;
+      x = h.x;
+      y = h.y;
+      w = h.w;
+      sets = h.sets;
+      shows = h.answer;
+      dependent = dependence_is_drawn (graph_of g.graph) g.graph.valid (has g.latent.bits) k.0 k.1 (has h.x) (has h.y) (has h.w) h.answer.dependent;
+    }
 
 separated : (r : Call) (uses : List Use) (text : List ℕ) → Appends r.before r.after text → CallAnswer r Separate uses No text
     → WrittenFor separate_requests.IsRequest (λ q. q.file) IsDependenceAsDrawn r uses
 separated r uses text = written_for r Separate uses No text (λ q. q.file) IsDependenceAsDrawn (λ q h. h) (λ q. refl) (λ q. refl)
-    (λ q is bytes a. separated_on q bytes text a.graph a.holds a.answer)
+    (λ q is bytes a. separated_on q bytes text a.diagram a.holds a.answer)
 
-ruled_on : (q : RuleRequest) (bytes text : List ℕ) (g : ReadGraph) → HoldsGraph bytes g → RuleAnswer q.rule g q.y q.x q.z q.given No text
+ruled_on : (q : RuleRequest) (bytes text : List ℕ) (d : Diagram) → HoldsDiagram bytes d → RuleAnswer q.rule d q.y q.x q.z q.given No text
     → IsFailureAsDrawn q bytes text
-ruled_on q bytes text g holds (p, observed, h) = record {
-  graph = g;
-  holds = holds;
-  seen = p;
-  observed = observed;
-  y = h.y;
-  doing = h.x;
-  z = h.z;
-  given = h.given;
-  sets = h.sets;
-  shows = h.answer;
-  fails = failure_is_drawn (graph_of g.graph) g.graph.valid (has g.latent.bits) p observed (left_of q.rule (has h.x) (has h.y) (has h.z) (has h.given))
-      (right_of q.rule (has h.x) (has h.y) (has h.z) (has h.given)) h.answer.fails;
-}
+ruled_on q bytes text d holds a =
+    let k = as_read d (λ p ns. rules.ListsAnswer q.rule p (rule_lists d.read ns q.y q.x q.z q.given) No text) a in
+    let g = d.read in
+    let h = k.2 in
+    record {
+      graph = g;
+      holds = holds;
+      seen = k.0;
+      observed = k.1;
+      y = h.y;
+      doing = h.x;
+      z = h.z;
+      given = h.given;
+      sets = h.sets;
+      shows = h.answer;
+      fails = failure_is_drawn (graph_of g.graph) g.graph.valid (has g.latent.bits) k.0 k.1 (left_of q.rule (has h.x) (has h.y) (has h.z) (has h.given))
+          (right_of q.rule (has h.x) (has h.y) (has h.z) (has h.given)) h.answer.fails;
+    }
 
 ruled : (r : Call) (uses : List Use) (text : List ℕ) → Appends r.before r.after text → CallAnswer r Rule uses No text
     → WrittenFor rule_requests.IsRequest (λ q. q.file) IsFailureAsDrawn r uses
 ruled r uses text = written_for r Rule uses No text (λ q. q.file) IsFailureAsDrawn (λ q h. h) (λ q. refl) (λ q. refl)
-    (λ q is bytes a. ruled_on q bytes text a.graph a.holds a.answer)
+    (λ q is bytes a. ruled_on q bytes text a.diagram a.holds a.answer)
 
 -- ---- a run
 

@@ -1,7 +1,9 @@
 -- What was asked and what was written, as far as the claims on answers speak of it.
 use Rattle.std.specs.Prelude.{ℕ, List, [], ◌∷◌, Option, IfSome}
+use Rattle.std.specs.Option.{option_or}
 use Rattle.std.specs.Io.KnownBytes.{Appends}
 use Rattle.command_words.specs.Form.{Text, Row, Use, IsCall}
+use Rattle.command_run.specs.Run.{Run}
 
 -- the words; what is held under a name where it is that of a file, and where it is that of a second input; and what the output had before and after,
 -- where it tells
@@ -15,6 +17,16 @@ pub record Call : Type 0 where
 -- a call over one input, which holds the same under a name for both
 abbrev pub call_on : (words : List Text) (held : Text → Option (List ℕ)) (before after : Option (List ℕ)) → Call
 call_on words held before after = record { words = words; held = held; held_second = held; before = before; after = after }
+
+-- the call of a run: under the name of a file stands the text that is kept, where one is
+abbrev pub call_of : Run → Call
+call_of r = record {
+  words = r.words;
+  held = λ file. option_or r.kept (r.held file);
+  held_second = r.held;
+  before = r.out.before;
+  after = r.out.after;
+}
 
 -- the words are a call of this command: its name, and then these uses, which are some that it allows
 abbrev pub IsCallOf : Row → List Text → List Use → Type 0

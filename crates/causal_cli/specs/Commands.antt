@@ -1,6 +1,7 @@
 -- The commands: one list, and of each what it is, which stands in its own crate; and what the code's values stand for.
 use Rattle.std.specs.Prelude.{List, [], ◌∷◌, map, option_map}
 use Rattle.command_words.specs.Form.{Row}
+use Rattle.diagram.specs.declared.diagram.Diagram.{Diagram}
 use Rattle.replies.specs.Command.{CommandForm, Remainder}
 use Rattle.command_run.specs.Commands.{CommandSet, Request, of}
 use Rattle.separation_commands.specs.GraphCommand.{graph_command}
@@ -26,8 +27,7 @@ use Rattle.survey_command.specs.Requests as of_survey
 use Rattle.surrogate_command.specs.Command.{surrogate_command}
 use Rattle.surrogate_command.specs.Requests as of_surrogate
 use Rattle.prob_expr.specs.Listed.{masks_of}
-use Rattle.evaluate_command.specs.Effects.{effect_view}
-use Rattle.implications_command.specs.Pairs.{pairs_view}
+use Rattle.evaluate_command.specs.Effects.{effect_in}
 use Rattle.causal_cli.specs.declared.commands.Command.{Command}
 use Rattle.causal_cli.specs.declared.commands.Command.TheVariants as command
 use Rattle.causal_cli.specs.declared.request.Request.{Request as CodeRequest}
@@ -94,9 +94,9 @@ request_of (request.Implications q) = of command.Implications (of_implications.r
 request_of (request.Survey q) = of command.Survey (of_survey.request_of q)
 request_of (request.Surrogate q) = of command.Surrogate (of_surrogate.request_of q)
 
--- what is left to answer
-abbrev pub left_of : SecondInput → Remainder
-left_of (input.Check g experiments certificate) = check_left g (masks_of experiments.items) certificate.now
-left_of (input.Evaluate found counts count exact zero) = evaluate_left (effect_view found) counts.now (option_map (λ s. s.now) count) exact zero
-left_of (input.Equivalent g sets second) = equivalent_left g sets second.now
-left_of (input.Implications pairs counts count) = implications_left (pairs_view pairs) counts.now (option_map (λ s. s.now) count)
+-- what is left to answer on a diagram
+abbrev pub left_of : Diagram → SecondInput → Remainder
+left_of d (input.Check experiments certificate) = check_left d (masks_of experiments.items) certificate.now
+left_of d (input.Evaluate found counts count exact zero) = evaluate_left (effect_in d.observed found) counts.now (option_map (λ s. s.now) count) exact zero
+left_of d (input.Equivalent sets second) = equivalent_left d sets second.now
+left_of d (input.Implications pairs counts count) = implications_left d pairs.items counts.now (option_map (λ s. s.now) count)

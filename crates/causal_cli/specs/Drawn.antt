@@ -29,13 +29,16 @@ use Rattle.implications.specs.Separable.{only}
 use Rattle.implications.specs.declared.pairs.Implication.{Implication}
 use Rattle.implied_differences.specs.declared.largest.Difference.{Difference}
 use Rattle.replies.specs.declared.outcome.Outcome.TheVariants.{Yes}
-use Rattle.replies.specs.Observed.{Names, HoldsGraph, IsObservedGraph, observed_names}
-use Rattle.effect_answers.specs.Effects.{effect_lists, IsOfSets}
+use Rattle.diagram.specs.Observed.{IsObservedGraph, observed_names}
+use Rattle.diagram.specs.Sets.{Names, effect_lists, query_lists, rule_lists}
+use Rattle.replies.specs.Observed.{HoldsGraph}
+use Rattle.effect_answers.specs.Effects.{IsOfSets}
 use Rattle.identify_command.specs.declared.form.Form.{Form}
 use Rattle.identify_command.specs.Answers.{ShowsFormula}
-use Rattle.identify_command.specs.Conditions.{target_lists, AreTargetSets, ShowsConditional}
+use Rattle.identify_command.specs.Conditions.{AreTargetSets, ShowsConditional}
 use Rattle.identify_command.specs.Requests.{IsRequest, identify_row}
-use Rattle.check_command.specs.Answers.{HoldsCertificate, CheckAnswer}
+use Rattle.check_command.specs.Answers as check
+use Rattle.check_command.specs.Answers.{HoldsCertificate}
 use Rattle.experiment_lists.specs.Words.{Lists}
 use Rattle.check_command.specs.Requests.{check_row}
 use Rattle.check_command.specs.Requests as check_requests
@@ -44,23 +47,22 @@ use Rattle.adjust_command.specs.Queries.{Query, listing}
 use Rattle.adjust_command.specs.Requests.{adjust_row}
 use Rattle.adjust_command.specs.Requests as adjust_requests
 use Rattle.surrogate_command.specs.Answers as surrogates
-use Rattle.surrogate_command.specs.Asked.{surrogate_lists}
 use Rattle.surrogate_command.specs.Requests.{surrogate_row}
 use Rattle.surrogate_command.specs.Requests as surrogate_requests
-use Rattle.surrogate_command.specs.Sets.{AreSurrogateSets}
+use Rattle.surrogate_command.specs.Sets.{surrogate_lists, AreSurrogateSets}
 use Rattle.evaluate_command.specs.Answers.{QuantityAnswer}
 use Rattle.evaluate_command.specs.Cells.{CellValue}
-use Rattle.evaluate_command.specs.Effects.{PlainEffect, target_of, Identifies, used_in}
+use Rattle.evaluate_command.specs.Effects.{PlainEffect, target_of, IsIdentified, IsFoundBy, used_in}
 use Rattle.evaluate_command.specs.Requests.{evaluate_row}
 use Rattle.evaluate_command.specs.Requests as evaluate_requests
-use Rattle.separation_commands.specs.SeparateAnswers.{separation_lists, ShowsSeparation}
+use Rattle.separation_commands.specs.SeparateAnswers.{ShowsSeparation}
 use Rattle.separation_commands.specs.SeparateRequests.{separate_row}
 use Rattle.separation_commands.specs.SeparateRequests as separate_requests
-use Rattle.separation_commands.specs.RuleAnswers.{rule_lists, ShowsEquation}
+use Rattle.separation_commands.specs.RuleAnswers.{ShowsEquation}
 use Rattle.separation_commands.specs.RuleRequests.{rule_row}
 use Rattle.separation_commands.specs.RuleRequests as rule_requests
 use Rattle.implications_command.specs.Answers.{ShowsPairs, ShowsDifferences}
-use Rattle.implications_command.specs.Pairs.{PlainPairs, ArePairsOf}
+use Rattle.implications_command.specs.Pairs.{ArePairs, pairs_of}
 use Rattle.implications_command.specs.Requests.{implications_row}
 use Rattle.implications_command.specs.Requests as implications_requests
 use Rattle.implications_command.specs.Used as pair_columns
@@ -75,7 +77,7 @@ pub record IsFormulaAsDrawn (form : Form) (bytes : List ℕ) (x y : Names) (text
   pub holds : HoldsGraph bytes graph
   pub seen : MixedGraph
   pub observed : IsObservedGraph graph seen
-  pub sets : IsOfSets (effect_lists graph x y) (λ on of. (shows : ShowsFormula form seen (observed_names graph) on of text)
+  pub sets : IsOfSets (effect_lists graph (observed_names graph) x y) (λ on of. (shows : ShowsFormula form seen (observed_names graph) on of text)
       × IsRightAsDrawn graph (effect_on on of) shows.formula)
 
 -- the same of the answer for a target with a condition
@@ -85,7 +87,7 @@ pub record IsConditionalAsDrawn (form : Form) (bytes : List ℕ) (x y : Names) (
   pub seen : MixedGraph
   pub observed : IsObservedGraph graph seen
   pub target : PlainTarget
-  pub sets : AreTargetSets (target_lists graph x y given) target
+  pub sets : AreTargetSets (query_lists graph (observed_names graph) x y (Some given)) target
   pub shows : ShowsConditional form seen (observed_names graph) target text
   pub right : IsRightAsDrawn graph target shows.formula
 
@@ -106,7 +108,9 @@ IdentifiedAsDrawn = WrittenFor IsRequest (λ q. q.file) (λ q bytes text. IsText
 pub record IsCertificateAsDrawn (experiments : Lists) (bytes other text : List ℕ) : Type 0 where
   pub graph : ReadGraph
   pub holds : HoldsGraph bytes graph
-  pub accepted : CheckAnswer graph experiments other Yes text
+  pub seen : MixedGraph
+  pub observed : IsObservedGraph graph seen
+  pub accepted : check.ListsAnswer seen graph.names (observed_names graph) experiments other Yes text
   pub right : (t : PlainTarget) (f : PlainFormula) (d : PlainDerivation) → HoldsCertificate (observed_names graph) other (certificates.formula t f d)
       → IsRightAsDrawn graph t f
 
@@ -135,7 +139,7 @@ pub record IsAdjustmentAsDrawn (q : adjust_requests.Request) (bytes text : List 
   pub x : ℕ
   pub y : ℕ
   pub z : ℕ
-  pub sets : AreSets (adjust_lists graph q.x q.y q.query) x y z
+  pub sets : AreSets (adjust_lists graph (observed_names graph) q.x q.y q.query) x y z
   pub shows : SetsAnswer q.query seen (observed_names graph) x y z Yes text
   pub right : EachAdjustsAsDrawn q.query graph seen x y z text shows
 
@@ -154,7 +158,7 @@ pub record IsSurrogateAsDrawn (q : surrogate_requests.Request) (bytes text : Lis
   pub x : ℕ
   pub y : ℕ
   pub experiments : List ℕ
-  pub sets : AreSurrogateSets (surrogate_lists graph q.x q.y q.experiments) x y experiments
+  pub sets : AreSurrogateSets (surrogate_lists graph (observed_names graph) q.x q.y q.experiments) x y experiments
   pub shows : surrogates.ShowsFormula q.form seen (observed_names graph) experiments x y text
   pub right : IsRightAsDrawn graph (effect_on x y) shows.formula
 
@@ -179,14 +183,16 @@ abbrev pub EachCoversAsDrawn : (is_exact zero : Bool) (g : ReadGraph) (e : Plain
 EachCoversAsDrawn true zero g e t text shows = All (CoversAsDrawn Equals g e t) shows.values.values
 EachCoversAsDrawn false zero g e t text shows = All (CoversAsDrawn Covers g e t) shows.values.values
 
--- the bytes hold a graph, the lists name an effect that has a formula, found in the way that is asked for, which equals it in the diagram as drawn,
--- the other bytes hold a table of its
--- counts, and the values of the answer over it are so
+-- the bytes hold a graph, the lists name an effect in its observed graph that has a formula, found in the way that is asked for, which equals it in
+-- the diagram as drawn, the other bytes hold a table of its counts, and the values of the answer over it are so
 pub record IsEvaluationAsDrawn (q : evaluate_requests.Request) (bytes other text : List ℕ) : Type 0 where
   pub graph : ReadGraph
   pub holds : HoldsGraph bytes graph
   pub effect : PlainEffect
-  pub identifies : Identifies q.way graph q.x q.y effect
+  pub names : effect.names ≡ observed_names graph
+  pub observed : IsObservedGraph graph effect.graph
+  pub identified : IsIdentified effect
+  pub found : IsFoundBy q.way graph (observed_names graph) q.x q.y effect
   pub formula : IsRightAsDrawn graph (target_of effect) effect.formula
   pub counted : Table
   pub read : counts.HoldsCounts effect.names (used_in effect) q.count other counted
@@ -208,7 +214,7 @@ pub record IsSeparationAsDrawn (q : separate_requests.Request) (bytes text : Lis
   pub x : ℕ
   pub y : ℕ
   pub w : ℕ
-  pub sets : AreSets (separation_lists graph q.x q.y q.given) x y w
+  pub sets : AreSets (query_lists graph (observed_names graph) q.x q.y q.given) x y w
   pub shows : ShowsSeparation seen (observed_names graph) x y w text
   pub independent : AreIndependentAsDrawn (graph_of graph.graph) (has graph.latent.bits) (has x) (has y) (has w)
 
@@ -223,7 +229,7 @@ pub record IsEquationAsDrawn (q : rule_requests.Request) (bytes text : List ℕ)
   pub doing : ℕ
   pub z : ℕ
   pub given : ℕ
-  pub sets : AreRuleSets (rule_lists graph q.y q.x q.z q.given) y doing z given
+  pub sets : AreRuleSets (rule_lists graph (observed_names graph) q.y q.x q.z q.given) y doing z given
   pub shows : ShowsEquation q.rule seen (observed_names graph) y doing z given text
   pub equation : AreEqualSidesAsDrawn (graph_of graph.graph) (has graph.latent.bits) (left_of q.rule (has doing) (has y) (has z) (has given))
       (right_of q.rule (has doing) (has y) (has z) (has given))
@@ -238,8 +244,10 @@ IsIndependentAsDrawn g i = AreIndependentAsDrawn (graph_of g.graph) (has g.laten
 pub record ArePairsAsDrawn (bytes text : List ℕ) : Type 0 where
   pub graph : ReadGraph
   pub holds : HoldsGraph bytes graph
-  pub shows : ShowsPairs graph text
-  pub independent : All (IsIndependentAsDrawn graph) shows.pairs.list
+  pub seen : MixedGraph
+  pub observed : IsObservedGraph graph seen
+  pub shows : ShowsPairs seen (observed_names graph) text
+  pub independent : All (IsIndependentAsDrawn graph) shows.list
 
 -- the difference is 0 wherever a model of the diagram as drawn, positive or not, has the counts of the observed vertices: its observed weights are
 -- those of the counts, up to one factor
@@ -251,13 +259,15 @@ IsZeroAsDrawn g q t d = (m : FiniteModel) → Fits (graph_of g.graph) m → IsMa
 pub record AreDifferencesAsDrawn (count : Option Text) (bytes other text : List ℕ) : Type 0 where
   pub graph : ReadGraph
   pub holds : HoldsGraph bytes graph
-  pub pairs : PlainPairs
-  pub are : ArePairsOf graph pairs
-  pub independent : All (IsIndependentAsDrawn graph) pairs.list
+  pub seen : MixedGraph
+  pub observed : IsObservedGraph graph seen
+  pub list : List Implication
+  pub are : ArePairs (pairs_of seen (observed_names graph) list)
+  pub independent : All (IsIndependentAsDrawn graph) list
   pub counted : Table
-  pub read : counts.HoldsCounts pairs.names (pair_columns.used_in pairs.list) count other counted
-  pub shows : ShowsDifferences pairs counted text
-  pub zero : All (λ m. IsZeroAsDrawn graph pairs.graph counted m.difference) shows.measured
+  pub read : counts.HoldsCounts (observed_names graph) (pair_columns.used_in list) count other counted
+  pub shows : ShowsDifferences (pairs_of seen (observed_names graph) list) counted text
+  pub zero : All (λ m. IsZeroAsDrawn graph seen counted m.difference) shows.measured
 
 -- the one or the other, by whether counts are given
 abbrev pub AreImpliedAsDrawn : Call → (file : Text) (second count : Option Text) → List ℕ → Type 0

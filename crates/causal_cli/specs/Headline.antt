@@ -12,12 +12,14 @@ use Rattle.counter_models.specs.declared.counter_pair.CounterPair.{CounterPair}
 use Rattle.hidden_models.specs.FoldingLaws.{EqualsAsDrawn}
 use Rattle.identify.specs.Answers.{IsRightFormula, IsRightHedge}
 use Rattle.replies.specs.declared.outcome.Outcome.TheVariants.{Yes}
-use Rattle.replies.specs.Observed.{HoldsGraph, IsObservedGraph, observed_names}
-use Rattle.effect_answers.specs.Effects.{effect_lists, IsOfSets}
+use Rattle.diagram.specs.Observed.{IsObservedGraph, observed_names}
+use Rattle.diagram.specs.Sets.{effect_lists}
+use Rattle.replies.specs.Observed.{HoldsGraph}
+use Rattle.effect_answers.specs.Effects.{IsOfSets}
 use Rattle.identify_command.specs.declared.form.Form.{Form}
 use Rattle.identify_command.specs.Answers.{formula_text, hedge_text}
 use Rattle.identify_command.specs.Requests.{Request, IsRequest, identify_row}
-use Rattle.check_command.specs.Answers.{CheckAnswer}
+use Rattle.check_command.specs.Answers as check
 use Rattle.check_command.specs.Requests.{check_row}
 use Rattle.check_command.specs.Requests as check_requests
 use Rattle.experiment_lists.specs.Words.{Lists}
@@ -51,7 +53,7 @@ pub record IsShown (shows : Form → ReadGraph → MixedGraph → (x y : ℕ) �
   pub holds : HoldsGraph bytes graph
   pub seen : MixedGraph
   pub observed : IsObservedGraph graph seen
-  pub sets : IsOfSets (effect_lists graph q.x q.y) (λ x y. shows q.form graph seen x y text)
+  pub sets : IsOfSets (effect_lists graph (observed_names graph) q.x q.y) (λ x y. shows q.form graph seen x y text)
 
 -- such a text was written for the bytes of the file that these uses ask for; nothing is said where they give a condition
 abbrev pub Identified : (Form → ReadGraph → MixedGraph → (x y : ℕ) → List ℕ → Type 0) → Call → List Use → Type 0
@@ -62,13 +64,15 @@ pub record Headline (r : Call) (code : ℕ) : Type 0 where
   pub formula : (uses : List Use) → IsCallOf identify_row r.words uses → code ≡ 0 → Identified ShowsRightFormula r uses
   pub hedge : (uses : List Use) → IsCallOf identify_row r.words uses → code ≡ 1 → Identified ShowsRightHedge r uses
 
--- The bytes of the file hold a graph, and those of the certificate are accepted in its observed graph, as the text says:
+-- The bytes of the file hold a graph, and those of the certificate are accepted in its observed graph `seen`, as the text says:
 -- each term of its formula is observed or under one of the experiments, and it equals its effect at each assignment in each positive finite model that fits,
 -- or its hedge has two positive finite models that fit, agree on all observations and under each of the experiments, and differ on the effect.
 pub record IsRightCertificate (experiments : Lists) (bytes other : List ℕ) (text : List ℕ) : Type 0 where
   pub graph : ReadGraph
   pub holds : HoldsGraph bytes graph
-  pub accepted : CheckAnswer graph experiments other Yes text
+  pub seen : MixedGraph
+  pub observed : IsObservedGraph graph seen
+  pub accepted : check.ListsAnswer seen graph.names (observed_names graph) experiments other Yes text
 
 -- a certificate that these uses ask about was accepted for the file and the experiments that they ask for, of which there may be none, and the text was written
 abbrev pub Checked : Call → List Use → Type 0

@@ -16,15 +16,18 @@ use Rattle.hidden_models.specs.Statements.{AreDependentAsDrawn, DifferSomewhereA
 use Rattle.hidden_models.specs.Unfolding.{NotIdentifiableAsDrawn, NotIdentifiableOverAsDrawn, FailsSomewhereAsDrawn}
 use Rattle.adjustment.specs.Formulas.{adjustment_formula}
 use Rattle.replies.specs.declared.outcome.Outcome.TheVariants.{Yes, No}
-use Rattle.replies.specs.Observed.{Names, HoldsGraph, IsObservedGraph, observed_names}
-use Rattle.effect_answers.specs.Effects.{effect_lists, IsOfSets}
+use Rattle.diagram.specs.Observed.{IsObservedGraph, observed_names}
+use Rattle.diagram.specs.Sets.{Names, effect_lists, query_lists, rule_lists}
+use Rattle.replies.specs.Observed.{HoldsGraph}
+use Rattle.effect_answers.specs.Effects.{IsOfSets}
 use Rattle.effect_answers.specs.Hedges as hedges
 use Rattle.identify_command.specs.declared.form.Form.{Form}
 use Rattle.identify_command.specs.Forms.{plain_form}
 use Rattle.identify_command.specs.Answers.{ShowsHedge}
-use Rattle.identify_command.specs.Conditions.{target_lists, AreTargetSets, ShowsJoint}
+use Rattle.identify_command.specs.Conditions.{AreTargetSets, ShowsJoint}
 use Rattle.identify_command.specs.Requests.{IsRequest, identify_row}
-use Rattle.check_command.specs.Answers.{HoldsCertificate, CheckAnswer, AreExperimentsOn}
+use Rattle.check_command.specs.Answers as check
+use Rattle.check_command.specs.Answers.{HoldsCertificate, AreExperimentsOn}
 use Rattle.check_command.specs.Requests.{check_row}
 use Rattle.check_command.specs.Requests as check_requests
 use Rattle.evaluate_command.specs.Ways.{Way, by_procedure, by_adjusting, by_condition, criterion_query}
@@ -32,15 +35,12 @@ use Rattle.evaluate_command.specs.Requests.{evaluate_row}
 use Rattle.evaluate_command.specs.Requests as evaluate_requests
 use Rattle.experiment_lists.specs.Words.{Lists}
 use Rattle.surrogate_command.specs.Answers.{ShowsStop}
-use Rattle.surrogate_command.specs.Asked.{surrogate_lists}
 use Rattle.surrogate_command.specs.Requests.{surrogate_row}
 use Rattle.surrogate_command.specs.Requests as surrogate_requests
-use Rattle.surrogate_command.specs.Sets.{AreSurrogateSets}
-use Rattle.separation_commands.specs.SeparateAnswers.{separation_lists}
+use Rattle.surrogate_command.specs.Sets.{surrogate_lists, AreSurrogateSets}
 use Rattle.separation_commands.specs.SeparateAnswers as separations
 use Rattle.separation_commands.specs.SeparateRequests.{separate_row}
 use Rattle.separation_commands.specs.SeparateRequests as separate_requests
-use Rattle.separation_commands.specs.RuleAnswers.{rule_lists}
 use Rattle.separation_commands.specs.RuleAnswers as rules
 use Rattle.separation_commands.specs.RuleRequests.{rule_row}
 use Rattle.separation_commands.specs.RuleRequests as rule_requests
@@ -85,7 +85,7 @@ pub record IsNoAdjustmentFor (x y : Names) (query : Query) (bytes text : List �
   pub xs : ℕ
   pub ys : ℕ
   pub z : ℕ
-  pub sets : AreSets (adjust_lists graph x y query) xs ys z
+  pub sets : AreSets (adjust_lists graph (observed_names graph) x y query) xs ys z
   pub shows : SetsAnswer query seen (observed_names graph) xs ys z No text
   pub refutes : RefutesAdjustment query graph seen xs ys z
 
@@ -102,7 +102,8 @@ pub record IsHedgeAsDrawn (shows : MixedGraph → List (List ℕ) → (x y : ℕ
   pub holds : HoldsGraph bytes graph
   pub seen : MixedGraph
   pub observed : IsObservedGraph graph seen
-  pub sets : IsOfSets (effect_lists graph x y) (λ on of. shows seen (observed_names graph) on of text × IsNotIdentifiable graph (effect_on on of))
+  pub sets : IsOfSets (effect_lists graph (observed_names graph) x y) (λ on of. shows seen (observed_names graph) on of text
+      × IsNotIdentifiable graph (effect_on on of))
 
 -- The bytes hold a graph, the lists name a target, and the text shows a joint effect that isn't identifiable in the diagram as drawn.
 -- The target itself has no formula there; and where its observations settle it, it isn't identifiable by the same two models.
@@ -112,7 +113,7 @@ pub record IsJointAsDrawn (form : Form) (bytes : List ℕ) (x y : Names) (given 
   pub seen : MixedGraph
   pub observed : IsObservedGraph graph seen
   pub target : PlainTarget
-  pub sets : AreTargetSets (target_lists graph x y given) target
+  pub sets : AreTargetSets (query_lists graph (observed_names graph) x y (Some given)) target
   pub shows : ShowsJoint form seen (observed_names graph) target text
   pub joint : IsNotIdentifiable graph (effect_on shows.x shows.y)
   pub no_formula : HasNoFormulaAsDrawn graph target
@@ -142,11 +143,13 @@ UnevaluatedAsDrawn = WrittenForBoth evaluate_requests.IsRequest (λ q. q.file) (
 pub record IsHedgeCertificateAsDrawn (experiments : Lists) (bytes other text : List ℕ) : Type 0 where
   pub graph : ReadGraph
   pub holds : HoldsGraph bytes graph
-  pub accepted : CheckAnswer graph experiments other Yes text
+  pub seen : MixedGraph
+  pub observed : IsObservedGraph graph seen
+  pub accepted : check.ListsAnswer seen graph.names (observed_names graph) experiments other Yes text
   pub not_identifiable : (t : PlainTarget) (h : certificates.PlainHedge) → HoldsCertificate (observed_names graph) other (certificates.hedge t h)
       → IsNotIdentifiable graph (effect_on t.x t.y)
   pub not_identifiable_over : (t : PlainTarget) (h : certificates.PlainHedge) → HoldsCertificate (observed_names graph) other (certificates.hedge t h)
-      → (zs : List ℕ) → AreExperimentsOn graph experiments zs → IsNotIdentifiableOver graph zs (effect_on t.x t.y)
+      → (zs : List ℕ) → AreExperimentsOn graph.names (observed_names graph) experiments zs → IsNotIdentifiableOver graph zs (effect_on t.x t.y)
 
 -- such a text was written for the bytes of the file and of the certificate, and for the experiments, that these uses ask for
 abbrev pub CheckedHedgeAsDrawn : Call → List Use → Type 0
@@ -165,7 +168,7 @@ pub record IsStopAsDrawn (q : surrogate_requests.Request) (bytes text : List ℕ
   pub x : ℕ
   pub y : ℕ
   pub experiments : List ℕ
-  pub sets : AreSurrogateSets (surrogate_lists graph q.x q.y q.experiments) x y experiments
+  pub sets : AreSurrogateSets (surrogate_lists graph (observed_names graph) q.x q.y q.experiments) x y experiments
   pub shows : ShowsStop q.form seen (observed_names graph) experiments x y text
   pub not_identifiable : IsNotIdentifiable graph (effect_on x y)
   pub not_identifiable_over : IsSome shows.common → IsNotIdentifiableOver graph experiments (effect_on x y)
@@ -181,7 +184,7 @@ pub record IsDependenceAsDrawn (q : separate_requests.Request) (bytes text : Lis
   pub x : ℕ
   pub y : ℕ
   pub w : ℕ
-  pub sets : AreSets (separation_lists graph q.x q.y q.given) x y w
+  pub sets : AreSets (query_lists graph (observed_names graph) q.x q.y q.given) x y w
   pub shows : separations.ShowsOpenPath seen (observed_names graph) x y w text
   pub dependent : AreDependentAsDrawn (graph_of graph.graph) (has graph.latent.bits) (has x) (has y) (has w)
 
@@ -195,7 +198,7 @@ pub record IsFailureAsDrawn (q : rule_requests.Request) (bytes text : List ℕ) 
   pub doing : ℕ
   pub z : ℕ
   pub given : ℕ
-  pub sets : AreRuleSets (rule_lists graph q.y q.x q.z q.given) y doing z given
+  pub sets : AreRuleSets (rule_lists graph (observed_names graph) q.y q.x q.z q.given) y doing z given
   pub shows : rules.ShowsOpenPath q.rule seen (observed_names graph) y doing z given text
   pub fails : DifferSomewhereAsDrawn (graph_of graph.graph) (has graph.latent.bits) (left_of q.rule (has doing) (has y) (has z) (has given))
       (right_of q.rule (has doing) (has y) (has z) (has given))

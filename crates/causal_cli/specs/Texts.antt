@@ -1,20 +1,18 @@
 -- That the text of an answer is fixed by what is asked for and by the bytes of the inputs.
 use Rattle.std.specs.Prelude.{ℕ, ◌≡◌, ◌≢◌, Bool, true, false, List}
 use Rattle.replies.specs.declared.outcome.Outcome.{Outcome}
-use Rattle.replies.specs.declared.outcome.Outcome.TheVariants.{No}
+use Rattle.replies.specs.declared.outcome.Outcome.TheVariants.{Yes, No}
 use Rattle.replies.specs.Command.{CommandForm}
 use Rattle.replies.specs.OneOutcome.{IsAnswerOn}
 use Rattle.separation_commands.specs.GraphCommand.{graph_command}
 use Rattle.separation_commands.specs.SeparateCommand.{separate_command}
 use Rattle.separation_commands.specs.RuleCommand.{rule_command}
 use Rattle.identify_command.specs.Command.{identify_command}
-use Rattle.identify_command.specs.declared.form.Writing.TheVariants.{Certificate}
 use Rattle.evaluate_command.specs.Command.{evaluate_command}
 use Rattle.evaluate_command.specs.Ways.{Way, by_procedure, by_adjusting, by_condition}
 use Rattle.implications_command.specs.Command.{implications_command}
 use Rattle.survey_command.specs.Command.{survey_command}
 use Rattle.surrogate_command.specs.Command.{surrogate_command}
-use Rattle.surrogate_command.specs.declared.form.Form.TheVariants as surrogate_form
 
 -- any two texts that are so are one
 abbrev pub IsOneText : (List ℕ → Type 0) → Type 0
@@ -22,11 +20,11 @@ IsOneText is_so = (text line : List ℕ) → is_so text → is_so line → line 
 
 -- on the bytes of one file, answers to the request with this outcome have one text
 abbrev pub HaveOneText : (c : CommandForm) → c.Request → Outcome → Type 0
-HaveOneText c q o = (bytes : List ℕ) → IsOneText (IsAnswerOn bytes (λ g. c.by_graph q g) o)
+HaveOneText c q o = (bytes : List ℕ) → IsOneText (IsAnswerOn bytes (λ d. c.by_diagram q d) o)
 
--- and on the bytes of two inputs, where the graph is accepted for the second
+-- and on the bytes of two inputs, where the diagram is accepted for the second
 abbrev pub HaveOneTextOnBoth : (c : CommandForm) → c.Request → Outcome → Type 0
-HaveOneTextOnBoth c q o = (bytes other : List ℕ) → IsOneText (IsAnswerOn bytes (λ g. c.by_both q g other) o)
+HaveOneTextOnBoth c q o = (bytes other : List ℕ) → IsOneText (IsAnswerOn bytes (λ d. c.by_both q d other) o)
 
 -- `evaluate` is asked for a set
 abbrev pub adjusts : Way → Bool
@@ -35,16 +33,14 @@ adjusts (by_adjusting back_door set) = true
 adjusts (by_condition short given) = false
 
 -- Answers with one outcome have one text. It is left open for a no of `separate` and `rule`, which may show one of several open paths; for what `evaluate`
--- says of a set before it reads counts; for a yes of `identify` and of `evaluate` by a short formula; and for the certificate of a hedge.
+-- says of a set before it reads counts; and for a yes of `identify` and of `evaluate` by a short formula.
 pub record TextsAreOne : Type 0 where
   pub survey : (q : survey_command.Request) (o : Outcome) → IsOneText (survey_command.by_words q o)
   pub graph : (q : graph_command.Request) (o : Outcome) → HaveOneText graph_command q o
   pub separate : (q : separate_command.Request) (o : Outcome) → o ≢ No → HaveOneText separate_command q o
   pub rule : (q : rule_command.Request) (o : Outcome) → o ≢ No → HaveOneText rule_command q o
-  pub identify : (q : identify_command.Request) → q.form.short ≡ false → (o : Outcome) → o ≢ No → HaveOneText identify_command q o
-  pub identify_no : (q : identify_command.Request) → q.form.writing ≢ Certificate → HaveOneText identify_command q No
-  pub surrogate : (q : surrogate_command.Request) (o : Outcome) → o ≢ No → HaveOneText surrogate_command q o
-  pub surrogate_no : (q : surrogate_command.Request) → q.form ≢ surrogate_form.Certificate → HaveOneText surrogate_command q No
+  pub identify : (q : identify_command.Request) (o : Outcome) → (o ≡ Yes → q.form.short ≡ false) → HaveOneText identify_command q o
+  pub surrogate : (q : surrogate_command.Request) (o : Outcome) → HaveOneText surrogate_command q o
   pub implications : (q : implications_command.Request) (o : Outcome) → HaveOneText implications_command q o
   pub implications_over_counts : (q : implications_command.Request) (o : Outcome) → HaveOneTextOnBoth implications_command q o
   pub evaluate_before_counts : (q : evaluate_command.Request) → adjusts q.way ≡ false → (o : Outcome) → HaveOneText evaluate_command q o

@@ -17,4 +17,4 @@ pub use second::SecondInput;
 pub use sure::run_surely;
 pub use survey_command::random_graph::survey_graph;
 pub use theory::laws;
-pub use top::run;
+pub use top::{reply_to, run};

@@ -1,15 +1,15 @@
-// What words ask for, and what a request gives on its graph.
+// What words ask for, and what a request gives on its diagram.
 
 ghost use Rattle.std.specs.Prelude.{◌≡◌, List, None, IfOk, IsErrOf, map, option_map};
 ghost use Rattle.command_words.specs.Form.{Use, row_named};
 ghost use Rattle.command_words.specs.Views.{row_of};
 ghost use Rattle.command_words.specs.Gives.{HoldsCall};
 ghost use Rattle.command_words.specs.Readable.{AreReadable};
-ghost use Rattle.dag_reader.specs.declared.graph.ReadGraph.{ReadGraph as Read};
+ghost use Rattle.diagram.specs.declared.diagram.Diagram.{Diagram as Drawn};
 ghost use Rattle.command_run.specs.Lines.{words_line};
 ghost use Rattle.command_run.specs.Commands as asked;
 ghost use Rattle.command_run.specs.Commands.{command_of, file_of, IsRequest, AsksNothing};
-ghost use Rattle.command_run.specs.Answers.{GraphAnswer, GivesOnWords, GivesOn};
+ghost use Rattle.command_run.specs.Answers.{DiagramAnswer, GivesOnWords, GivesOn};
 ghost use Rattle.causal_cli.specs.Commands.{commands, table, row_for, request_of, left_of};
 
 use crate::commands::{Command, command_named, rows};
@@ -20,7 +20,7 @@ use command_run::{AfterFile, AfterWords};
 use command_words::forms::Entry;
 use command_words::typed::RequestFault;
 use command_words::values::Values;
-use dag_reader::ReadGraph;
+use diagram::Diagram;
 use equivalent_command::accept_first;
 use evaluate_command::identify_first;
 use identify_command::identify_reply;
@@ -99,12 +99,12 @@ impl<'a> command_run::Request<'a> for Request<'a> {
         }
     }
 
-    fn graph_reply(
+    fn reply_on(
         self,
         alloc: Global,
-        graph: ReadGraph,
+        diagram: &Diagram,
     ) -> Result<AfterFile<SecondInput<'a>>, AllocError> {
-        reply_on(alloc, self, graph)
+        reply_on(alloc, self, diagram)
     }
 }
 
@@ -143,48 +143,27 @@ fn read_values<'a>(
     }
 }
 
-/// What a request gives on a graph that was read.
+/// What a request gives on its diagram.
 fn reply_on<'a>(
     alloc: Global,
     request: Request<'a>,
-    graph: ReadGraph,
+    diagram: &Diagram,
 ) -> Result<AfterFile<SecondInput<'a>>, AllocError>
     requires { file_of commands (request_of request) ≡ None → ⊥ }
-    ensures { IfOk result (GivesOn left_of commands (request_of request.entry) graph) }
+    ensures { IfOk result (GivesOn (left_of diagram.now) commands (request_of request.entry) diagram.now) }
 {
     match request {
-        Request::Graph(asked) => replied(graph_reply(alloc, &graph, asked.project)),
-        Request::Separate(asked) => replied(separate_reply(
-            alloc,
-            &graph,
-            asked.x,
-            asked.y,
-            asked.given,
-        )),
-        Request::Rule(asked) => replied(rule_reply(
-            alloc,
-            &graph,
-            asked.rule,
-            &asked.y,
-            &asked.x,
-            &asked.z,
-            &asked.given,
-        )),
-        Request::Identify(asked) => replied(identify_reply(
-            alloc,
-            &graph,
-            asked.x,
-            asked.y,
-            asked.given,
-            asked.form,
-        )),
-        Request::Check(asked) => check_over(alloc, graph, asked),
-        Request::Adjust(asked) => replied(adjust_reply(alloc, &graph, asked)),
-        Request::Evaluate(asked) => evaluate_over(alloc, &graph, asked),
-        Request::Equivalent(asked) => compare_with(alloc, graph, asked),
-        Request::Implications(asked) => list_implications(alloc, &graph, asked),
+        Request::Graph(asked) => replied(graph_reply(alloc, diagram, asked.project)),
+        Request::Separate(asked) => replied(separate_reply(alloc, diagram, &asked)),
+        Request::Rule(asked) => replied(rule_reply(alloc, diagram, &asked)),
+        Request::Identify(asked) => replied(identify_reply(alloc, diagram, &asked)),
+        Request::Check(asked) => check_over(alloc, diagram, asked),
+        Request::Adjust(asked) => replied(adjust_reply(alloc, diagram, &asked)),
+        Request::Evaluate(asked) => evaluate_over(alloc, diagram, asked),
+        Request::Equivalent(asked) => compare_with(alloc, diagram, asked),
+        Request::Implications(asked) => list_implications(alloc, diagram, asked),
         Request::Survey(_) => unreachable!(),
-        Request::Surrogate(asked) => replied(surrogate_reply(alloc, &graph, asked)),
+        Request::Surrogate(asked) => replied(surrogate_reply(alloc, diagram, &asked)),
     }
 }
 
@@ -198,15 +177,15 @@ fn survey<'a>(alloc: Global, asked: &survey_command::Request) -> Result<AfterWor
     }
 }
 
-/// What an evaluation gives on its graph.
+/// What an evaluation gives on its diagram.
 fn evaluate_over<'a>(
     alloc: Global,
-    graph: &ReadGraph,
+    diagram: &Diagram,
     asked: evaluate_command::Request<'a>,
 ) -> Result<AfterFile<SecondInput<'a>>, AllocError>
-    ensures { IfOk result (GivesOn left_of commands (request_of (Request.Evaluate asked.entry)) graph.now) }
+    ensures { IfOk result (GivesOn (left_of diagram.now) commands (request_of (Request.Evaluate asked.entry)) diagram.now) }
 {
-    match identify_first(alloc, graph, asked.x, asked.y, asked.way)? {
+    match identify_first(alloc, diagram, &asked)? {
         evaluate_command::EffectOrReply::Replied(reply) => Ok(AfterFile::Replied(reply)),
         evaluate_command::EffectOrReply::Identified(found) => Ok(AfterFile::Continues(
             SecondInput::Evaluate {
@@ -222,7 +201,7 @@ fn evaluate_over<'a>(
 
 /// A reply on the file alone.
 fn replied<'a>(made: Result<Reply, AllocError>) -> Result<AfterFile<SecondInput<'a>>, AllocError>
-    ensures { (w : asked.Request commands) (g : Read) → IfOk made (λ reply. GraphAnswer commands w g reply.outcome reply.text.items) → IfOk result (GivesOn left_of commands w g) }
+    ensures { (w : asked.Request commands) (d : Drawn) → IfOk made (λ reply. DiagramAnswer commands w d reply.outcome reply.text.items) → IfOk result (GivesOn (left_of d) commands w d) }
 {
     match made {
         Ok(reply) => Ok(AfterFile::Replied(reply)),
@@ -230,19 +209,18 @@ fn replied<'a>(made: Result<Reply, AllocError>) -> Result<AfterFile<SecondInput<
     }
 }
 
-/// What a certificate gives on its graph.
+/// What a certificate gives on its diagram.
 fn check_over<'a>(
     alloc: Global,
-    graph: ReadGraph,
+    diagram: &Diagram,
     asked: check_command::Request<'a>,
 ) -> Result<AfterFile<SecondInput<'a>>, AllocError>
-    ensures { IfOk result (GivesOn left_of commands (request_of (Request.Check asked.entry)) graph) }
+    ensures { IfOk result (GivesOn (left_of diagram.now) commands (request_of (Request.Check asked.entry)) diagram.now) }
 {
-    match accept_experiments(alloc, &graph, &asked.experiments)? {
+    match accept_experiments(alloc, diagram, &asked.experiments)? {
         check_command::Acceptance::Refused(reply) => Ok(AfterFile::Replied(reply)),
         check_command::Acceptance::Accepted(experiments) => Ok(AfterFile::Continues(
             SecondInput::Check {
-                graph,
                 experiments,
                 certificate: asked.certificate,
             },
@@ -250,19 +228,18 @@ fn check_over<'a>(
     }
 }
 
-/// What a comparison gives on its first graph.
+/// What a comparison gives on its first diagram.
 fn compare_with<'a>(
     alloc: Global,
-    graph: ReadGraph,
+    diagram: &Diagram,
     asked: equivalent_command::Request<'a>,
 ) -> Result<AfterFile<SecondInput<'a>>, AllocError>
-    ensures { IfOk result (GivesOn left_of commands (request_of (Request.Equivalent asked.entry)) graph) }
+    ensures { IfOk result (GivesOn (left_of diagram.now) commands (request_of (Request.Equivalent asked.entry)) diagram.now) }
 {
-    match accept_first(alloc, &graph, asked.query)? {
+    match accept_first(alloc, diagram, &asked)? {
         equivalent_command::Acceptance::Refused(reply) => Ok(AfterFile::Replied(reply)),
         equivalent_command::Acceptance::Accepted(sets) => Ok(AfterFile::Continues(
             SecondInput::Equivalent {
-                graph,
                 sets,
                 second: asked.second,
             },
@@ -270,18 +247,18 @@ fn compare_with<'a>(
     }
 }
 
-/// What a list of implications gives on its graph.
+/// What a list of implications gives on its diagram.
 fn list_implications<'a>(
     alloc: Global,
-    graph: &ReadGraph,
+    diagram: &Diagram,
     asked: implications_command::Request<'a>,
 ) -> Result<AfterFile<SecondInput<'a>>, AllocError>
-    ensures { IfOk result (GivesOn left_of commands (request_of (Request.Implications asked.entry)) graph.now) }
+    ensures { IfOk result (GivesOn (left_of diagram.now) commands (request_of (Request.Implications asked.entry)) diagram.now) }
 {
     let Some(counts) = asked.counts else {
-        return replied(pairs_reply(alloc, graph));
+        return replied(pairs_reply(alloc, diagram));
     };
-    match counted_pairs(alloc, graph)? {
+    match counted_pairs(alloc, diagram)? {
         implications_command::PairsOrReply::Replied(reply) => Ok(AfterFile::Replied(reply)),
         implications_command::PairsOrReply::Pairs(pairs) => Ok(AfterFile::Continues(
             SecondInput::Implications {

@@ -4,21 +4,21 @@ ghost use Rattle.std.specs.Prelude.{◌≤◌, ◌<◌, ℕ, List, ◌≡◌, If
 ghost use Rattle.causal_cli.specs.Commands.{left_of};
 
 use check_command::{check_reply, long_certificate};
-use dag_reader::ReadGraph;
+use diagram::Diagram;
 use equivalent_command::{equivalent_reply, long_second_graph};
 use evaluate_command::{Identified, evaluate_reply, long_counts};
-use implications_command::{Pairs, differences_reply};
+use implications::Implication;
+use implications_command::differences_reply;
 use mixed_graph::VSet;
 use replies::Reply;
 use std::alloc::{AllocError, Global};
 use targets::Sets;
 
-/// What is left to answer once the file was accepted, where a second input is read.
+/// What is left to answer once the file was accepted, where a second input is read. It keeps no diagram: that is lent to it.
 #[derive(Drop)]
 pub enum SecondInput<'a> {
     /// Whether a certificate is accepted, with experiments on these sets.
     Check {
-        graph: ReadGraph,
         experiments: Vec<VSet>,
         certificate: &'a str,
     },
@@ -32,13 +32,12 @@ pub enum SecondInput<'a> {
     },
     /// Whether a second graph is equivalent, and what both say of sets that are asked about.
     Equivalent {
-        graph: ReadGraph,
         sets: Option<Sets>,
         second: &'a str,
     },
-    /// How far counts, whose column may have a name, are from each implication.
+    /// How far counts, whose column may have a name, are from each of these pairs.
     Implications {
-        pairs: Pairs,
+        pairs: Vec<Implication>,
         counts: &'a str,
         count: Option<&'a [u8]>,
     },
@@ -65,32 +64,31 @@ impl<'a> command_run::SecondInput for SecondInput<'a> {
         }
     }
 
-    fn reply(&self, alloc: Global, other: &[u8]) -> Result<Reply, AllocError> {
+    fn reply(&self, alloc: Global, diagram: &Diagram, other: &[u8]) -> Result<Reply, AllocError> {
         match self {
-            SecondInput::Check {
-                graph,
+            SecondInput::Check { experiments, .. } => check_reply(
+                alloc,
+                diagram,
                 experiments,
-                ..
-            } => check_reply(alloc, graph, experiments, other),
+                other,
+            ),
             SecondInput::Evaluate {
                 found,
                 count,
                 exact,
                 zero,
                 ..
-            } => evaluate_reply(alloc, found, *count, *exact, *zero, other),
-            SecondInput::Equivalent { graph, sets, .. } => equivalent_reply(
-                alloc, graph, *sets, other,
-            ),
+            } => evaluate_reply(alloc, diagram, found, *count, *exact, *zero, other),
+            SecondInput::Equivalent { sets, .. } => equivalent_reply(alloc, diagram, *sets, other),
             SecondInput::Implications { pairs, count, .. } => differences_reply(
-                alloc, pairs, *count, other,
+                alloc, diagram, pairs, *count, other,
             ),
         }
     }
 
-    fn long_reply(&self, alloc: Global) -> Result<Reply, AllocError> {
+    fn long_reply(&self, alloc: Global, diagram: &Diagram) -> Result<Reply, AllocError> {
         match self {
-            SecondInput::Check { graph, .. } => long_certificate(alloc, graph),
+            SecondInput::Check { .. } => long_certificate(alloc),
             SecondInput::Evaluate { .. } => long_counts(alloc),
             SecondInput::Equivalent { .. } => long_second_graph(alloc),
             SecondInput::Implications { .. } => implications_command::long_counts(alloc),

@@ -1,9 +1,10 @@
 //! The run of all commands, with the headline.
 
-ghost use Rattle.std.specs.Prelude.{◌≡◌};
+ghost use Rattle.std.specs.Prelude.{◌≡◌, List, ℕ, Option, option_map};
 ghost use Rattle.command_words.specs.Views.{texts_of};
-ghost use Rattle.command_run.specs.Run.{Ended, run_on, stream_of, reads_of, ReadsAsAsked};
+ghost use Rattle.command_run.specs.Run.{Stream, Ended, run_on, run_with, stream_of, reads_of, ReadsAsAsked};
 ghost use Rattle.command_run.specs.Complete.{Complete};
+ghost use Rattle.command_run.specs.Ends.{RepliesWith, IsTextOf, Stays};
 ghost use Rattle.causal_cli.specs.Calls.{call_on};
 ghost use Rattle.causal_cli.specs.Commands.{commands};
 ghost use Rattle.causal_cli.specs.Headline.{Headline, HeadlineOfCheck};
@@ -13,6 +14,8 @@ ghost use Rattle.causal_cli.specs.Refuted.{RefutedAsDrawn};
 use crate::request::Request;
 use causal_io::{Shelf, Sink};
 use command_run::Status;
+use diagram::Diagram;
+use replies::Reply;
 use std::alloc::Global;
 
 /// Runs the command that the words name: reads its inputs from the shelf and writes its answer to `out`,
@@ -38,4 +41,21 @@ pub fn run<S: Shelf, O: Sink, E: Sink>(
     ensures lack { S.lacks shelf.new ≡ S.lacks shelf.old }
 {
     command_run::run::<Request<'_>, S, O, E>(alloc, words, shelf, out, err)
+}
+
+/// The reply to the words, for which their inputs are read and nothing is written. A diagram that is given stands for their file, which isn't read then.
+pub fn reply_to<S: Shelf>(
+    alloc: Global,
+    words: &[String],
+    given: Option<&Diagram>,
+    shelf: &mut S,
+) -> Reply
+    ensures replies { (kept : Option (List ℕ)) → IsTextOf kept (option_map (λ d. d.now) given.entry) → (out : Stream)
+        → RepliesWith commands (run_with kept (texts_of words.now) (S.held shelf.old) (S.lacks shelf.old) (S.faults shelf.old) (S.faults shelf.new) out) result }
+    ensures reads { (kept : Option (List ℕ)) → IsTextOf kept (option_map (λ d. d.now) given.entry) → (out : Stream)
+        → ReadsAsAsked commands (run_with kept (texts_of words.now) (S.held shelf.old) (S.lacks shelf.old) (S.faults shelf.old) (S.faults shelf.new) out)
+        (reads_of (S.reads shelf.old) (S.reads shelf.new) (S.given shelf.old) (S.given shelf.new)) }
+    ensures stays { Stays (S.held shelf.old) (S.held shelf.new) (S.lacks shelf.old) (S.lacks shelf.new) }
+{
+    command_run::reply_to::<Request<'_>, S>(alloc, words, given, shelf)
 }

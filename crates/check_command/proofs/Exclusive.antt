@@ -11,22 +11,21 @@ use Rattle.hedge.specs.declared.hedge.Hedge.{Hedge}
 use Rattle.certificate.specs.Plain.{PlainCertificate, hedge_view}
 use Rattle.certificate.specs.Plain as plain
 use Rattle.certificate.specs.declared.fault.CertFault.{CertFault}
-use Rattle.dag_reader.specs.declared.graph.ReadGraph.{ReadGraph}
-use Rattle.dag_reader.specs.RoundTrip.{AreSame}
+use Rattle.mixed_graph.specs.Shown.{graph_of}
+use Rattle.diagram.specs.declared.diagram.Diagram.{Diagram}
+use Rattle.diagram.proofs.OneDiagram.{AreSameDiagrams}
 use Rattle.replies.specs.declared.outcome.Outcome.{Outcome}
 use Rattle.replies.specs.declared.outcome.Outcome.TheVariants.{Yes, No, Graph, Second}
-use Rattle.replies.specs.Observed.{observed_names}
 use Rattle.replies.specs.OneOutcome.{OneOutcome, IsAnswerOn}
-use Rattle.replies.proofs.OneGraph.{one_reading, one_observed_graph, same_observed_names}
-use Rattle.replies.proofs.OneOutcome.{IsOneOf, one_of_three, one_on_graph}
+use Rattle.replies.proofs.OneOutcome.{IsOneOf, one_of_three, one_on_diagram, one_for_diagrams}
 use Rattle.counter_models.specs.Experiments.{IsHarmlessTo}
-use Rattle.experiment_lists.specs.Sets.{experiments_fault, AreExperimentSets}
+use Rattle.experiment_lists.specs.Sets.{experiments_fault}
 use Rattle.experiment_lists.specs.Words.{Lists}
 use Rattle.experiment_lists.proofs.NoFault.{no_experiments_fault}
 use Rattle.experiment_lists.proofs.OneSet.{one_by_one}
 use Rattle.check_command.specs.Answers.{HoldsCertificate, AcceptsFormula, RefusesFormula, AcceptsHedge, RefusesHedge, MeetsExperiment}
 use Rattle.check_command.specs.Answers.{CertificateAnswer, of_formula, of_hedge, IsCertificateRefusal, too_long, faulty}
-use Rattle.check_command.specs.Answers.{ObservedAnswer, AnswerOver, AreExperimentsOn, CheckAnswer, CheckFirst}
+use Rattle.check_command.specs.Answers.{AnswerOver, AreExperimentsOn, ListsAnswer, CheckAnswer, CheckFirst}
 use Rattle.check_command.proofs.OneHedge.{hedge_from_view, no_hedge_fault}
 
 -- one text is read as one certificate
@@ -77,65 +76,54 @@ answered_or_refused : (q : MixedGraph) (names : List (List ℕ)) (zs bytes : Lis
 answered_or_refused q names zs bytes o text line (of_formula t f d r a) n = read_or_refused names bytes line (plain.formula t f d) r n
 answered_or_refused q names zs bytes o text line (of_hedge t h m r a) n = read_or_refused names bytes line (plain.hedge t (hedge_view h)) r n
 
-module _ (g h : ReadGraph) (s : AreSame g h) (zs bytes : List ℕ) where
-  yes_no : (text line : List ℕ) → ObservedAnswer g zs bytes Yes text → ObservedAnswer h zs bytes No line → ⊥
-  yes_no text line a b = accepted_or_not a.0 (observed_names g) zs text line bytes a.2
-      (subst (λ (q : MixedGraph). CertificateAnswer q (observed_names g) zs bytes No line) (sym (one_observed_graph g h s a.0 b.0 a.1 b.1))
-      (subst (λ (ns : List (List ℕ)). CertificateAnswer b.0 ns zs bytes No line) (same_observed_names g h s) b.2))
+-- lists name one list of sets
+same_sets : (all observed : List (List ℕ)) (experiments : Lists) (zs ws : List ℕ) → AreExperimentsOn all observed experiments zs
+    → AreExperimentsOn all observed experiments ws → ws ≡ zs
+same_sets all observed experiments zs ws a b = one_by_one observed experiments zs ws a.sets b.sets
 
-  refused : (o : Outcome) (text line : List ℕ) → ObservedAnswer g zs bytes o text → IsCertificateRefusal (observed_names h) bytes line → ⊥
-  refused o text line a r =
-      answered_or_refused a.0 (observed_names g) zs bytes o text line a.2
-      (subst (λ (ns : List (List ℕ)). IsCertificateRefusal ns bytes line) (same_observed_names g h s) r)
+among : (q : MixedGraph) (names : List (List ℕ)) (zs bytes : List ℕ) (o : Outcome) (text : List ℕ) → AnswerOver q names zs bytes o text
+    → IsOneOf Yes No Second o
+among q names zs bytes Yes text h = inl refl
+among q names zs bytes No text h = inr (inl refl)
+among q names zs bytes Second text h = inr (inr refl)
+among q names zs bytes o text h = absurd h
 
--- lists that name experiments on two sets in one graph name the same
-same_sets : (g h : ReadGraph) → AreSame g h → (experiments : Lists) (zs ws : List ℕ) → AreExperimentsOn g experiments zs → AreExperimentsOn h experiments ws
-    → ws ≡ zs
-same_sets g h s experiments zs ws a b =
-    one_by_one (observed_names g) experiments zs ws a.sets (subst (λ (ns : List (List ℕ)). AreExperimentSets ns experiments ws) (same_observed_names g h s)
-    b.sets)
+lists_once : (q : MixedGraph) (all observed : List (List ℕ)) (experiments : Lists) (bytes : List ℕ) → OneOutcome (ListsAnswer q all observed experiments bytes)
+lists_once q all observed experiments bytes = one_of_three Yes No Second (ListsAnswer q all observed experiments bytes)
+    (λ o text h. among q observed h.sets bytes o text h.answer)
+    (λ text line a b. accepted_or_not q observed a.sets text line bytes a.answer
+    (subst (λ (ws : List ℕ). CertificateAnswer q observed ws bytes No line) (same_sets all observed experiments a.sets b.sets a.are b.are) b.answer))
+    (λ text line a b. answered_or_refused q observed a.sets bytes Yes text line a.answer b.answer)
+    (λ text line a b. answered_or_refused q observed a.sets bytes No text line a.answer b.answer)
 
-module _ (bytes other : List ℕ) (experiments : Lists) where
-  among : (g : ReadGraph) (zs : List ℕ) (o : Outcome) (text : List ℕ) → AnswerOver g zs other o text → IsOneOf Yes No Second o
-  among g zs Yes text h = inl refl
-  among g zs No text h = inr (inl refl)
-  among g zs Second text h = inr (inr refl)
-  among g zs o text h = absurd h
+-- the names of all vertices, and of those that are observed
+abbrev both_names : Diagram → List (List ℕ) × List (List ℕ)
+both_names d = (d.read.names, d.observed.names)
 
-  accepted_once : (text line : List ℕ) → IsAnswerOn bytes (λ g. CheckAnswer g experiments other) Yes text
-      → IsAnswerOn bytes (λ g. CheckAnswer g experiments other) No line → ⊥
-  accepted_once text line a b =
-      let s = one_reading bytes a.graph b.graph a.holds b.holds in
-      yes_no a.graph b.graph s a.given.sets other text line a.given.answer
-      (subst (λ (ws : List ℕ). ObservedAnswer b.graph ws other No line)
-      (same_sets a.graph b.graph s experiments a.given.sets b.given.sets a.given.are b.given.are) b.given.answer)
+same_both : (d e : Diagram) → AreSameDiagrams d e → both_names e ≡ both_names d
+same_both d e s = λ i. (s.read.names i, s.observed.names i)
 
-  pub check_once : OneOutcome (IsAnswerOn bytes (λ g. CheckAnswer g experiments other))
-  check_once = one_of_three Yes No Second (IsAnswerOn bytes (λ g. CheckAnswer g experiments other))
-      (λ o text h. among h.graph h.given.sets o text h.given.answer)
-      accepted_once
-      (λ text line a b. refused a.graph b.graph (one_reading bytes a.graph b.graph a.holds b.holds)
-      a.given.sets other Yes text line a.given.answer b.given.answer)
-      (λ text line a b. refused a.graph b.graph (one_reading bytes a.graph b.graph a.holds b.holds)
-      a.given.sets other No text line a.given.answer b.given.answer)
+pub check_once : (bytes other : List ℕ) (experiments : Lists) → OneOutcome (IsAnswerOn bytes (λ d. CheckAnswer d experiments other))
+check_once bytes other experiments = one_for_diagrams bytes both_names (λ q names. ListsAnswer q names.0 names.1 experiments other)
+    same_both (λ d. lists_once (graph_of d.observed.graph) d.read.names d.observed.names experiments other)
 
--- ---- on the graph alone
+-- ---- on the diagram alone
 
-only_graph : (g : ReadGraph) (experiments : Lists) (o : Outcome) (line : List ℕ) → CheckFirst g experiments o line → o ≡ Graph
-only_graph g experiments Graph line h = refl
-only_graph g experiments o line h = absurd h
+only_graph : (d : Diagram) (experiments : Lists) (o : Outcome) (line : List ℕ) → CheckFirst d experiments o line → o ≡ Graph
+only_graph d experiments Graph line h = refl
+only_graph d experiments o line h = absurd h
 
-pub first_once : (bytes : List ℕ) (experiments : Lists) → OneOutcome (IsAnswerOn bytes (λ g. CheckFirst g experiments))
-first_once bytes experiments = one_on_graph bytes (λ g. CheckFirst g experiments)
-    (λ g h s o p text line a b. only_graph g experiments o text a ∙ sym (only_graph h experiments p line b))
+pub first_once : (bytes : List ℕ) (experiments : Lists) → OneOutcome (IsAnswerOn bytes (λ d. CheckFirst d experiments))
+first_once bytes experiments = one_on_diagram bytes (λ d. CheckFirst d experiments)
+    (λ d e s o p text line a b. only_graph d experiments o text a ∙ sym (only_graph e experiments p line b))
 
-same_fault : (g h : ReadGraph) → AreSame g h → (experiments : Lists)
-    → experiments_fault h.names (observed_names h) experiments ≡ experiments_fault g.names (observed_names g) experiments
-same_fault g h s experiments = rw (s.names, s.vertices, s.latent) refl
+same_fault : (d e : Diagram) → AreSameDiagrams d e → (experiments : Lists)
+    → experiments_fault e.read.names e.observed.names experiments ≡ experiments_fault d.read.names d.observed.names experiments
+same_fault d e s experiments = λ i. experiments_fault (s.read.names i) (s.observed.names i) experiments
 
--- a graph on which a name of the lists is at fault isn't accepted for them
-pub first_alone : (g h : ReadGraph) → AreSame g h → (experiments : Lists) (zs : List ℕ) (o : Outcome) (line : List ℕ) → CheckFirst g experiments o line
-    → AreExperimentsOn h experiments zs → ⊥
-first_alone g h s experiments zs Graph line r are =
-    no_experiments_fault g.names (observed_names g) experiments r.fault (sym (same_fault g h s experiments) ∙ are.no_fault) r.is_fault
-first_alone g h s experiments zs o line r are = absurd r
+-- a diagram on which a name of the lists is at fault isn't accepted for them
+pub first_alone : (d e : Diagram) → AreSameDiagrams d e → (experiments : Lists) (zs : List ℕ) (o : Outcome) (line : List ℕ) → CheckFirst d experiments o line
+    → AreExperimentsOn e.read.names e.observed.names experiments zs → ⊥
+first_alone d e s experiments zs Graph line r are =
+    no_experiments_fault d.read.names d.observed.names experiments r.fault (sym (same_fault d e s experiments) ∙ are.no_fault) r.is_fault
+first_alone d e s experiments zs o line r are = absurd r

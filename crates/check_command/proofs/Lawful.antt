@@ -3,7 +3,7 @@ use Rattle.std.proofs.Common.{◌≡◌, ℕ, List, refl, sym, ◌∙◌}
 use Rattle.std.specs.Prelude.{codes}
 use Rattle.std.proofs.lemmas.Option.{same_Some}
 use Rattle.command_words.specs.Form.{Use, value_of}
-use Rattle.dag_reader.specs.declared.graph.ReadGraph.{ReadGraph}
+use Rattle.diagram.specs.declared.diagram.Diagram.{Diagram}
 use Rattle.replies.specs.Command.{IsLeft}
 use Rattle.replies.proofs.Commands.{IsLawful, lawful_on_two_inputs}
 use Rattle.check_command.specs.Requests.{Request, IsRequest}
@@ -24,14 +24,15 @@ one_request uses q r a b = λ i. record {
 -- what holds of each command holds of it
 pub check_lawful : IsLawful check_command
 check_lawful = lawful_on_two_inputs one_request
-    (λ q g. first_answered g q.experiments)
-    (λ q g other. check_answered g q.experiments other)
+    (λ q d. first_answered d q.experiments)
+    (λ q d other. check_answered d q.experiments other)
     (λ q bytes. first_once bytes q.experiments)
     (λ q bytes other. check_once bytes other q.experiments)
-    (λ q name g h same names o text a n. first_alone g h same q.experiments n.0 o text a n.1)
+    (λ q name d e same names o text a n. first_alone d e same q.experiments n.0 o text a n.1)
 
-pub check_is_left : (q : Request) (g : ReadGraph) (zs : List ℕ) → AreExperimentsOn g q.experiments zs → IsLeft check_command q g (check_left g zs q.certificate)
-check_is_left q g zs are = record {
+pub check_is_left : (q : Request) (d : Diagram) (zs : List ℕ) → AreExperimentsOn d.read.names d.observed.names q.experiments zs
+    → IsLeft check_command q d (check_left d zs q.certificate)
+check_is_left q d zs are = record {
   named = refl;
   continues = (zs, are);
   known = (q.experiments, are);

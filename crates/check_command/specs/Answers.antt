@@ -1,4 +1,4 @@
--- The defined answer of a check on a graph that was read and the bytes of a certificate.
+-- The defined answer of a check on a diagram and the bytes of a certificate.
 use Rattle.std.specs.Prelude.{ℕ, ◌≡◌, ◌<◌, ◌≤◌, ◌⊎◌, true, List, length, None, Ok, Err}
 use Rattle.mixed_graph.specs.Graphs.{MixedGraph}
 use Rattle.finite_models.specs.Data.{meaning}
@@ -27,10 +27,10 @@ use Rattle.answer_text.specs.declared.signs.Notation.TheVariants as notations
 use Rattle.identify_text.specs.Answers.{answer_in}
 use Rattle.answer_text.specs.Lines.{line_of}
 use Rattle.certificate.specs.FaultTexts.{cert_fault_text, cert_size_text}
-use Rattle.dag_reader.specs.declared.graph.ReadGraph.{ReadGraph}
+use Rattle.mixed_graph.specs.Shown.{graph_of}
+use Rattle.diagram.specs.declared.diagram.Diagram.{Diagram}
 use Rattle.replies.specs.declared.outcome.Outcome.{Outcome}
 use Rattle.replies.specs.declared.outcome.Outcome.TheVariants.{Yes, No, Graph, Second}
-use Rattle.replies.specs.Observed.{observed_names, IsObservedGraph}
 use Rattle.targets.specs.declared.fault.TargetFault.{TargetFault}
 use Rattle.targets.specs.FaultTexts.{target_fault_text}
 use Rattle.experiment_lists.specs.Sets.{experiments_fault, AreExperimentSets, IsExperimentsFault}
@@ -113,35 +113,37 @@ pub data IsCertificateRefusal (names : List (List ℕ)) (bytes line : List ℕ) 
       ≡ line_of (cert_fault_text fault)
       → IsCertificateRefusal names bytes line
 
--- the answer of a certificate in the observed graph
-abbrev pub ObservedAnswer : ReadGraph → (zs bytes : List ℕ) → Outcome → List ℕ → Type 0
-ObservedAnswer g zs bytes o text = (q : MixedGraph) × IsObservedGraph g q × CertificateAnswer q (observed_names g) zs bytes o text
+-- the answer of a check in the observed graph q with experiments on the sets zs: yes or no with its text, or the line of a refused certificate
+abbrev pub AnswerOver : MixedGraph → (names : List (List ℕ)) → (zs bytes : List ℕ) → Outcome → List ℕ → Type 0
+AnswerOver q names zs bytes Yes text = CertificateAnswer q names zs bytes Yes text
+AnswerOver q names zs bytes No text = CertificateAnswer q names zs bytes No text
+AnswerOver q names zs bytes Second line = IsCertificateRefusal names bytes line
+AnswerOver q names zs bytes o text = ⊥
 
--- the answer of a check with experiments on the sets zs: yes or no with its text, or the line of a refused certificate
-abbrev pub AnswerOver : ReadGraph → (zs bytes : List ℕ) → Outcome → List ℕ → Type 0
-AnswerOver g zs bytes Yes text = ObservedAnswer g zs bytes Yes text
-AnswerOver g zs bytes No text = ObservedAnswer g zs bytes No text
-AnswerOver g zs bytes Second line = IsCertificateRefusal (observed_names g) bytes line
-AnswerOver g zs bytes o text = ⊥
-
--- the lists name experiments on these sets of observed vertices
-pub record AreExperimentsOn (g : ReadGraph) (experiments : Lists) (zs : List ℕ) : Type 0 where
-  pub no_fault : experiments_fault g.names (observed_names g) experiments ≡ None
-  pub sets : AreExperimentSets (observed_names g) experiments zs
+-- of a diagram with these names of all its vertices and of the observed ones, the lists name experiments on these sets
+pub record AreExperimentsOn (all observed : List (List ℕ)) (experiments : Lists) (zs : List ℕ) : Type 0 where
+  pub no_fault : experiments_fault all observed experiments ≡ None
+  pub sets : AreExperimentSets observed experiments zs
 
 -- the answer of a check with the experiments that the lists name; where there are none, each term is observed
-pub record CheckAnswer (g : ReadGraph) (experiments : Lists) (bytes : List ℕ) (o : Outcome) (text : List ℕ) : Type 0 where
+pub record ListsAnswer (q : MixedGraph) (all observed : List (List ℕ)) (experiments : Lists) (bytes : List ℕ) (o : Outcome) (text : List ℕ) : Type 0 where
   pub sets : List ℕ
-  pub are : AreExperimentsOn g experiments sets
-  pub answer : AnswerOver g sets bytes o text
+  pub are : AreExperimentsOn all observed experiments sets
+  pub answer : AnswerOver q observed sets bytes o text
 
 -- a listed name of an experiment is at fault: the line says so
-pub record IsExperimentsRefusal (g : ReadGraph) (experiments : Lists) (line : List ℕ) : Type 0 where
+pub record IsExperimentsRefusal (all observed : List (List ℕ)) (experiments : Lists) (line : List ℕ) : Type 0 where
   pub fault : TargetFault
-  pub is_fault : IsExperimentsFault g.names (observed_names g) experiments fault
+  pub is_fault : IsExperimentsFault all observed experiments fault
   pub prints : line ≡ line_of (target_fault_text fault)
 
--- what the graph and the lists alone answer
-abbrev pub CheckFirst : ReadGraph → Lists → Outcome → List ℕ → Type 0
-CheckFirst g experiments Graph line = IsExperimentsRefusal g experiments line
-CheckFirst g experiments o text = ⊥
+-- ---- answers on a diagram
+
+-- the answer on a diagram, in its observed graph
+abbrev pub CheckAnswer : Diagram → Lists → (bytes : List ℕ) → Outcome → List ℕ → Type 0
+CheckAnswer d experiments bytes o text = ListsAnswer (graph_of d.observed.graph) d.read.names d.observed.names experiments bytes o text
+
+-- what the diagram and the lists alone answer
+abbrev pub CheckFirst : Diagram → Lists → Outcome → List ℕ → Type 0
+CheckFirst d experiments Graph line = IsExperimentsRefusal d.read.names d.observed.names experiments line
+CheckFirst d experiments o text = ⊥

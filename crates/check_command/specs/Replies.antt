@@ -15,7 +15,7 @@ use Rattle.do_derivation.specs.declared.faults.CheckFault.TheVariants.{Step, End
 use Rattle.hedge.specs.declared.hedge.Hedge.{Hedge}
 use Rattle.replies.specs.declared.outcome.Reply.{Reply}
 use Rattle.replies.specs.Lines.{IsPrintablePath}
-use Rattle.dag_reader.specs.declared.graph.ReadGraph.{ReadGraph}
+use Rattle.diagram.specs.declared.diagram.Diagram.{Diagram}
 use Rattle.experiment_lists.specs.Words.{Lists}
 use Rattle.check_command.specs.declared.accepting.Acceptance.{Acceptance}
 use Rattle.check_command.specs.declared.accepting.Acceptance.TheVariants as acceptance
@@ -64,6 +64,6 @@ abbrev pub is_harmless : Hedge → ℕ → Bool
 is_harmless h z = is_apart h.big.bits z || not (is_apart h.small.bits z)
 
 -- the reply that refuses the lists, or the sets that they name
-abbrev pub IsAcceptance : ReadGraph → Lists → Acceptance → Type 0
-IsAcceptance g experiments (acceptance.Refused reply) = CheckFirst g experiments reply.outcome reply.text.items
-IsAcceptance g experiments (acceptance.Accepted sets) = AreExperimentsOn g experiments (masks_of sets.items)
+abbrev pub IsAcceptance : Diagram → Lists → Acceptance → Type 0
+IsAcceptance d experiments (acceptance.Refused reply) = CheckFirst d experiments reply.outcome reply.text.items
+IsAcceptance d experiments (acceptance.Accepted sets) = AreExperimentsOn d.read.names d.observed.names experiments (masks_of sets.items)

@@ -4,14 +4,13 @@ ghost use Rattle.std.specs.Prelude.{IfOk};
 ghost use Rattle.experiment_lists.specs.Views.{lists_in};
 ghost use Rattle.check_command.specs.Replies.{IsAcceptance};
 
-use dag_reader::ReadGraph;
+use diagram::Diagram;
 use experiment_lists::experiment_sets;
-use latent_projection::observed;
 use mixed_graph::VSet;
 use replies::{Reply, refuse};
 use std::alloc::{AllocError, Global};
 
-/// What the lists of experiments give on a graph.
+/// What the lists of experiments give on a diagram.
 #[derive(Drop)]
 pub enum Acceptance {
     /// A listed name is refused.
@@ -23,13 +22,17 @@ pub enum Acceptance {
 /// The sets of observed vertices that the lists of experiments name; else the line of the first name at fault.
 pub fn accept_experiments(
     alloc: Global,
-    graph: &ReadGraph,
+    diagram: &Diagram,
     experiments: &Vec<Vec<Vec<u8>>>,
 ) -> Result<Acceptance, AllocError>
-    ensures { IfOk result (IsAcceptance graph.now (lists_in experiments.now)) }
+    ensures { IfOk result (IsAcceptance diagram.now (lists_in experiments.now)) }
 {
-    let seen = observed(alloc, &graph.names, &graph.graph, graph.latent)?;
-    match experiment_sets(alloc, &graph.names, &seen.names, experiments.as_slice()) {
+    match experiment_sets(
+        alloc,
+        &diagram.read.names,
+        &diagram.observed.names,
+        experiments.as_slice(),
+    ) {
         Ok(sets) => Ok(Acceptance::Accepted(sets)),
         Err(fault) => Ok(Acceptance::Refused(refuse(alloc, &fault)?)),
     }

@@ -1,6 +1,6 @@
 //! The answer for a formula with its derivation.
 
-ghost use Rattle.std.specs.Prelude.{◌≡◌, IfOk, length};
+ghost use Rattle.std.specs.Prelude.{IfOk, length};
 ghost use Rattle.mixed_graph.specs.Shown.{graph_of};
 ghost use Rattle.prob_expr.specs.Listed.{masks_of};
 ghost use Rattle.prob_expr.specs.View.{formula_view, target_view};
@@ -9,9 +9,9 @@ ghost use Rattle.check_command.specs.Replies.{IsSoundTarget, IsSoundFormula, IsS
 
 use crate::lines::{accepted_text, derivation_text};
 use answer_text::Notation;
+use dag_reader::ReadGraph;
 use do_derivation::{Derivation, check_with};
 use identify_text::answer_in;
-use latent_projection::Observed;
 use mixed_graph::VSet;
 use prob_expr::{Formula, Target};
 use replies::{Outcome, Reply};
@@ -20,13 +20,12 @@ use std::alloc::{AllocError, Global};
 /// The answer for a formula with its derivation, where terms may stand under the experiments.
 pub fn check_formula(
     alloc: Global,
-    seen: &Observed,
+    seen: &ReadGraph,
     experiments: &[VSet],
     target: &Target,
     formula: &Formula,
     derivation: &Derivation,
 ) -> Result<Reply, AllocError>
-    requires named { length seen.now.names ≡ seen.now.graph.n }
     requires target { IsSoundTarget (length seen.now.names) (target_view target.now) }
     requires formula { IsSoundFormula (length seen.now.names) (formula_view formula.now) }
     requires derivation { IsSoundDerivation (length seen.now.names) (derivation_view derivation.now) }

@@ -14,10 +14,10 @@ ghost use Rattle.check_command.specs.Replies.{IsSoundTarget, AnswersHedge, is_ha
 
 use crate::lines::{accepted_text, hedge_text};
 use counter_models::laws;
+use dag_reader::ReadGraph;
 use experiment_lists::unidentifiable_text;
 use hedge::{Hedge, holds};
 use identify_text::{hedge_heading, push_hedge_sets};
-use latent_projection::Observed;
 use mixed_graph::{Names, VSet};
 use prob_expr::Target;
 use replies::{Outcome, Reply};
@@ -26,12 +26,11 @@ use std::alloc::{AllocError, Global};
 /// The answer for a hedge.
 pub fn check_hedge(
     alloc: Global,
-    seen: &Observed,
+    seen: &ReadGraph,
     experiments: &[VSet],
     target: &Target,
     hedge: &Hedge,
 ) -> Result<Reply, AllocError>
-    requires named { length seen.now.names ≡ seen.now.graph.n }
     requires target { IsSoundTarget (length seen.now.names) (target_view target.now) }
     ensures answer { IfOk result (AnswersHedge (graph_of seen.now.graph) seen.now.names (masks_of experiments.now) (target_view target.now) hedge.now) }
     ensures entries { HasEntries hedge.now }
@@ -68,12 +67,11 @@ fn are_harmless(hedge: &Hedge, experiments: &[VSet]) -> bool
 /// The answer for a hedge that holds.
 fn check_experiments(
     alloc: Global,
-    seen: &Observed,
+    seen: &ReadGraph,
     experiments: &[VSet],
     target: &Target,
     hedge: &Hedge,
 ) -> Result<Reply, AllocError>
-    requires named { length seen.now.names ≡ seen.now.graph.n }
     requires target { IsSoundTarget (length seen.now.names) (target_view target.now) }
     requires hedge { IsHedge (graph_of seen.now.graph) target.now.x.bits target.now.y.bits hedge.now }
     ensures { IfOk result (AnswersHedge (graph_of seen.now.graph) seen.now.names (masks_of experiments.now) (target_view target.now) hedge.now) }
@@ -113,12 +111,11 @@ fn heading_over(
 /// The answer for a hedge that holds and that no experiment tells apart: there are two models that show that the effect isn't identifiable.
 fn accept(
     alloc: Global,
-    seen: &Observed,
+    seen: &ReadGraph,
     experiments: &[VSet],
     target: &Target,
     hedge: &Hedge,
 ) -> Result<Reply, AllocError>
-    requires named { length seen.now.names ≡ seen.now.graph.n }
     requires target { IsSoundTarget (length seen.now.names) (target_view target.now) }
     requires hedge { IsHedge (graph_of seen.now.graph) target.now.x.bits target.now.y.bits hedge.now }
     requires harmless { list_all (is_harmless hedge.now) (masks_of experiments.now) ≡ true }

@@ -1,6 +1,8 @@
 //! The answer of `check`.
 
 ghost use Rattle.std.specs.Prelude.{◌≤◌, ◌<◌, ℕ, List, IfOk, length};
+ghost use Rattle.mixed_graph.specs.Graphs.{MixedGraph};
+ghost use Rattle.mixed_graph.specs.Shown.{graph_of};
 ghost use Rattle.prob_expr.specs.Listed.{masks_of};
 ghost use Rattle.check_command.specs.Answers.{AnswerOver};
 
@@ -8,7 +10,7 @@ use crate::formula::check_formula;
 use crate::hedge_data::check_hedge;
 use certificate::{CertFault, Certificate, read_answer};
 use dag_reader::ReadGraph;
-use latent_projection::observed;
+use diagram::Diagram;
 use mixed_graph::VSet;
 use replies::{Outcome, Reply};
 use std::alloc::{AllocError, Global};
@@ -19,33 +21,38 @@ use std::alloc::{AllocError, Global};
 /// experiment leaves alone or meets in its smaller set; no with the first fault. A certificate that isn't read is refused with its line.
 pub fn check_reply(
     alloc: Global,
-    graph: &ReadGraph,
+    diagram: &Diagram,
     experiments: &Vec<VSet>,
     certificate: &[u8],
 ) -> Result<Reply, AllocError>
     requires { length certificate.now ≤ 67108864 }
-    ensures { IfOk result (λ r. AnswerOver graph.now (masks_of experiments.now.items) certificate.now r.outcome r.text.items) }
+    ensures { let seen = diagram.now.observed in
+        IfOk result (λ r. AnswerOver (graph_of seen.graph) seen.names (masks_of experiments.now.items) certificate.now r.outcome r.text.items) }
 {
-    check_over(alloc, graph, experiments.as_slice(), certificate)
+    check_over(
+        alloc,
+        &diagram.observed,
+        experiments.as_slice(),
+        certificate,
+    )
 }
 
-/// The same, with the experiments of a slice.
+/// The same in an observed graph, with the experiments of a slice.
 fn check_over(
     alloc: Global,
-    graph: &ReadGraph,
+    seen: &ReadGraph,
     experiments: &[VSet],
     certificate: &[u8],
 ) -> Result<Reply, AllocError>
     requires { length certificate.now ≤ 67108864 }
-    ensures { IfOk result (λ r. AnswerOver graph.now (masks_of experiments.now) certificate.now r.outcome r.text.items) }
+    ensures { IfOk result (λ r. AnswerOver (graph_of seen.now.graph) seen.now.names (masks_of experiments.now) certificate.now r.outcome r.text.items) }
 {
-    let seen = observed(alloc, &graph.names, &graph.graph, graph.latent)?;
     match read_answer(alloc, certificate, &seen.names) {
         Ok(Certificate::Formula(target, formula, derivation)) => {
-            check_formula(alloc, &seen, experiments, &target, &formula, &derivation)
+            check_formula(alloc, seen, experiments, &target, &formula, &derivation)
         }
         Ok(Certificate::Hedge(target, hedge)) => {
-            check_hedge(alloc, &seen, experiments, &target, &hedge)
+            check_hedge(alloc, seen, experiments, &target, &hedge)
         }
         Err(fault) => Ok(Reply {
             outcome: Outcome::Second,
@@ -55,8 +62,9 @@ fn check_over(
 }
 
 /// The answer where a certificate has more than 67,108,864 bytes.
-pub fn long_certificate(alloc: Global, graph: &ReadGraph) -> Result<Reply, AllocError>
-    ensures { IfOk result (λ r. (experiments certificate : List ℕ) → 67108864 < length certificate → AnswerOver graph.now experiments certificate r.outcome r.text.items) }
+pub fn long_certificate(alloc: Global) -> Result<Reply, AllocError>
+    ensures { IfOk result (λ r. (q : MixedGraph) (names : List (List ℕ)) (experiments certificate : List ℕ) → 67108864 < length certificate
+        → AnswerOver q names experiments certificate r.outcome r.text.items) }
 {
     Ok(Reply {
         outcome: Outcome::Second,

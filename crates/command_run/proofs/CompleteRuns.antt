@@ -1,13 +1,15 @@
 -- From how a run ended to which status it has to have.
-use Rattle.std.proofs.Common.{◌≡◌, ℕ, List, ◌⊎◌, inl, inr, ap, ◌∙◌}
+use Rattle.std.proofs.Common.{◌≡◌, ℕ, true, List, ◌⊎◌, inl, inr, ap, ◌∙◌}
+use Rattle.causal_io.specs.Causes.{Rose}
+use Rattle.command_words.specs.Form.{Text}
 use Rattle.replies.specs.declared.outcome.Outcome.{Outcome}
 use Rattle.replies.specs.declared.outcome.Outcome.TheVariants.{Yes, No, Words, Graph, Second, Evaluation, Read, Write, Memory}
 use Rattle.replies.specs.Outcomes.{code_of}
 use Rattle.command_run.specs.Commands.{CommandSet, Request, Asks}
 use Rattle.command_run.specs.Laws.{AreLawful}
-use Rattle.command_run.specs.Run.{Run, Answers, by_words, by_file, by_both, Ends}
+use Rattle.command_run.specs.Run.{Run, Answers, by_words, by_file, by_both, Ends, ReadsName}
 use Rattle.command_run.specs.Complete.{NothingFailed, Answered, InputsAreKnown, IsExact, Complete}
-use Rattle.command_run.proofs.OneAnswer.{one_answer, asked}
+use Rattle.command_run.proofs.OneAnswer.{one_answer, none_lacked, asked}
 
 module _ (s : CommandSet) (laws : AreLawful s) where
   module _ (r : Run) (code : ℕ) where
@@ -47,5 +49,33 @@ module _ (s : CommandSet) (laws : AreLawful s) where
       | inr memory ↦ inr memory
     ]
 
+    -- an input that is read is lacked, so there is no answer
+    unread : (o : Outcome) (text : List ℕ) → code ≡ code_of o → Ends s r o text → InputsAreKnown s r → (q : Request s) → Asks s r.words q → (name : Text)
+        → ReadsName s r q name → r.lacks name ≡ true → (code ≡ 6) ⊎ (code ≡ 8)
+    unread Yes text c h told q a name is lacked = absurd (none_lacked s laws r told q a name is lacked Yes text h.answers)
+    unread No text c h told q a name is lacked = absurd (none_lacked s laws r told q a name is lacked No text h.answers)
+    unread Words text c h told q a name is lacked = absurd (h.0.no_request q a)
+    unread Graph text c h told q a name is lacked = absurd (none_lacked s laws r told q a name is lacked Graph text h.answers)
+    unread Second text c h told q a name is lacked = absurd (none_lacked s laws r told q a name is lacked Second text h.answers)
+    unread Evaluation text c h told q a name is lacked = absurd (none_lacked s laws r told q a name is lacked Evaluation text h.answers)
+    unread Read text c h told q a name is lacked = inl c
+    unread Write text c h told q a name is lacked = absurd (none_lacked s laws r told q a name is lacked h.0.outcome h.0.text h.0.answers)
+    unread Memory text c h told q a name is lacked = inr c
+
     pub complete : (o : Outcome) (text : List ℕ) → code ≡ code_of o → Ends s r o text → Complete s r code
-    complete o text c h = record { refused = refused o text c h; answered = given o text c h; exact = exactly o text c h }
+    complete o text c h = record {
+      refused = refused o text c h;
+      answered = given o text c h;
+      exact = exactly o text c h;
+      lacked = unread o text c h;
+    }
+
+    -- where reads fail only of what is lacked, and no write does, the status is that of each defined answer that is fixed
+    pub exact_unless_lacked : (o : Outcome) (text : List ℕ) → code ≡ code_of o → Ends s r o text → InputsAreKnown s r
+        → ((name : Text) → Rose (r.read_faults name) (r.read_faults_after name) → r.lacks name ≡ true) → (Rose r.out.faults r.out.faults_after → ⊥)
+        → IsExact s r code
+    exact_unless_lacked o text c h told fails writes k line answers fixed = let q = asked s r k line answers in
+        exactly o text c h told (record {
+          reads = λ w asks name is rose. none_lacked s laws r told w asks name is (fails name rose) k line answers;
+          writes = writes;
+        }) k line answers fixed

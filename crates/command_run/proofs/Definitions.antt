@@ -1,39 +1,38 @@
--- From the answer on a graph that was read, or from its fault, to the defined answer.
-use Rattle.std.proofs.Common.{◌≡◌, ℕ, ◌≤◌, List, Result, Ok, Err, IfOk, length, inl, inr, sym, subst}
-use Rattle.dag_reader.specs.declared.graph.ReadGraph.{ReadGraph}
+-- From the answer on a diagram, or from the fault of a graph text, to the defined answer.
+use Rattle.std.proofs.Common.{◌≡◌, ℕ, ◌≤◌, List, Result, Ok, Err, IfOk, length, inr, sym, subst}
+use Rattle.std.specs.Prelude.{OnOk}
 use Rattle.dag_reader.specs.declared.faults.GraphFault.{GraphFault}
 use Rattle.dag_reader.specs.declared.faults.GraphFault.TheVariants.{NoMemory}
 use Rattle.dag_reader.specs.Reads.{Reads}
 use Rattle.answer_text.specs.Lines.{line_of}
 use Rattle.dag_reader.specs.FaultTexts.{graph_fault_text}
+use Rattle.diagram.specs.declared.diagram.Diagram.{Diagram}
 use Rattle.replies.specs.declared.outcome.Reply.{Reply}
 use Rattle.replies.specs.declared.outcome.Outcome.{Outcome}
-use Rattle.replies.specs.declared.outcome.Outcome.TheVariants.{Graph}
-use Rattle.replies.specs.Observed.{HoldsGraph}
+use Rattle.replies.specs.declared.outcome.Outcome.TheVariants.{Graph, Memory}
+use Rattle.replies.specs.Observed.{HoldsDiagram}
 use Rattle.command_run.specs.Commands.{CommandSet, Request}
-use Rattle.replies.specs.Command.{Remainder}
-use Rattle.command_run.specs.Answers.{HoldsAnswer, Defined, GivesOn, FileGives}
+use Rattle.command_run.specs.Answers.{DiagramAnswer, HoldsAnswer, Defined, RefusesLine, RefusesBytes}
+use Rattle.command_run.specs.Ends.{IsMade}
 use Rattle.replies.specs.Refusals.{faulty}
-use Rattle.command_run.specs.declared.request.AfterFile.{AfterFile}
-use Rattle.command_run.specs.declared.request.AfterFile.TheVariants as first
 
 held : (s : CommandSet) (w : Request s) (bytes : List ℕ) (o : Outcome) (text : List ℕ) → HoldsAnswer s w bytes o text → Defined s w bytes o text
 held s w bytes Graph text h = inr h
 held s w bytes o text h = h
 
--- what a request gives on the graph that the bytes hold
-pub given_on : {Second : Type 0} (left : Second → Remainder) (s : CommandSet) (w : Request s) (bytes : List ℕ) (g : ReadGraph) (f : AfterFile Second)
-    → HoldsGraph bytes g → GivesOn left s w g f → FileGives left s w bytes f
-given_on left s w bytes g (first.Replied reply) h a = held s w bytes reply.outcome reply.text.items (record { graph = g; holds = h; answer = a })
-given_on left s w bytes g (first.Continues p) h a = (g, h, a)
+-- the answer on the diagram that the bytes hold
+pub defined_on : (s : CommandSet) (w : Request s) (bytes : List ℕ) (d : Diagram) (o : Outcome) (text : List ℕ) → HoldsDiagram bytes d
+    → DiagramAnswer s w d o text → Defined s w bytes o text
+defined_on s w bytes d o text h a = held s w bytes o text (record { diagram = d; holds = h; answer = a })
 
-pub defined_on : {Second E : Type 0} (left : Second → Remainder) (s : CommandSet) (w : Request s) (bytes : List ℕ) (g : ReadGraph)
-    (r : Result (AfterFile Second) E) → length bytes ≤ 1048576 → Reads bytes (Ok g) →
-    IfOk r (GivesOn left s w g) → IfOk r (FileGives left s w bytes)
-defined_on left s w bytes g (Err e) small reads a = tt
-defined_on left s w bytes g (Ok f) small reads a = given_on left s w bytes g f (record { small = small; reads = reads }) a
+-- memory was refused for the diagram
+pub refused_memory : (bytes : List ℕ) (reply : Reply) → reply.outcome ≡ Memory → RefusesBytes bytes reply
+refused_memory bytes reply is = subst (λ (o : Outcome). RefusesLine bytes o reply.text.items) (sym is) tt
 
--- a reply to bytes with a fault
-pub defined_fault : (s : CommandSet) (w : Request s) (bytes : List ℕ) (f : GraphFault) (reply : Reply) → length bytes ≤ 1048576 → Reads bytes (Err f) →
-    reply.outcome ≡ Graph → reply.text.items ≡ line_of (graph_fault_text f) → (f ≡ NoMemory → ⊥) → Defined s w bytes reply.outcome reply.text.items
-defined_fault s w bytes f reply small reads v l n = subst (λ u. Defined s w bytes u reply.text.items) (sym v) (inl (faulty f small n reads l))
+-- bytes with a fault are refused
+pub refused_fault : {E : Type 0} (bytes : List ℕ) (f : GraphFault) (r : Result Reply E) (reply : Reply) → length bytes ≤ 1048576 → Reads bytes (Err f)
+    → IfOk r (λ (made : Reply). made.outcome ≡ Graph) → IfOk r (λ (made : Reply). made.text.items ≡ line_of (graph_fault_text f))
+    → OnOk r (f ≡ NoMemory → ⊥) → IsMade r reply → RefusesBytes bytes reply
+refused_fault bytes f (Err e) reply small reads v l n is = refused_memory bytes reply is
+refused_fault bytes f (Ok made) reply small reads v l n is = subst (λ (p : Reply). RefusesBytes bytes p) (sym is)
+    (subst (λ (o : Outcome). RefusesLine bytes o made.text.items) (sym v) (faulty f small n reads l))

@@ -2,8 +2,10 @@
 use Rattle.std.proofs.Common.{◌≡◌, ℕ, ◌<◌, ◌≤◌, arith, Bool, true, false, List, Option, Some, None, IfSome, IfOk, Result, Ok, Err, length, inl, ◌∙◌}
 use Rattle.std.proofs.Common.{refl, sym, subst}
 use Rattle.std.specs.Prelude.{IfErr, OnOk, OnErr, take}
+use Rattle.std.specs.Option.{option_or}
 use Rattle.std.proofs.Math.Seq.{take-length}
 use Rattle.std.proofs.lemmas.Bool.{false≢true}
+use Rattle.std.proofs.lemmas.Option.{none-some}
 use Rattle.std.specs.Global.{Vec}
 use Rattle.command_words.specs.Form.{Text}
 use Rattle.causal_io.specs.Causes.{Rose}
@@ -19,11 +21,15 @@ use Rattle.command_run.specs.Commands.{CommandSet, Request, Asks, file_of}
 use Rattle.command_run.specs.Laws.{AreLawful}
 use Rattle.replies.specs.Command.{Remainder}
 use Rattle.replies.specs.Refusals.{too_long}
-use Rattle.command_run.specs.Answers.{WordsAnswer, Defined, Continues, DefinedWith, GivesSecond, IsAnsweredWith, IsLeftOf}
+use Rattle.diagram.specs.declared.diagram.Diagram.{Diagram}
+use Rattle.replies.specs.Observed.{HoldsDiagram}
+use Rattle.command_run.specs.Answers.{WordsAnswer, DiagramAnswer, RefusesLine, RefusesBytes, Defined, Continues, DefinedWith, GivesSecond}
+use Rattle.command_run.specs.Answers.{IsAnsweredWith, IsLeft}
 use Rattle.command_run.specs.Run.{Stream, Run, Answers, Received, ReceivedLine, by_words, by_file, by_both, file as reads_file, second, Ends}
-use Rattle.command_run.specs.Ends.{FailedRead, Replied, RepliesWith, IsReadOf, TellsUnread, IsMade, GivesOnRead, written_for, EndsWith, Delivers, written}
-use Rattle.command_run.specs.Ends.{unwritten, refused, IsTooLongLine, Proceeds, replied, unread, no_memory}
-use Rattle.command_run.proofs.Answered.{words_answered, defined_answered, long_answered, said, named, continues, defined_with}
+use Rattle.command_run.specs.Ends.{FailedRead, Replied, RepliesWith, IsTextOf, IsOfFile, WereRead, IsReadOf, TellsUnread, IsMade, GivesOnRead, written_for}
+use Rattle.command_run.specs.Ends.{EndsWith, Delivers, written, unwritten, refused, IsTooLongLine, Proceeds, replied, unread, no_memory}
+use Rattle.command_run.proofs.Answered.{words_answered, diagram_answered, long_answered, names_left, needs, second_answer}
+use Rattle.command_run.proofs.Definitions.{defined_on}
 
 -- what holds of the bytes that were read holds of those that are held, where they are told
 pub told : (held : Option (List ℕ)) (items : List ℕ) (P : List ℕ → Type 0) → IfSome held (λ all. items ≡ all) → P items → IfSome held P
@@ -39,6 +45,45 @@ pub not_true : (b : Bool) → (b ≡ true → ⊥) → b ≡ false
 not_true true n = absurd (n refl)
 not_true false n = refl
 
+-- ---- the diagram of a file
+
+-- what is held under the name of a file stands for it where no text does
+pub of_name : (kept held : Option (List ℕ)) (P : List ℕ → Type 0) → kept ≡ None → IfSome held P → IfSome (option_or kept held) P
+of_name kept held P none h = subst (λ k. IfSome (option_or k held) P) (sym none) h
+
+-- a text that is kept holds the diagram that is given
+pub of_given : (kept : Option (List ℕ)) (held : Text → Option (List ℕ)) (lacks : Text → Bool) (file : Text) (given : Option Diagram) (d : Diagram)
+    → given ≡ Some d → IsTextOf kept given → IsOfFile kept held lacks file d
+of_given kept held lacks file given d is text = go kept (subst (IsTextOf kept) is text)
+  where
+    go : (k : Option (List ℕ)) → IsTextOf k (Some d) → IsOfFile k held lacks file d
+    go None h = absurd h
+    go (Some text) h = record { there = λ none. absurd (none-some text (sym none)); holds = h }
+
+-- what was read of a file that isn't lacked was read of it as the shelf is then
+pub were_read : (held held_after : Text → Option (List ℕ)) (lacks lacks_after : Text → Bool) (file : Text) (items bytes : List ℕ) → held_after ≡ held
+    → lacks_after ≡ lacks → (lacks file ≡ true → ⊥) → IfSome (held file) (λ all. items ≡ all) → length items ≤ 1048576 → bytes ≡ items
+    → WereRead held_after lacks_after file bytes
+were_read held held_after lacks lacks_after file items bytes same_held same_lacks there is small same =
+    subst (WereRead held_after lacks_after file) (sym same) (subst (λ h. WereRead h lacks_after file items) (sym same_held)
+    (subst (λ l. WereRead held l file items) (sym same_lacks) (record { all = is; there = not_true (lacks file) there; small = small })))
+
+-- the diagram of what was read is that of the file
+pub of_read : (held : Text → Option (List ℕ)) (lacks : Text → Bool) (file : Text) (bytes : List ℕ) (d : Diagram) → WereRead held lacks file bytes
+    → HoldsDiagram bytes d → IsOfFile None held lacks file d
+of_read held lacks file bytes d read holds = record {
+  there = λ none. read.there;
+  holds = told (held file) bytes (λ all. HoldsDiagram all d) read.all holds;
+}
+
+-- none is kept where none is given
+pub none_kept : (kept : Option (List ℕ)) (given : Option Diagram) → given ≡ None → IsTextOf kept given → kept ≡ None
+none_kept kept given is text = go kept (subst (IsTextOf kept) is text)
+  where
+    go : (k : Option (List ℕ)) → IsTextOf k None → k ≡ None
+    go None h = refl
+    go (Some text) h = absurd h
+
 -- a count that rose after it stood higher rose
 rose_since : (before middle after : ℕ) → before ≤ middle → Rose middle after → Rose before after
 rose_since before middle after h r = omega (arith, h, r)
@@ -48,7 +93,11 @@ rose_since before middle after h r = omega (arith, h, r)
 module _ (s : CommandSet) (laws : AreLawful s) where
   -- the defined answer is a reply
   an_answer : (r : Run) (o : Outcome) (text : List ℕ) → IsAnswered o → Answers s r o text → Replied s r o text
-  an_answer r o text only a = said s r.words (Answers s r) (FailedRead s r) o text only a
+  an_answer r Words text only a = absurd only
+  an_answer r Read text only a = absurd only
+  an_answer r Write text only a = absurd only
+  an_answer r Memory text only a = absurd only
+  an_answer r o text only a = a
 
   -- the words ask for nothing
   pub not_understood : (r : Run) (reply : Reply) → reply.outcome ≡ Words → ((w : Request s) → Asks s r.words w → ⊥) → RepliesWith s r reply
@@ -63,80 +112,100 @@ module _ (s : CommandSet) (laws : AreLawful s) where
   replied_words r w reply asks a = an_answer r reply.outcome reply.text.items (words_answered s laws w reply.outcome reply.text.items a)
       (by_words (record { request = w; asks = asks; answer = a }))
 
-  -- the reply on the file alone
-  pub replied_file : (r : Run) (w : Request s) (file : Text) (bytes : List ℕ) (reply : Reply) → Asks s r.words w → file_of s w ≡ Some file → r.lacks file
-      ≡ false →
-      IfSome (r.held file) (λ all. bytes ≡ all) → Defined s w bytes reply.outcome reply.text.items → RepliesWith s r reply
-  replied_file r w file bytes reply asks names there held d = an_answer r reply.outcome reply.text.items
-      (defined_answered s laws w bytes reply.outcome reply.text.items d) (by_file (record {
-        request = w;
-        asks = asks;
-        file = file;
-        names_it = names;
-        there = there;
-        defined = told (r.held file) bytes (λ all. Defined s w all reply.outcome reply.text.items) held d;
-      }))
-
-  -- the second input was read, over the shelf as the first read left it
-  module _ (r : Run) (w : Request s) (file : Text) (bytes : List ℕ) (l : Remainder) (reply : Reply) (held : Text → Option (List ℕ)) (lacks : Text → Bool)
-      (faults : Text → ℕ)
-      (asks : Asks s r.words w) (names : file_of s w ≡ Some file) (there : r.lacks file ≡ false) (told_it : IfSome (r.held file) (λ all. bytes ≡ all))
-      (is : IsLeftOf s w bytes l)
-      (same_held : held ≡ r.held) (same_lacks : lacks ≡ r.lacks) (grown : (name : Text) → r.read_faults name ≤ faults name) where
-    accepted_file : IfSome (r.held file) (λ all. Continues s w all)
-    accepted_file = told (r.held file) bytes (λ all. Continues s w all) told_it (continues s w bytes l is)
-
-    pub proceeded : Proceeds held lacks faults r.read_faults_after l reply → RepliesWith s r reply
-    proceeded (replied only second_there gives) = an_answer r reply.outcome reply.text.items only (by_both (record {
+  -- on the diagram of the file of a request that the words ask for
+  module _ (r : Run) (w : Request s) (file : Text) (d : Diagram) (reply : Reply) (asks : Asks s r.words w) (names : file_of s w ≡ Some file)
+      (stands : IsOfFile r.kept r.held r.lacks file d) where
+    -- the reply on the file alone
+    pub replied_file : DiagramAnswer s w d reply.outcome reply.text.items → RepliesWith s r reply
+    replied_file a = an_answer r reply.outcome reply.text.items (diagram_answered s laws w d reply.outcome reply.text.items a) (by_file (record {
       request = w;
       asks = asks;
       file = file;
       names_it = names;
-      second = l.second;
-      names_second = named s w bytes l is;
-      there = there;
-      second_there = subst (λ f. f l.second ≡ false) same_lacks second_there;
-      accepted = accepted_file;
-      defined = told (r.held file) bytes (λ all. IfSome (r.held l.second) (λ other. DefinedWith s w all other reply.outcome reply.text.items)) told_it
-          (mapped (r.held l.second) (λ other. GivesSecond l other reply) (λ other. DefinedWith s w bytes other reply.outcome reply.text.items)
-          (λ other g. defined_with s w bytes l other reply is g) (subst (λ h. IfSome (h l.second) (λ other. GivesSecond l other reply)) same_held gives));
+      there = stands.there;
+      defined = mapped (option_or r.kept (r.held file)) (λ all. HoldsDiagram all d) (λ all. Defined s w all reply.outcome reply.text.items)
+          (λ all holds. defined_on s w all d reply.outcome reply.text.items holds a) stands.holds;
     }))
-    proceeded (unread same rose) =
-        let failed : FailedRead s r = record {
-          request = w;
-          asks = asks;
-          name = l.second;
-          is_read = second file names (named s w bytes l is) there accepted_file;
-          rose = rose_since (r.read_faults l.second) (faults l.second) (r.read_faults_after l.second) (grown l.second) rose;
-        } in
-        subst (λ o. Replied s r o reply.text.items) (sym same) failed
-    proceeded (no_memory same) = no_room r reply same
 
-  -- the reply to a text that is too long
-  long_file : (r : Run) (w : Request s) (file : Text) → Asks s r.words w → file_of s w ≡ Some file → r.lacks file ≡ false
-      → IfSome (r.held file) (λ all. 1048576 < length all) →
-      (o : Outcome) (text : List ℕ) → IsTooLongLine o text → Replied s r o text
-  long_file r w file asks names there held Graph line long = by_file (record {
-    request = w;
-    asks = asks;
-    file = file;
-    names_it = names;
-    there = there;
-    defined = mapped (r.held file) (λ all. 1048576 < length all) (λ all. Defined s w all Graph line) (λ all h. inl (too_long h long)) held;
-  })
-  long_file r w file asks names there held Memory line long = tt
-  long_file r w file asks names there held o line long = absurd long
+    -- the second input was read, over the shelf as the first read left it
+    module _ (l : Remainder) (held : Text → Option (List ℕ)) (lacks : Text → Bool) (faults : Text → ℕ) (is : IsLeft s w d l)
+        (same_held : held ≡ r.held) (same_lacks : lacks ≡ r.lacks) (grown : (name : Text) → r.read_faults name ≤ faults name) where
+      accepted_file : IfSome (option_or r.kept (r.held file)) (λ all. Continues s w all)
+      accepted_file = mapped (option_or r.kept (r.held file)) (λ all. HoldsDiagram all d) (λ all. Continues s w all)
+          (λ all holds. (d, holds, needs s w d l is)) stands.holds
+
+      -- the answer on the bytes of both
+      answer_with : (all other : List ℕ) → HoldsDiagram all d → GivesSecond l other reply → DefinedWith s w all other reply.outcome reply.text.items
+      answer_with all other holds gives = (d, holds, needs s w d l is, second_answer s w d l other reply is gives)
+
+      pub proceeded : Proceeds held lacks faults r.read_faults_after l reply → RepliesWith s r reply
+      proceeded (replied only second_there gives) = an_answer r reply.outcome reply.text.items only (by_both (record {
+        request = w;
+        asks = asks;
+        file = file;
+        names_it = names;
+        second = l.second;
+        names_second = names_left s w d l is;
+        there = stands.there;
+        second_there = subst (λ f. f l.second ≡ false) same_lacks second_there;
+        accepted = accepted_file;
+        defined = mapped (option_or r.kept (r.held file)) (λ all. HoldsDiagram all d)
+            (λ all. IfSome (r.held l.second) (λ other. DefinedWith s w all other reply.outcome reply.text.items))
+            (λ all holds. mapped (r.held l.second) (λ other. GivesSecond l other reply) (λ other. DefinedWith s w all other reply.outcome reply.text.items)
+            (λ other g. answer_with all other holds g) (subst (λ h. IfSome (h l.second) (λ other. GivesSecond l other reply)) same_held gives)) stands.holds;
+      }))
+      proceeded (unread same rose) =
+          let failed : FailedRead s r = record {
+            request = w;
+            asks = asks;
+            name = l.second;
+            is_read = second file names (names_left s w d l is) stands.there accepted_file;
+            rose = rose_since (r.read_faults l.second) (faults l.second) (r.read_faults_after l.second) (grown l.second) rose;
+          } in
+          subst (λ o. Replied s r o reply.text.items) (sym same) failed
+      proceeded (no_memory same) = no_room r reply same
+
+  -- where no text is kept, and the file isn't lacked
+  module _ (r : Run) (w : Request s) (file : Text) (asks : Asks s r.words w) (names : file_of s w ≡ Some file) (none : r.kept ≡ None)
+      (there : r.lacks file ≡ false) where
+    -- the answer on what is held
+    by_held : (o : Outcome) (text : List ℕ) → IfSome (r.held file) (λ all. Defined s w all o text) → Answers s r o text
+    by_held o text h = by_file (record {
+      request = w;
+      asks = asks;
+      file = file;
+      names_it = names;
+      there = λ e. there;
+      defined = of_name r.kept (r.held file) (λ all. Defined s w all o text) none h;
+    })
+
+    -- the reply to a text that is too long
+    long_file : IfSome (r.held file) (λ all. 1048576 < length all) → (o : Outcome) (text : List ℕ) → IsTooLongLine o text → Replied s r o text
+    long_file held Graph line long = by_held Graph line
+        (mapped (r.held file) (λ all. 1048576 < length all) (λ all. Defined s w all Graph line) (λ all h. inl (too_long h long)) held)
+    long_file held Memory line long = tt
+    long_file held o line long = absurd long
+
+    -- the reply to bytes that hold no diagram
+    refused_bytes : (bytes : List ℕ) → IfSome (r.held file) (λ all. bytes ≡ all) → (o : Outcome) (text : List ℕ) → RefusesLine bytes o text
+        → Replied s r o text
+    refused_bytes bytes held Graph line h = by_held Graph line (told (r.held file) bytes (λ all. Defined s w all Graph line) held (inl h))
+    refused_bytes bytes held Memory line h = tt
+    refused_bytes bytes held o line h = absurd h
+
+    pub refused_file : (bytes : List ℕ) (reply : Reply) → IfSome (r.held file) (λ all. bytes ≡ all) → RefusesBytes bytes reply → RepliesWith s r reply
+    refused_file bytes reply held h = refused_bytes bytes held reply.outcome reply.text.items h
 
   -- the file couldn't be read whole
-  pub unread_file : (r : Run) (w : Request s) (name : Text) (f : ReadError) (reply : Reply) → Asks s r.words w → file_of s w ≡ Some name
+  pub unread_file : (r : Run) (w : Request s) (name : Text) (f : ReadError) (reply : Reply) → Asks s r.words w → file_of s w ≡ Some name → r.kept ≡ None
       → IsReadOf (r.held name) (r.lacks name) (r.read_faults name) (r.read_faults_after name) 1048576 (Err f)
       → TellsUnread f reply → RepliesWith s r reply
-  unread_file r w name Fault reply asks names h is =
-      let failed : FailedRead s r = record { request = w; asks = asks; name = name; is_read = reads_file names; rose = h.failed refl } in
+  unread_file r w name Fault reply asks names none h is =
+      let failed : FailedRead s r = record { request = w; asks = asks; name = name; is_read = reads_file none names; rose = h.failed refl } in
       subst (λ o. Replied s r o reply.text.items) (sym is) failed
-  unread_file r w name (TooLong most) reply asks names h long =
-      long_file r w name asks names (not_true (r.lacks name) (λ t. let e = h.lacked t in cc e)) h.answer.1 reply.outcome reply.text.items long
-  unread_file r w name NoMemory reply asks names h is = no_room r reply is
+  unread_file r w name (TooLong most) reply asks names none h long =
+      long_file r w name asks names none (not_true (r.lacks name) (λ t. let e = h.lacked t in cc e)) h.answer.1 reply.outcome reply.text.items long
+  unread_file r w name NoMemory reply asks names none h is = no_room r reply is
 
 -- ---- the second input
 

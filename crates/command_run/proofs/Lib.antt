@@ -6,4 +6,4 @@ mod NeverFails
 mod OneCommand
 pub mod OneRequest
 pub mod OneAnswer
-mod CompleteRuns
+pub mod CompleteRuns

@@ -1,19 +1,21 @@
 -- A run whose inputs are told has one defined answer at most, as far as its outcome goes.
-use Rattle.std.proofs.Common.{◌≡◌, ◌⊎◌, ℕ, List, Option, Some, inl, inr, refl, sym, ap, ◌∙◌, subst, arith}
+use Rattle.std.proofs.Common.{◌≡◌, ◌⊎◌, ℕ, true, false, List, Option, Some, None, inl, inr, refl, sym, ap, ◌∙◌, subst, arith}
 use Rattle.std.proofs.lemmas.Option.{same_Some}
+use Rattle.std.proofs.lemmas.Bool.{false≢true}
 use Rattle.std.specs.Prelude.{IfSome}
+use Rattle.std.specs.Option.{option_or}
 use Rattle.command_words.specs.Form.{Text}
-use Rattle.dag_reader.specs.declared.graph.ReadGraph.{ReadGraph}
-use Rattle.dag_reader.specs.RoundTrip.{AreSame}
+use Rattle.diagram.specs.declared.diagram.Diagram.{Diagram}
+use Rattle.diagram.proofs.OneDiagram.{AreSameDiagrams}
 use Rattle.replies.specs.declared.outcome.Outcome.{Outcome}
 use Rattle.replies.specs.declared.outcome.Outcome.TheVariants.{Graph}
-use Rattle.replies.specs.Observed.{HoldsGraph}
+use Rattle.replies.specs.Observed.{HoldsDiagram}
 use Rattle.replies.specs.OneOutcome.{OneOutcome, IsAnswerOn}
 use Rattle.dag_reader.proofs.OneReading.{reads_either}
-use Rattle.replies.proofs.OneGraph.{one_reading}
+use Rattle.replies.proofs.OneGraph.{one_holding}
 use Rattle.command_run.specs.Commands.{CommandSet, Request, of, file_of, second_of, Asks, IsFixed}
 use Rattle.command_run.specs.Laws.{AreLawful}
-use Rattle.command_run.specs.Answers.{WordsAnswer, GraphAnswer, NeedsSecond, SecondAnswer, HoldsAnswer, Defined}
+use Rattle.command_run.specs.Answers.{WordsAnswer, DiagramAnswer, NeedsSecond, SecondAnswer, HoldsAnswer, Defined}
 use Rattle.replies.specs.Refusals.{IsGraphRefusal, too_long, faulty}
 use Rattle.command_run.specs.Answers.{Continues, DefinedWith}
 use Rattle.command_run.specs.Run.{Run, AnswersFile, AnswersBoth, Answers, by_words, by_file, by_both, ReadsName}
@@ -25,7 +27,8 @@ record ByFile (s : CommandSet) (r : Run) (w : Request s) (o : Outcome) (text : L
   file : Text
   bytes : List ℕ
   names : file_of s w ≡ Some file
-  held : r.held file ≡ Some bytes
+  there : r.kept ≡ None → r.lacks file ≡ false
+  held : option_or r.kept (r.held file) ≡ Some bytes
   defined : Defined s w bytes o text
 
 record ByBoth (s : CommandSet) (r : Run) (w : Request s) (o : Outcome) (text : List ℕ) : Type 0 where
@@ -35,7 +38,9 @@ record ByBoth (s : CommandSet) (r : Run) (w : Request s) (o : Outcome) (text : L
   other : List ℕ
   names : file_of s w ≡ Some file
   names_second : second_of s w ≡ Some second
-  held : r.held file ≡ Some bytes
+  there : r.kept ≡ None → r.lacks file ≡ false
+  second_there : r.lacks second ≡ false
+  held : option_or r.kept (r.held file) ≡ Some bytes
   held_second : r.held second ≡ Some other
   accepted : Continues s w bytes
   defined : DefinedWith s w bytes other o text
@@ -61,9 +66,13 @@ asked s r o text (by_file a) = (a.request, a.asks)
 asked s r o text (by_both a) = (a.request, a.asks)
 
 -- one name holds one run of bytes
-same_bytes : (r : Run) (name : Option Text) (file other : Text) (bytes more : List ℕ) → name ≡ Some file → name ≡ Some other → r.held file ≡ Some bytes
-    → r.held other ≡ Some more → more ≡ bytes
-same_bytes r name file other bytes more a b c d = same_Some more bytes (sym d ∙ ap (λ (n : Text). r.held n) (same_Some other file (sym b ∙ a)) ∙ c)
+same_bytes : (held : Text → Option (List ℕ)) (name : Option Text) (file other : Text) (bytes more : List ℕ) → name ≡ Some file → name ≡ Some other
+    → held file ≡ Some bytes → held other ≡ Some more → more ≡ bytes
+same_bytes held name file other bytes more a b c d = same_Some more bytes (sym d ∙ ap (λ (n : Text). held n) (same_Some other file (sym b ∙ a)) ∙ c)
+
+-- what stands for a file of the run
+abbrev of_file : Run → Text → Option (List ℕ)
+of_file r file = option_or r.kept (r.held file)
 
 module _ (s : CommandSet) (laws : AreLawful s) where
   -- ---- what each command answers
@@ -75,25 +84,25 @@ module _ (s : CommandSet) (laws : AreLawful s) where
   pub words_alone : (w : Request s) (file : Text) (o : Outcome) (text : List ℕ) → WordsAnswer s w o text → file_of s w ≡ Some file → ⊥
   words_alone (of c q) file o text a names = (laws.each c).no_file q o text a file names
 
-  on_graph : (w : Request s) (bytes : List ℕ) → OneOutcome (IsAnswerOn bytes (λ g. GraphAnswer s w g))
-  on_graph (of c q) bytes = (laws.each c).graph_once q bytes
+  on_diagram : (w : Request s) (bytes : List ℕ) → OneOutcome (IsAnswerOn bytes (λ d. DiagramAnswer s w d))
+  on_diagram (of c q) bytes = (laws.each c).diagram_once q bytes
 
-  on_both : (w : Request s) → IsFixed s w → (bytes other : List ℕ) → OneOutcome (IsAnswerOn bytes (λ g. SecondAnswer s w g other))
+  on_both : (w : Request s) → IsFixed s w → (bytes other : List ℕ) → OneOutcome (IsAnswerOn bytes (λ d. SecondAnswer s w d other))
   on_both (of c q) fixed bytes other = (laws.each c).both_once q fixed bytes other
 
   -- a request that the file alone answers reads no second input
-  file_alone : (w : Request s) (second : Text) (g h : ReadGraph) → AreSame g h → second_of s w ≡ Some second → (o : Outcome) (text : List ℕ)
-      → GraphAnswer s w g o text → NeedsSecond s w h → ⊥
-  file_alone (of c q) second g h same names o text a n = (laws.each c).file_alone q second g h same names o text a n
+  file_alone : (w : Request s) (second : Text) (d e : Diagram) → AreSameDiagrams d e → second_of s w ≡ Some second → (o : Outcome) (text : List ℕ)
+      → DiagramAnswer s w d o text → NeedsSecond s w e → ⊥
+  file_alone (of c q) second d e same names o text a n = (laws.each c).file_alone q second d e same names o text a n
 
   -- ---- what bytes answer
 
-  -- bytes that hold a graph are no refused graph
-  held_or_refused : (bytes : List ℕ) (g : ReadGraph) (line : List ℕ) → HoldsGraph bytes g → IsGraphRefusal bytes line → ⊥
-  held_or_refused bytes g line h (too_long long is) = absurd (let small = h.small in omega (arith, small, long))
-  held_or_refused bytes g line h (faulty fault short ne reads is) = reads_either bytes g fault h.reads ne reads
+  -- bytes that hold a diagram are no refused graph
+  held_or_refused : (bytes : List ℕ) (d : Diagram) (line : List ℕ) → HoldsDiagram bytes d → IsGraphRefusal bytes line → ⊥
+  held_or_refused bytes d line h (too_long long is) = absurd (let small = h.small in omega (arith, small, long))
+  held_or_refused bytes d line h (faulty fault short ne reads is) = reads_either bytes d.read fault h.reads ne reads
 
-  -- a defined answer is a refused graph, or one on a graph
+  -- a defined answer is a refused graph, or one on a diagram
   split : (w : Request s) (bytes : List ℕ) (o : Outcome) (text : List ℕ) → Defined s w bytes o text → ((o ≡ Graph) × IsGraphRefusal bytes text)
       ⊎ HoldsAnswer s w bytes o text
   split w bytes Graph text (inl r) = inl (refl, r)
@@ -106,10 +115,10 @@ module _ (s : CommandSet) (laws : AreLawful s) where
       go : ((o ≡ Graph) × IsGraphRefusal bytes text) ⊎ HoldsAnswer s w bytes o text → ((p ≡ Graph) × IsGraphRefusal bytes line) ⊎ HoldsAnswer s w bytes p line
           → o ≡ p
       go (inl x) (inl y) = x.0 ∙ sym y.0
-      go (inl x) (inr y) = absurd (held_or_refused bytes y.graph text y.holds x.1)
-      go (inr x) (inl y) = absurd (held_or_refused bytes x.graph line x.holds y.1)
-      go (inr x) (inr y) = on_graph w bytes o p text line (record { graph = x.graph; holds = x.holds; given = x.answer })
-          (record { graph = y.graph; holds = y.holds; given = y.answer })
+      go (inl x) (inr y) = absurd (held_or_refused bytes y.diagram text y.holds x.1)
+      go (inr x) (inl y) = absurd (held_or_refused bytes x.diagram line x.holds y.1)
+      go (inr x) (inr y) = on_diagram w bytes o p text line (record { diagram = x.diagram; holds = x.holds; given = x.answer })
+          (record { diagram = y.diagram; holds = y.holds; given = y.answer })
 
   -- where the file alone is answered, the second input isn't read
   pub alone : (w : Request s) (second : Text) (bytes : List ℕ) (o : Outcome) (text : List ℕ) → second_of s w ≡ Some second → Defined s w bytes o text
@@ -118,11 +127,20 @@ module _ (s : CommandSet) (laws : AreLawful s) where
     where
       go : ((o ≡ Graph) × IsGraphRefusal bytes text) ⊎ HoldsAnswer s w bytes o text → ⊥
       go (inl x) = held_or_refused bytes c.0 text c.1 x.1
-      go (inr x) = file_alone w second x.graph c.0 (one_reading bytes x.graph c.0 x.holds c.1) names o text x.answer c.2
+      go (inr x) = file_alone w second x.diagram c.0 (one_holding bytes x.diagram c.0 x.holds c.1) names o text x.answer c.2
 
   pub with_once : (w : Request s) → IsFixed s w → (bytes other : List ℕ) → OneOutcome (DefinedWith s w bytes other)
   with_once w fixed bytes other o p text line a b =
-      on_both w fixed bytes other o p text line (record { graph = a.0; holds = a.1; given = a.3 }) (record { graph = b.0; holds = b.1; given = b.3 })
+      on_both w fixed bytes other o p text line (record { diagram = a.0; holds = a.1; given = a.3 }) (record { diagram = b.0; holds = b.1; given = b.3 })
+
+  -- what stands for the file is told
+  file_told : (r : Run) → InputsAreKnown s r → (w : Request s) → Asks s r.words w → (file : Text) → file_of s w ≡ Some file
+      → (r.kept ≡ None → r.lacks file ≡ false) → (bytes : List ℕ) × (of_file r file ≡ Some bytes)
+  file_told r told w asks file names there = go r.kept refl
+    where
+      go : (k : Option (List ℕ)) → r.kept ≡ k → (bytes : List ℕ) × (option_or k (r.held file) ≡ Some bytes)
+      go None none = told w asks file (ReadsName.file none names) (there none)
+      go (Some text) is = (text, refl)
 
   module _ (r : Run) (told : InputsAreKnown s r) (w : Request s) (asks : Asks s r.words w) (o : Outcome) (text : List ℕ) where
     same : (q : Request s) → Asks s r.words q → q ≡ w
@@ -132,13 +150,14 @@ module _ (s : CommandSet) (laws : AreLawful s) where
     from_file a =
         let e = same a.request a.asks in
         let names : file_of s w ≡ Some a.file = subst (λ (q : Request s). file_of s q ≡ Some a.file) e a.names_it in
-        let held = told w asks a.file (ReadsName.file names) a.there in record {
+        let held = file_told r told w asks a.file names a.there in record {
           file = a.file;
           bytes = held.0;
           names = names;
+          there = a.there;
           held = held.1;
-          defined = of_told (r.held a.file) held.0 (λ bytes. Defined s w bytes o text) held.1
-              (subst (λ (q : Request s). IfSome (r.held a.file) (λ bytes. Defined s q bytes o text)) e a.defined);
+          defined = of_told (of_file r a.file) held.0 (λ bytes. Defined s w bytes o text) held.1
+              (subst (λ (q : Request s). IfSome (of_file r a.file) (λ bytes. Defined s q bytes o text)) e a.defined);
         }
 
     from_both : AnswersBoth s r o text → ByBoth s r w o text
@@ -146,12 +165,12 @@ module _ (s : CommandSet) (laws : AreLawful s) where
         let e = same a.request a.asks in
         let names : file_of s w ≡ Some a.file = subst (λ (q : Request s). file_of s q ≡ Some a.file) e a.names_it in
         let names_second : second_of s w ≡ Some a.second = subst (λ (q : Request s). second_of s q ≡ Some a.second) e a.names_second in
-        let accepted : IfSome (r.held a.file) (λ bytes. Continues s w bytes) =
-        subst (λ (q : Request s). IfSome (r.held a.file) (λ bytes. Continues s q bytes)) e a.accepted in
-        let held = told w asks a.file (ReadsName.file names) a.there in
+        let accepted : IfSome (of_file r a.file) (λ bytes. Continues s w bytes) =
+        subst (λ (q : Request s). IfSome (of_file r a.file) (λ bytes. Continues s q bytes)) e a.accepted in
+        let held = file_told r told w asks a.file names a.there in
         let held_second = told w asks a.second (ReadsName.second a.file names names_second a.there accepted) a.second_there in
-        let defined = of_told (r.held a.file) held.0 (λ bytes. IfSome (r.held a.second) (λ other. DefinedWith s w bytes other o text)) held.1
-        (subst (λ (q : Request s). IfSome (r.held a.file) (λ bytes. IfSome (r.held a.second) (λ other. DefinedWith s q bytes other o text))) e a.defined) in
+        let defined = of_told (of_file r a.file) held.0 (λ bytes. IfSome (r.held a.second) (λ other. DefinedWith s w bytes other o text)) held.1
+        (subst (λ (q : Request s). IfSome (of_file r a.file) (λ bytes. IfSome (r.held a.second) (λ other. DefinedWith s q bytes other o text))) e a.defined) in
         record {
           file = a.file;
           second = a.second;
@@ -159,9 +178,11 @@ module _ (s : CommandSet) (laws : AreLawful s) where
           other = held_second.0;
           names = names;
           names_second = names_second;
+          there = a.there;
+          second_there = a.second_there;
           held = held.1;
           held_second = held_second.1;
-          accepted = of_told (r.held a.file) held.0 (λ bytes. Continues s w bytes) held.1 accepted;
+          accepted = of_told (of_file r a.file) held.0 (λ bytes. Continues s w bytes) held.1 accepted;
           defined = of_told (r.held a.second) held_second.0 (λ other. DefinedWith s w held.0 other o text) held_second.1 defined;
         }
 
@@ -179,19 +200,20 @@ module _ (s : CommandSet) (laws : AreLawful s) where
   module _ (r : Run) (w : Request s) (o p : Outcome) (text line : List ℕ) where
     two_files : ByFile s r w o text → ByFile s r w p line → o ≡ p
     two_files a b = defined_once w a.bytes o p text line a.defined
-        (subst (λ (bytes : List ℕ). Defined s w bytes p line) (same_bytes r (file_of s w) a.file b.file a.bytes b.bytes a.names b.names a.held b.held)
-        b.defined)
+        (subst (λ (bytes : List ℕ). Defined s w bytes p line)
+        (same_bytes (of_file r) (file_of s w) a.file b.file a.bytes b.bytes a.names b.names a.held b.held) b.defined)
 
     file_and_both : ByFile s r w o text → ByBoth s r w p line → ⊥
     file_and_both a b = alone w b.second a.bytes o text b.names_second a.defined
-        (subst (λ (bytes : List ℕ). Continues s w bytes) (same_bytes r (file_of s w) a.file b.file a.bytes b.bytes a.names b.names a.held b.held) b.accepted)
+        (subst (λ (bytes : List ℕ). Continues s w bytes)
+        (same_bytes (of_file r) (file_of s w) a.file b.file a.bytes b.bytes a.names b.names a.held b.held) b.accepted)
 
     two_both : IsFixed s w → ByBoth s r w o text → ByBoth s r w p line → o ≡ p
     two_both fixed a b = with_once w fixed a.bytes a.other o p text line a.defined
         (subst (λ (bytes : List ℕ). DefinedWith s w bytes a.other p line)
-        (same_bytes r (file_of s w) a.file b.file a.bytes b.bytes a.names b.names a.held b.held)
+        (same_bytes (of_file r) (file_of s w) a.file b.file a.bytes b.bytes a.names b.names a.held b.held)
         (subst (λ (other : List ℕ). DefinedWith s w b.bytes other p line)
-        (same_bytes r (second_of s w) a.second b.second a.other b.other a.names_second b.names_second a.held_second b.held_second) b.defined))
+        (same_bytes r.held (second_of s w) a.second b.second a.other b.other a.names_second b.names_second a.held_second b.held_second) b.defined))
 
   joined : (r : Run) (w : Request s) (o p : Outcome) (text line : List ℕ) → ByAny s r w o text → (b : ByAny s r w p line) → IsFixedBy s r w p line b → o ≡ p
   joined r w o p text line (inl a) (inl b) f = words_once w o p text line a b
@@ -210,3 +232,39 @@ module _ (s : CommandSet) (laws : AreLawful s) where
   one_answer r told o p text line a b fixed =
       let q = asked s r o text a in
       joined r q.0 o p text line (from_any r told q.0 q.1 o text a) (from_any r told q.0 q.1 p line b) (fixed_any r told q.0 q.1 p line b fixed)
+
+  -- ---- inputs that are lacked
+
+  -- a name that is lacked is none of those that a defined answer was read of
+  module _ (r : Run) (w : Request s) (name : Text) (lacked : r.lacks name ≡ true) (o : Outcome) (text : List ℕ) where
+    -- another name, which isn't lacked
+    is_other : (known : Option Text) (other : Text) → known ≡ Some name → known ≡ Some other → r.lacks other ≡ false → ⊥
+    is_other known other a b there =
+        false≢true (sym there ∙ ap (λ (n : Text). r.lacks n) (same_Some other name (sym b ∙ a)) ∙ lacked)
+
+    not_of_file : ByFile s r w o text → ReadsName s r w name → ⊥
+    not_of_file a (ReadsName.file none names) = is_other (file_of s w) a.file names a.names (a.there none)
+    not_of_file a (ReadsName.second file names names_second there accepted) =
+        let e = same_Some file a.file (sym names ∙ a.names) in
+        alone w name a.bytes o text names_second a.defined
+        (of_told (of_file r a.file) a.bytes (λ bytes. Continues s w bytes) a.held
+        (subst (λ (n : Text). IfSome (of_file r n) (λ bytes. Continues s w bytes)) e accepted))
+
+    not_of_both : ByBoth s r w o text → ReadsName s r w name → ⊥
+    not_of_both a (ReadsName.file none names) = is_other (file_of s w) a.file names a.names (a.there none)
+    not_of_both a (ReadsName.second file names names_second there accepted) =
+        is_other (second_of s w) a.second names_second a.names_second a.second_there
+
+    not_of_words : WordsAnswer s w o text → ReadsName s r w name → ⊥
+    not_of_words a (ReadsName.file none names) = words_alone w name o text a names
+    not_of_words a (ReadsName.second file names names_second there accepted) = words_alone w file o text a names
+
+    not_of_any : ByAny s r w o text → ReadsName s r w name → ⊥
+    not_of_any (inl a) is = not_of_words a is
+    not_of_any (inr (inl a)) is = not_of_file a is
+    not_of_any (inr (inr a)) is = not_of_both a is
+
+  -- where an input that is read is lacked, a run whose inputs are told has no defined answer
+  pub none_lacked : (r : Run) → InputsAreKnown s r → (w : Request s) → Asks s r.words w → (name : Text) → ReadsName s r w name → r.lacks name ≡ true
+      → (o : Outcome) (text : List ℕ) → Answers s r o text → ⊥
+  none_lacked r told w asks name is lacked o text a = not_of_any r w name lacked o text (from_any r told w asks o text a) is

@@ -1,10 +1,10 @@
 -- The defined answer of a command: by its words alone, on the bytes of its file, or on those of both inputs; and what the code's values say of it.
 use Rattle.std.specs.Prelude.{ℕ, ◌≡◌, ◌⊎◌, List, Some}
-use Rattle.dag_reader.specs.declared.graph.ReadGraph.{ReadGraph}
+use Rattle.diagram.specs.declared.diagram.Diagram.{Diagram}
 use Rattle.replies.specs.declared.outcome.Outcome.{Outcome}
-use Rattle.replies.specs.declared.outcome.Outcome.TheVariants.{Graph}
+use Rattle.replies.specs.declared.outcome.Outcome.TheVariants.{Graph, Memory}
 use Rattle.replies.specs.declared.outcome.Reply.{Reply}
-use Rattle.replies.specs.Observed.{HoldsGraph}
+use Rattle.replies.specs.Observed.{HoldsDiagram}
 use Rattle.replies.specs.Refusals.{IsGraphRefusal}
 use Rattle.replies.specs.Outcomes.{IsAnswered}
 use Rattle.replies.specs.Command.{Remainder}
@@ -19,36 +19,36 @@ use Rattle.command_run.specs.declared.request.AfterFile.TheVariants as first
 abbrev pub WordsAnswer : (s : CommandSet) → Request s → Outcome → List ℕ → Type 0
 WordsAnswer s (of c q) o text = (s.form_of c).by_words q o text
 
--- the answer of a command on a graph that was read, where its file alone decides
-abbrev pub GraphAnswer : (s : CommandSet) → Request s → ReadGraph → Outcome → List ℕ → Type 0
-GraphAnswer s (of c q) g o text = (s.form_of c).by_graph q g o text
+-- the answer of a command on a diagram, where its file alone decides
+abbrev pub DiagramAnswer : (s : CommandSet) → Request s → Diagram → Outcome → List ℕ → Type 0
+DiagramAnswer s (of c q) d o text = (s.form_of c).by_diagram q d o text
 
--- the graph is accepted, and the second input is read
-abbrev pub NeedsSecond : (s : CommandSet) → Request s → ReadGraph → Type 0
-NeedsSecond s (of c q) g = (s.form_of c).continues q g
+-- the diagram is accepted, and the second input is read
+abbrev pub NeedsSecond : (s : CommandSet) → Request s → Diagram → Type 0
+NeedsSecond s (of c q) d = (s.form_of c).continues q d
 
--- the answer of a command on a graph that was read and the bytes of its second input
-abbrev pub SecondAnswer : (s : CommandSet) → Request s → ReadGraph → List ℕ → Outcome → List ℕ → Type 0
-SecondAnswer s (of c q) g other o text = (s.form_of c).by_both q g other o text
+-- the answer of a command on a diagram and the bytes of its second input
+abbrev pub SecondAnswer : (s : CommandSet) → Request s → Diagram → List ℕ → Outcome → List ℕ → Type 0
+SecondAnswer s (of c q) d other o text = (s.form_of c).by_both q d other o text
 
--- the answer of a command on a graph that the bytes hold
+-- the answer of a command on a diagram that the bytes hold
 pub record HoldsAnswer (s : CommandSet) (w : Request s) (bytes : List ℕ) (o : Outcome) (text : List ℕ) : Type 0 where
-  pub graph : ReadGraph
-  pub holds : HoldsGraph bytes graph
-  pub answer : GraphAnswer s w graph o text
+  pub diagram : Diagram
+  pub holds : HoldsDiagram bytes diagram
+  pub answer : DiagramAnswer s w diagram o text
 
 -- the defined answer on the bytes of the file alone: yes or no with its text, or the line of a refused graph or target
 abbrev pub Defined : (s : CommandSet) → Request s → List ℕ → Outcome → List ℕ → Type 0
 Defined s w bytes Graph line = IsGraphRefusal bytes line ⊎ HoldsAnswer s w bytes Graph line
 Defined s w bytes o text = HoldsAnswer s w bytes o text
 
--- the bytes hold a graph that is accepted, and the second input is read
+-- the bytes hold a diagram that is accepted, and the second input is read
 abbrev pub Continues : (s : CommandSet) → Request s → List ℕ → Type 0
-Continues s w bytes = (g : ReadGraph) × HoldsGraph bytes g × NeedsSecond s w g
+Continues s w bytes = (d : Diagram) × HoldsDiagram bytes d × NeedsSecond s w d
 
 -- the defined answer on the bytes of both inputs
 abbrev pub DefinedWith : (s : CommandSet) → Request s → (bytes other : List ℕ) → Outcome → List ℕ → Type 0
-DefinedWith s w bytes other o text = (g : ReadGraph) × HoldsGraph bytes g × NeedsSecond s w g × SecondAnswer s w g other o text
+DefinedWith s w bytes other o text = (d : Diagram) × HoldsDiagram bytes d × NeedsSecond s w d × SecondAnswer s w d other o text
 
 -- what the words alone give: the answer, or the name of the file that is read
 abbrev pub GivesOnWords : (s : CommandSet) → Request s → AfterWords → Type 0
@@ -65,20 +65,21 @@ GivesSecond l other reply = l.answer other reply.outcome reply.text.items
 abbrev pub IsAnsweredWith : Remainder → Type 0
 IsAnsweredWith l = (other : List ℕ) (o : Outcome) (text : List ℕ) → l.answer other o text → IsAnswered o
 
--- what is left of a request on a graph that was read
-abbrev pub IsLeft : (s : CommandSet) → Request s → ReadGraph → Remainder → Type 0
-IsLeft s (of c q) g l = forms.IsLeft (s.form_of c) q g l
+-- what is left of a request on a diagram
+abbrev pub IsLeft : (s : CommandSet) → Request s → Diagram → Remainder → Type 0
+IsLeft s (of c q) d l = forms.IsLeft (s.form_of c) q d l
 
--- what a graph that was read gives: the answer on it, or what is left, as this tells it
-abbrev pub GivesOn : {Second : Type 0} → (Second → Remainder) → (s : CommandSet) → Request s → ReadGraph → AfterFile Second → Type 0
-GivesOn left s w g (first.Replied reply) = GraphAnswer s w g reply.outcome reply.text.items
-GivesOn left s w g (first.Continues p) = IsLeft s w g (left p)
+-- what a diagram gives: the answer on it, or what is left, as this tells it
+abbrev pub GivesOn : {Second : Type 0} → (Second → Remainder) → (s : CommandSet) → Request s → Diagram → AfterFile Second → Type 0
+GivesOn left s w d (first.Replied reply) = DiagramAnswer s w d reply.outcome reply.text.items
+GivesOn left s w d (first.Continues p) = IsLeft s w d (left p)
 
--- what is left of a request whose file has these bytes
-abbrev pub IsLeftOf : (s : CommandSet) → Request s → List ℕ → Remainder → Type 0
-IsLeftOf s w bytes l = (g : ReadGraph) × HoldsGraph bytes g × IsLeft s w g l
+-- the reply to bytes that hold no diagram: their refusal; or memory was refused
+abbrev pub RefusesLine : List ℕ → Outcome → List ℕ → Type 0
+RefusesLine bytes Graph line = IsGraphRefusal bytes line
+RefusesLine bytes Memory line = Unit {0}
+RefusesLine bytes o line = ⊥
 
--- what the file alone gives: the defined answer, or what is left
-abbrev pub FileGives : {Second : Type 0} → (Second → Remainder) → (s : CommandSet) → Request s → List ℕ → AfterFile Second → Type 0
-FileGives left s w bytes (first.Replied reply) = Defined s w bytes reply.outcome reply.text.items
-FileGives left s w bytes (first.Continues p) = IsLeftOf s w bytes (left p)
+-- the same of a reply
+abbrev pub RefusesBytes : List ℕ → Reply → Type 0
+RefusesBytes bytes reply = RefusesLine bytes reply.outcome reply.text.items

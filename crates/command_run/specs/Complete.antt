@@ -1,5 +1,5 @@
 -- The other way round: which status a run has to have.
-use Rattle.std.specs.Prelude.{ℕ, ◌≡◌, ◌⊎◌, false, List, Some}
+use Rattle.std.specs.Prelude.{ℕ, ◌≡◌, ◌⊎◌, true, false, List, Some}
 use Rattle.causal_io.specs.Causes.{Rose}
 use Rattle.command_words.specs.Form.{Text}
 use Rattle.replies.specs.declared.outcome.Outcome.{Outcome}
@@ -36,11 +36,12 @@ abbrev pub IsExact : CommandSet → Run → ℕ → Type 0
 IsExact s r code = (o : Outcome) (text : List ℕ) (answer : Answers s r o text) → IsFixedAnswer s r o text answer → (code ≡ code_of o) ⊎ (code ≡ 8)
 
 -- Where the words ask for nothing, the status is 2; where they ask for something and nothing failed, it is that of a defined answer, and, where the
--- inputs are told, of each defined answer that is fixed. Or memory was refused.
+-- inputs are told, of each defined answer that is fixed; where these are told, and one that is read is lacked, it is 6. Or memory was refused.
 pub record Complete (s : CommandSet) (r : Run) (code : ℕ) : Type 0 where
   pub refused : ((q : Request s) → Asks s r.words q → ⊥) → (code ≡ 2) ⊎ (code ≡ 8)
   pub answered : (q : Request s) → Asks s r.words q → NothingFailed s r → Answered s r code ⊎ (code ≡ 8)
   pub exact : InputsAreKnown s r → NothingFailed s r → IsExact s r code
+  pub lacked : InputsAreKnown s r → (q : Request s) → Asks s r.words q → (name : Text) → ReadsName s r q name → r.lacks name ≡ true → (code ≡ 6) ⊎ (code ≡ 8)
 
 -- words ask for one call at most
 abbrev pub WordsAskOnce : CommandSet → Type 0

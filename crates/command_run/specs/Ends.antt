@@ -1,5 +1,6 @@
 -- How a run comes to its end: the reply to its words, before anything is written, and what is written of it.
-use Rattle.std.specs.Prelude.{ℕ, ◌≡◌, ◌≢◌, ◌≤◌, ◌<◌, Bool, true, false, List, length, take, Option, Result, Ok, Err, IfSome, IsErrOf}
+use Rattle.std.specs.Prelude.{ℕ, ◌≡◌, ◌≢◌, ◌≤◌, ◌<◌, Bool, true, false, List, length, take, Option, Some, None, Result, Ok, Err, IfSome, IsErrOf}
+use Rattle.std.specs.Option.{option_or}
 use Rattle.std.specs.Global.{Vec}
 use Rattle.std.specs.Io.KnownBytes.{Appends}
 use Rattle.causal_io.specs.Causes.{Rose}
@@ -9,15 +10,17 @@ use Rattle.causal_io.specs.declared.ReadError.TheVariants.{Fault, TooLong, NoMem
 use Rattle.command_words.specs.Form.{Text}
 use Rattle.answer_text.specs.Lines.{line_of}
 use Rattle.dag_reader.specs.FaultTexts.{size_text}
+use Rattle.diagram.specs.declared.diagram.Diagram.{Diagram}
 use Rattle.replies.specs.declared.outcome.Outcome.{Outcome}
 use Rattle.replies.specs.declared.outcome.Outcome.TheVariants.{Words, Graph, Read, Write, Memory}
 use Rattle.replies.specs.declared.outcome.Reply.{Reply}
+use Rattle.replies.specs.Observed.{HoldsDiagram}
 use Rattle.replies.specs.Outcomes.{code_of, IsAnswered}
-use Rattle.command_run.specs.Commands.{CommandSet, Request, Asks}
+use Rattle.command_run.specs.Commands.{CommandSet, Request, Asks, second_of}
 use Rattle.command_run.specs.Lines.{words_line, read_line, write_line, memory_line}
 use Rattle.command_run.specs.Run.{Stream, Run, Answers, ReadsName, Reads, IsNotRead, IsReadAtMostOnce, Ends}
 use Rattle.replies.specs.Command.{Remainder}
-use Rattle.command_run.specs.Answers.{GivesSecond}
+use Rattle.command_run.specs.Answers.{NeedsSecond, GivesSecond}
 
 -- a read of an input that the words ask for failed
 pub record FailedRead (s : CommandSet) (r : Run) : Type 0 where
@@ -27,22 +30,38 @@ pub record FailedRead (s : CommandSet) (r : Run) : Type 0 where
   pub is_read : ReadsName s r request name
   pub rose : Rose (r.read_faults name) (r.read_faults_after name)
 
--- what a reply says, by its outcome, where words have these answers: it is one of them, or the words ask for nothing, or an input isn't read, or
--- memory was refused
-abbrev pub Says : (s : CommandSet) (words : List Text) (answers : Outcome → List ℕ → Type 0) (unread : Type 0) → Outcome → List ℕ → Type 0
-Says s words answers unread Words text = (q : Request s) → Asks s words q → ⊥
-Says s words answers unread Read text = unread
-Says s words answers unread Write text = ⊥
-Says s words answers unread Memory text = Unit {0}
-Says s words answers unread o text = answers o text
-
--- what a reply says of the run: the answer is the defined one, and a read failed
+-- what a reply says of the run, by its outcome: it is the defined answer, or the words ask for nothing, or a read failed, or memory was refused
 abbrev pub Replied : CommandSet → Run → Outcome → List ℕ → Type 0
-Replied s r o text = Says s r.words (Answers s r) (FailedRead s r) o text
+Replied s r Words text = (q : Request s) → Asks s r.words q → ⊥
+Replied s r Read text = FailedRead s r
+Replied s r Write text = ⊥
+Replied s r Memory text = Unit {0}
+Replied s r o text = Answers s r o text
 
 -- the same of a reply
 abbrev pub RepliesWith : CommandSet → Run → Reply → Type 0
 RepliesWith s r reply = Replied s r reply.outcome reply.text.items
+
+-- ---- the diagram of a file
+
+-- this text is kept where this diagram is given: it holds that; none is kept where none is given
+abbrev pub IsTextOf : Option (List ℕ) → Option Diagram → Type 0
+IsTextOf None None = Unit {0}
+IsTextOf (Some text) (Some d) = HoldsDiagram text d
+IsTextOf kept given = ⊥
+
+-- the diagram is that of the text that stands for a file; or of what is held under its name, which isn't lacked
+pub record IsOfFile (kept : Option (List ℕ)) (held : Text → Option (List ℕ)) (lacks : Text → Bool) (file : Text) (d : Diagram) : Type 0 where
+  pub there : kept ≡ None → lacks file ≡ false
+  pub holds : IfSome (option_or kept (held file)) (λ text. HoldsDiagram text d)
+
+-- these bytes were read of a file: they are all that is held under its name, and at most 1,048,576
+pub record WereRead (held : Text → Option (List ℕ)) (lacks : Text → Bool) (file : Text) (bytes : List ℕ) : Type 0 where
+  pub all : IfSome (held file) (λ all. bytes ≡ all)
+  pub there : lacks file ≡ false
+  pub small : length bytes ≤ 1048576
+
+-- ---- what is read
 
 -- what was read of an input: all that it holds, up to a limit, or that this is more; or a read failed, as one of an input that is lacked does
 pub record IsReadOf (held : Option (List ℕ)) (lacks : Bool) (faults faults_after limit : ℕ) (read : Result (Vec ℕ) ReadError) : Type 0 where
@@ -83,10 +102,17 @@ GivesOnRead l (Err (TooLong most)) reply = (other : List ℕ) → l.limit < leng
 GivesOnRead l (Err Fault) reply = reply.outcome ≡ Read
 GivesOnRead l (Err NoMemory) reply = ⊥
 
--- what was read where a second input is: no other name, the file not again, and none more than once
-pub record ReadsSecond (held : Text → Option (List ℕ)) (q : Reads) (file second : Text) : Type 0 where
+-- what was read where a second input is: no other name, the file not again where it was read before, and none more than once
+pub record ReadsSecond (held : Text → Option (List ℕ)) (q : Reads) (file : Text) (before : Bool) (second : Text) : Type 0 where
   pub only : (name : Text) → name ≢ second → IsNotRead q name
-  pub not_again : IsNotRead q file
+  pub not_again : before ≡ true → IsNotRead q file
+  pub once : (name : Text) → IsReadAtMostOnce held q name
+
+-- what was read beside the file of a request on a diagram: the second input where that is accepted, no other name, the file not again where it was
+-- read before, and none more than once
+pub record ReadsBeside (s : CommandSet) (w : Request s) (d : Diagram) (held : Text → Option (List ℕ)) (q : Reads) (file : Text) (before : Bool) : Type 0 where
+  pub only : (name : Text) → (NeedsSecond s w d → second_of s w ≡ Some name → ⊥) → IsNotRead q name
+  pub not_again : before ≡ true → IsNotRead q file
   pub once : (name : Text) → IsReadAtMostOnce held q name
 
 -- the reply where the second input is read: that on the bytes that it holds; or a read failed; or memory was refused

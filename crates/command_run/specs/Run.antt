@@ -1,5 +1,6 @@
 -- How a run ends.
-use Rattle.std.specs.Prelude.{ℕ, ◌≡◌, ◌≤◌, Bool, false, List, length, take, Option, Some, IfSome}
+use Rattle.std.specs.Prelude.{ℕ, ◌≡◌, ◌≤◌, Bool, false, List, length, take, Option, Some, None, IfSome}
+use Rattle.std.specs.Option.{option_or}
 use Rattle.std.specs.Io.KnownBytes.{Appends}
 use Rattle.causal_io.specs.Causes.{Rose}
 use Rattle.causal_io.specs.Reading.{IsReadOnce}
@@ -22,19 +23,23 @@ pub record Stream : Type 0 where
 abbrev pub stream_of : (before after : Option (List ℕ)) (faults faults_after : ℕ) → Stream
 stream_of before after faults faults_after = record { before = before; after = after; faults = faults; faults_after = faults_after }
 
--- what a run was given: the words; what is held and lacked under each name, with the counts of faults before and after; and `out`
+-- what a run was given: the words; the text that stands for their file, which isn't read then, where one is kept; what is held and lacked under each
+-- name, with the counts of faults before and after; and `out`
 pub record Run : Type 0 where
   pub words : List Text
+  pub kept : Option (List ℕ)
   pub held : Text → Option (List ℕ)
   pub lacks : Text → Bool
   pub read_faults : Text → ℕ
   pub read_faults_after : Text → ℕ
   pub out : Stream
 
--- the run on these words, over an input with what it holds and lacks and its counts of faults before and after, and an output
-abbrev pub run_on : (words : List Text) (held : Text → Option (List ℕ)) (lacks : Text → Bool) (faults faults_after : Text → ℕ) (out : Stream) → Run
-run_on words held lacks faults faults_after out = record {
+-- the run on these words, over an input with what it holds and lacks and its counts of faults before and after, and an output, where this text is kept
+abbrev pub run_with : (kept : Option (List ℕ)) (words : List Text) (held : Text → Option (List ℕ)) (lacks : Text → Bool) (faults faults_after : Text → ℕ)
+    (out : Stream) → Run
+run_with kept words held lacks faults faults_after out = record {
   words = words;
+  kept = kept;
   held = held;
   lacks = lacks;
   read_faults = faults;
@@ -42,20 +47,24 @@ run_on words held lacks faults faults_after out = record {
   out = out;
 }
 
+-- the same where none is kept
+abbrev pub run_on : (words : List Text) (held : Text → Option (List ℕ)) (lacks : Text → Bool) (faults faults_after : Text → ℕ) (out : Stream) → Run
+run_on words held lacks faults faults_after out = run_with None words held lacks faults faults_after out
+
 -- the words ask for a request without an input, and this is its answer
 pub record AnswersWords (s : CommandSet) (words : List Text) (o : Outcome) (text : List ℕ) : Type 0 where
   pub request : Request s
   pub asks : Asks s words request
   pub answer : WordsAnswer s request o text
 
--- the words ask for a request whose file was read, and on the bytes that it holds this is the defined answer
+-- the words ask for a request whose file was read, and on the bytes that it holds, or on the text that stands for it, this is the defined answer
 pub record AnswersFile (s : CommandSet) (r : Run) (o : Outcome) (text : List ℕ) : Type 0 where
   pub request : Request s
   pub asks : Asks s r.words request
   pub file : Text
   pub names_it : file_of s request ≡ Some file
-  pub there : r.lacks file ≡ false
-  pub defined : IfSome (r.held file) (λ bytes. Defined s request bytes o text)
+  pub there : r.kept ≡ None → r.lacks file ≡ false
+  pub defined : IfSome (option_or r.kept (r.held file)) (λ bytes. Defined s request bytes o text)
 
 -- the words ask for a request whose file was read and accepted, and whose second input was read, and on the bytes of both this is the defined answer
 pub record AnswersBoth (s : CommandSet) (r : Run) (o : Outcome) (text : List ℕ) : Type 0 where
@@ -65,10 +74,10 @@ pub record AnswersBoth (s : CommandSet) (r : Run) (o : Outcome) (text : List ℕ
   pub names_it : file_of s request ≡ Some file
   pub second : Text
   pub names_second : second_of s request ≡ Some second
-  pub there : r.lacks file ≡ false
+  pub there : r.kept ≡ None → r.lacks file ≡ false
   pub second_there : r.lacks second ≡ false
-  pub accepted : IfSome (r.held file) (λ bytes. Continues s request bytes)
-  pub defined : IfSome (r.held file) (λ bytes. IfSome (r.held second) (λ other. DefinedWith s request bytes other o text))
+  pub accepted : IfSome (option_or r.kept (r.held file)) (λ bytes. Continues s request bytes)
+  pub defined : IfSome (option_or r.kept (r.held file)) (λ bytes. IfSome (r.held second) (λ other. DefinedWith s request bytes other o text))
 
 -- the defined answer: by the words alone, by the file alone, or by both inputs
 pub data Answers (s : CommandSet) (r : Run) (o : Outcome) (text : List ℕ) : Type 0 where
@@ -91,11 +100,11 @@ pub record NotUnderstood (s : CommandSet) (r : Run) : Type 0 where
   pub no_request : (q : Request s) → Asks s r.words q → ⊥
   pub nothing : r.out.after ≡ r.out.before
 
--- the request reads this name: it is that of its file, or that of its second input, where the file is accepted
+-- the request reads this name: it is that of its file, unless a text stands for that, or that of its second input, where the file is accepted
 pub data ReadsName (s : CommandSet) (r : Run) (w : Request s) (name : Text) : Type 0 where
-  file : file_of s w ≡ Some name → ReadsName s r w name
-  second : (file : Text) → file_of s w ≡ Some file → second_of s w ≡ Some name → r.lacks file ≡ false → IfSome (r.held file) (λ bytes. Continues s w bytes)
-      → ReadsName s r w name
+  file : r.kept ≡ None → file_of s w ≡ Some name → ReadsName s r w name
+  second : (file : Text) → file_of s w ≡ Some file → second_of s w ≡ Some name → (r.kept ≡ None → r.lacks file ≡ false)
+      → IfSome (option_or r.kept (r.held file)) (λ bytes. Continues s w bytes) → ReadsName s r w name
 
 -- how often each name was read before and after a run, and how many bytes of it were given, where the input tells
 pub record Reads : Type 0 where

@@ -1,45 +1,46 @@
-// What the inputs of a request give: first the file alone, then the second input, where the file was accepted.
+// The diagram that a file holds, and the reply on what was read of a second input.
 
-ghost use Rattle.std.specs.Prelude.{◌≤◌, ◌<◌, ℕ, List, None, ◌≡◌, IfOk, length};
-ghost use Rattle.command_run.specs.Commands.{file_of};
-ghost use Rattle.command_run.specs.Answers.{FileGives, GivesSecond};
+ghost use Rattle.std.specs.Prelude.{◌≤◌, ◌<◌, ℕ, List, ◌≡◌, IfOk, IfErr, length};
+ghost use Rattle.replies.specs.Observed.{HoldsDiagram};
+ghost use Rattle.command_run.specs.Answers.{GivesSecond, RefusesBytes};
 ghost use Rattle.command_run.specs.Ends.{GivesOnRead, IsMade};
 
-use crate::request::{AfterFile, Request, SecondInput};
+use crate::request::SecondInput;
 use causal_io::ReadError;
 use dag_reader::read_graph;
+use diagram::Diagram;
 use replies::{Outcome, Reply, refuse_graph};
 use std::alloc::{AllocError, Global};
 
-/// What the file of a request alone gives, on its bytes, of which there are at most 1,048,576.
-pub fn reply_on_file<'a, R: Request<'a>>(
-    alloc: Global,
-    request: R,
-    bytes: &[u8],
-) -> Result<AfterFile<R::Second>, AllocError>
-    requires small { length bytes.now ≤ 1048576 }
-    requires reads { file_of R.commands (R.request request) ≡ None → ⊥ }
-    ensures { IfOk result (FileGives R.Second.left R.commands (R.request request) bytes.now) }
+/// The diagram that the bytes hold, of which there are at most 1,048,576; or the reply where they hold none.
+pub fn read_diagram(alloc: Global, bytes: &[u8]) -> Result<Diagram, Reply>
+    requires { length bytes.now ≤ 1048576 }
+    ensures holds { IfOk result (HoldsDiagram bytes.now) }
+    ensures refused { IfErr result (RefusesBytes bytes.now) }
 {
     match read_graph(alloc, bytes) {
-        Ok(graph) => request.graph_reply(alloc, graph),
-        Err(fault) => Ok(AfterFile::Replied(refuse_graph(alloc, &fault)?)),
+        Ok(read) => match Diagram::of(alloc, read) {
+            Ok(diagram) => Ok(diagram),
+            Err(_) => Err(Reply::bare(alloc, Outcome::Memory)),
+        },
+        Err(fault) => Err(or_memory(alloc, refuse_graph(alloc, &fault))),
     }
 }
 
 /// The reply on what was read of the second input.
 pub fn reply_on_second<S: SecondInput>(
     alloc: Global,
+    diagram: &Diagram,
     input: &S,
     read: Result<Vec<u8>, ReadError>,
 ) -> Result<Reply, AllocError>
-    requires limit { IfOk read (λ other. length other.items ≤ (S.left input.now).limit) }
-    requires accepted { (S.left input.now).known }
-    ensures { IfOk result (GivesOnRead (S.left input.now) read) }
+    requires limit { IfOk read (λ other. length other.items ≤ (S.left diagram.now input.now).limit) }
+    requires accepted { (S.left diagram.now input.now).known }
+    ensures { IfOk result (GivesOnRead (S.left diagram.now input.now) read) }
 {
     match read {
-        Ok(other) => input.reply(alloc, &other),
-        Err(ReadError::TooLong { limit: _ }) => input.long_reply(alloc),
+        Ok(other) => input.reply(alloc, diagram, &other),
+        Err(ReadError::TooLong { limit: _ }) => input.long_reply(alloc, diagram),
         Err(ReadError::Fault) => Ok(Reply::bare(alloc, Outcome::Read)),
         Err(ReadError::NoMemory) => Err(AllocError),
     }

@@ -5,6 +5,7 @@ ghost use Rattle.command_words.specs.Form.{Use, row_named};
 ghost use Rattle.command_words.specs.Views.{row_of};
 ghost use Rattle.command_words.specs.Gives.{HoldsCall};
 ghost use Rattle.command_words.specs.Readable.{AreReadable};
+ghost use Rattle.diagram.specs.declared.diagram.Diagram.{Diagram as Drawn};
 ghost use Rattle.replies.specs.Command.{Remainder};
 ghost use Rattle.command_run.specs.Commands.{CommandSet, table, command_of, file_of, IsRequest, AsksNothing};
 ghost use Rattle.command_run.specs.Commands as asked;
@@ -14,7 +15,7 @@ ghost use Rattle.command_run.specs.Answers.{GivesOnWords, GivesOn, GivesSecond};
 use command_words::forms::Entry;
 use command_words::typed::RequestFault;
 use command_words::values::Values;
-use dag_reader::ReadGraph;
+use diagram::Diagram;
 use replies::Reply;
 use std::alloc::{AllocError, Global};
 
@@ -36,29 +37,29 @@ pub enum AfterFile<S> {
     Continues(S),
 }
 
-/// What is left to answer once the file was accepted, where a second input is read.
+/// What is left to answer once the file was accepted, where a second input is read. The diagram of the file is lent to it.
 pub trait SecondInput: Drop {
-    /// What is left.
-    ghost left: { Self → Remainder };
+    /// What is left on a diagram.
+    ghost left: { Drawn → Self → Remainder };
 
     /// The name of the second input.
     fn second(&self) -> &str
-        ensures { result.now ≡ (left self.now).second };
+        ensures { (d : Drawn) → result.now ≡ (left d self.now).second };
 
     /// The most bytes of the second input.
     fn limit(&self) -> u64
-        ensures limit { result ≡ (left self.now).limit }
+        ensures limit { (d : Drawn) → result ≡ (left d self.now).limit }
         ensures least { 1048576 ≤ result };
 
     /// The reply on the bytes of the second input.
-    fn reply(&self, alloc: Global, other: &[u8]) -> Result<Reply, AllocError>
-        requires limit { length other.now ≤ (left self.now).limit }
-        requires accepted { (left self.now).known }
-        ensures { IfOk result (GivesSecond (left self.now) other.now) };
+    fn reply(&self, alloc: Global, diagram: &Diagram, other: &[u8]) -> Result<Reply, AllocError>
+        requires limit { length other.now ≤ (left diagram.now self.now).limit }
+        requires accepted { (left diagram.now self.now).known }
+        ensures { IfOk result (GivesSecond (left diagram.now self.now) other.now) };
 
     /// The reply where the second input has more bytes than its limit.
-    fn long_reply(&self, alloc: Global) -> Result<Reply, AllocError>
-        ensures { IfOk result (λ reply. (other : List ℕ) → (left self.now).limit < length other → GivesSecond (left self.now) other reply) };
+    fn long_reply(&self, alloc: Global, diagram: &Diagram) -> Result<Reply, AllocError>
+        ensures { IfOk result (λ reply. (other : List ℕ) → (left diagram.now self.now).limit < length other → GivesSecond (left diagram.now self.now) other reply) };
 }
 
 /// What words ask of a program, whose commands these are.
@@ -101,12 +102,12 @@ pub trait Request<'a>: Sized + Drop {
     fn after_words(&self, alloc: Global) -> Result<AfterWords<'a>, AllocError>
         ensures { IfOk result (GivesOnWords commands (request self.now)) };
 
-    /// What a command gives on the graph of its file.
-    fn graph_reply(
+    /// What a command gives on the diagram of its file.
+    fn reply_on(
         self,
         alloc: Global,
-        graph: ReadGraph,
+        diagram: &Diagram,
     ) -> Result<AfterFile<Self::Second>, AllocError>
         requires { file_of commands (request self) ≡ None → ⊥ }
-        ensures { IfOk result (GivesOn Self.Second.left commands (request self) graph) };
+        ensures { IfOk result (GivesOn (Self.Second.left diagram.now) commands (request self) diagram.now) };
 }

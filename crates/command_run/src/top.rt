@@ -1,22 +1,23 @@
 //! The run of any commands: words are read, inputs are read, and the answer is written.
 
-ghost use Rattle.std.specs.Prelude.{◌≡◌, ◌≤◌, List, Some, None, false, length, IfOk, IfErr, IfSome};
+ghost use Rattle.std.specs.Prelude.{◌≡◌, ◌≤◌, ℕ, List, Option, Some, IfOk, IfErr, IfSome, is_some, option_map};
 ghost use Rattle.command_words.specs.Form.{Text};
 ghost use Rattle.command_words.specs.Views.{texts_of};
 ghost use Rattle.replies.specs.Outcomes.{code_of};
-ghost use Rattle.command_run.specs.Run.{Stream, Ended, Received, run_on, stream_of, reads_of, ReadsAsAsked};
+ghost use Rattle.command_run.specs.Run.{Stream, Ended, Received, run_on, run_with, stream_of, reads_of, ReadsAsAsked};
 ghost use Rattle.command_run.specs.Complete.{Complete};
 ghost use Rattle.command_run.specs.Commands.{Asks, file_of};
 ghost use Rattle.command_run.specs.Laws.{AreLawful};
 ghost use Rattle.command_run.specs.Answers.{IsAnsweredWith};
-ghost use Rattle.command_run.specs.Ends.{RepliesWith, EndsWith, IsReadOf, Stays, IsTooLong, TellsUnread, ReadsSecond, Delivers, Proceeds, text_of};
+ghost use Rattle.command_run.specs.Ends.{RepliesWith, EndsWith, IsTextOf, IsOfFile, WereRead, IsReadOf, Stays, IsTooLong, TellsUnread, ReadsSecond, ReadsBeside, Delivers, Proceeds, text_of};
 
 use crate::lines::line_of;
-use crate::replying::{or_memory, reply_on_file, reply_on_second};
+use crate::replying::{or_memory, read_diagram, reply_on_second};
 use crate::request::{AfterFile, AfterWords, Request, SecondInput};
 use crate::words::read_request;
 use causal_io::{ReadError, Shelf, Sink, read_all, write_all};
 use command_words::typed::RequestFault;
+use diagram::Diagram;
 use replies::{Outcome, Reply};
 use std::alloc::Global;
 
@@ -82,42 +83,72 @@ fn respond<'a, R: Request<'a>, S: Shelf, O: Sink>(
         (stream_of (O.written out.old) (O.written out.new) (O.faults out.old) (O.faults out.new))) (reads_of (S.reads shelf.old) (S.reads shelf.new) (S.given shelf.old) (S.given shelf.new)) }
     ensures stays { Stays (S.held shelf.old) (S.held shelf.new) (S.lacks shelf.old) (S.lacks shelf.new) }
 {
-    let reply = reply_to::<R, S>(alloc, words, shelf);
+    let reply = reply_to::<R, S>(alloc, words, None, shelf);
     deliver(alloc, out, reply)
 }
 
-/// The reply to the words, for which their inputs are read and nothing is written.
-fn reply_to<'a, R: Request<'a>, S: Shelf>(
+/// The reply to the words, for which their inputs are read and nothing is written. A diagram that is given stands for their file, which isn't read then.
+pub fn reply_to<'a, R: Request<'a>, S: Shelf>(
     alloc: Global,
     words: &'a [String],
+    given: Option<&Diagram>,
     shelf: &mut S,
 ) -> Reply
     requires { AreLawful R.commands }
-    ensures replies { (out : Stream) → RepliesWith R.commands (run_on (texts_of words.now) (S.held shelf.old) (S.lacks shelf.old) (S.faults shelf.old) (S.faults shelf.new) out) result }
-    ensures reads { (out : Stream) → ReadsAsAsked R.commands (run_on (texts_of words.now) (S.held shelf.old) (S.lacks shelf.old) (S.faults shelf.old) (S.faults shelf.new) out)
+    ensures replies { (kept : Option (List ℕ)) → IsTextOf kept (option_map (λ d. d.now) given.entry) → (out : Stream)
+        → RepliesWith R.commands (run_with kept (texts_of words.now) (S.held shelf.old) (S.lacks shelf.old) (S.faults shelf.old) (S.faults shelf.new) out) result }
+    ensures reads { (kept : Option (List ℕ)) → IsTextOf kept (option_map (λ d. d.now) given.entry) → (out : Stream)
+        → ReadsAsAsked R.commands (run_with kept (texts_of words.now) (S.held shelf.old) (S.lacks shelf.old) (S.faults shelf.old) (S.faults shelf.new) out)
         (reads_of (S.reads shelf.old) (S.reads shelf.new) (S.given shelf.old) (S.given shelf.new)) }
     ensures stays { Stays (S.held shelf.old) (S.held shelf.new) (S.lacks shelf.old) (S.lacks shelf.new) }
 {
     match read_request::<R>(alloc, words) {
-        Ok(request) => answer::<R, S>(alloc, request, shelf),
+        Ok(request) => answer::<R, S>(alloc, request, given, shelf),
         Err(RequestFault::NotUnderstood) => Reply::bare(alloc, Outcome::Words),
         Err(RequestFault::NoMemory) => Reply::bare(alloc, Outcome::Memory),
     }
 }
 
 /// Answers a request: by its words, or on its file.
-fn answer<'a, R: Request<'a>, S: Shelf>(alloc: Global, request: R, shelf: &mut S) -> Reply
+fn answer<'a, R: Request<'a>, S: Shelf>(
+    alloc: Global,
+    request: R,
+    given: Option<&Diagram>,
+    shelf: &mut S,
+) -> Reply
     requires { AreLawful R.commands }
-    ensures replies { (words : List Text) → Asks R.commands words (R.request request) → (out : Stream)
-        → RepliesWith R.commands (run_on words (S.held shelf.old) (S.lacks shelf.old) (S.faults shelf.old) (S.faults shelf.new) out) result }
-    ensures reads { (words : List Text) → Asks R.commands words (R.request request) → (out : Stream)
-        → ReadsAsAsked R.commands (run_on words (S.held shelf.old) (S.lacks shelf.old) (S.faults shelf.old) (S.faults shelf.new) out) (reads_of (S.reads shelf.old) (S.reads shelf.new) (S.given shelf.old) (S.given shelf.new)) }
+    ensures replies { (kept : Option (List ℕ)) → IsTextOf kept (option_map (λ d. d.now) given.entry) → (words : List Text) → Asks R.commands words (R.request request) → (out : Stream)
+        → RepliesWith R.commands (run_with kept words (S.held shelf.old) (S.lacks shelf.old) (S.faults shelf.old) (S.faults shelf.new) out) result }
+    ensures reads { (kept : Option (List ℕ)) → IsTextOf kept (option_map (λ d. d.now) given.entry) → (words : List Text) → Asks R.commands words (R.request request) → (out : Stream)
+        → ReadsAsAsked R.commands (run_with kept words (S.held shelf.old) (S.lacks shelf.old) (S.faults shelf.old) (S.faults shelf.new) out) (reads_of (S.reads shelf.old) (S.reads shelf.new) (S.given shelf.old) (S.given shelf.new)) }
     ensures stays { Stays (S.held shelf.old) (S.held shelf.new) (S.lacks shelf.old) (S.lacks shelf.new) }
 {
     match request.after_words(alloc) {
-        Ok(AfterWords::Reads(file)) => answer_on_file::<R, S>(alloc, file, request, shelf),
+        Ok(AfterWords::Reads(file)) => answer_with::<R, S>(alloc, file, request, given, shelf),
         Ok(AfterWords::Replied(reply)) => reply,
         Err(_) => Reply::bare(alloc, Outcome::Memory),
+    }
+}
+
+/// Answers a request with a file: on the diagram that stands for it, or on what is read of it.
+fn answer_with<'a, R: Request<'a>, S: Shelf>(
+    alloc: Global,
+    file: &str,
+    request: R,
+    given: Option<&Diagram>,
+    shelf: &mut S,
+) -> Reply
+    requires lawful { AreLawful R.commands }
+    requires names { file_of R.commands (R.request request) ≡ Some file.now }
+    ensures replies { (kept : Option (List ℕ)) → IsTextOf kept (option_map (λ d. d.now) given.entry) → (words : List Text) → Asks R.commands words (R.request request) → (out : Stream)
+        → RepliesWith R.commands (run_with kept words (S.held shelf.old) (S.lacks shelf.old) (S.faults shelf.old) (S.faults shelf.new) out) result }
+    ensures reads { (kept : Option (List ℕ)) → IsTextOf kept (option_map (λ d. d.now) given.entry) → (words : List Text) → Asks R.commands words (R.request request) → (out : Stream)
+        → ReadsAsAsked R.commands (run_with kept words (S.held shelf.old) (S.lacks shelf.old) (S.faults shelf.old) (S.faults shelf.new) out) (reads_of (S.reads shelf.old) (S.reads shelf.new) (S.given shelf.old) (S.given shelf.new)) }
+    ensures stays { Stays (S.held shelf.old) (S.held shelf.new) (S.lacks shelf.old) (S.lacks shelf.new) }
+{
+    match given {
+        Some(diagram) => answer_on::<R, S>(alloc, file, None, diagram, request, shelf),
+        None => answer_on_file::<R, S>(alloc, file, request, shelf),
     }
 }
 
@@ -140,10 +171,41 @@ fn answer_on_file<'a, R: Request<'a>, S: Shelf>(
         Ok(bytes) => bytes,
         Err(fault) => return unread_graph(alloc, fault),
     };
-    match reply_on_file::<R>(alloc, request, &bytes) {
+    match read_diagram(alloc, &bytes) {
+        Ok(diagram) => answer_on::<R, S>(
+            alloc,
+            file,
+            Some(bytes.as_slice()),
+            &diagram,
+            request,
+            shelf,
+        ),
+        Err(reply) => reply,
+    }
+}
+
+/// Answers a request on the diagram of its file, of which these bytes were read where any were.
+fn answer_on<'a, R: Request<'a>, S: Shelf>(
+    alloc: Global,
+    file: &str,
+    bytes: Option<&[u8]>,
+    diagram: &Diagram,
+    request: R,
+    shelf: &mut S,
+) -> Reply
+    requires lawful { AreLawful R.commands }
+    requires names { file_of R.commands (R.request request) ≡ Some file.now }
+    requires read { IfSome bytes (λ b. WereRead (S.held shelf.now) (S.lacks shelf.now) file.now b.now) }
+    ensures replies { (kept : Option (List ℕ)) → IsOfFile kept (S.held shelf.old) (S.lacks shelf.old) file.now diagram.now → (words : List Text) → Asks R.commands words (R.request request)
+        → (before : Text → ℕ) → ((name : Text) → before name ≤ S.faults shelf.old name) → (out : Stream)
+        → RepliesWith R.commands (run_with kept words (S.held shelf.old) (S.lacks shelf.old) before (S.faults shelf.new) out) result }
+    ensures reads { ReadsBeside R.commands (R.request request) diagram.now (S.held shelf.old) (reads_of (S.reads shelf.old) (S.reads shelf.new) (S.given shelf.old) (S.given shelf.new)) file.now (is_some bytes.entry) }
+    ensures stays { Stays (S.held shelf.old) (S.held shelf.new) (S.lacks shelf.old) (S.lacks shelf.new) }
+{
+    match request.reply_on(alloc, diagram) {
         Err(_) => Reply::bare(alloc, Outcome::Memory),
         Ok(AfterFile::Replied(reply)) => reply,
-        Ok(AfterFile::Continues(input)) => proceed(alloc, file, &bytes, &input, shelf),
+        Ok(AfterFile::Continues(input)) => proceed(alloc, file, bytes, diagram, &input, shelf),
     }
 }
 
@@ -151,39 +213,40 @@ fn answer_on_file<'a, R: Request<'a>, S: Shelf>(
 fn proceed<I: SecondInput, S: Shelf>(
     alloc: Global,
     file: &str,
-    bytes: &[u8],
+    bytes: Option<&[u8]>,
+    diagram: &Diagram,
     input: &I,
     shelf: &mut S,
 ) -> Reply
-    requires held { IfSome (S.held shelf.now file.now) (λ all. bytes.now ≡ all) }
-    requires there { S.lacks shelf.now file.now ≡ false }
-    requires small { length bytes.now ≤ 1048576 }
-    requires accepted { (I.left input.now).known }
-    requires answered { IsAnsweredWith (I.left input.now) }
-    ensures proceeds { Proceeds (S.held shelf.old) (S.lacks shelf.old) (S.faults shelf.old) (S.faults shelf.new) (I.left input.now) result }
-    ensures reads { ReadsSecond (S.held shelf.old) (reads_of (S.reads shelf.old) (S.reads shelf.new) (S.given shelf.old) (S.given shelf.new)) file.now (I.left input.now).second }
+    requires read { IfSome bytes (λ b. WereRead (S.held shelf.now) (S.lacks shelf.now) file.now b.now) }
+    requires accepted { (I.left diagram.now input.now).known }
+    requires answered { IsAnsweredWith (I.left diagram.now input.now) }
+    ensures proceeds { Proceeds (S.held shelf.old) (S.lacks shelf.old) (S.faults shelf.old) (S.faults shelf.new) (I.left diagram.now input.now) result }
+    ensures reads { ReadsSecond (S.held shelf.old) (reads_of (S.reads shelf.old) (S.reads shelf.new) (S.given shelf.old) (S.given shelf.new)) file.now (is_some bytes.entry) (I.left diagram.now input.now).second }
     ensures stays { Stays (S.held shelf.old) (S.held shelf.new) (S.lacks shelf.old) (S.lacks shelf.new) }
 {
     let read = read_second(alloc, file, bytes, input.second(), input.limit(), shelf);
-    or_memory(alloc, reply_on_second(alloc, input, read))
+    or_memory(alloc, reply_on_second(alloc, diagram, input, read))
 }
 
-/// The bytes of the second input. An input that is named twice is read once.
+/// The bytes of the second input. A file that was read isn't read again.
 fn read_second<S: Shelf>(
     alloc: Global,
     file: &str,
-    bytes: &[u8],
+    bytes: Option<&[u8]>,
     second: &str,
     limit: u64,
     shelf: &mut S,
 ) -> Result<Vec<u8>, ReadError>
-    requires held { IfSome (S.held shelf.now file.now) (λ all. bytes.now ≡ all) }
-    requires there { S.lacks shelf.now file.now ≡ false }
-    requires small { length bytes.now ≤ limit }
+    requires read { IfSome bytes (λ b. WereRead (S.held shelf.now) (S.lacks shelf.now) file.now b.now) }
+    requires least { 1048576 ≤ limit }
     ensures answer { IsReadOf (S.held shelf.old second.now) (S.lacks shelf.old second.now) (S.faults shelf.old second.now) (S.faults shelf.new second.now) limit result }
-    ensures reads { ReadsSecond (S.held shelf.old) (reads_of (S.reads shelf.old) (S.reads shelf.new) (S.given shelf.old) (S.given shelf.new)) file.now second.now }
+    ensures reads { ReadsSecond (S.held shelf.old) (reads_of (S.reads shelf.old) (S.reads shelf.new) (S.given shelf.old) (S.given shelf.new)) file.now (is_some bytes.entry) second.now }
     ensures stays { Stays (S.held shelf.old) (S.held shelf.new) (S.lacks shelf.old) (S.lacks shelf.new) }
 {
+    let Some(bytes) = bytes else {
+        return read_all(alloc, shelf, second, limit);
+    };
     if second == file {
         return copied(alloc, bytes);
     }

@@ -62,7 +62,8 @@ as_at_start s xs (inl e) = rw e refl
 as_at_start s xs (inr e) = rw e (behind_return xs)
 
 -- a line end before a record
-pub line_end : (text : List ℕ) (at : ℕ) → at < length text → is_line_end (get_or text at 0) ≡ true → next_record default_config st.StartRecord [] [] (drop at text)
+pub line_end : (text : List ℕ) (at : ℕ) → at < length text → is_line_end (get_or text at 0) ≡ true → next_record default_config st.StartRecord [] []
+    (drop at text)
     ≡ next_record default_config st.StartRecord [] [] (drop (at + 1) text)
 line_end text at below e =
     rw (drop_more text at 0 below) (skip st.StartRecord st.StartRecord (get_or text at 0) [] [] (drop (at + 1) text) (rw e refl))
@@ -73,7 +74,8 @@ unfolding next_record
 same_begin c rest n = rw n refl
 
 -- a record begins with a field
-pub begun : (text : List ℕ) (at : ℕ) → at < length text → is_line_end (get_or text at 0) ≡ false → next_record default_config st.StartRecord [] [] (drop at text)
+pub begun : (text : List ℕ) (at : ℕ) → at < length text → is_line_end (get_or text at 0) ≡ false → next_record default_config st.StartRecord [] []
+    (drop at text)
     ≡ next_record default_config st.StartField [] [] (drop at text)
 begun text at below e = rw (drop_more text at 0 below) (same_begin (get_or text at 0) (drop (at + 1) text) e)
 

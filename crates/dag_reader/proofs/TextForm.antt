@@ -65,7 +65,6 @@ run_high b h = grind (arith, nat_tests)
 
 -- A text is cut into two at the end of the run at its front.
 pub run_cut : (c : Class) (bs : List ℕ) → is_utf8 bs ≡ true → TwoTexts bs (prefix_len (in_class c) bs)
-run_cut classes.White bs utf8 = cut_low is_white bs (prefix_len is_white bs) white_low utf8 refl
 run_cut classes.Edge bs utf8 = cut_low is_edge_byte bs (prefix_len is_edge_byte bs) edge_low utf8 refl
 run_cut classes.Name bs utf8 = cut_high is_name_byte bs name_high utf8
 run_cut classes.Line bs utf8 = cut_high is_line_byte bs line_high utf8

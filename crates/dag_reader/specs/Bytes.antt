@@ -3,7 +3,7 @@ use Rattle.answer_text.specs.Printing.{is_white, is_edge_byte, is_name_byte}
 use Rattle.std.specs.Prelude.{ℕ, Bool, not, ◌||◌, ◌&&◌, ◌==◌}
 use Rattle.mixed_graph.specs.Names.{is_line_byte}
 use Rattle.dag_reader.specs.declared.tokens.Class.{Class}
-use Rattle.dag_reader.specs.declared.tokens.Class.TheVariants.{White, Edge, Name, Line, Run}
+use Rattle.dag_reader.specs.declared.tokens.Class.TheVariants.{Edge, Name, Line, Run}
 
 -- what a value without quotes is made of: no white space and none of , ] } ; "
 abbrev pub is_run_byte : ℕ → Bool
@@ -19,7 +19,6 @@ begins_name b = is_name_byte b && not (b == 47 || b == 35 || b == 226)
 
 -- the bytes of a class
 abbrev pub in_class : Class → ℕ → Bool
-in_class White b = is_white b
 in_class Edge b = is_edge_byte b
 in_class Name b = is_name_byte b
 in_class Line b = is_line_byte b

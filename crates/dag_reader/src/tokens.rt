@@ -20,7 +20,6 @@ use answer_text::names::begins_with_arrow;
 /// The classes of bytes of which runs are made.
 #[derive(Clone, Copy, Debug, PartialEq, Eq)]
 pub enum Class {
-    White,
     Edge,
     Name,
     Line,
@@ -62,7 +61,6 @@ fn is_in(class: Class, byte: u8) -> bool
     ensures { result ≡ in_class class byte }
 {
     match class {
-        Class::White => is_white(byte),
         Class::Edge => is_edge_byte(byte),
         Class::Name => is_name_byte(byte),
         Class::Line => !matches!(byte, b'"' | b'\r' | b'\n'),

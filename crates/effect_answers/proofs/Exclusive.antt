@@ -1,10 +1,8 @@
 -- A formula of the identification procedure and a hedge at which it stops exclude each other.
-use Rattle.std.proofs.Common.{◌≡◌, ℕ, List, length, subst, refl}
+use Rattle.std.proofs.Common.{◌≡◌, ℕ, List, length, subst}
 use Rattle.mixed_graph.specs.Bits.{has}
 use Rattle.mixed_graph.specs.Graphs.{MixedGraph, IsMixedGraph}
 use Rattle.mixed_graph.specs.Sets.{Within}
-use Rattle.dag_reader.specs.declared.graph.ReadGraph.{ReadGraph}
-use Rattle.dag_reader.specs.RoundTrip.{AreSame}
 use Rattle.targets.specs.Targets.{EffectLists, AreEffectSets}
 use Rattle.targets.proofs.Effects.{effect_within_x, effect_within_y, effect_apart, effect_outcome}
 use Rattle.prob_expr.specs.Tree.{PlainFormula}
@@ -15,9 +13,8 @@ use Rattle.identification_theory.specs.Derivations.{IsDerived}
 use Rattle.identification_theory.specs.Procedure.{IsTarget, IsUnidentified}
 use Rattle.identification_theory.proofs.Answered.{never_both, derived_is_identified}
 use Rattle.identify.proofs.RightAnswers.{target_of}
-use Rattle.replies.specs.Observed.{Names}
 use Rattle.replies.proofs.OneTarget.{some_member, same_two, no_effect_fault}
-use Rattle.effect_answers.specs.Effects.{effect_lists, IsEffectRefusal}
+use Rattle.effect_answers.specs.Effects.{IsEffectRefusal}
 use Rattle.effect_answers.specs.Hedges.{IsFoundHedge}
 
 -- the sets of an effect are those of a target of the procedure
@@ -38,7 +35,3 @@ formula_or_hedge q valid l named x y x' y' s t f d derived h pair found =
 -- lists that name the sets of an effect aren't refused
 pub effect_refused : (l : EffectLists) (x y : ℕ) (line : List ℕ) → AreEffectSets l x y → IsEffectRefusal l line → ⊥
 effect_refused l x y line s r = no_effect_fault l x y r.fault s r.is_fault
-
--- graphs that are the same have the same lists of an effect
-pub same_effect_lists : (x y : Names) (g h : ReadGraph) → AreSame g h → effect_lists h x y ≡ effect_lists g x y
-same_effect_lists x y g h s = rw (s.names, s.vertices, s.latent, s.exposures, s.outcomes) refl

@@ -1,6 +1,6 @@
 -- Hedges that are alike are printed alike, and so are the models that they give.
-use Rattle.std.proofs.Common.{◌≡◌, ℕ, zero, suc, ◌+◌, ◌-◌, ◌<◌, ◌≤◌, ◌==◌, ◌||◌, ◌&&◌, Bool, true, false, cond, nat_lt, List, [], ◌∷◌, ◌++◌, length, get_or, map}
-use Rattle.std.proofs.Common.{Option, Some, None, inl, inr, refl, sym, ap, ap₂, ◌∙◌, subst, arith}
+use Rattle.std.proofs.Common.{◌≡◌, ℕ, zero, suc, ◌+◌, ◌-◌, ◌<◌, ◌≤◌, ◌==◌, ◌||◌, ◌&&◌, Bool, true, false, cond, nat_lt, List, [], ◌∷◌, ◌++◌, length, get_or}
+use Rattle.std.proofs.Common.{map, Option, Some, None, inl, inr, refl, sym, ap, ap₂, ◌∙◌, subst, arith}
 use Rattle.std.specs.Prelude.{slice_index, codes, decimal}
 use Rattle.std.specs.List.{flat_map}
 use Rattle.std.proofs.lemmas.Bool.{cases_Bool, cases_lt, ltb-true, and_parts}
@@ -246,7 +246,8 @@ module _ (h k : Hedge) (a : AreAlike h k) (kept : ℕ) (carry other : List ℕ) 
         (j.all_mechanisms ∙ sym i.all_mechanisms) (λ v lt past.
         let below : v < g.vertices = let l = i.all_mechanisms in omega (arith, lt, l) in
         let at : v ≡ 0 + v = omega arith in
-        subst (λ (u : ℕ). mechanism_lines names model u (get_or n.mechanisms.items v past) ≡ mechanism_lines names model u (get_or m.mechanisms.items v past)) at
+        subst (λ (u : ℕ). mechanism_lines names model u (get_or n.mechanisms.items v past)
+        ≡ mechanism_lines names model u (get_or m.mechanisms.items v past)) at
         (mechanisms_alike names model (sources v) (low v) v (get_or m.mechanisms.items v past) (get_or n.mechanisms.items v past) (i.mechanisms v below past)
         (subst (λ (s : ℕ). IsMechanismOf k kept other s v (get_or n.mechanisms.items v past)) (same v) (j.mechanisms v below past))))
 

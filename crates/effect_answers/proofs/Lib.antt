@@ -3,6 +3,7 @@ pub mod Found
 pub mod Exclusive
 pub mod OneHedge
 pub mod HedgeTexts
+pub mod HedgeViews
 pub mod OneNo
 pub mod Shallow
 pub mod Within

@@ -1,27 +1,18 @@
--- Where the procedure stops, one text shows its hedge.
-use Rattle.std.proofs.Common.{◌≡◌, ◌≤◌, ℕ, List, ◌++◌, sym, ap, arith}
-use Rattle.std.specs.Prelude.{codes, not}
-use Rattle.mixed_graph.specs.Bits.{has}
+-- Where the procedure stops, one text shows its hedge, and its certificate is one.
+use Rattle.std.proofs.Common.{◌≡◌, ◌≤◌, ℕ, List, ◌++◌, sym, ap}
+use Rattle.std.specs.Prelude.{codes}
 use Rattle.mixed_graph.specs.Graphs.{MixedGraph, IsMixedGraph}
-use Rattle.mixed_graph.proofs.Members.{length-members-le}
 use Rattle.hedge.specs.declared.hedge.Hedge.{Hedge}
 use Rattle.counter_models.specs.declared.counter_pair.CounterPair.{CounterPair}
 use Rattle.prob_expr.specs.Tree.{PlainTarget, term_of}
 use Rattle.expr_text.specs.Write.{text_of}
 use Rattle.identification_theory.proofs.Answered.{one_stop}
 use Rattle.identify_text.specs.PairLines.{hedge_answer, joint_answer}
-use Rattle.dag_reader.specs.declared.graph.ReadGraph.{ReadGraph}
-use Rattle.replies.specs.Observed.{IsObservedGraph}
-use Rattle.effect_answers.specs.Hedges.{IsFoundHedge}
+use Rattle.certificate.specs.Plain.{hedge_view}
+use Rattle.effect_answers.specs.Hedges.{IsFoundHedge, HasArrays}
 use Rattle.effect_answers.proofs.OneHedge.{AreAlike, hedges_alike}
 use Rattle.effect_answers.proofs.HedgeTexts.{hedge_alike}
-
--- the observed graph of one that was read has at most 64 vertices
-pub observed_few : (g : ReadGraph) (q : MixedGraph) → IsObservedGraph g q → q.vertices ≤ 64
-observed_few g q is =
-    let e = ap (λ (m : MixedGraph). m.vertices) is.renumbers in
-    let le = length-members-le (λ v. not (has g.latent.bits v)) g.graph.n in
-    let small = g.graph.small in omega (arith, e, le, small)
+use Rattle.effect_answers.proofs.HedgeViews.{views_alike}
 
 -- two hedges at which the procedure stops are alike
 pub found_alike : (q : MixedGraph) (x y : ℕ) (h k : Hedge) (pair other : CounterPair) → IsFoundHedge q x y h pair → IsFoundHedge q x y k other → AreAlike h k
@@ -36,7 +27,12 @@ one_hedge_text q valid few x y names h k pair other a b =
     let sets = a.evidence.sets in
     hedge_alike q valid few x y h k (found_alike q x y h k pair other a b) sets.low sets.small_inside sets.roots_inside pair other a.models b.models names
 
--- so are joint effects
+-- and have one plain form
+pub one_hedge_view : (q : MixedGraph) (x y : ℕ) (h k : Hedge) (pair other : CounterPair) → IsFoundHedge q x y h pair → IsFoundHedge q x y k other → HasArrays h
+    → HasArrays k → hedge_view k ≡ hedge_view h
+one_hedge_view q x y h k pair other a b m n = views_alike h k (found_alike q x y h k pair other a b) m n
+
+-- joint effects are printed alike too
 pub joint_with : (names : List (List ℕ)) (t : PlainTarget) (x y : ℕ) (h k : Hedge) (pair other : CounterPair)
     → hedge_answer names x y k other ≡ hedge_answer names x y h pair → joint_answer names t x y k other ≡ joint_answer names t x y h pair
 joint_with names t x y h k pair other same = ap (λ (l : List ℕ). text_of names (term_of t) ++ (codes " not identified; " ++ l)) same

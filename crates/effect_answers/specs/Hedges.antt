@@ -1,6 +1,7 @@
 -- The hedge that answers no.
-use Rattle.std.specs.Prelude.{ℕ, ◌≡◌, List}
+use Rattle.std.specs.Prelude.{ℕ, ◌≡◌, List, length}
 use Rattle.mixed_graph.specs.Graphs.{MixedGraph}
+use Rattle.hedge.specs.Entries.{HasEntries}
 use Rattle.hedge.specs.Hedges.{IsHedge}
 use Rattle.hedge.specs.declared.hedge.Hedge.{Hedge}
 use Rattle.counter_models.specs.Pairs.{IsPairOf}
@@ -19,6 +20,11 @@ pub record IsFoundHedge (q : MixedGraph) (x y : ℕ) (hedge : Hedge) (pair : Cou
   pub stop : IsUnidentified q x y hedge.small.bits hedge.big.bits
   pub built : IsHedgeOf q hedge
   pub models : IsPairOf q x y hedge pair
+
+-- its choice is an array of 64 entries, and its links are two
+pub record HasArrays (h : Hedge) : Type 0 where
+  pub choice : length h.choice.next ≡ 64
+  pub links : HasEntries h
 
 -- No: the text shows the hedge with its two models
 pub record ShowsHedge (q : MixedGraph) (names : List (List ℕ)) (x y : ℕ) (text : List ℕ) : Type 0 where

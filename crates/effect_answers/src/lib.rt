@@ -1,8 +1,8 @@
-//! What the commands that ask for the effect of x on y have in common: the effect that their lists name,
-//! and the hedge that answers no.
+//! What the commands that ask for the effect of x on y have in common: what their lists ask for,
+//! the hedge that answers no, and the line of a certificate.
 #![tactic(auto)]
 
 pub mod certificates;
-mod effect;
+mod hedges;
 
-pub use effect::{Asked, Effect, asked_effect};
+pub use hedges::has_arrays;

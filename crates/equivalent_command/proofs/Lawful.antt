@@ -6,7 +6,7 @@ use Rattle.command_words.specs.Form.{Text, Use, value_of}
 use Rattle.command_words.specs.Values.{IsRequiredList}
 use Rattle.command_words.proofs.OneValue.{one_listed_or_empty, one_needed_list}
 use Rattle.equivalent_command.specs.Requests.{Query, IsQuery}
-use Rattle.dag_reader.specs.declared.graph.ReadGraph.{ReadGraph}
+use Rattle.diagram.specs.declared.diagram.Diagram.{Diagram}
 use Rattle.replies.specs.Command.{IsLeft}
 use Rattle.replies.proofs.Commands.{IsLawful, lawful_on_two_inputs}
 use Rattle.targets.specs.declared.query.Sets.{Sets}
@@ -43,12 +43,12 @@ one_request uses q r a b = λ i. record {
 -- what holds of each command holds of it
 pub equivalent_lawful : IsLawful equivalent_command
 equivalent_lawful = lawful_on_two_inputs one_request
-    (λ q g. first_answered g q.query)
-    (λ q g other o text a. second_answered g a.0 other o text a.2)
+    (λ q d. first_answered d q.query)
+    (λ q d other o text a. second_answered d a.0 other o text a.2)
     (λ q bytes. first_once bytes q.query)
     (λ q bytes other. equivalent_once bytes other q.query)
-    (λ q name g h same names o text a n. first_alone g h same q.query n.0 o text a n.1)
+    (λ q name d e same names o text a n. first_alone d e same q.query n.0 o text a n.1)
 
-pub equivalent_is_left : (q : Request) (g : ReadGraph) (s : Option Sets) → IsAcceptedFirst g q.query s
-    → IsLeft equivalent_command q g (equivalent_left g s q.second)
-equivalent_is_left q g s is = record { named = refl; continues = (s, is); known = (q.query, is); answers = λ other o text a. (s, is, a) }
+pub equivalent_is_left : (q : Request) (d : Diagram) (s : Option Sets) → IsAcceptedFirst d q.query s
+    → IsLeft equivalent_command q d (equivalent_left d s q.second)
+equivalent_is_left q d s is = record { named = refl; continues = (s, is); known = (q.query, is); answers = λ other o text a. (s, is, a) }

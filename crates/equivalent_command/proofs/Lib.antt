@@ -1,5 +1,4 @@
 pub mod Asked
-pub mod Directed
 pub mod Held
 pub mod Placing
 pub mod Queries

@@ -1,6 +1,6 @@
 -- Which outcomes the command answers.
 use Rattle.std.proofs.Common.{ℕ, List, Option, subst, sym}
-use Rattle.dag_reader.specs.declared.graph.ReadGraph.{ReadGraph}
+use Rattle.diagram.specs.declared.diagram.Diagram.{Diagram}
 use Rattle.targets.specs.declared.query.Sets.{Sets}
 use Rattle.replies.specs.declared.outcome.Outcome.{Outcome}
 use Rattle.replies.specs.Outcomes.{IsAnswered}
@@ -8,8 +8,8 @@ use Rattle.replies.proofs.Outcomes.{answered}
 use Rattle.equivalent_command.specs.Requests.{Query}
 use Rattle.equivalent_command.specs.Answers.{IsFirstRefusal, SecondAnswer}
 
-pub first_answered : (g : ReadGraph) (l : Option Query) (o : Outcome) (line : List ℕ) → IsFirstRefusal g l o line → IsAnswered o
-first_answered g l o line h = subst IsAnswered (sym h.outcome) tt
+pub first_answered : (d : Diagram) (l : Option Query) (o : Outcome) (line : List ℕ) → IsFirstRefusal d l o line → IsAnswered o
+first_answered d l o line h = subst IsAnswered (sym h.outcome) tt
 
-pub second_answered : (g : ReadGraph) (s : Option Sets) (second : List ℕ) (o : Outcome) (text : List ℕ) → SecondAnswer g s second o text → IsAnswered o
-second_answered g s second o text = answered (λ k. SecondAnswer g s second k text) (λ h. h.2) (λ h. h.2) (λ h. h.2) (λ h. h.2) o
+pub second_answered : (d : Diagram) (s : Option Sets) (second : List ℕ) (o : Outcome) (text : List ℕ) → SecondAnswer d s second o text → IsAnswered o
+second_answered d s second o text = answered (λ k. SecondAnswer d s second k text) (λ h. h.2) (λ h. h.2) (λ h. h.2) (λ h. h.2) o

@@ -4,9 +4,11 @@ use Rattle.std.proofs.Common.{◌∙◌, sym, refl, arith, inl, inr}
 use Rattle.std.proofs.lemmas.Bool.{cases_eq, cases_lt, lt-ltb, le-ltb, eq-eqb, ne_eqb, and_left}
 use Rattle.std.proofs.lemmas.List.{get_or-set_same, get_or-set_other, length-replicate, get_or-map, length-map}
 use Rattle.mixed_graph.specs.Bits.{has}
+use Rattle.mixed_graph.specs.Graphs.{MixedGraph}
 use Rattle.mixed_graph.specs.Names.{index_of, name_of}
 use Rattle.mixed_graph.proofs.PairMasks.{blank}
-use Rattle.latent_projection.specs.Renumbering.{renumbered_set}
+use Rattle.latent_projection.specs.Renumbering.{renumbered, renumbered_set}
+use Rattle.markov_equivalence.specs.Skeletons.{HasArrowsAlone}
 use Rattle.equivalent_command.specs.Numbers.{places}
 
 -- the first i names have their places among the others
@@ -96,3 +98,7 @@ edge_same names others at n e size is a b =
       ]
       | inr x ↦ (let f : nat_lt a n ≡ false = le-ltb a n x in rw f refl)
     ])
+
+-- numbered anew, a graph without bidirected edges has none
+pub renumbered_arrows : (p : MixedGraph) (vs : List ℕ) → HasArrowsAlone p → HasArrowsAlone (renumbered p vs)
+renumbered_arrows p vs none u v = (let z = none (get_or vs u 0) (get_or vs v 0) in grind arith)

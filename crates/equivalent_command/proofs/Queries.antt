@@ -1,30 +1,38 @@
 -- Sets and paths of vertices that have names.
 use Rattle.std.proofs.Common.{◌≡◌, ℕ, ◌+◌, ◌-◌, Bool, List, length, Option, Some, None, zero, suc, refl, ap, subst, ◌∙◌, arith, eq-eqb}
 use Rattle.std.specs.Prelude.{IfSome, slice_index}
+use Rattle.std.specs.Global.{Vec}
 use Rattle.mixed_graph.specs.Graphs.{MixedGraph, IsMixedGraph}
+use Rattle.mixed_graph.specs.Names.{texts}
 use Rattle.m_separation.specs.declared.marks.Mark.{Mark}
 use Rattle.m_separation.specs.declared.paths.OpenPath.{OpenPath}
 use Rattle.m_separation.specs.Walks.{last}
 use Rattle.m_separation.specs.Paths.{IsOpenPath, steps_from}
-use Rattle.dag_reader.specs.declared.graph.ReadGraph.{ReadGraph}
 use Rattle.targets.specs.declared.query.Sets.{Sets}
 use Rattle.targets.proofs.Queries.{set_within}
 use Rattle.markov_equivalence.specs.Separations.{IsOpenWithEndsOf}
-use Rattle.replies.specs.Observed.{observed_names}
+use Rattle.diagram.specs.declared.diagram.Diagram.{Diagram}
+use Rattle.diagram.specs.Sets.{query_lists}
 use Rattle.replies.specs.Lines.{IsPrintablePath}
 use Rattle.replies.proofs.PathsBelow.{path_printable}
-use Rattle.equivalent_command.specs.Requests.{Query}
-use Rattle.equivalent_command.specs.Queries.{AreAsked, AreBelow}
+use Rattle.equivalent_command.specs.Requests.{Query, query_of}
+use Rattle.equivalent_command.specs.Queries.{lists_on, AreAsked, AreBelow}
+use Rattle.equivalent_command.specs.declared.request.Query.{Query as CodeQuery}
+
+-- the lists of a query, where they are lent
+pub lent_query : (d : Diagram) (q : CodeQuery) (x y given : List (Vec ℕ)) → x ≡ q.x.items → y ≡ q.y.items → given ≡ q.given.items
+    → query_lists d.read d.observed.names (Some (texts x)) (Some (texts y)) (Some (texts given)) ≡ lists_on d (query_of q)
+lent_query d q x y given e f g = λ i. query_lists d.read d.observed.names (Some (texts (e i))) (Some (texts (f i))) (Some (texts (g i)))
 
 -- the sets that lists name are sets of the observed vertices
-pub asked_below : (g : ReadGraph) (l : Option Query) (s : Option Sets) → AreAsked g l s → IfSome s (AreBelow (length (observed_names g)))
-asked_below g None None a = tt
-asked_below g None (Some s) a = absurd a
-asked_below g (Some q) None a = absurd a
-asked_below g (Some q) (Some s) a = record {
-  x = set_within (observed_names g) q.x s.x.bits a.set_x;
-  y = set_within (observed_names g) q.y s.y.bits a.set_y;
-  given = set_within (observed_names g) q.given s.given.bits a.set_given;
+pub asked_below : (d : Diagram) (l : Option Query) (s : Option Sets) → AreAsked d l s → IfSome s (AreBelow (length d.observed.names))
+asked_below d None None a = tt
+asked_below d None (Some s) a = absurd a
+asked_below d (Some q) None a = absurd a
+asked_below d (Some q) (Some s) a = record {
+  x = set_within d.observed.names q.x s.x.bits a.set_x;
+  y = set_within d.observed.names q.y s.y.bits a.set_y;
+  given = set_within d.observed.names q.given s.given.bits a.set_given;
 }
 
 -- the vertices of an open path are vertices of the graph

@@ -2,6 +2,7 @@
 use Rattle.std.specs.Prelude.{ℕ, ◌≡◌, ◌<◌, ◌≤◌, ◌⊎◌, List, length, Option, Some, None, Err}
 use Rattle.mixed_graph.specs.Bits.{has}
 use Rattle.mixed_graph.specs.Graphs.{MixedGraph}
+use Rattle.mixed_graph.specs.Shown.{graph_of}
 use Rattle.m_separation.specs.declared.paths.OpenPath.{OpenPath}
 use Rattle.m_separation.specs.Walks.{IsSeparated}
 use Rattle.m_separation.specs.Paths.{IsOpenPath}
@@ -20,51 +21,40 @@ use Rattle.markov_equivalence.specs.declared.comparison.Difference.{Difference}
 use Rattle.markov_equivalence.specs.Separations.{HaveSameSeparations, HaveSameIndependences, IsOpenWithEndsOf}
 use Rattle.replies.specs.declared.outcome.Outcome.{Outcome}
 use Rattle.replies.specs.declared.outcome.Outcome.TheVariants.{Yes, No, Graph, Second}
-use Rattle.replies.specs.Observed.{observed_names, IsObservedGraph, HoldsGraph}
+use Rattle.diagram.specs.declared.diagram.Diagram.{Diagram}
+use Rattle.replies.specs.Observed.{HoldsDiagram}
 use Rattle.equivalent_command.specs.Numbers.{HaveSameNames, on_names}
 use Rattle.equivalent_command.specs.Faults.{IsBidirectedFault, IsNamesFault}
 use Rattle.equivalent_command.specs.Lines.{edge_text, collider_text, equivalent_text, separated_text, connected_text}
 use Rattle.equivalent_command.specs.Requests.{Query}
 use Rattle.equivalent_command.specs.Queries.{AreAsked, IsListsFault}
 
--- ---- on the first graph alone
+-- ---- on the first diagram alone
 
--- the observed graph has no bidirected edge
-abbrev pub IsDirected : ReadGraph → Type 0
-IsDirected g = (q : MixedGraph) × IsObservedGraph g q × HasArrowsAlone q
+-- the first diagram is accepted: the lists name these sets, and its observed graph has no bidirected edge
+pub record IsAcceptedFirst (d : Diagram) (l : Option Query) (s : Option Sets) : Type 0 where
+  pub asked : AreAsked d l s
+  pub arrows : HasArrowsAlone (graph_of d.observed.graph)
 
--- the observed graph has a bidirected edge: the fault has the names of the first one
-abbrev pub HasBidirected : ReadGraph → TargetFault → Type 0
-HasBidirected g f = (q : MixedGraph) × IsObservedGraph g q × IsBidirectedFault q (observed_names g) f
+-- what is wrong with the first diagram: a listed name is at fault, or a set is empty; or else the observed graph has a bidirected edge
+pub data IsFirstGraphFault (d : Diagram) (l : Option Query) (f : TargetFault) : Type 0 where
+  listed : IsListsFault d l f → IsFirstGraphFault d l f
+  bidirected : (s : Option Sets) → AreAsked d l s → IsBidirectedFault (graph_of d.observed.graph) d.observed.names f → IsFirstGraphFault d l f
 
--- the first graph is accepted: the lists name these sets, and its observed graph has no bidirected edge
-pub record IsAcceptedFirst (g : ReadGraph) (l : Option Query) (s : Option Sets) : Type 0 where
-  pub asked : AreAsked g l s
-  pub directed : IsDirected g
-
--- what is wrong with the first graph: a listed name is at fault, or a set is empty; or else the observed graph has a bidirected edge
-pub data IsFirstGraphFault (g : ReadGraph) (l : Option Query) (f : TargetFault) : Type 0 where
-  listed : IsListsFault g l f → IsFirstGraphFault g l f
-  bidirected : (s : Option Sets) → AreAsked g l s → HasBidirected g f → IsFirstGraphFault g l f
-
--- the line of a first graph that is refused
-pub record IsFirstRefusal (g : ReadGraph) (l : Option Query) (o : Outcome) (line : List ℕ) : Type 0 where
+-- the line of a first diagram that is refused
+pub record IsFirstRefusal (d : Diagram) (l : Option Query) (o : Outcome) (line : List ℕ) : Type 0 where
   pub outcome : o ≡ Graph
   pub fault : TargetFault
-  pub is_fault : IsFirstGraphFault g l fault
+  pub is_fault : IsFirstGraphFault d l fault
   pub prints : line ≡ line_of (target_fault_text fault)
 
--- ---- for two graphs that are compared
+-- ---- for two observed graphs that are compared
 
--- the observed graphs of g and h have no bidirected edge and the same names: p is that of g, and q is that of h on the numbers of g's names
-pub record AreComparable (g h : ReadGraph) (p q : MixedGraph) : Type 0 where
-  pub first : IsObservedGraph g p
-  pub first_arrows : HasArrowsAlone p
-  pub other : MixedGraph
-  pub second : IsObservedGraph h other
-  pub second_arrows : HasArrowsAlone other
-  pub names : HaveSameNames (observed_names g) (observed_names h)
-  pub numbers : q ≡ on_names (observed_names g) (observed_names h) other
+-- they have no bidirected edge and the same names
+pub record AreComparable (g h : ReadGraph) : Type 0 where
+  pub first_arrows : HasArrowsAlone (graph_of g.graph)
+  pub second_arrows : HasArrowsAlone (graph_of h.graph)
+  pub names : HaveSameNames g.names h.names
 
 -- in neither graph a walk from x to y is open given the third set
 pub record ShowsSeparation (names : List (List ℕ)) (p q : MixedGraph) (s : Sets) (text : List ℕ) : Type 0 where
@@ -109,34 +99,30 @@ ComparisonAnswer names p q s Yes text = IsSame names p q s text
 ComparisonAnswer names p q s No text = ShowsDifference names p q text
 ComparisonAnswer names p q s o text = ⊥
 
--- ---- on the second graph
-
--- the observed graphs of g and h are compared
+-- they are compared, the second on the numbers of the first one's names
 pub record ComparedAnswer (g : ReadGraph) (s : Option Sets) (h : ReadGraph) (o : Outcome) (text : List ℕ) : Type 0 where
-  pub p : MixedGraph
-  pub q : MixedGraph
-  pub comparable : AreComparable g h p q
-  pub answer : ComparisonAnswer (observed_names g) p q s o text
+  pub comparable : AreComparable g h
+  pub answer : ComparisonAnswer g.names (graph_of g.graph) (on_names g.names h.names (graph_of h.graph)) s o text
 
 -- what is wrong with a second observed graph: a bidirected edge, or else a name that it or the first names have alone
 pub data ObservedFault (names : List (List ℕ)) (q : MixedGraph) (others : List (List ℕ)) (f : TargetFault) : Type 0 where
   bidirected : IsBidirectedFault q others f → ObservedFault names q others f
   other_names : HasArrowsAlone q → IsNamesFault names others f → ObservedFault names q others f
 
--- the line of a second graph that can't be compared with g
+-- the line of a second observed graph that can't be compared with the first
 pub record IsUnlike (g h : ReadGraph) (line : List ℕ) : Type 0 where
-  pub q : MixedGraph
-  pub observed : IsObservedGraph h q
   pub fault : TargetFault
-  pub is_fault : ObservedFault (observed_names g) q (observed_names h) fault
+  pub is_fault : ObservedFault g.names (graph_of h.graph) h.names fault
   pub prints : line ≡ line_of (of_second (target_fault_text fault))
 
--- the answer of two graphs that were read
+-- the answer of two observed graphs
 abbrev pub GraphsAnswer : ReadGraph → Option Sets → ReadGraph → Outcome → List ℕ → Type 0
 GraphsAnswer g s h Yes text = ComparedAnswer g s h Yes text
 GraphsAnswer g s h No text = ComparedAnswer g s h No text
 GraphsAnswer g s h Second line = IsUnlike g h line
 GraphsAnswer g s h o text = ⊥
+
+-- ---- on the bytes of the second graph
 
 -- the bytes are no graph: they are too many, or their text has a fault
 pub data IsSecondRefusal (second line : List ℕ) : Type 0 where
@@ -144,15 +130,15 @@ pub data IsSecondRefusal (second line : List ℕ) : Type 0 where
   faulty : (fault : GraphFault) → length second ≤ 1048576 → (fault ≡ NoMemory → ⊥) → Reads second (Err fault)
       → line ≡ line_of (of_second (graph_fault_text fault)) → IsSecondRefusal second line
 
--- the bytes hold a graph, and this is the answer of the two
-abbrev pub HoldsAnswer : ReadGraph → Option Sets → List ℕ → Outcome → List ℕ → Type 0
-HoldsAnswer g s second o text = (h : ReadGraph) × HoldsGraph second h × GraphsAnswer g s h o text
+-- the bytes are the text of a diagram's graph, and this is the answer of the two observed graphs
+abbrev pub HoldsAnswer : Diagram → Option Sets → List ℕ → Outcome → List ℕ → Type 0
+HoldsAnswer d s second o text = (e : Diagram) × HoldsDiagram second e × GraphsAnswer d.observed s e.observed o text
 
--- the answer for sets of a first graph that was accepted, and the bytes of a second graph's text
-abbrev pub SecondAnswer : ReadGraph → Option Sets → List ℕ → Outcome → List ℕ → Type 0
-SecondAnswer g s second Second line = IsSecondRefusal second line ⊎ HoldsAnswer g s second Second line
-SecondAnswer g s second o text = HoldsAnswer g s second o text
+-- the answer for sets of a first diagram that was accepted, and the bytes of a second graph's text
+abbrev pub SecondAnswer : Diagram → Option Sets → List ℕ → Outcome → List ℕ → Type 0
+SecondAnswer d s second Second line = IsSecondRefusal second line ⊎ HoldsAnswer d s second Second line
+SecondAnswer d s second o text = HoldsAnswer d s second o text
 
--- the answer of `equivalent` on a graph that was read and accepted, and the bytes of a second graph's text
-abbrev pub EquivalentAnswer : ReadGraph → Option Query → List ℕ → Outcome → List ℕ → Type 0
-EquivalentAnswer g l second o text = (s : Option Sets) × IsAcceptedFirst g l s × SecondAnswer g s second o text
+-- the answer of `equivalent` on a diagram that is accepted, and the bytes of a second graph's text
+abbrev pub EquivalentAnswer : Diagram → Option Query → List ℕ → Outcome → List ℕ → Type 0
+EquivalentAnswer d l second o text = (s : Option Sets) × IsAcceptedFirst d l s × SecondAnswer d s second o text

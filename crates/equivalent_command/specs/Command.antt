@@ -1,7 +1,7 @@
 -- The command `equivalent`.
 use Rattle.std.specs.Prelude.{Option, Some}
 use Rattle.command_words.specs.Form.{Text}
-use Rattle.dag_reader.specs.declared.graph.ReadGraph.{ReadGraph}
+use Rattle.diagram.specs.declared.diagram.Diagram.{Diagram}
 use Rattle.replies.specs.Command.{CommandForm, on_two_inputs, Remainder}
 use Rattle.targets.specs.declared.query.Sets.{Sets}
 use Rattle.equivalent_command.specs.Answers.{IsAcceptedFirst, IsFirstRefusal, SecondAnswer, EquivalentAnswer}
@@ -9,14 +9,14 @@ use Rattle.equivalent_command.specs.Requests.{Query, Request, IsRequest}
 
 -- its request and its answers
 abbrev pub equivalent_command : CommandForm
-equivalent_command = on_two_inputs Request IsRequest (λ q. q.file) (λ q. Some q.second) (λ q g. IsFirstRefusal g q.query)
-    (λ q g. (s : Option Sets) × IsAcceptedFirst g q.query s) (λ q g other. EquivalentAnswer g q.query other)
+equivalent_command = on_two_inputs Request IsRequest (λ q. q.file) (λ q. Some q.second) (λ q d. IsFirstRefusal d q.query)
+    (λ q d. (s : Option Sets) × IsAcceptedFirst d q.query s) (λ q d other. EquivalentAnswer d q.query other)
 
--- what is left once the first graph was accepted: the comparison with the second one, and what both say of the sets that are asked about
-abbrev pub equivalent_left : ReadGraph → Option Sets → (second : Text) → Remainder
-equivalent_left g s second = record {
+-- what is left once the first diagram was accepted: the comparison with the second one, and what both say of the sets that are asked about
+abbrev pub equivalent_left : Diagram → Option Sets → (second : Text) → Remainder
+equivalent_left d s second = record {
   second = second;
   limit = 1048576;
-  known = (l : Option Query) × IsAcceptedFirst g l s;
-  answer = λ other. SecondAnswer g s other;
+  known = (l : Option Query) × IsAcceptedFirst d l s;
+  answer = λ other. SecondAnswer d s other;
 }

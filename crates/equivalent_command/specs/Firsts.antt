@@ -1,12 +1,12 @@
--- What the first graph gives.
+-- What the first diagram gives.
 use Rattle.std.specs.Prelude.{Option}
-use Rattle.dag_reader.specs.declared.graph.ReadGraph.{ReadGraph}
+use Rattle.diagram.specs.declared.diagram.Diagram.{Diagram}
 use Rattle.equivalent_command.specs.Requests.{Query}
 use Rattle.equivalent_command.specs.Answers.{IsAcceptedFirst, IsFirstRefusal}
 use Rattle.equivalent_command.specs.declared.accepting.Acceptance.{Acceptance}
 use Rattle.equivalent_command.specs.declared.accepting.Acceptance.TheVariants.{Refused, Accepted}
 
--- the reply to a first graph that is refused, or the sets with which it is accepted
-abbrev pub IsAcceptance : ReadGraph → Option Query → Acceptance → Type 0
-IsAcceptance g l (Refused reply) = IsFirstRefusal g l reply.outcome reply.text.items
-IsAcceptance g l (Accepted s) = IsAcceptedFirst g l s
+-- the reply to a first diagram that is refused, or the sets with which it is accepted
+abbrev pub IsAcceptance : Diagram → Option Query → Acceptance → Type 0
+IsAcceptance d l (Refused reply) = IsFirstRefusal d l reply.outcome reply.text.items
+IsAcceptance d l (Accepted s) = IsAcceptedFirst d l s

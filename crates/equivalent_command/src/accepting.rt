@@ -1,20 +1,16 @@
 //! What the first graph has to be.
 
-ghost use Rattle.std.specs.Prelude.{◌≡◌, IfOk, IfErr, length, option_map};
-ghost use Rattle.mixed_graph.specs.Shown.{graph_of};
-ghost use Rattle.replies.specs.Observed.{observed_names, IsObservedGraph};
-ghost use Rattle.equivalent_command.specs.Requests.{query_of};
-ghost use Rattle.equivalent_command.specs.Queries.{AreAsked, IsListsFault};
+ghost use Rattle.std.specs.Prelude.{Option, IfOk};
+ghost use Rattle.equivalent_command.specs.Requests.{Query as AskedQuery, request_of};
+ghost use Rattle.equivalent_command.specs.Queries.{AreAsked};
 ghost use Rattle.equivalent_command.specs.Firsts.{IsAcceptance};
 
 use crate::faults::bidirected_fault;
-use crate::request::Query;
-use dag_reader::ReadGraph;
-use latent_projection::{Observed, observed};
-use mixed_graph::Names;
+use crate::request::Request;
+use diagram::{Diagram, asked_query};
 use replies::{Reply, refuse};
 use std::alloc::{AllocError, Global};
-use targets::{Sets, TargetFault, find_sets};
+use targets::Sets;
 
 /// What the first graph gives.
 #[derive(Drop)]
@@ -25,62 +21,37 @@ pub enum Acceptance {
     Accepted(Option<Sets>),
 }
 
-/// The sets that the lists name; without lists there are none.
-fn find_asked(
-    alloc: Global,
-    graph: &ReadGraph,
-    observed: &Names,
-    query: Option<Query>,
-) -> Result<Option<Sets>, TargetFault>
-    requires { observed.now ≡ observed_names graph.now }
-    ensures sets { IfOk result (AreAsked graph.now (option_map query_of query)) }
-    ensures fault { IfErr result (λ f. (f ≡ TargetFault.NoMemory → ⊥) → IsListsFault graph.now (option_map query_of query) f) }
-{
-    let Some(lists) = query else {
-        return Ok(None);
-    };
-    match find_sets(
-        alloc,
-        &graph.names,
-        observed,
-        &lists.x,
-        &lists.y,
-        &lists.given,
-    ) {
-        Ok(sets) => Ok(Some(sets)),
-        Err(fault) => Err(fault),
-    }
-}
-
 /// Whether the first graph is accepted: no listed name is at fault, x and y aren't empty, and the observed graph has no bidirected edge.
 pub fn accept_first(
     alloc: Global,
-    graph: &ReadGraph,
-    query: Option<Query>,
+    diagram: &Diagram,
+    asked: &Request<'_>,
 ) -> Result<Acceptance, AllocError>
-    ensures { IfOk result (IsAcceptance graph.now (option_map query_of query)) }
+    ensures { let q = request_of asked.now in IfOk result (IsAcceptance diagram.now q.query) }
 {
-    let seen = observed(alloc, &graph.names, &graph.graph, graph.latent)?;
-    accept_observed(alloc, graph, &seen, query)
+    let Some(lists) = &asked.query else {
+        return accept_sets(alloc, diagram, None);
+    };
+    let (x, y, given) = (
+        lists.x.as_slice(),
+        lists.y.as_slice(),
+        lists.given.as_slice(),
+    );
+    match asked_query(alloc, diagram, Some(x), Some(y), Some(given)) {
+        Ok(sets) => accept_sets(alloc, diagram, Some(sets)),
+        Err(fault) => Ok(Acceptance::Refused(refuse(alloc, &fault)?)),
+    }
 }
 
-/// The same, where the observed graph is at hand.
-fn accept_observed(
+/// The same for sets that lists name, or for none: whether the observed graph has no bidirected edge.
+fn accept_sets(
     alloc: Global,
-    graph: &ReadGraph,
-    seen: &Observed,
-    query: Option<Query>,
+    diagram: &Diagram,
+    sets: Option<Sets>,
 ) -> Result<Acceptance, AllocError>
-    requires names { seen.now.names ≡ observed_names graph.now }
-    requires graph { IsObservedGraph graph.now (graph_of seen.now.graph) }
-    requires named { length seen.now.names ≡ seen.now.graph.n }
-    ensures { IfOk result (IsAcceptance graph.now (option_map query_of query)) }
+    ensures { (query : Option AskedQuery) → AreAsked diagram.now query sets → IfOk result (IsAcceptance diagram.now query) }
 {
-    let sets = match find_asked(alloc, graph, &seen.names, query) {
-        Ok(sets) => sets,
-        Err(fault) => return Ok(Acceptance::Refused(refuse(alloc, &fault)?)),
-    };
-    match bidirected_fault(alloc, seen)? {
+    match bidirected_fault(alloc, &diagram.observed)? {
         Some(fault) => Ok(Acceptance::Refused(refuse(alloc, &fault)?)),
         None => Ok(Acceptance::Accepted(sets)),
     }

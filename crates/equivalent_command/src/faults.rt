@@ -1,13 +1,13 @@
 //! The fault of a graph with a bidirected edge.
 
-ghost use Rattle.std.specs.Prelude.{◌≡◌, ◌<◌, ℕ, IfOk, IfSome, IfNone, length};
+ghost use Rattle.std.specs.Prelude.{◌≡◌, ◌<◌, IfOk, IfSome, IfNone, length};
 ghost use Rattle.mixed_graph.specs.Names.{is_named, name_of};
 ghost use Rattle.mixed_graph.specs.Shown.{graph_of};
 ghost use Rattle.markov_equivalence.specs.Skeletons.{HasArrowsAlone};
 ghost use Rattle.equivalent_command.specs.Numbers.{AreAmong, HaveSameNames};
 ghost use Rattle.equivalent_command.specs.Faults.{IsFirstBidirected, IsBidirectedFault, IsFirstAlone, IsNamesFault};
 
-use latent_projection::Observed;
+use dag_reader::ReadGraph;
 use mixed_graph::{Graph, Names, Text};
 use std::alloc::{AllocError, Global};
 use targets::TargetFault;
@@ -38,8 +38,7 @@ fn first_bidirected(g: &Graph) -> Option<Pair>
 }
 
 /// The fault of a graph with a bidirected edge: the names of the first one.
-pub fn bidirected_fault(alloc: Global, seen: &Observed) -> Result<Option<TargetFault>, AllocError>
-    requires { length seen.now.names ≡ seen.now.graph.n }
+pub fn bidirected_fault(alloc: Global, seen: &ReadGraph) -> Result<Option<TargetFault>, AllocError>
     ensures found { IfOk result (λ o. IfSome o (IsBidirectedFault (graph_of seen.now.graph) seen.now.names)) }
     ensures none { IfOk result (λ o. IfNone o (HasArrowsAlone (graph_of seen.now.graph))) }
 {

@@ -1,6 +1,7 @@
 //! The command `equivalent`: whether two graphs imply the same separations among their observed vertices, in which no edge is bidirected.
 //!
-//! `accept_first(alloc, &graph, query)` answers on the first graph alone, and `equivalent_reply(alloc, &graph, sets, second)` on both.
+//! `accept_first(alloc, &diagram, &asked)` answers on the first diagram alone, and `equivalent_reply(alloc, &diagram, sets, second)` on
+//! both.
 #![tactic(auto)]
 
 mod accepting;

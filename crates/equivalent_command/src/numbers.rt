@@ -6,7 +6,7 @@ ghost use Rattle.mixed_graph.specs.Names.{index_of, is_named, name_of};
 ghost use Rattle.mixed_graph.specs.Shown.{graph_of};
 ghost use Rattle.equivalent_command.specs.Numbers.{AreAmong, on_names};
 
-use latent_projection::Observed;
+use dag_reader::ReadGraph;
 use mixed_graph::{Graph, Names, Rows, VSet};
 
 /// Where the name of v stands among the others.
@@ -64,7 +64,7 @@ fn rows_at(places: &[u8; 64], n: u32, rows: &Rows) -> Rows
 }
 
 /// The graph on the numbers of the names: an edge joins a and b where it joins the vertices of the other graph with their names.
-pub fn graph_on(names: &Names, other: &Observed) -> Graph
+pub fn graph_on(names: &Names, other: &ReadGraph) -> Graph
     requires { AreAmong names.now other.now.names }
     ensures { graph_of result ≡ on_names names.now other.now.names (graph_of other.now.graph) }
 {

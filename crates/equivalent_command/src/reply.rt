@@ -1,41 +1,43 @@
 //! The answer of `equivalent`.
 
 ghost use Rattle.std.specs.Prelude.{◌≡◌, ◌≤◌, ◌<◌, ℕ, List, Option, IfOk, IfSome, IfNone, length};
-ghost use Rattle.dag_reader.specs.declared.graph.ReadGraph.{ReadGraph as FirstGraph};
-ghost use Rattle.replies.specs.Observed.{observed_names, IsObservedGraph};
+ghost use Rattle.diagram.specs.declared.diagram.Diagram.{Diagram as First};
 ghost use Rattle.targets.specs.declared.query.Sets.{Sets as AskedSets};
 ghost use Rattle.equivalent_command.specs.Requests.{Query as AskedQuery};
 ghost use Rattle.equivalent_command.specs.Queries.{AreBelow};
 ghost use Rattle.mixed_graph.specs.Shown.{graph_of};
 ghost use Rattle.markov_equivalence.specs.Skeletons.{HasArrowsAlone};
-ghost use Rattle.equivalent_command.specs.Numbers.{HaveSameNames, on_names};
-ghost use Rattle.equivalent_command.specs.Answers.{IsDirected, IsAcceptedFirst, SecondAnswer, ComparisonAnswer, GraphsAnswer, ObservedFault};
+ghost use Rattle.equivalent_command.specs.Numbers.{HaveSameNames};
+ghost use Rattle.equivalent_command.specs.Answers.{IsAcceptedFirst, SecondAnswer, AreComparable, GraphsAnswer, ObservedFault};
 
 use crate::agreement::agreement_text;
 use crate::faults::{bidirected_fault, names_fault};
 use crate::numbers::graph_on;
 use crate::printing::{collider_text, edge_text};
 use dag_reader::{GraphFault, ReadGraph, read_graph};
-use latent_projection::{Observed, observed};
+use diagram::Diagram;
 use markov_equivalence::{Compared, compare};
-use mixed_graph::{Graph, Names};
+use mixed_graph::Names;
 use replies::{Outcome, Reply};
 use std::alloc::{AllocError, Global};
 use targets::{Sets, TargetFault};
 
-/// The answer of `equivalent` on a first graph that was accepted with the sets that are asked about, and the bytes of a second graph.
+/// The answer of `equivalent` on a first diagram that was accepted with the sets that are asked about, and the bytes of a second graph.
 pub fn equivalent_reply(
     alloc: Global,
-    graph: &ReadGraph,
+    diagram: &Diagram,
     sets: Option<Sets>,
     second: &[u8],
 ) -> Result<Reply, AllocError>
-    requires accepted { (query : Option AskedQuery) × IsAcceptedFirst graph.now query sets }
+    requires accepted { (query : Option AskedQuery) × IsAcceptedFirst diagram.now query sets }
     requires small { length second.now ≤ 1048576 }
-    ensures { IfOk result (λ r. SecondAnswer graph.now sets second.now r.outcome r.text.items) }
+    ensures { IfOk result (λ r. SecondAnswer diagram.now sets second.now r.outcome r.text.items) }
 {
     match read_graph(alloc, second) {
-        Ok(other) => reply_to(alloc, graph, sets, &other),
+        Ok(read) => {
+            let other = Diagram::of(alloc, read)?;
+            graphs_reply(alloc, &diagram.observed, &other.observed, sets)
+        }
         Err(fault) => Ok(Reply {
             outcome: Outcome::Second,
             text: fault.second_line(alloc)?,
@@ -45,7 +47,7 @@ pub fn equivalent_reply(
 
 /// The answer of `equivalent` where the second graph's text has more than 1,048,576 bytes.
 pub fn long_second_graph(alloc: Global) -> Result<Reply, AllocError>
-    ensures { IfOk result (λ r. (first : FirstGraph) (sets : Option AskedSets) (second : List ℕ) → 1048576 < length second → SecondAnswer first sets second r.outcome r.text.items) }
+    ensures { IfOk result (λ r. (first : First) (sets : Option AskedSets) (second : List ℕ) → 1048576 < length second → SecondAnswer first sets second r.outcome r.text.items) }
 {
     Ok(Reply {
         outcome: Outcome::Second,
@@ -53,35 +55,16 @@ pub fn long_second_graph(alloc: Global) -> Result<Reply, AllocError>
     })
 }
 
-/// The answer for two graphs that were read.
-fn reply_to(
+/// The answer of two observed graphs, of which the first has no bidirected edge.
+fn graphs_reply(
     alloc: Global,
-    graph: &ReadGraph,
-    sets: Option<Sets>,
-    other: &ReadGraph,
-) -> Result<Reply, AllocError>
-    requires directed { IsDirected graph.now }
-    requires below { IfSome sets (AreBelow (length (observed_names graph.now))) }
-    ensures { IfOk result (λ r. GraphsAnswer graph.now sets other.now r.outcome r.text.items) }
-{
-    let first = observed(alloc, &graph.names, &graph.graph, graph.latent)?;
-    let second = observed(alloc, &other.names, &other.graph, other.latent)?;
-    observed_reply(alloc, &first, &second, sets)
-}
-
-/// The same, where the observed graphs are at hand.
-fn observed_reply(
-    alloc: Global,
-    first: &Observed,
-    second: &Observed,
+    first: &ReadGraph,
+    second: &ReadGraph,
     sets: Option<Sets>,
 ) -> Result<Reply, AllocError>
-    requires first_named { length first.now.names ≡ first.now.graph.n }
-    requires second_named { length second.now.names ≡ second.now.graph.n }
     requires arrows { HasArrowsAlone (graph_of first.now.graph) }
     requires below { IfSome sets (AreBelow (length first.now.names)) }
-    ensures { (g h : FirstGraph) → first.now.names ≡ observed_names g → second.now.names ≡ observed_names h → IsObservedGraph g (graph_of first.now.graph) → IsObservedGraph h (graph_of second.now.graph)
-        → IfOk result (λ r. GraphsAnswer g sets h r.outcome r.text.items) }
+    ensures { IfOk result (λ r. GraphsAnswer first.now sets second.now r.outcome r.text.items) }
 {
     match second_fault(alloc, &first.names, second)? {
         Some(fault) => Ok(Reply {
@@ -96,9 +79,8 @@ fn observed_reply(
 fn second_fault(
     alloc: Global,
     names: &Names,
-    second: &Observed,
+    second: &ReadGraph,
 ) -> Result<Option<TargetFault>, AllocError>
-    requires { length second.now.names ≡ second.now.graph.n }
     ensures found { IfOk result (λ o. IfSome o (ObservedFault names.now (graph_of second.now.graph) second.now.names)) }
     ensures arrows { IfOk result (λ o. IfNone o (HasArrowsAlone (graph_of second.now.graph))) }
     ensures names { IfOk result (λ o. IfNone o (HaveSameNames names.now second.now.names)) }
@@ -109,20 +91,16 @@ fn second_fault(
     }
 }
 
-/// The answer of the comparison of two observed graphs with the same names.
+/// The answer of two observed graphs that are compared.
 fn compared_reply(
     alloc: Global,
-    first: &Observed,
-    second: &Observed,
+    first: &ReadGraph,
+    second: &ReadGraph,
     sets: Option<Sets>,
 ) -> Result<Reply, AllocError>
-    requires named { length first.now.names ≡ first.now.graph.n }
+    requires comparable { AreComparable first.now second.now }
     requires below { IfSome sets (AreBelow (length first.now.names)) }
-    requires names { HaveSameNames first.now.names second.now.names }
-    requires first_arrows { HasArrowsAlone (graph_of first.now.graph) }
-    requires second_arrows { HasArrowsAlone (graph_of second.now.graph) }
-    ensures { IfOk result (λ r. ComparisonAnswer first.now.names (graph_of first.now.graph)
-        (on_names first.now.names second.now.names (graph_of second.now.graph)) sets r.outcome r.text.items) }
+    ensures { IfOk result (λ r. GraphsAnswer first.now sets second.now r.outcome r.text.items) }
 {
     let moved = graph_on(&first.names, second);
     match compare(&first.graph, &moved) {

@@ -1,8 +1,6 @@
 -- Which columns are read, by what a formula names.
-use Rattle.std.proofs.Common.{◌≡◌, ℕ, Bool, true, false, cond, [], refl, subst}
+use Rattle.std.proofs.Common.{◌≡◌, ℕ, Bool, true, false, cond, subst}
 use Rattle.mixed_graph.specs.Bits.{has}
-use Rattle.mixed_graph.specs.Graphs.{MixedGraph, IsAncestor}
-use Rattle.mixed_graph.specs.Sets.{Within}
 use Rattle.mixed_graph.specs.Masks.{union, is_empty}
 use Rattle.prob_expr.specs.Tree.{prob}
 use Rattle.adjustment.specs.Formulas.{adjustment_formula, adjusted_sum}
@@ -17,10 +15,6 @@ pub used_only : (P : ℕ → Type 0) (e : PlainEffect) → ((v : ℕ) → has (m
 used_only P e of_formula of_x of_y of_given v h =
     in_either (P v) (mentioned e.formula) (union e.x (union e.y e.given)) v (of_formula v)
     (in_either (P v) e.x (union e.y e.given) v (of_x v) (in_either (P v) e.y e.given v (of_y v) (of_given v))) h
-
--- a member of a set is an ancestor of it
-pub own_ancestor : (g : MixedGraph) (set : ℕ) → Within g.vertices (has set) → (v : ℕ) → has set v ≡ true → IsAncestor g (has set) v
-own_ancestor g set within v h = record { vertex = within v h; path = []; end = v; leads = refl; inside = h }
 
 -- nothing is given
 pub none_given : (P : ℕ → Type 0) (given : ℕ) → given ≡ 0 → (v : ℕ) → has given v ≡ true → P v

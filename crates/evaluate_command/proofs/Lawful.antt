@@ -4,10 +4,10 @@ use Rattle.std.specs.Prelude.{codes}
 use Rattle.std.proofs.lemmas.Option.{same_Some}
 use Rattle.command_words.specs.Form.{Use, value_of, has_flag}
 use Rattle.command_words.proofs.OneValue.{one_listed, one_listed_or_empty}
-use Rattle.dag_reader.specs.declared.graph.ReadGraph.{ReadGraph}
+use Rattle.diagram.specs.declared.diagram.Diagram.{Diagram}
 use Rattle.replies.specs.Command.{IsLeft}
 use Rattle.replies.proofs.Commands.{IsLawful, lawful_on_two_inputs_where}
-use Rattle.replies.specs.Observed.{Names}
+use Rattle.diagram.specs.Sets.{Names}
 use Rattle.evaluate_command.specs.Ways.{way_for}
 use Rattle.evaluate_command.specs.Effects.{PlainEffect, Identifies}
 use Rattle.evaluate_command.specs.Requests.{Request, IsRequest}
@@ -40,12 +40,12 @@ one_request uses q r a b = λ i. record {
 -- what holds of each command holds of it
 pub evaluate_lawful : IsLawful evaluate_command
 evaluate_lawful = lawful_on_two_inputs_where one_request
-    (λ q g. first_answered q.way g q.x q.y)
-    (λ q g other o text a. counts_answered q.exact q.zero a.0 q.count other o text a.2)
+    (λ q d. first_answered q.way d q.x q.y)
+    (λ q d other o text a. counts_answered q.exact q.zero a.0 q.count other o text a.2)
     (λ q bytes. first_once bytes q.way q.x q.y)
     (λ q fixed bytes other. evaluate_once bytes other q.exact q.zero q.way fixed q.x q.y q.count)
-    (λ q name g h same names o text a n. first_alone q.way g h same q.x q.y o text n.0 a n.1)
+    (λ q name d e same names o text a n. first_alone q.way d e same q.x q.y o text n.0 a n.1)
 
-pub evaluate_is_left : (q : Request) (g : ReadGraph) (e : PlainEffect) → Identifies q.way g q.x q.y e
-    → IsLeft evaluate_command q g (evaluate_left e q.counts q.count q.exact q.zero)
-evaluate_is_left q g e is = record { named = refl; continues = (e, is); known = is.identified; answers = λ other o text a. (e, is, a) }
+pub evaluate_is_left : (q : Request) (d : Diagram) (e : PlainEffect) → Identifies q.way d q.x q.y e
+    → IsLeft evaluate_command q d (evaluate_left e q.counts q.count q.exact q.zero)
+evaluate_is_left q d e is = record { named = refl; continues = (e, is); known = is.identified; answers = λ other o text a. (e, is, a) }

@@ -7,6 +7,7 @@ pub mod Stops
 pub mod Evaluable
 pub mod Outcomes
 mod NoWays
+mod RightFormulas
 pub mod Unmet
 pub mod FirstAnswers
 pub mod Adjusted

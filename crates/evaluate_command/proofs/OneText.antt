@@ -3,8 +3,8 @@ use Rattle.std.proofs.Common.{◌≡◌, ℕ, Bool, true, false, List, [], ◌++
 use Rattle.std.specs.Prelude.{codes}
 use Rattle.std.specs.List.{flat_map}
 use Rattle.fractions.specs.Fractions.{Fraction}
-use Rattle.dag_reader.specs.declared.graph.ReadGraph.{ReadGraph}
-use Rattle.dag_reader.specs.RoundTrip.{AreSame}
+use Rattle.diagram.specs.declared.diagram.Diagram.{Diagram}
+use Rattle.diagram.proofs.OneDiagram.{AreSameDiagrams}
 use Rattle.answer_text.specs.Lines.{line_of}
 use Rattle.quantity.specs.declared.fault.QuantityFault.{QuantityFault}
 use Rattle.quantity.specs.declared.fault.QuantityFault.TheVariants.{ZeroBelow, TooWide, TooFine}
@@ -17,7 +17,7 @@ use Rattle.count_answers.specs.Reads.{HoldsCounts}
 use Rattle.count_answers.proofs.OneReading.{AreAlike, one_table, one_refusal}
 use Rattle.replies.specs.declared.outcome.Outcome.{Outcome}
 use Rattle.replies.specs.declared.outcome.Outcome.TheVariants.{Yes, Second, Evaluation}
-use Rattle.replies.specs.Observed.{Names}
+use Rattle.diagram.specs.Sets.{Names}
 use Rattle.evaluate_command.specs.Answers.{ShowsValues, ShowsStop, AnswersTable, CountsAnswer, EvaluateAnswer}
 use Rattle.evaluate_command.specs.Cells.{CellValue, printed_cells, value_in, values_at}
 use Rattle.evaluate_command.specs.Effects.{PlainEffect, used_in}
@@ -105,7 +105,7 @@ module _ (e : PlainEffect) (bytes : List ℕ) (count : Option Field) where
 
 -- the answer over counts has one text, whatever its outcome
 pub evaluate_text : (is_exact zero : Bool) (way : Way) → FixesFormula way → (x y : Names) (count : Option Field) (bytes : List ℕ) (o : Outcome)
-    (g h : ReadGraph) → AreSame g h → (text line : List ℕ) → EvaluateAnswer is_exact zero way g x y count bytes o text
-    → EvaluateAnswer is_exact zero way h x y count bytes o line → line ≡ text
-evaluate_text is_exact zero way fixed x y count bytes o g h s text line a b = counts_text a.0 bytes count is_exact zero o text line a.2
-    (subst (λ (e : PlainEffect). CountsAnswer is_exact zero e count bytes o line) (same_effect way fixed g h s x y a.0 b.0 a.1 b.1) b.2)
+    (d d' : Diagram) → AreSameDiagrams d d' → (text line : List ℕ) → EvaluateAnswer is_exact zero way d x y count bytes o text
+    → EvaluateAnswer is_exact zero way d' x y count bytes o line → line ≡ text
+evaluate_text is_exact zero way fixed x y count bytes o d d' s text line a b = counts_text a.0 bytes count is_exact zero o text line a.2
+    (subst (λ (e : PlainEffect). CountsAnswer is_exact zero e count bytes o line) (same_effect way fixed d d' s x y a.0 b.0 a.1 b.1) b.2)

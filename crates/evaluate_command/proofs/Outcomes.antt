@@ -1,8 +1,11 @@
 -- Which outcomes the command answers.
 use Rattle.std.proofs.Common.{ℕ, Bool, List, Option}
 use Rattle.count_rows.specs.Records.{Field}
-use Rattle.dag_reader.specs.declared.graph.ReadGraph.{ReadGraph}
-use Rattle.replies.specs.Observed.{Names}
+use Rattle.mixed_graph.specs.Graphs.{MixedGraph}
+use Rattle.mixed_graph.specs.Shown.{graph_of}
+use Rattle.targets.specs.Targets.{EffectLists}
+use Rattle.diagram.specs.Sets.{Names, effect_lists}
+use Rattle.diagram.specs.declared.diagram.Diagram.{Diagram}
 use Rattle.replies.specs.declared.outcome.Outcome.{Outcome}
 use Rattle.replies.specs.Outcomes.{IsAnswered}
 use Rattle.replies.proofs.Outcomes.{answered}
@@ -13,13 +16,14 @@ use Rattle.evaluate_command.specs.Answers.{ProcedureFirst, EvaluateFirst, Counts
 use Rattle.evaluate_command.specs.Effects.{PlainEffect}
 use Rattle.evaluate_command.specs.Ways.{Way, by_procedure, by_adjusting, by_condition, criterion_query}
 
-procedure_answered : (g : ReadGraph) (x y : Names) (o : Outcome) (text : List ℕ) → ProcedureFirst g x y o text → IsAnswered o
-procedure_answered g x y o text = answered (λ k. ProcedureFirst g x y k text) (λ h. h) (λ h. h) (λ h. h) (λ h. h) o
+procedure_answered : (q : MixedGraph) (l : EffectLists) (o : Outcome) (text : List ℕ) → ProcedureFirst q l o text → IsAnswered o
+procedure_answered q l o text = answered (λ k. ProcedureFirst q l k text) (λ h. h) (λ h. h) (λ h. h) (λ h. h) o
 
-pub first_answered : (way : Way) (g : ReadGraph) (x y : Names) (o : Outcome) (text : List ℕ) → EvaluateFirst way g x y o text → IsAnswered o
-first_answered (by_procedure short) g x y o text h = procedure_answered g x y o text h
-first_answered (by_adjusting back_door set) g x y o text h = adjust_answered g x y (criterion_query back_door set) o text h.1
-first_answered (by_condition short given) g x y o text h = conditional_answered plain_form g x y given o text h.1
+pub first_answered : (way : Way) (d : Diagram) (x y : Names) (o : Outcome) (text : List ℕ) → EvaluateFirst way d x y o text → IsAnswered o
+first_answered (by_procedure short) d x y o text h =
+    procedure_answered (graph_of d.observed.graph) (effect_lists d.read d.observed.names x y) o text h
+first_answered (by_adjusting back_door set) d x y o text h = adjust_answered d x y (criterion_query back_door set) o text h.1
+first_answered (by_condition short given) d x y o text h = conditional_answered plain_form d x y given o text h.1
 
 pub counts_answered : (exact zero : Bool) (e : PlainEffect) (count : Option Field) (bytes : List ℕ) (o : Outcome) (text : List ℕ)
     → CountsAnswer exact zero e count bytes o text → IsAnswered o

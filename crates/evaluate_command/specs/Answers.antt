@@ -3,8 +3,9 @@ use Rattle.std.specs.Prelude.{ℕ, ◌≡◌, ◌≢◌, List, ◌++◌, All, Bo
 use Rattle.std.specs.List.{flat_map}
 use Rattle.fractions.specs.Fractions.{Fraction}
 use Rattle.mixed_graph.specs.Graphs.{MixedGraph}
+use Rattle.mixed_graph.specs.Shown.{graph_of}
 use Rattle.finite_models.specs.Models.{FiniteModel, Fits, IsPositiveModel}
-use Rattle.dag_reader.specs.declared.graph.ReadGraph.{ReadGraph}
+use Rattle.targets.specs.Targets.{EffectLists}
 use Rattle.prob_expr.specs.Values.{effect}
 use Rattle.identify_command.specs.Forms.{plain_form}
 use Rattle.identify_command.specs.Conditions.{ConditionalAnswer}
@@ -12,8 +13,9 @@ use Rattle.adjust_command.specs.Answers.{AdjustAnswer}
 use Rattle.answer_text.specs.Lines.{line_of}
 use Rattle.replies.specs.declared.outcome.Outcome.{Outcome}
 use Rattle.replies.specs.declared.outcome.Outcome.TheVariants.{Yes, No, Graph, Second, Evaluation}
-use Rattle.replies.specs.Observed.{Names, observed_names, IsObservedGraph}
-use Rattle.effect_answers.specs.Effects.{effect_lists, IsOfSets, IsEffectRefusal}
+use Rattle.diagram.specs.Sets.{Names, effect_lists}
+use Rattle.diagram.specs.declared.diagram.Diagram.{Diagram}
+use Rattle.effect_answers.specs.Effects.{IsOfSets, IsEffectRefusal}
 use Rattle.effect_answers.specs.Hedges.{ShowsHedge}
 use Rattle.quantity.specs.Kinds.{Pair}
 use Rattle.count_eval.specs.Rules.{Rule, rule as rule_of}
@@ -34,17 +36,18 @@ use Rattle.evaluate_command.specs.Lines.{sign_of, value_line, pinned_lines, stop
 
 -- ---- before the counts
 
--- where the procedure is asked, in the observed graph: a hedge with its two models, as `identify` shows it, or the line of a listed name that is at fault
-abbrev pub ProcedureFirst : ReadGraph → Names → Names → Outcome → List ℕ → Type 0
-ProcedureFirst g x y No text = (q : MixedGraph) × IsObservedGraph g q × IsOfSets (effect_lists g x y) (λ xs ys. ShowsHedge q (observed_names g) xs ys text)
-ProcedureFirst g x y Graph line = (q : MixedGraph) × IsObservedGraph g q × IsEffectRefusal (effect_lists g x y) line
-ProcedureFirst g x y o text = ⊥
+-- where the procedure is asked, in the observed graph q: a hedge with its two models, as `identify` shows it, or the line of a listed name that is at
+-- fault
+abbrev pub ProcedureFirst : MixedGraph → EffectLists → Outcome → List ℕ → Type 0
+ProcedureFirst q l No text = IsOfSets l (λ x y. ShowsHedge q l.observed x y text)
+ProcedureFirst q l Graph line = IsEffectRefusal l line
+ProcedureFirst q l o text = ⊥
 
 -- the answer for which the counts aren't read: that one; or what `adjust` answers for the set, or `identify` under the condition, where that isn't yes
-abbrev pub EvaluateFirst : Way → ReadGraph → Names → Names → Outcome → List ℕ → Type 0
-EvaluateFirst (by_procedure short) g x y o text = ProcedureFirst g x y o text
-EvaluateFirst (by_adjusting back_door set) g x y o text = (o ≢ Yes) × AdjustAnswer g x y (criterion_query back_door set) o text
-EvaluateFirst (by_condition short given) g x y o text = (o ≢ Yes) × ConditionalAnswer plain_form g x y given o text
+abbrev pub EvaluateFirst : Way → Diagram → (x y : Names) → Outcome → List ℕ → Type 0
+EvaluateFirst (by_procedure short) d x y o text = ProcedureFirst (graph_of d.observed.graph) (effect_lists d.read d.observed.names x y) o text
+EvaluateFirst (by_adjusting back_door set) d x y o text = (o ≢ Yes) × AdjustAnswer d x y (criterion_query back_door set) o text
+EvaluateFirst (by_condition short given) d x y o text = (o ≢ Yes) × ConditionalAnswer plain_form d x y given o text
 
 -- ---- over a table of counts
 
@@ -101,8 +104,8 @@ CountsAnswer is_exact zero e count bytes Second line = AreRefusedCounts e.names 
 CountsAnswer is_exact zero e count bytes Evaluation line = AnswersTable is_exact zero e count bytes Evaluation line
 CountsAnswer is_exact zero e count bytes o text = ⊥
 
--- ---- on a graph that was read
+-- ---- on a diagram
 
 -- the answer where the counts are read: the lists name an effect that has a formula
-abbrev pub EvaluateAnswer : (is_exact zero : Bool) → Way → ReadGraph → Names → Names → Option Field → List ℕ → Outcome → List ℕ → Type 0
-EvaluateAnswer is_exact zero way g x y count bytes o text = (e : PlainEffect) × Identifies way g x y e × CountsAnswer is_exact zero e count bytes o text
+abbrev pub EvaluateAnswer : (is_exact zero : Bool) → Way → Diagram → (x y : Names) → Option Field → List ℕ → Outcome → List ℕ → Type 0
+EvaluateAnswer is_exact zero way d x y count bytes o text = (e : PlainEffect) × Identifies way d x y e × CountsAnswer is_exact zero e count bytes o text

@@ -9,9 +9,9 @@ use Rattle.evaluate_command.specs.Ways.{FixesFormula}
 
 -- its request and its answers, which have one outcome where one formula is found in the way that is asked for
 abbrev pub evaluate_command : CommandForm
-evaluate_command = on_two_inputs_where Request IsRequest (λ q. q.file) (λ q. Some q.counts) (λ q g. EvaluateFirst q.way g q.x q.y)
-    (λ q g. (e : PlainEffect) × Identifies q.way g q.x q.y e)
-    (λ q g other. EvaluateAnswer q.exact q.zero q.way g q.x q.y q.count other) (λ q. FixesFormula q.way)
+evaluate_command = on_two_inputs_where Request IsRequest (λ q. q.file) (λ q. Some q.counts) (λ q d. EvaluateFirst q.way d q.x q.y)
+    (λ q d. (e : PlainEffect) × Identifies q.way d q.x q.y e) (λ q d other. EvaluateAnswer q.exact q.zero q.way d q.x q.y q.count other)
+    (λ q. FixesFormula q.way)
 
 -- what is left once the effect has a formula: its values over the counts, whose column may have a name, in exact fractions or in bounds, by one of
 -- the two rules for products

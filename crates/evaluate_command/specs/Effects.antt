@@ -1,18 +1,19 @@
 -- An effect that has a formula.
-use Rattle.std.specs.Prelude.{ℕ, ◌≡◌, ◌⊎◌, ◌≤◌, ◌<◌, true, Bool, IsTrue, List, None, length}
+use Rattle.std.specs.Prelude.{ℕ, ◌≡◌, ◌⊎◌, ◌≤◌, ◌<◌, true, Bool, IsTrue, List, Some, None, length}
 use Rattle.mixed_graph.specs.Bits.{has}
 use Rattle.mixed_graph.specs.Graphs.{MixedGraph, IsMixedGraph, IsAncestor}
 use Rattle.mixed_graph.specs.Sets.{Within, Apart}
 use Rattle.mixed_graph.specs.Shown.{graph_of}
 use Rattle.dag_reader.specs.declared.graph.ReadGraph.{ReadGraph}
 use Rattle.targets.specs.Targets.{AreEffectSets, AreSets}
-use Rattle.replies.specs.Observed.{Names, observed_names, IsObservedGraph, query_lists}
+use Rattle.diagram.specs.Sets.{Names, effect_lists, query_lists}
+use Rattle.diagram.specs.declared.diagram.Diagram.{Diagram}
 use Rattle.mixed_graph.specs.Masks.{union}
 use Rattle.prob_expr.specs.Check.{fault_in}
 use Rattle.prob_expr.specs.Terms.{is_do_free}
 use Rattle.prob_expr.specs.Tree.{PlainFormula, PlainTarget}
 use Rattle.prob_expr.specs.Values.{EqualsEffect}
-use Rattle.prob_expr.specs.View.{formula_view}
+use Rattle.prob_expr.specs.View.{formula_view, target_view}
 use Rattle.do_derivation.specs.Plans.{PlainDerivation}
 use Rattle.identification_theory.specs.Derivations.{IsDerived}
 use Rattle.identify.specs.Answers.{IsRightFormula}
@@ -22,11 +23,11 @@ use Rattle.conditional_id.specs.TurnLaws.{IsRightGiven}
 use Rattle.adjustment.specs.Formulas.{adjustment_formula}
 use Rattle.adjust_command.specs.Verdicts.{IsVerdict}
 use Rattle.adjust_command.specs.declared.criteria.Verdict.TheVariants.{Meets}
-use Rattle.effect_answers.specs.Effects.{effect_lists}
-use Rattle.identify_command.specs.Conditions.{target_lists, AreTargetSets}
+use Rattle.identify_command.specs.Conditions.{AreTargetSets}
 use Rattle.prob_expr.specs.Mentioned.{mentioned}
 use Rattle.evaluate_command.specs.Ways.{Way, by_procedure, by_adjusting, by_condition}
 use Rattle.evaluate_command.specs.declared.identified.Identified.{Identified}
+use Rattle.evaluate_command.specs.declared.identified.Effect.{Effect}
 
 -- the effect of x on y under a condition, which may be empty, in a graph whose vertices have these names, and a formula for it
 pub record PlainEffect : Type 0 where
@@ -45,16 +46,13 @@ target_of e = record { x = e.x; y = e.y; given = e.given }
 abbrev pub effect_for : List (List ℕ) → MixedGraph → PlainTarget → PlainFormula → PlainEffect
 effect_for names graph t formula = record { names = names; graph = graph; x = t.x; y = t.y; given = t.given; formula = formula }
 
--- what an identified effect holds
-abbrev pub effect_view : Identified → PlainEffect
-effect_view i = record {
-  names = i.seen.names;
-  graph = graph_of i.seen.graph;
-  x = i.sets.x.bits;
-  y = i.sets.y.bits;
-  given = i.given.bits;
-  formula = formula_view i.formula;
-}
+-- an identified effect in an observed graph
+abbrev pub effect_in : ReadGraph → Identified → PlainEffect
+effect_in g i = effect_for g.names (graph_of g.graph) (target_view i.target) (formula_view i.formula)
+
+-- the same where its parts are lent
+abbrev pub effect_view : Effect → PlainEffect
+effect_view e = effect_for e.seen.now.names (graph_of e.seen.now.graph) (target_view e.target) (formula_view e.formula.now)
 
 -- the vertices whose levels are read: those that the formula names, with x, y and what is given
 abbrev pub used_in : PlainEffect → ℕ
@@ -103,15 +101,15 @@ pub record IsByCondition (short : Bool) (e : PlainEffect) : Type 0 where
   pub derived : IsOrShorter short (IsConditionalBySteps e.graph (target_of e)) e.formula derivation
   pub columns : (v : ℕ) → IsTrue (has (used_in e) v) → IsTrue (has e.x v) ⊎ IsAncestor e.graph (has (union e.y e.given)) v
 
--- the lists name the sets of the effect, and its formula is found in this way
-abbrev pub IsFoundBy : Way → ReadGraph → (x y : Names) → PlainEffect → Type 0
-IsFoundBy (by_procedure short) g x y e = AreEffectSets (effect_lists g x y) e.x e.y × IsByProcedure short e
-IsFoundBy (by_adjusting back_door set) g x y e = (z : ℕ) × AreSets (query_lists g x y set) e.x e.y z × IsByAdjusting back_door z e
-IsFoundBy (by_condition short given) g x y e = AreTargetSets (target_lists g x y given) (target_of e) × IsByCondition short e
+-- the lists name the sets of the effect, on a graph with these observed names, and its formula is found in this way
+abbrev pub IsFoundBy : Way → ReadGraph → (observed : List (List ℕ)) → (x y : Names) → PlainEffect → Type 0
+IsFoundBy (by_procedure short) g observed x y e = AreEffectSets (effect_lists g observed x y) e.x e.y × IsByProcedure short e
+IsFoundBy (by_adjusting back_door set) g observed x y e = (z : ℕ) × AreSets (query_lists g observed x y (Some set)) e.x e.y z × IsByAdjusting back_door z e
+IsFoundBy (by_condition short given) g observed x y e = AreTargetSets (query_lists g observed x y (Some given)) (target_of e) × IsByCondition short e
 
--- it is the effect that the lists of x and y name in the observed graph of the one that was read, and it is identified in this way
-pub record Identifies (way : Way) (g : ReadGraph) (x y : Names) (e : PlainEffect) : Type 0 where
-  pub names : e.names ≡ observed_names g
-  pub graph : IsObservedGraph g e.graph
+-- it is the effect that the lists of x and y name in the observed graph of the diagram, and it is identified in this way
+pub record Identifies (way : Way) (d : Diagram) (x y : Names) (e : PlainEffect) : Type 0 where
+  pub names : e.names ≡ d.observed.names
+  pub graph : e.graph ≡ graph_of d.observed.graph
   pub identified : IsIdentified e
-  pub found : IsFoundBy way g x y e
+  pub found : IsFoundBy way d.read d.observed.names x y e

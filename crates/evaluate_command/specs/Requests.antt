@@ -2,7 +2,7 @@
 use Rattle.std.specs.Prelude.{ℕ, ◌≡◌, Bool, List, Option, Some, [], ◌∷◌, codes, option_map}
 use Rattle.command_words.specs.Form.{Text, Row, Use, word_of, value_of, has_flag}
 use Rattle.command_words.specs.Values as values
-use Rattle.replies.specs.Observed.{Names}
+use Rattle.diagram.specs.Sets.{Names}
 use Rattle.command_words.specs.ListViews.{names_in}
 use Rattle.evaluate_command.specs.Ways.{Way, way_of, way_for}
 use Rattle.evaluate_command.specs.declared.request.Request.{Request as CodeRequest}

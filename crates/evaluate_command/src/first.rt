@@ -1,16 +1,16 @@
 //! What is known before counts are read: a formula, or the answer.
 
-ghost use Rattle.std.specs.Prelude.{IfOk, option_map};
-ghost use Rattle.command_words.specs.ListViews.{names_in};
+ghost use Rattle.std.specs.Prelude.{IfOk};
 ghost use Rattle.evaluate_command.specs.Firsts.{IsEffectOrReply};
-ghost use Rattle.evaluate_command.specs.Ways.{way_of};
+ghost use Rattle.evaluate_command.specs.Requests.{request_of};
 
 use crate::adjusting::by_adjusting;
 use crate::conditional::by_condition;
 use crate::identified::Identified;
 use crate::procedure::by_procedure;
+use crate::request::Request;
 use crate::way::Way;
-use dag_reader::ReadGraph;
+use diagram::Diagram;
 use replies::Reply;
 use std::alloc::{AllocError, Global};
 
@@ -28,18 +28,19 @@ pub enum EffectOrReply {
 /// A list that is missing is that of the exposures or of the outcomes. The only error is want of memory.
 pub fn identify_first(
     alloc: Global,
-    graph: &ReadGraph,
-    x: Option<Vec<Vec<u8>>>,
-    y: Option<Vec<Vec<u8>>>,
-    way: Way,
+    diagram: &Diagram,
+    asked: &Request<'_>,
 ) -> Result<EffectOrReply, AllocError>
-    ensures { IfOk result (IsEffectOrReply (way_of way) graph.now (option_map names_in x) (option_map names_in y)) }
+    ensures { let q = request_of asked.now in IfOk result (IsEffectOrReply q.way diagram.now q.x q.y) }
 {
-    match way {
-        Way::Procedure { short } => by_procedure(alloc, graph, x, y, short),
+    let (x, y) = (asked.x.as_deref(), asked.y.as_deref());
+    match &asked.way {
+        Way::Procedure { short } => by_procedure(alloc, diagram, x, y, *short),
         Way::Adjusting { set, back_door } => {
-            by_adjusting(alloc, graph, x, y, set.as_slice(), back_door)
+            by_adjusting(alloc, diagram, x, y, set.as_slice(), *back_door)
         }
-        Way::Given { names, short } => { by_condition(alloc, graph, x, y, names.as_slice(), short) }
+        Way::Given { names, short } => {
+            by_condition(alloc, diagram, x, y, names.as_slice(), *short)
+        }
     }
 }

@@ -1,15 +1,19 @@
 //! An effect that has a formula.
 
-use latent_projection::Observed;
-use mixed_graph::VSet;
-use prob_expr::Formula;
-use targets::EffectSets;
+use dag_reader::ReadGraph;
+use prob_expr::{Formula, Target};
 
-/// An effect that has a formula: the observed graph with its names, the sets x and y, what is given, and a formula for P(y | do(x), given).
+/// An effect that has a formula: its target P(y | do(x), given), and a formula for that. It keeps no graph.
 #[derive(Drop)]
 pub struct Identified {
-    pub seen: Observed,
-    pub sets: EffectSets,
-    pub given: VSet,
+    pub target: Target,
     pub formula: Formula,
+}
+
+/// The same with the observed graph in which it is so.
+#[derive(Drop)]
+pub(crate) struct Effect<'a, 'b> {
+    pub seen: &'a ReadGraph,
+    pub target: Target,
+    pub formula: &'b Formula,
 }

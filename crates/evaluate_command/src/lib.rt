@@ -5,7 +5,6 @@ mod adjusting;
 mod conditional;
 mod fault_lines;
 mod first;
-mod found;
 mod identified;
 mod lines;
 mod mentioned;

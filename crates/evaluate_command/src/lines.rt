@@ -9,7 +9,7 @@ ghost use Rattle.evaluate_command.specs.Effects.{effect_view, target_of};
 ghost use Rattle.identify_text.specs.Answers.{free_beside};
 ghost use Rattle.evaluate_command.specs.Lines.{doing_text, given_text, effect_text, value_line, pinned_line, pinned_lines};
 
-use crate::identified::Identified;
+use crate::identified::Effect;
 use count_answers::{push_assignment, push_assignments};
 use count_table::Counts;
 use mixed_graph::{Names, VSet};
@@ -20,19 +20,19 @@ use std::alloc::{AllocError, Global};
 /// Appends what is done: nothing where x is empty.
 fn push_doing(
     out: &mut Vec<u8>,
-    found: &Identified,
+    effect: &Effect<'_, '_>,
     counts: &Counts,
     cell: &[u32],
 ) -> Result<(), AllocError>
-    requires named { Within (length found.now.seen.names) (has found.now.sets.x.bits) }
-    requires entries { Within (length cell.now) (has found.now.sets.x.bits) }
-    ensures { OnOk result (out.new.items ≡ out.old.items ++ doing_text (effect_view found.now) counts.now (cell_of cell.now)) }
+    requires named { Within (length effect.now.seen.now.names) (has effect.now.target.x.bits) }
+    requires entries { Within (length cell.now) (has effect.now.target.x.bits) }
+    ensures { OnOk result (out.new.items ≡ out.old.items ++ doing_text (effect_view effect.now) counts.now (cell_of cell.now)) }
 {
-    if found.sets.x.is_empty() {
+    if effect.target.x.is_empty() {
         return Ok(());
     }
     out.extend_from_slice(b"|do(")?;
-    push_assignments(out, &found.seen.names, counts, found.sets.x, cell)?;
+    push_assignments(out, &effect.seen.names, counts, effect.target.x, cell)?;
     out.push(b')')?;
     Ok(())
 }
@@ -40,19 +40,19 @@ fn push_doing(
 /// Appends what is given, behind a bar or a comma: nothing where nothing is given.
 fn push_given(
     out: &mut Vec<u8>,
-    found: &Identified,
+    effect: &Effect<'_, '_>,
     counts: &Counts,
     cell: &[u32],
 ) -> Result<(), AllocError>
-    requires named { Within (length found.now.seen.names) (has found.now.given.bits) }
-    requires entries { Within (length cell.now) (has found.now.given.bits) }
-    ensures { OnOk result (out.new.items ≡ out.old.items ++ given_text (effect_view found.now) counts.now (cell_of cell.now)) }
+    requires named { Within (length effect.now.seen.now.names) (has effect.now.target.given.bits) }
+    requires entries { Within (length cell.now) (has effect.now.target.given.bits) }
+    ensures { OnOk result (out.new.items ≡ out.old.items ++ given_text (effect_view effect.now) counts.now (cell_of cell.now)) }
 {
-    if found.given.is_empty() {
+    if effect.target.given.is_empty() {
         return Ok(());
     }
-    out.push(given_sign(found.sets.x))?;
-    push_assignments(out, &found.seen.names, counts, found.given, cell)?;
+    out.push(given_sign(effect.target.x))?;
+    push_assignments(out, &effect.seen.names, counts, effect.target.given, cell)?;
     Ok(())
 }
 
@@ -66,20 +66,20 @@ fn given_sign(x: VSet) -> u8
 /// Appends the effect at a cell, as `P(Y=level|do(X=level),Z=level)`.
 fn push_effect(
     out: &mut Vec<u8>,
-    found: &Identified,
+    effect: &Effect<'_, '_>,
     counts: &Counts,
     cell: &[u32],
 ) -> Result<(), AllocError>
-    requires x { Within (length found.now.seen.names) (has found.now.sets.x.bits) }
-    requires y { Within (length found.now.seen.names) (has found.now.sets.y.bits) }
-    requires given { Within (length found.now.seen.names) (has found.now.given.bits) }
-    requires entries { length found.now.seen.names ≡ length cell.now }
-    ensures { OnOk result (out.new.items ≡ out.old.items ++ effect_text (effect_view found.now) counts.now (cell_of cell.now)) }
+    requires x { Within (length effect.now.seen.now.names) (has effect.now.target.x.bits) }
+    requires y { Within (length effect.now.seen.now.names) (has effect.now.target.y.bits) }
+    requires given { Within (length effect.now.seen.now.names) (has effect.now.target.given.bits) }
+    requires entries { length effect.now.seen.now.names ≡ length cell.now }
+    ensures { OnOk result (out.new.items ≡ out.old.items ++ effect_text (effect_view effect.now) counts.now (cell_of cell.now)) }
 {
     out.extend_from_slice(b"P(")?;
-    push_assignments(out, &found.seen.names, counts, found.sets.y, cell)?;
-    push_doing(out, found, counts, cell)?;
-    push_given(out, found, counts, cell)?;
+    push_assignments(out, &effect.seen.names, counts, effect.target.y, cell)?;
+    push_doing(out, effect, counts, cell)?;
+    push_given(out, effect, counts, cell)?;
     out.push(b')')?;
     Ok(())
 }
@@ -88,19 +88,19 @@ fn push_effect(
 pub fn push_value<Q: Quantity>(
     alloc: Global,
     out: &mut Vec<u8>,
-    found: &Identified,
+    effect: &Effect<'_, '_>,
     counts: &Counts,
     sign: &[u8],
     cell: &[u32],
     quantity: &Q,
 ) -> Result<(), AllocError>
-    requires x { Within (length found.now.seen.names) (has found.now.sets.x.bits) }
-    requires y { Within (length found.now.seen.names) (has found.now.sets.y.bits) }
-    requires given { Within (length found.now.seen.names) (has found.now.given.bits) }
-    requires entries { length found.now.seen.names ≡ length cell.now }
-    ensures { OnOk result (out.new.items ≡ out.old.items ++ value_line Q.kind sign.now (effect_view found.now) counts.now (record { cell = cell.now; quantity = Q.numbers quantity.now })) }
+    requires x { Within (length effect.now.seen.now.names) (has effect.now.target.x.bits) }
+    requires y { Within (length effect.now.seen.now.names) (has effect.now.target.y.bits) }
+    requires given { Within (length effect.now.seen.now.names) (has effect.now.target.given.bits) }
+    requires entries { length effect.now.seen.now.names ≡ length cell.now }
+    ensures { OnOk result (out.new.items ≡ out.old.items ++ value_line Q.kind sign.now (effect_view effect.now) counts.now (record { cell = cell.now; quantity = Q.numbers quantity.now })) }
 {
-    push_effect(out, found, counts, cell)?;
+    push_effect(out, effect, counts, cell)?;
     out.extend_from_slice(sign)?;
     quantity.print(alloc, out)?;
     out.push(b'\n')?;
@@ -131,19 +131,19 @@ fn push_pinned(
 /// The lines of the free variables outside x, y and what is given, at their first levels.
 pub fn pinned_lines(
     alloc: Global,
-    found: &Identified,
+    effect: &Effect<'_, '_>,
     counts: &Counts,
 ) -> Result<Vec<u8>, AllocError>
-    requires { Within (length found.now.seen.names) (has (free_beside (target_of (effect_view found.now)) (effect_view found.now).formula)) }
-    ensures { IfOk result (λ v. v.items ≡ pinned_lines (effect_view found.now) counts.now) }
+    requires { Within (length effect.now.seen.now.names) (has (free_beside (target_of (effect_view effect.now)) (effect_view effect.now).formula)) }
+    ensures { IfOk result (λ v. v.items ≡ pinned_lines (effect_view effect.now) counts.now) }
 {
-    let all = free(alloc, &found.formula)?;
+    let all = free(alloc, effect.formula)?;
     let pinned = all
-        .difference(found.sets.x.union(found.sets.y))
-        .difference(found.given);
+        .difference(effect.target.x.union(effect.target.y))
+        .difference(effect.target.given);
     let mut text = Vec::new(alloc);
     for v in 0..64u8 {
-        push_pinned(&mut text, &found.seen.names, counts, pinned, v)?;
+        push_pinned(&mut text, &effect.seen.names, counts, pinned, v)?;
     }
     Ok(text)
 }

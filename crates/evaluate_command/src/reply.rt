@@ -5,38 +5,46 @@ ghost use Rattle.mixed_graph.specs.Bits.{has, members_below};
 ghost use Rattle.count_rows.specs.Records.{Field};
 ghost use Rattle.count_eval.specs.Rules.{rule};
 ghost use Rattle.evaluate_command.specs.Answers.{TableAnswer, QuantityAnswer, CountsAnswer};
-ghost use Rattle.evaluate_command.specs.Effects.{PlainEffect, effect_view, used_in, IsIdentified};
+ghost use Rattle.evaluate_command.specs.Effects.{PlainEffect, effect_in, effect_view, used_in, IsIdentified};
 
 use crate::fault_lines::fault_line;
-use crate::identified::Identified;
+use crate::identified::{Effect, Identified};
 use crate::lines::pinned_lines;
 use crate::mentioned::used_in;
 use crate::values::{Failure, push_cells, varied};
 use count_eval::tables::{Prepared, prepare};
 use count_rows::CountFault;
 use count_table::{Counts, read_counts};
+use diagram::Diagram;
 use quantity::{Bounds, Exact, Quantity};
 use replies::{Outcome, Reply};
 use std::alloc::{AllocError, Global};
 
-/// The effect at each level of x, y and what is given, from counts in CSV: in exact fractions, or in bounds.
+/// The effect that was identified on a diagram, at each level of x, y and what is given, from counts in CSV: in exact fractions, or in
+/// bounds.
 ///
 /// With `zero` a product with a factor 0 is 0 whatever its other factors are. Refused counts are answered with their line, and so
 /// is the first printed cell at which the formula has no value. The only error is want of memory.
 pub fn evaluate_reply(
     alloc: Global,
+    diagram: &Diagram,
     found: &Identified,
     count: Option<&[u8]>,
     exact: bool,
     zero: bool,
     bytes: &[u8],
 ) -> Result<Reply, AllocError>
-    requires identified { IsIdentified (effect_view found.now) }
+    requires identified { IsIdentified (effect_in diagram.now.observed found.now) }
     requires small { length bytes.now ≤ 67108864 }
-    ensures { IfOk result (λ r. CountsAnswer exact zero (effect_view found.now) (option_map (λ s. s.now) count.entry) bytes.now r.outcome r.text.items) }
+    ensures { IfOk result (λ r. CountsAnswer exact zero (effect_in diagram.now.observed found.now) (option_map (λ s. s.now) count.entry) bytes.now r.outcome r.text.items) }
 {
-    match read_counts(alloc, bytes, &found.seen.names, used_in(found), count) {
-        Ok(counts) => table_reply(alloc, found, exact, zero, &counts),
+    let effect = Effect {
+        seen: &diagram.observed,
+        target: found.target,
+        formula: &found.formula,
+    };
+    match read_counts(alloc, bytes, &effect.seen.names, used_in(&effect), count) {
+        Ok(counts) => table_reply(alloc, &effect, exact, zero, &counts),
         Err(fault) => Ok(Reply {
             outcome: Outcome::Second,
             text: fault.line(alloc)?,
@@ -57,43 +65,43 @@ pub fn long_counts(alloc: Global) -> Result<Reply, AllocError>
 /// The answer over a table of counts.
 fn table_reply(
     alloc: Global,
-    found: &Identified,
+    effect: &Effect<'_, '_>,
     exact: bool,
     zero: bool,
     counts: &Counts,
 ) -> Result<Reply, AllocError>
-    requires identified { IsIdentified (effect_view found.now) }
-    requires used { counts.now.vertices ≡ members_below (has (used_in (effect_view found.now))) 64 }
-    ensures { IfOk result (λ r. QuantityAnswer exact zero (effect_view found.now) counts.now r.outcome r.text.items) }
+    requires identified { IsIdentified (effect_view effect.now) }
+    requires used { counts.now.vertices ≡ members_below (has (used_in (effect_view effect.now))) 64 }
+    ensures { IfOk result (λ r. QuantityAnswer exact zero (effect_view effect.now) counts.now r.outcome r.text.items) }
 {
     if exact {
-        values_reply::<Exact>(alloc, found, counts, zero, b" = ")
+        values_reply::<Exact>(alloc, effect, counts, zero, b" = ")
     } else {
-        values_reply::<Bounds>(alloc, found, counts, zero, b" ")
+        values_reply::<Bounds>(alloc, effect, counts, zero, b" ")
     }
 }
 
 /// The answer in a kind of quantity.
 fn values_reply<Q: Quantity>(
     alloc: Global,
-    found: &Identified,
+    effect: &Effect<'_, '_>,
     counts: &Counts,
     zero: bool,
     sign: &[u8],
 ) -> Result<Reply, AllocError>
-    requires identified { IsIdentified (effect_view found.now) }
-    requires used { counts.now.vertices ≡ members_below (has (used_in (effect_view found.now))) 64 }
-    ensures { IfOk result (λ r. TableAnswer (rule Q.kind zero) Q.covers sign.now (effect_view found.now) counts.now r.outcome r.text.items) }
+    requires identified { IsIdentified (effect_view effect.now) }
+    requires used { counts.now.vertices ≡ members_below (has (used_in (effect_view effect.now))) 64 }
+    ensures { IfOk result (λ r. TableAnswer (rule Q.kind zero) Q.covers sign.now (effect_view effect.now) counts.now r.outcome r.text.items) }
 {
     // The clause `table` of `used` is needed: each used vertex has a level, and none other.
     let _used = counts.used();
-    let n = found.seen.graph.n;
-    let prepared: Prepared<Q> = prepare(alloc, n, &found.formula, counts, zero)?;
-    let vertices = varied(alloc, found.sets.x, found.given, found.sets.y)?;
+    let n = effect.seen.graph.n;
+    let prepared: Prepared<Q> = prepare(alloc, n, effect.formula, counts, zero)?;
+    let vertices = varied(alloc, effect.target.x, effect.target.given, effect.target.y)?;
     let mut cell = vec![in alloc; 0; n as usize]?;
-    let mut text = pinned_lines(alloc, found, counts)?;
+    let mut text = pinned_lines(alloc, effect, counts)?;
     match push_cells(
-        alloc, &mut text, found, counts, &prepared, sign, &vertices, &mut cell,
+        alloc, &mut text, effect, counts, &prepared, sign, &vertices, &mut cell,
     ) {
         Ok(()) => Ok(Reply {
             outcome: Outcome::Yes,
@@ -101,7 +109,7 @@ fn values_reply<Q: Quantity>(
         }),
         Err(Failure::Evaluation(fault)) => Ok(Reply {
             outcome: Outcome::Evaluation,
-            text: fault_line(alloc, &found.seen.names, counts, &fault)?,
+            text: fault_line(alloc, &effect.seen.names, counts, &fault)?,
         }),
         Err(Failure::NoMemory) => Err(AllocError),
     }

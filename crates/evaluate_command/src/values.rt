@@ -8,7 +8,7 @@ ghost use Rattle.evaluate_command.specs.Cells.{varied, cells_along, IsCell};
 ghost use Rattle.evaluate_command.specs.Effects.{effect_view, IsIdentified};
 ghost use Rattle.evaluate_command.specs.Printing.{Appends, IsFailureOf, IsPreparedFor};
 
-use crate::identified::Identified;
+use crate::identified::Effect;
 use crate::lines::push_value;
 use count_eval::EvalFault;
 use count_eval::tables::Prepared;
@@ -30,23 +30,23 @@ pub enum Failure {
 fn push_cell<Q: Quantity>(
     alloc: Global,
     out: &mut Vec<u8>,
-    found: &Identified,
+    effect: &Effect<'_, '_>,
     counts: &Counts,
     prepared: &Prepared<Q>,
     sign: &[u8],
     cell: &[u32],
 ) -> Result<(), Failure>
-    requires identified { IsIdentified (effect_view found.now) }
-    requires prepared { IsPreparedFor prepared.now.zero (effect_view found.now) counts.now prepared.now }
-    requires cell { IsCell (length found.now.seen.names) counts.now cell.now }
-    ensures lines { OnOk result (Appends (rule Q.kind prepared.now.zero) Q.covers sign.now (effect_view found.now) counts.now (cell.now ∷ []) out.old.items out.new.items) }
-    ensures failure { IfErr result (IsFailureOf (rule Q.kind prepared.now.zero) (effect_view found.now) counts.now (cell.now ∷ [])) }
+    requires identified { IsIdentified (effect_view effect.now) }
+    requires prepared { IsPreparedFor prepared.now.zero (effect_view effect.now) counts.now prepared.now }
+    requires cell { IsCell (length effect.now.seen.now.names) counts.now cell.now }
+    ensures lines { OnOk result (Appends (rule Q.kind prepared.now.zero) Q.covers sign.now (effect_view effect.now) counts.now (cell.now ∷ []) out.old.items out.new.items) }
+    ensures failure { IfErr result (IsFailureOf (rule Q.kind prepared.now.zero) (effect_view effect.now) counts.now (cell.now ∷ [])) }
 {
     let quantity: Q = match prepared.value(cell) {
         Ok(quantity) => quantity,
         Err(fault) => return Err(Failure::Evaluation(fault)),
     };
-    match push_value(alloc, out, found, counts, sign, cell, &quantity) {
+    match push_value(alloc, out, effect, counts, sign, cell, &quantity) {
         Ok(()) => Ok(()),
         Err(_) => Err(Failure::NoMemory),
     }
@@ -56,29 +56,29 @@ fn push_cell<Q: Quantity>(
 pub fn push_cells<Q: Quantity>(
     alloc: Global,
     out: &mut Vec<u8>,
-    found: &Identified,
+    effect: &Effect<'_, '_>,
     counts: &Counts,
     prepared: &Prepared<Q>,
     sign: &[u8],
     vertices: &[u8],
     cell: &mut [u32],
 ) -> Result<(), Failure>
-    requires identified { IsIdentified (effect_view found.now) }
-    requires prepared { IsPreparedFor prepared.now.zero (effect_view found.now) counts.now prepared.now }
+    requires identified { IsIdentified (effect_view effect.now) }
+    requires prepared { IsPreparedFor prepared.now.zero (effect_view effect.now) counts.now prepared.now }
     requires vertices { All (λ v. is_used counts.now v ≡ true) vertices.now }
-    requires cell { IsCell (length found.now.seen.names) counts.now cell.old }
-    ensures lines { OnOk result (Appends (rule Q.kind prepared.now.zero) Q.covers sign.now (effect_view found.now) counts.now (cells_along counts.now cell.old vertices.now) out.old.items out.new.items) }
+    requires cell { IsCell (length effect.now.seen.now.names) counts.now cell.old }
+    ensures lines { OnOk result (Appends (rule Q.kind prepared.now.zero) Q.covers sign.now (effect_view effect.now) counts.now (cells_along counts.now cell.old vertices.now) out.old.items out.new.items) }
     ensures cell { OnOk result (cell.new ≡ cell.old) }
-    ensures failure { IfErr result (IsFailureOf (rule Q.kind prepared.now.zero) (effect_view found.now) counts.now (cells_along counts.now cell.old vertices.now)) }
+    ensures failure { IfErr result (IsFailureOf (rule Q.kind prepared.now.zero) (effect_view effect.now) counts.now (cells_along counts.now cell.old vertices.now)) }
 {
     let [v, rest @ ..] = vertices else {
-        return push_cell(alloc, out, found, counts, prepared, sign, cell);
+        return push_cell(alloc, out, effect, counts, prepared, sign, cell);
     };
     let place = *v as usize;
     let before = cell[place];
     for k in 0..counts.levels(*v) {
         cell[place] = k;
-        match push_cells(alloc, out, found, counts, prepared, sign, rest, cell) {
+        match push_cells(alloc, out, effect, counts, prepared, sign, rest, cell) {
             Ok(()) => {}
             Err(failure) => return Err(failure),
         }

@@ -1,6 +1,7 @@
 mod Telling
 mod Readable
 mod OneKind
+mod Refusing
 mod Settling
 pub mod Fullness
 pub mod Soundness

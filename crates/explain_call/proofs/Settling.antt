@@ -8,15 +8,13 @@ use Rattle.counter_models.specs.declared.counter_pair.CounterPair.{CounterPair}
 use Rattle.conditional_id.specs.Answers.{IsRight, IsJointShown, IfJoint}
 use Rattle.conditional_id.specs.declared.answer.Conditional.{Conditional}
 use Rattle.conditional_id.specs.declared.answer.Conditional.TheVariants as answers
-use Rattle.dag_reader.specs.declared.graph.ReadGraph.{ReadGraph}
 use Rattle.targets.specs.Targets.{Lists}
 use Rattle.replies.specs.declared.outcome.Outcome.{Outcome}
 use Rattle.replies.specs.declared.outcome.Outcome.TheVariants.{Yes, No}
 use Rattle.replies.specs.declared.outcome.Reply.{Reply}
-use Rattle.replies.specs.Observed.{Names, IsObservedGraph}
 use Rattle.replies.proofs.Results.{mapped}
-use Rattle.identify_command.specs.Conditions.{target_lists, AreTargetSets}
-use Rattle.explain_call.specs.Settled.{IsJoint, KindFor, KindIn, SettledAnswer}
+use Rattle.identify_command.specs.Conditions.{AreTargetSets}
+use Rattle.explain_call.specs.Settled.{IsJoint, KindFor, KindIn}
 
 -- a joint effect that is answered
 pub joint : (q : MixedGraph) (t : PlainTarget) (a : Conditional) → IsRight q t a → IfJoint a (IsJointShown q t)
@@ -36,9 +34,8 @@ of_target q l t s Yes text a = record { target = t; sets = s; answer = a }
 of_target q l t s No text a = record { target = t; sets = s; answer = a }
 of_target q l t s o text a = absurd a
 
--- on a graph that was read
-pub on_target : (g : ReadGraph) (x y : Names) (given : List (List ℕ)) (q : MixedGraph) → IsObservedGraph g q → (t : PlainTarget)
-    → AreTargetSets (target_lists g x y given) t → {E : Type 0} (r : Result Reply E) → IfOk r (λ p. KindFor q t p.outcome p.text.items)
-    → IfOk r (λ p. SettledAnswer g x y given p.outcome p.text.items)
-on_target g x y given q observed t s r a = mapped (λ p. KindFor q t p.outcome p.text.items) (λ p. SettledAnswer g x y given p.outcome p.text.items) r
-    (λ p k. (q, observed, of_target q (target_lists g x y given) t s p.outcome p.text.items k)) a
+-- for the target that the lists name
+pub on_target : (q : MixedGraph) (l : Lists) (t : PlainTarget) → AreTargetSets l t → {E : Type 0} (r : Result Reply E)
+    → IfOk r (λ p. KindFor q t p.outcome p.text.items) → IfOk r (λ p. KindIn q l p.outcome p.text.items)
+on_target q l t s r a = mapped (λ p. KindFor q t p.outcome p.text.items) (λ p. KindIn q l p.outcome p.text.items) r
+    (λ p k. of_target q l t s p.outcome p.text.items k) a

@@ -16,38 +16,34 @@ use Rattle.replies.specs.declared.outcome.Outcome.{Outcome}
 use Rattle.replies.specs.declared.outcome.Outcome.TheVariants.{Yes, No, Words, Graph, Second, Evaluation, Read, Write, Memory}
 use Rattle.replies.specs.declared.outcome.Reply.{Reply}
 use Rattle.replies.proofs.Results.{mapped}
-use Rattle.replies.specs.Observed.{observed_names, IsObservedGraph, HoldsGraph}
+use Rattle.diagram.specs.declared.diagram.Diagram.{Diagram}
+use Rattle.replies.specs.Observed.{HoldsDiagram}
 use Rattle.explain_call.specs.Requests.{Request}
-use Rattle.explain_call.specs.Steps.{StepsIn, StepsAnswer}
-use Rattle.explain_call.specs.Answers.{GraphAnswer, FileAnswer}
+use Rattle.explain_call.specs.Steps.{StepsIn}
+use Rattle.explain_call.specs.Answers.{DiagramAnswer, FileAnswer}
 use Rattle.replies.specs.Refusals.{faulty}
 use Rattle.explain_call.specs.Told.{TellsSteps}
 
-module _ (graphs : Bool) (g : ReadGraph) (q : MixedGraph) (names : List (List ℕ)) (bytes : List ℕ) (observed : IsObservedGraph g q)
-    (named : names ≡ observed_names g) where
-  pub in_graph : (o : Outcome) (text : List ℕ) → StepsIn graphs q names bytes o text → StepsAnswer graphs g bytes o text
-  in_graph o text a = record { graph = q; observed = observed; steps = subst (λ n. StepsIn graphs q n bytes o text) named a }
-
+module _ (graphs : Bool) (q : MixedGraph) (names : List (List ℕ)) (bytes : List ℕ) where
   told : length bytes ≤ 67108864 → (t : PlainTarget) (f : PlainFormula) (d : PlainDerivation) → certificate_in names bytes ≡ Ok (formula t f d)
-      → (o : Outcome) (text : List ℕ) → TellsSteps graphs q names t d o text → StepsAnswer graphs g bytes o text
-  told small t f d reads Yes text a = in_graph Yes text (record {
+      → (o : Outcome) (text : List ℕ) → TellsSteps graphs q names t d o text → StepsIn graphs q names bytes o text
+  told small t f d reads Yes text a = record {
     target = t;
     main = f;
     derivation = d;
     read = record { small = small; reads = reads };
     explains = a;
+  }
+  told small t f d reads No text a = inl (record {
+    target = t;
+    main = f;
+    derivation = d;
+    read = record { small = small; reads = reads };
+    number = a.0.0;
+    why = a.0.1;
+    stops = a.0.2;
+    prints = a.1;
   })
-  told small t f d reads No text a =
-      in_graph No text (inl (record {
-        target = t;
-        main = f;
-        derivation = d;
-        read = record { small = small; reads = reads };
-        number = a.0.0;
-        why = a.0.1;
-        stops = a.0.2;
-        prints = a.1;
-      }))
   told small t f d reads Graph text a = absurd a
   told small t f d reads Second text a = absurd a
   told small t f d reads Evaluation text a = absurd a
@@ -58,37 +54,40 @@ module _ (graphs : Bool) (g : ReadGraph) (q : MixedGraph) (names : List (List �
 
   pub tells : length bytes ≤ 67108864 → (t : PlainTarget) (f : PlainFormula) (d : PlainDerivation) → certificate_in names bytes ≡ Ok (formula t f d)
       → {E : Type 0} (r : Result Reply E) → IfOk r (λ x. TellsSteps graphs q names t d x.outcome x.text.items)
-      → IfOk r (λ x. StepsAnswer graphs g bytes x.outcome x.text.items)
-  tells small t f d reads r a = mapped (λ x. TellsSteps graphs q names t d x.outcome x.text.items) (λ x. StepsAnswer graphs g bytes x.outcome x.text.items) r
+      → IfOk r (λ x. StepsIn graphs q names bytes x.outcome x.text.items)
+  tells small t f d reads r a = mapped (λ x. TellsSteps graphs q names t d x.outcome x.text.items)
+      (λ x. StepsIn graphs q names bytes x.outcome x.text.items) r
       (λ x h. told small t f d reads x.outcome x.text.items h) a
 
   pub of_hedge : length bytes ≤ 67108864 → (t : PlainTarget) (h : PlainHedge) (text : List ℕ) → certificate_in names bytes ≡ Ok (hedge t h) → text
-      ≡ codes "hedge\n" → StepsAnswer graphs g bytes No text
-  of_hedge small t h text reads prints = in_graph No text (inr (record {
+      ≡ codes "hedge\n" → StepsIn graphs q names bytes No text
+  of_hedge small t h text reads prints = inr (record {
     target = t;
     set = h;
     read = record { small = small; reads = reads };
     prints = prints;
-  }))
+  })
 
--- the answer on a graph that the bytes hold
-on_graph : (q : Request) (bytes second : List ℕ) (g : ReadGraph) → HoldsGraph bytes g → (o : Outcome) (text : List ℕ) → GraphAnswer q g second o text
+-- the answer on a diagram that the bytes hold
+on_diagram : (q : Request) (bytes second : List ℕ) (d : Diagram) → HoldsDiagram bytes d → (o : Outcome) (text : List ℕ) → DiagramAnswer q d second o text
     → FileAnswer q bytes second o text
-on_graph q bytes second g holds Yes text a = record { read = g; holds = holds; answer = a }
-on_graph q bytes second g holds No text a = record { read = g; holds = holds; answer = a }
-on_graph q bytes second g holds Graph text a = inr (record { read = g; holds = holds; answer = a })
-on_graph q bytes second g holds Second text a = record { read = g; holds = holds; answer = a }
-on_graph q bytes second g holds Evaluation text a = record { read = g; holds = holds; answer = a }
-on_graph q bytes second g holds Words text a = record { read = g; holds = holds; answer = a }
-on_graph q bytes second g holds Read text a = record { read = g; holds = holds; answer = a }
-on_graph q bytes second g holds Write text a = record { read = g; holds = holds; answer = a }
-on_graph q bytes second g holds Memory text a = record { read = g; holds = holds; answer = a }
+on_diagram q bytes second d holds Yes text a = record { diagram = d; holds = holds; answer = a }
+on_diagram q bytes second d holds No text a = record { diagram = d; holds = holds; answer = a }
+on_diagram q bytes second d holds Graph text a = inr (record { diagram = d; holds = holds; answer = a })
+on_diagram q bytes second d holds Second text a = record { diagram = d; holds = holds; answer = a }
+on_diagram q bytes second d holds Evaluation text a = record { diagram = d; holds = holds; answer = a }
+on_diagram q bytes second d holds Words text a = record { diagram = d; holds = holds; answer = a }
+on_diagram q bytes second d holds Read text a = record { diagram = d; holds = holds; answer = a }
+on_diagram q bytes second d holds Write text a = record { diagram = d; holds = holds; answer = a }
+on_diagram q bytes second d holds Memory text a = record { diagram = d; holds = holds; answer = a }
 
-pub on_file : (q : Request) (bytes second : List ℕ) (g : ReadGraph) → length bytes ≤ 1048576 → Reads bytes (Ok g) → {E : Type 0} (r : Result Reply E)
-    → IfOk r (λ x. GraphAnswer q g second x.outcome x.text.items) → IfOk r (λ x. FileAnswer q bytes second x.outcome x.text.items)
-on_file q bytes second g small reads r a =
-    mapped (λ x. GraphAnswer q g second x.outcome x.text.items) (λ x. FileAnswer q bytes second x.outcome x.text.items) r
-    (λ x h. on_graph q bytes second g (record { small = small; reads = reads }) x.outcome x.text.items h) a
+pub on_file : (q : Request) (bytes second : List ℕ) (g : ReadGraph) → length bytes ≤ 1048576 → Reads bytes (Ok g) → (d : Diagram) → d.read ≡ g
+    → {E : Type 0} (r : Result Reply E) → IfOk r (λ x. DiagramAnswer q d second x.outcome x.text.items)
+    → IfOk r (λ x. FileAnswer q bytes second x.outcome x.text.items)
+on_file q bytes second g small reads d same r a =
+    let holds : HoldsDiagram bytes d = record { small = small; reads = subst (λ (k : ReadGraph). Reads bytes (Ok k)) (sym same) reads } in
+    mapped (λ x. DiagramAnswer q d second x.outcome x.text.items) (λ x. FileAnswer q bytes second x.outcome x.text.items) r
+    (λ x h. on_diagram q bytes second d holds x.outcome x.text.items h) a
 
 pub refused : (q : Request) (bytes second : List ℕ) (fault : GraphFault) → length bytes ≤ 1048576 → Reads bytes (Err fault) → {E : Type 0} (r : Result Reply E)
     → IfOk r (λ x. x.outcome ≡ Graph) → IfOk r (λ x. x.text.items ≡ line_of (graph_fault_text fault)) → OnOk r (fault ≡ NoMemory → ⊥)

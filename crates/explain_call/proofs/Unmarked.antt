@@ -1,9 +1,5 @@
--- Graphs without marks, and the names of a graph in which no vertex is hidden.
-use Rattle.std.proofs.Common.{ℕ, zero, suc, ◌≡◌, ◌<◌, ◌≤◌, true, not, List, [], ◌∷◌, ◌++◌, length, get_or, take, map, None, Option, Result, Ok, Err}
-use Rattle.std.proofs.Common.{refl, sym, ap, ◌∙◌, subst, arith, add-one}
-use Rattle.std.proofs.lemmas.List.{take_more}
-use Rattle.std.proofs.lemmas.Option.{slice_get-get_or}
-use Rattle.std.proofs.Math.Seq.{take-length}
+-- Graphs without marks.
+use Rattle.std.proofs.Common.{ℕ, ◌≡◌, ◌<◌, true, map, None, Option, Result, Ok, Err, refl, ap, ◌∙◌, arith}
 use Rattle.std.specs.Prelude.{IfOk}
 use Rattle.std.specs.Global.{Vec}
 use Rattle.mixed_graph.specs.Bits.{has}
@@ -14,8 +10,6 @@ use Rattle.dag_reader.specs.declared.marks.Role.{Role}
 use Rattle.dag_reader.specs.RoleSets.{AreRoleSets}
 use Rattle.dag_reader.specs.Rows.{count_up}
 use Rattle.dag_reader.specs.Written.{role_at, drawn_of, written}
-use Rattle.latent_projection.specs.Renumbering.{observed_below, names_at}
-use Rattle.latent_projection.proofs.KeptNames.{names_at-none, names_at-more}
 use Rattle.explain_call.specs.Graphs.{unmarked, graph_text}
 
 -- no vertex is in a set without a member
@@ -51,16 +45,3 @@ pub shown_unmarked : {E : Type 0} (g : ReadGraph) (r : Result (Vec ℕ) E) → g
     → IfOk r (λ v. v.items ≡ written (drawn_of g)) → IfOk r (λ v. v.items ≡ graph_text g.names (graph_of g.graph))
 shown_unmarked g (Ok v) e o a l h = h ∙ written_unmarked g e o a l
 shown_unmarked g (Err f) e o a l h = tt
-
--- the names of the first k vertices, none of which is hidden
-first_names : (names : List (List ℕ)) (k : ℕ) → k ≤ length names → names_at (observed_below (has 0) k) names ≡ take k names
-first_names names zero le = names_at-none (λ v. not (has 0 v)) names
-first_names names (suc k) le =
-    let lt : k < length names = omega (arith, le) in
-    subst (λ n. names_at (observed_below (has 0) n) names ≡ take n names) (add-one k)
-    (names_at-more (λ v. not (has 0 v)) k names (get_or names k []) (ap not (has_none k)) (slice_get-get_or names k [] lt)
-    ∙ ap (λ ns. ns ++ get_or names k [] ∷ []) (first_names names k (omega (arith, le))) ∙ sym (take_more names k [] lt))
-
-pub all_names : (n : ℕ) (names : List (List ℕ)) → length names ≡ n → names_at (observed_below (has 0) n) names ≡ names
-all_names n names e =
-    subst (λ k. names_at (observed_below (has 0) k) names ≡ names) e (first_names names (length names) (omega arith) ∙ take-length names)

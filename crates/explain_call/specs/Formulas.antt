@@ -1,9 +1,11 @@
--- The answer of `adjust`: the adjustment formula of a set in LaTeX, where the set meets the criterion, in the observed graph of the one that was read.
-use Rattle.std.specs.Prelude.{ℕ, Bool, List, codes}
+-- The answer of `adjust`: the adjustment formula of a set in LaTeX, where the set meets the criterion, in the observed graph of a diagram.
+use Rattle.std.specs.Prelude.{ℕ, Bool, List, Some, codes}
 use Rattle.mixed_graph.specs.Graphs.{MixedGraph}
-use Rattle.dag_reader.specs.declared.graph.ReadGraph.{ReadGraph}
+use Rattle.mixed_graph.specs.Shown.{graph_of}
+use Rattle.diagram.specs.declared.diagram.Diagram.{Diagram}
 use Rattle.replies.specs.declared.outcome.Outcome.{Outcome}
-use Rattle.replies.specs.Observed.{Names, observed_names, IsObservedGraph, query_lists, AnswerForSets}
+use Rattle.diagram.specs.Sets.{Names, query_lists}
+use Rattle.replies.specs.Observed.{AnswerForSets}
 use Rattle.answer_text.specs.declared.signs.Notation.TheVariants as notations
 use Rattle.identify_text.specs.Answers.{answer_in}
 use Rattle.prob_expr.specs.Tree.{effect_on}
@@ -22,7 +24,7 @@ latex_texts names = record { meets = formula_latex names; breaks = λ z fault. c
 abbrev pub FormulaFor : (back_door : Bool) → MixedGraph → List (List ℕ) → (x y z : ℕ) → Outcome → List ℕ → Type 0
 FormulaFor back_door q names x y z o text = CriterionAnswer back_door q (latex_texts names) x y z o text
 
--- the answer on a graph that was read, for the three sets that the lists name
-abbrev pub FormulaAnswer : Bool → ReadGraph → Names → Names → List (List ℕ) → Outcome → List ℕ → Type 0
-FormulaAnswer back_door g x y set o text = (q : MixedGraph) × IsObservedGraph g q
-    × AnswerForSets (query_lists g x y set) (FormulaFor back_door q (observed_names g)) o text
+-- the answer on a diagram, for the three sets that the lists name
+abbrev pub FormulaAnswer : Bool → Diagram → (x y : Names) → (set : List (List ℕ)) → Outcome → List ℕ → Type 0
+FormulaAnswer back_door d x y set o text = AnswerForSets (query_lists d.read d.observed.names x y (Some set))
+    (FormulaFor back_door (graph_of d.observed.graph) d.observed.names) o text

@@ -4,7 +4,7 @@ use Rattle.command_words.specs.Form.{Text, Row, Use, word_of, value_of, has_flag
 use Rattle.command_words.specs.ListViews.{names_in}
 use Rattle.command_words.specs.Values as values
 use Rattle.command_words.specs.Asks.{AsksBy}
-use Rattle.replies.specs.Observed.{Names}
+use Rattle.diagram.specs.Sets.{Names}
 use Rattle.separation_commands.specs.RuleRequests as of_rule
 use Rattle.explain_call.specs.declared.requests.Kind.{Kind}
 use Rattle.explain_call.specs.declared.requests.Kind.TheVariants as kind

@@ -1,13 +1,14 @@
--- The answer of `rule`: the text of the graph in which a rule of the do-calculus is asked, in the observed graph of the one that was read.
+-- The answer of `rule`: the text of the graph in which a rule of the do-calculus is asked, in the observed graph of a diagram.
 use Rattle.std.specs.Prelude.{ℕ, List}
 use Rattle.mixed_graph.specs.Graphs.{MixedGraph}
 use Rattle.do_rules.specs.declared.rules.Rule.{Rule}
-use Rattle.dag_reader.specs.declared.graph.ReadGraph.{ReadGraph}
+use Rattle.mixed_graph.specs.Shown.{graph_of}
+use Rattle.diagram.specs.declared.diagram.Diagram.{Diagram}
 use Rattle.targets.specs.Targets.{RuleLists, AreRuleSets}
 use Rattle.replies.specs.declared.outcome.Outcome.{Outcome}
 use Rattle.replies.specs.declared.outcome.Outcome.TheVariants.{Yes, Graph}
-use Rattle.replies.specs.Observed.{IsObservedGraph}
-use Rattle.separation_commands.specs.RuleAnswers.{rule_lists, IsRuleRefusal}
+use Rattle.separation_commands.specs.RuleAnswers.{IsRuleRefusal}
+use Rattle.diagram.specs.Sets.{rule_lists}
 use Rattle.explain_call.specs.Graphs.{IsRuleGraphText}
 
 -- yes: the lists name these sets, and the text is that of the rule's graph
@@ -25,6 +26,6 @@ RuleGraphIn r q l Yes text = ShowsRuleGraph r q l text
 RuleGraphIn r q l Graph line = IsRuleRefusal l line
 RuleGraphIn r q l o text = ⊥
 
--- the answer on a graph that was read
-abbrev pub RuleGraphAnswer : Rule → ReadGraph → (y x z given : List (List ℕ)) → Outcome → List ℕ → Type 0
-RuleGraphAnswer r g y x z given o text = (q : MixedGraph) × IsObservedGraph g q × RuleGraphIn r q (rule_lists g y x z given) o text
+-- the answer on a diagram
+abbrev pub RuleGraphAnswer : Rule → Diagram → (y x z given : List (List ℕ)) → Outcome → List ℕ → Type 0
+RuleGraphAnswer r d y x z given o text = RuleGraphIn r (graph_of d.observed.graph) (rule_lists d.read d.observed.names y x z given) o text

@@ -1,17 +1,18 @@
--- The answer of `settled`: of which kind the answer of `identify --given` is, in the observed graph of the one that was read.
-use Rattle.std.specs.Prelude.{ℕ, ◌≡◌, ◌⊎◌, Bool, true, false, List, codes}
+-- The answer of `settled`: of which kind the answer of `identify --given` is, in the observed graph of a diagram.
+use Rattle.std.specs.Prelude.{ℕ, ◌≡◌, ◌⊎◌, Bool, true, false, List, Some, codes}
 use Rattle.mixed_graph.specs.Graphs.{MixedGraph}
 use Rattle.mixed_graph.specs.declared.sets.VSet.{VSet}
 use Rattle.prob_expr.specs.Tree.{PlainTarget}
 use Rattle.hedge.specs.declared.hedge.Hedge.{Hedge}
 use Rattle.counter_models.specs.declared.counter_pair.CounterPair.{CounterPair}
 use Rattle.conditional_id.specs.Answers.{IsRightJoint, IsJointShown, SomeFormula}
-use Rattle.dag_reader.specs.declared.graph.ReadGraph.{ReadGraph}
+use Rattle.mixed_graph.specs.Shown.{graph_of}
+use Rattle.diagram.specs.declared.diagram.Diagram.{Diagram}
 use Rattle.targets.specs.Targets.{Lists}
 use Rattle.replies.specs.declared.outcome.Outcome.{Outcome}
 use Rattle.replies.specs.declared.outcome.Outcome.TheVariants.{Yes, No, Graph}
-use Rattle.replies.specs.Observed.{Names, IsObservedGraph}
-use Rattle.identify_command.specs.Conditions.{target_lists, AreTargetSets, IsListRefusal}
+use Rattle.diagram.specs.Sets.{Names, query_lists}
+use Rattle.identify_command.specs.Conditions.{AreTargetSets, IsListRefusal}
 
 -- The observations of the target turn into a joint effect, which isn't identifiable: this is its hedge, with the two models that `identify` shows. No
 -- formula without interventions equals the target. Settled, exactly where no observation is left, or those that are left have an effect that is known,
@@ -44,6 +45,6 @@ KindIn q l No text = IsKindOfTarget q l No text
 KindIn q l Graph line = IsListRefusal l line
 KindIn q l o text = ⊥
 
--- the answer on a graph that was read
-abbrev pub SettledAnswer : ReadGraph → (x y : Names) → (given : List (List ℕ)) → Outcome → List ℕ → Type 0
-SettledAnswer g x y given o text = (q : MixedGraph) × IsObservedGraph g q × KindIn q (target_lists g x y given) o text
+-- the answer on a diagram
+abbrev pub SettledAnswer : Diagram → (x y : Names) → (given : List (List ℕ)) → Outcome → List ℕ → Type 0
+SettledAnswer d x y given o text = KindIn (graph_of d.observed.graph) (query_lists d.read d.observed.names x y (Some given)) o text

@@ -6,10 +6,10 @@ use Rattle.do_derivation.specs.Plans.{PlainDerivation}
 use Rattle.do_derivation.specs.declared.faults.ApplyFault.TheVariants.{Step}
 use Rattle.do_derivation.specs.declared.faults.StepFault.{StepFault}
 use Rattle.certificate.specs.Plain.{PlainHedge, formula, hedge}
-use Rattle.dag_reader.specs.declared.graph.ReadGraph.{ReadGraph}
+use Rattle.mixed_graph.specs.Shown.{graph_of}
+use Rattle.diagram.specs.declared.diagram.Diagram.{Diagram}
 use Rattle.replies.specs.declared.outcome.Outcome.{Outcome}
 use Rattle.replies.specs.declared.outcome.Outcome.TheVariants.{Yes, No, Second}
-use Rattle.replies.specs.Observed.{observed_names, IsObservedGraph}
 use Rattle.check_command.specs.Answers.{HoldsCertificate, IsCertificateRefusal}
 use Rattle.explain_call.specs.Parts.{Explains, DerivationStops}
 
@@ -41,15 +41,13 @@ pub record IsOfHedge (names : List (List ℕ)) (bytes text : List ℕ) : Type 0 
   pub read : HoldsCertificate names bytes (hedge target set)
   pub prints : text ≡ codes "hedge\n"
 
--- the answer in the observed graph q of the one that was read
+-- the answer in the observed graph q
 abbrev pub StepsIn : Bool → MixedGraph → List (List ℕ) → List ℕ → Outcome → List ℕ → Type 0
 StepsIn graphs q names bytes Yes text = IsExplained graphs q names bytes text
 StepsIn graphs q names bytes No text = IsRefusedDerivation q names bytes text ⊎ IsOfHedge names bytes text
 StepsIn graphs q names bytes Second line = IsCertificateRefusal names bytes line
 StepsIn graphs q names bytes o text = ⊥
 
--- the answer on a graph that was read and the bytes of a certificate
-pub record StepsAnswer (graphs : Bool) (g : ReadGraph) (bytes : List ℕ) (o : Outcome) (text : List ℕ) : Type 0 where
-  pub graph : MixedGraph
-  pub observed : IsObservedGraph g graph
-  pub steps : StepsIn graphs graph (observed_names g) bytes o text
+-- the answer on a diagram and the bytes of a certificate
+abbrev pub StepsAnswer : Bool → Diagram → (bytes : List ℕ) → Outcome → List ℕ → Type 0
+StepsAnswer graphs d bytes o text = StepsIn graphs (graph_of d.observed.graph) d.observed.names bytes o text

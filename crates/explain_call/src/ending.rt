@@ -102,7 +102,7 @@ pub fn respond(alloc: Global, bytes: &[u8], words: &[String], inputs: &[Input]) 
     let Some(second) = second_content(bytes, inputs, &request) else {
         return Ending::NoInput;
     };
-    match file_reply(alloc, request, file, second) {
+    match file_reply(alloc, &request, file, second) {
         Ok(reply) => Ending::Replied(reply),
         Err(_) => Ending::NoMemory,
     }

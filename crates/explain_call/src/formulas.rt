@@ -1,41 +1,38 @@
 //! An adjustment formula in LaTeX.
 
-ghost use Rattle.std.specs.Prelude.{ℕ, ◌≡◌, ◌<◌, IfOk, length, option_map};
+ghost use Rattle.std.specs.Prelude.{ℕ, ◌≡◌, ◌<◌, IfOk, length};
 ghost use Rattle.mixed_graph.specs.Bits.{has};
-ghost use Rattle.mixed_graph.specs.Names.{texts};
 ghost use Rattle.mixed_graph.specs.Shown.{graph_of};
 ghost use Rattle.do_rules.specs.Rules.{AreThreeSets};
-ghost use Rattle.command_words.specs.ListViews.{names_in};
 ghost use Rattle.explain_call.specs.Formulas.{formula_latex, FormulaFor, FormulaAnswer};
+ghost use Rattle.explain_call.specs.Requests.{formula_of};
 
+use crate::requests::FormulaRequest;
 use adjust_command::{Verdict, judge};
 use adjustment::formula_for;
 use answer_text::Notation;
 use dag_reader::ReadGraph;
+use diagram::{Diagram, asked_query};
 use identify_text::answer_in;
-use latent_projection::Observed;
 use mixed_graph::{Names, VSet};
 use prob_expr::Target;
-use replies::{AskedLists, Outcome, Reply, asked_lists, refuse};
+use replies::{Outcome, Reply, refuse};
 use std::alloc::{AllocError, Global};
-use targets::{Sets, TargetFault, find_sets};
+use targets::{Sets, TargetFault};
 
 /// The adjustment formula of a set in LaTeX, where the set meets one of the two criteria for the effect of x on y, in the observed graph.
 ///
 /// A list that is missing is that of the exposures or of the outcomes.
 pub fn formula_reply(
     alloc: Global,
-    graph: &ReadGraph,
-    x: Option<Vec<Vec<u8>>>,
-    y: Option<Vec<Vec<u8>>>,
-    set: &[Vec<u8>],
-    by_back_door: bool,
+    diagram: &Diagram,
+    asked: &FormulaRequest<'_>,
 ) -> Result<Reply, AllocError>
-    ensures { IfOk result (λ r. FormulaAnswer by_back_door graph.now (option_map names_in x) (option_map names_in y) (texts set.now) r.outcome r.text.items) }
+    ensures { let q = formula_of asked.now in IfOk result (λ r. FormulaAnswer q.back_door diagram.now q.x q.y q.set r.outcome r.text.items) }
 {
-    let AskedLists { seen, x, y } = asked_lists(alloc, graph, x, y)?;
-    match find_sets(alloc, &graph.names, &seen.names, &x, &y, set) {
-        Ok(sets) => decide(alloc, &seen, sets, by_back_door),
+    let (x, y) = (asked.x.as_deref(), asked.y.as_deref());
+    match asked_query(alloc, diagram, x, y, Some(asked.set.as_slice())) {
+        Ok(sets) => decide(alloc, &diagram.observed, sets, asked.back_door),
         Err(fault) => refuse(alloc, &fault),
     }
 }
@@ -43,11 +40,10 @@ pub fn formula_reply(
 /// The answer for sets of the observed graph.
 fn decide(
     alloc: Global,
-    seen: &Observed,
+    seen: &ReadGraph,
     sets: Sets,
     by_back_door: bool,
 ) -> Result<Reply, AllocError>
-    requires named { length seen.now.names ≡ seen.now.graph.n }
     requires sets { AreThreeSets seen.now.graph.n (has sets.x.bits) (has sets.y.bits) (has sets.given.bits) }
     requires some_x { 0 < sets.x.bits }
     requires some_y { 0 < sets.y.bits }

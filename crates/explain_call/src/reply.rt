@@ -2,60 +2,46 @@
 
 ghost use Rattle.std.specs.Prelude.{IfOk};
 ghost use Rattle.explain_call.specs.Requests.{request_of};
-ghost use Rattle.explain_call.specs.Answers.{GraphAnswer, FileAnswer};
+ghost use Rattle.explain_call.specs.Answers.{DiagramAnswer, FileAnswer};
 
 use crate::formulas::formula_reply;
 use crate::requests::Request;
 use crate::rule_graphs::rule_graph_reply;
 use crate::settled::settled_reply;
 use crate::steps::steps_reply;
-use dag_reader::{GraphFault, ReadGraph, read_graph};
+use dag_reader::{GraphFault, read_graph};
+use diagram::Diagram;
 use replies::{Outcome, Reply, refuse_graph};
 use std::alloc::{AllocError, Global};
 
 /// The most bytes of a graph text.
 const MAX_GRAPH_BYTES: usize = 1_048_576;
 
-/// The answer on a graph that was read; the second bytes are those of a certificate.
-fn graph_reply(
+/// The answer on a diagram; the second bytes are those of a certificate.
+fn diagram_reply(
     alloc: Global,
-    request: Request<'_>,
-    graph: &ReadGraph,
+    request: &Request<'_>,
+    diagram: &Diagram,
     second: &[u8],
 ) -> Result<Reply, AllocError>
-    ensures { IfOk result (λ r. GraphAnswer (request_of request.entry) graph.now second.now r.outcome r.text.items) }
+    ensures { IfOk result (λ r. DiagramAnswer (request_of request.now) diagram.now second.now r.outcome r.text.items) }
 {
     match request {
-        Request::Steps(asked) => steps_reply(alloc, graph, second, asked.graphs),
-        Request::Rule(asked) => rule_graph_reply(
-            alloc,
-            graph,
-            asked.rule,
-            &asked.y,
-            &asked.x,
-            &asked.z,
-            &asked.given,
-        ),
-        Request::Formula(asked) => formula_reply(
-            alloc,
-            graph,
-            asked.x,
-            asked.y,
-            &asked.set,
-            asked.back_door,
-        ),
-        Request::Settled(asked) => settled_reply(alloc, graph, asked.x, asked.y, &asked.given),
+        Request::Steps(asked) => steps_reply(alloc, &diagram.observed, second, asked.graphs),
+        Request::Rule(asked) => rule_graph_reply(alloc, diagram, asked),
+        Request::Formula(asked) => formula_reply(alloc, diagram, asked),
+        Request::Settled(asked) => settled_reply(alloc, diagram, asked),
     }
 }
 
 /// The answer on the bytes of a file, and of a certificate where there is one.
 pub fn file_reply(
     alloc: Global,
-    request: Request<'_>,
+    request: &Request<'_>,
     file: &[u8],
     second: &[u8],
 ) -> Result<Reply, AllocError>
-    ensures { IfOk result (λ r. FileAnswer (request_of request.entry) file.now second.now r.outcome r.text.items) }
+    ensures { IfOk result (λ r. FileAnswer (request_of request.now) file.now second.now r.outcome r.text.items) }
 {
     if file.len() > MAX_GRAPH_BYTES {
         return Ok(Reply {
@@ -64,7 +50,10 @@ pub fn file_reply(
         });
     }
     match read_graph(alloc, file) {
-        Ok(graph) => graph_reply(alloc, request, &graph, second),
+        Ok(read) => {
+            let diagram = Diagram::of(alloc, read)?;
+            diagram_reply(alloc, request, &diagram, second)
+        }
         Err(fault) => refuse_graph(alloc, &fault),
     }
 }

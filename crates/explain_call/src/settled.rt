@@ -1,21 +1,20 @@
 //! Of which kind the answer under a condition is.
 
-ghost use Rattle.std.specs.Prelude.{◌<◌, IfOk, option_map};
+ghost use Rattle.std.specs.Prelude.{◌<◌, IfOk};
 ghost use Rattle.mixed_graph.specs.Bits.{has};
-ghost use Rattle.mixed_graph.specs.Names.{texts};
 ghost use Rattle.mixed_graph.specs.Shown.{graph_of};
 ghost use Rattle.do_rules.specs.Rules.{AreThreeSets};
 ghost use Rattle.prob_expr.specs.View.{target_view};
-ghost use Rattle.command_words.specs.ListViews.{names_in};
+ghost use Rattle.explain_call.specs.Requests.{settled_of};
 ghost use Rattle.explain_call.specs.Settled.{KindFor, SettledAnswer};
 
+use crate::requests::SettledRequest;
 use conditional_id::{Conditional, identify_given};
-use dag_reader::ReadGraph;
+use diagram::{Diagram, asked_condition};
 use mixed_graph::Graph;
 use prob_expr::Target;
-use replies::{AskedLists, Outcome, Reply, asked_lists, refuse};
+use replies::{Outcome, Reply, refuse};
 use std::alloc::{AllocError, Global};
-use targets::find_listed_sets;
 
 /// Of which kind the answer of `identify` for P(y | do(x), given) is, in the observed graph: a formula, or two models, which differ on
 /// that effect too where they are settled.
@@ -23,22 +22,20 @@ use targets::find_listed_sets;
 /// A list that is missing is that of the exposures or of the outcomes.
 pub fn settled_reply(
     alloc: Global,
-    graph: &ReadGraph,
-    x: Option<Vec<Vec<u8>>>,
-    y: Option<Vec<Vec<u8>>>,
-    given: &[Vec<u8>],
+    diagram: &Diagram,
+    asked: &SettledRequest<'_>,
 ) -> Result<Reply, AllocError>
-    ensures { IfOk result (λ r. SettledAnswer graph.now (option_map names_in x) (option_map names_in y) (texts given.now) r.outcome r.text.items) }
+    ensures { let q = settled_of asked.now in IfOk result (λ r. SettledAnswer diagram.now q.x q.y q.given r.outcome r.text.items) }
 {
-    let AskedLists { seen, x, y } = asked_lists(alloc, graph, x, y)?;
-    match find_listed_sets(alloc, &graph.names, &seen.names, &x, &y, given) {
+    let (x, y) = (asked.x.as_deref(), asked.y.as_deref());
+    match asked_condition(alloc, diagram, x, y, Some(asked.given.as_slice())) {
         Ok(sets) => {
             let target = Target {
                 x: sets.x,
                 y: sets.y,
                 given: sets.given,
             };
-            tell_kind(alloc, &seen.graph, target)
+            tell_kind(alloc, &diagram.observed.graph, target)
         }
         Err(fault) => refuse(alloc, &fault),
     }

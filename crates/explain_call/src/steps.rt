@@ -1,18 +1,17 @@
 //! The steps of a certificate's derivation.
 
-ghost use Rattle.std.specs.Prelude.{◌≡◌, IfOk, length};
+ghost use Rattle.std.specs.Prelude.{IfOk, length};
 ghost use Rattle.mixed_graph.specs.Shown.{graph_of};
 ghost use Rattle.prob_expr.specs.View.{target_view};
 ghost use Rattle.do_derivation.specs.View.{derivation_view};
 ghost use Rattle.check_command.specs.Replies.{IsSoundTarget, IsSoundDerivation};
-ghost use Rattle.explain_call.specs.Steps.{StepsAnswer};
+ghost use Rattle.explain_call.specs.Steps.{StepsIn};
 ghost use Rattle.explain_call.specs.Told.{TellsSteps};
 
 use crate::explaining::explain;
 use certificate::{CertFault, Certificate, read_answer};
 use dag_reader::ReadGraph;
 use do_derivation::{ApplyFault, Derivation};
-use latent_projection::{Observed, observed};
 use prob_expr::Target;
 use replies::{Outcome, Reply};
 use std::alloc::{AllocError, Global};
@@ -23,12 +22,11 @@ const MAX_CERTIFICATE_BYTES: usize = 67_108_864;
 /// The answer for a derivation.
 fn tell(
     alloc: Global,
-    seen: &Observed,
+    seen: &ReadGraph,
     target: &Target,
     derivation: &Derivation,
     graphs: bool,
 ) -> Result<Reply, AllocError>
-    requires named { length seen.now.names ≡ seen.now.graph.n }
     requires target { IsSoundTarget (length seen.now.names) (target_view target.now) }
     requires derivation { IsSoundDerivation (length seen.now.names) (derivation_view derivation.now) }
     ensures { IfOk result (λ r. TellsSteps graphs (graph_of seen.now.graph) seen.now.names (target_view target.now) (derivation_view derivation.now) r.outcome r.text.items) }
@@ -51,18 +49,17 @@ fn tell(
     }
 }
 
-/// The steps of the derivation of a certificate, in the observed graph: of each lemma and of the main step the expression that each move
+/// The steps of the derivation of a certificate, in an observed graph: of each lemma and of the main step the expression that each move
 /// makes, in turn, where graphs are wanted with the rule for which it asks and that rule's graph. A certificate that isn't read is refused
 /// with its line.
 pub fn steps_reply(
     alloc: Global,
-    graph: &ReadGraph,
+    seen: &ReadGraph,
     certificate: &[u8],
     graphs: bool,
 ) -> Result<Reply, AllocError>
-    ensures { IfOk result (λ r. StepsAnswer graphs graph.now certificate.now r.outcome r.text.items) }
+    ensures { IfOk result (λ r. StepsIn graphs (graph_of seen.now.graph) seen.now.names certificate.now r.outcome r.text.items) }
 {
-    let seen = observed(alloc, &graph.names, &graph.graph, graph.latent)?;
     if certificate.len() > MAX_CERTIFICATE_BYTES {
         return Ok(Reply {
             outcome: Outcome::Second,
@@ -71,7 +68,7 @@ pub fn steps_reply(
     }
     match read_answer(alloc, certificate, &seen.names) {
         Ok(Certificate::Formula(target, formula, derivation)) => {
-            tell(alloc, &seen, &target, &derivation, graphs)
+            tell(alloc, seen, &target, &derivation, graphs)
         }
         Ok(Certificate::Hedge(target, hedge)) => Ok(Reply {
             outcome: Outcome::No,

@@ -14,6 +14,7 @@ pub struct Joins {
 }
 
 impl Joins {
+    /// No pair yet.
     pub fn none(alloc: Global) -> Joins {
         Joins {
             refused: Vec::new(alloc),

@@ -15,6 +15,8 @@ use Rattle.do_derivation.specs.View.{lemma_view, steps_view}
 use Rattle.do_derivation.proofs.Lists.{joined-nothing, joined_more}
 use Rattle.identification_theory.specs.Procedure.{AreFactored, StopsAt}
 use Rattle.identification_theory.specs.Derivations.{Lists, no_more, more, AreAllSteps}
+use Rattle.identify.specs.declared.wanted.Wanted.{Wanted}
+use Rattle.identify.specs.declared.wanted.Wanted.TheVariants.{Derivation}
 use Rattle.identify.specs.Factors.{IsFactorOf, IsFactorFault}
 use Rattle.identify.specs.declared.factors.district_factor.FactorFault.{FactorFault}
 use Rattle.identify.specs.declared.factors.district_factor.FactorFault.TheVariants as faults
@@ -184,17 +186,17 @@ module _ (derives : Factoring) (stops : Stopping) (sets : List VSet) (n i : ℕ)
 
 -- ---- identification from observations
 -- the factors of the districts, with their lemmas and steps
-abbrev pub Derives : MixedGraph → List ℕ → ℕ → List ℕ → List Tree → Trees → List PlainLemma → Lists → Type 0
-Derives g order k ts es fs ls rest = AreFactored g order k ts es fs × AreAllSteps g order k ts ls rest
+abbrev pub Derives : Wanted → MixedGraph → List ℕ → ℕ → List ℕ → List Tree → Trees → List PlainLemma → Lists → Type 0
+Derives wanted g order k ts es fs ls rest = AreFactored g order k ts es fs × (wanted ≡ Derivation → AreAllSteps g order k ts ls rest)
 
-factor_continues : (g : MixedGraph) (order : List ℕ) (c k : ℕ) (f : Factor) → IsFactorOf g order c k f → length f.defs.items ≤ 64 → length f.lemmas.items
-    ≡ length f.defs.items → Continues (Derives g order) (StopsAt g order) c k f
-factor_continues g order c k f is few paired = record {
+factor_continues : (wanted : Wanted) (g : MixedGraph) (order : List ℕ) (c k : ℕ) (f : Factor) → IsFactorOf wanted g order c k f
+    → length f.defs.items ≤ 64 → length f.lemmas.items ≡ length f.defs.items → Continues (Derives wanted g order) (StopsAt g order) c k f
+factor_continues wanted g order c k f is few paired = record {
   few = few;
   derived = λ ts es fs ls rest h. (
     AreFactored.next is.ancestors is.factor (subst (λ z. AreFactored g order z ts es fs) number h.0),
-    AreAllSteps.next is.ancestors is.steps (subst (λ z. AreAllSteps g order z ts ls rest)
-        (ap (λ z. k + z) (sym paired ∙ sym (length-map f.lemmas.items lemma_view))) h.1),
+    λ w. AreAllSteps.next is.ancestors (is.steps w) (subst (λ z. AreAllSteps g order z ts ls rest)
+        (ap (λ z. k + z) (sym paired ∙ sym (length-map f.lemmas.items lemma_view))) (h.1 w)),
   );
   stopped = λ ts small big h. StopsAt.after is.ancestors is.factor (subst (λ z. StopsAt g order z ts small big) number h);
 }
@@ -202,14 +204,15 @@ factor_continues g order c k f is few paired = record {
     number : k + length f.defs.items ≡ k + length (map view f.defs.items)
     number = ap (λ z. k + z) (sym (length-map f.defs.items view))
 
-pub factor_goes_on : (g : MixedGraph) (order : List ℕ) (c k : ℕ) (r : Result Factor FactorFault) → IfOk r (IsFactorOf g order c k)
+pub factor_goes_on : (wanted : Wanted) (g : MixedGraph) (order : List ℕ) (c k : ℕ) (r : Result Factor FactorFault) → IfOk r (IsFactorOf wanted g order c k)
     → IfOk r (λ f. length f.defs.items ≤ 64) → IfOk r (λ f. length f.lemmas.items ≡ length f.defs.items)
-    → IfErr r (IsFactorFault g c) → GoesOn (Derives g order) (StopsAt g order) c k r
-factor_goes_on g order c k (Ok f) is few paired fault = factor_continues g order c k f is few paired
-factor_goes_on g order c k (Err (faults.Stopped big)) is few paired fault = λ ts. StopsAt.first fault.ancestors fault.stop
-factor_goes_on g order c k (Err faults.NoMemory) is few paired fault = tt
+    → IfErr r (IsFactorFault g c) → GoesOn (Derives wanted g order) (StopsAt g order) c k r
+factor_goes_on wanted g order c k (Ok f) is few paired fault = factor_continues wanted g order c k f is few paired
+factor_goes_on wanted g order c k (Err (faults.Stopped big)) is few paired fault = λ ts. StopsAt.first fault.ancestors fault.stop
+factor_goes_on wanted g order c k (Err faults.NoMemory) is few paired fault = tt
 
-pub factors_of : (g : MixedGraph) (order ts : List ℕ) (made : Factors) → Gathered (Derives g order) (StopsAt g order) ts made → AreFactorsOf g order ts made
-factors_of g order ts made s =
-    let d = gathered_derived (Derives g order) (StopsAt g order) (λ k. (AreFactored.none, AreAllSteps.none)) ts made s in
+pub factors_of : (wanted : Wanted) (g : MixedGraph) (order ts : List ℕ) (made : Factors) → Gathered (Derives wanted g order) (StopsAt g order) ts made
+    → AreFactorsOf wanted g order ts made
+factors_of wanted g order ts made s =
+    let d = gathered_derived (Derives wanted g order) (StopsAt g order) (λ k. (AreFactored.none, λ w. AreAllSteps.none)) ts made s in
     record { formulas = d.0; steps = d.1; counted = s.listed; few = s.few }

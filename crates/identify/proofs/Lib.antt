@@ -3,6 +3,7 @@ pub mod GatheredFactors
 pub mod HedgeData
 pub mod Orders
 pub mod RightAnswers
+pub mod RightFormulas
 pub mod Roots
 pub mod StepLists
 pub mod FactorOrders

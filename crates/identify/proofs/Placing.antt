@@ -9,22 +9,24 @@ use Rattle.prob_expr.specs.Tree.{Trees, no_trees, tree}
 use Rattle.prob_expr.specs.View.{views}
 use Rattle.prob_expr.specs.declared.expr.Expr.{Expr}
 use Rattle.do_derivation.specs.Shapes.{appended}
-use Rattle.do_derivation.specs.View.{steps_view}
 use Rattle.do_derivation.specs.declared.steps.Step.{Step}
 use Rattle.do_derivation.proofs.Lists.{joined_more, joined-nothing}
 use Rattle.identification_theory.specs.Procedure.{Source, conditional, AreFactors}
 use Rattle.identification_theory.specs.Derivations.{Lists, no_more, more, ArePlaceLists, universe, place_list, source_steps, in_order}
 use Rattle.identify.specs.declared.factors.place.VertexFactor.{VertexFactor}
+use Rattle.identify.specs.declared.wanted.Wanted.{Wanted}
+use Rattle.identify.specs.declared.wanted.Wanted.TheVariants.{Derivation}
 use Rattle.identify.specs.Bodies.{IsPlaceOf}
 use Rattle.identify.specs.Lists.{lists_onto, lists_view}
 use Rattle.identify.proofs.Steps.{lists_more}
 
 -- whatever are the factors and lists of the vertices from place i on completes those made to all
-pub record Placing (g : MixedGraph) (order : List ℕ) (from : Source) (a t p i : ℕ) (factors : List Expr) (lists : List (Vec Step)) : Type 0 where
+pub record Placing (wanted : Wanted) (g : MixedGraph) (order : List ℕ) (from : Source) (a t p i : ℕ) (factors : List Expr)
+    (lists : List (Vec Step)) : Type 0 where
   pub factored : (fs : Trees) → AreFactors g from a t p (drop i order) fs → AreFactors g from a t 0 order (appended (views factors) fs)
-  pub placed : (ls : Lists) → ArePlaceLists g from a t p (drop i order) ls → ArePlaceLists g from a t 0 order (lists_onto lists ls)
+  pub placed : wanted ≡ Derivation → (ls : Lists) → ArePlaceLists g from a t p (drop i order) ls → ArePlaceLists g from a t 0 order (lists_onto lists ls)
 
-module _ (g : MixedGraph) (order : List ℕ) (from : Source) (a t : ℕ) where
+module _ (wanted : Wanted) (g : MixedGraph) (order : List ℕ) (from : Source) (a t : ℕ) where
   abbrev vertex : ℕ → ℕ
   vertex i = get_or order i 0
 
@@ -36,40 +38,39 @@ module _ (g : MixedGraph) (order : List ℕ) (from : Source) (a t : ℕ) where
       → ArePlaceLists g from a t p (drop i order) ls
   lists_at p i ls lt r = subst (λ (o : List ℕ). ArePlaceLists g from a t p o ls) (sym (at_drop_more (λ o. o) order i 0 lt)) r
 
-  pub placing_none : Placing g order from a t 0 0 [] []
-  placing_none = record { factored = λ fs r. r; placed = λ ls r. r }
+  pub placing_none : Placing wanted g order from a t 0 0 [] []
+  placing_none = record { factored = λ fs r. r; placed = λ w ls r. r }
 
-  pub placing_skip : (p p' i : ℕ) (factors : List Expr) (lists : List (Vec Step)) → i < length order → has t (vertex i) ≡ false → p'
-      ≡ union p (one (vertex i)) →
-      Placing g order from a t p i factors lists → Placing g order from a t p' (i + 1) factors lists
+  pub placing_skip : (p p' i : ℕ) (factors : List Expr) (lists : List (Vec Step)) → i < length order → has t (vertex i) ≡ false → p' ≡ union p (one (vertex i))
+      → Placing wanted g order from a t p i factors lists → Placing wanted g order from a t p' (i + 1) factors lists
   placing_skip p p' i factors lists lt out is so_far = record {
     factored = λ fs r. so_far.factored fs (factors_at p i fs lt (AreFactors.skip out (subst (λ q. AreFactors g from a t q (drop (i + 1) order) fs) is r)));
-    placed = λ ls r. so_far.placed ls (lists_at p i ls lt (ArePlaceLists.skip out (subst (λ q. ArePlaceLists g from a t q (drop (i + 1) order) ls) is r)));
+    placed = λ w ls r. so_far.placed w ls (lists_at p i ls lt (ArePlaceLists.skip out (subst (λ q. ArePlaceLists g from a t q (drop (i + 1) order) ls) is r)));
   }
 
   pub placing_take : (p p' i : ℕ) (factors factors' : List Expr) (lists lists' : List (Vec Step)) (found : VertexFactor) → i < length order → has t (vertex i)
       ≡ true → p' ≡ union p (one (vertex i)) →
-      IsPlaceOf g from a t p (vertex i) found → factors' ≡ factors ++ found.term ∷ [] → lists' ≡ lists ++ found.steps ∷ []
-      → Placing g order from a t p i factors lists → Placing g order from a t p' (i + 1) factors' lists'
+      IsPlaceOf wanted g from a t p (vertex i) found → factors' ≡ factors ++ found.term ∷ [] → lists' ≡ lists ++ found.steps ∷ []
+      → Placing wanted g order from a t p i factors lists → Placing wanted g order from a t p' (i + 1) factors' lists'
   placing_take p p' i factors factors' lists lists' found lt into is k more_factors more_lists so_far = record {
     factored = λ fs r. subst (AreFactors g from a t 0 order) (ap (λ e. appended (views factors) (tree e fs)) (sym k.term)
         ∙ sym (joined_more factors found.term fs) ∙ sym (ap (λ es. appended (views es) fs) more_factors))
         (so_far.factored (tree (conditional from a (vertex i) k.m) fs)
         (factors_at p i _ lt (AreFactors.take into k.pillow (subst (λ q. AreFactors g from a t q (drop (i + 1) order) fs) is r))));
-    placed = λ ls r. subst (ArePlaceLists g from a t 0 order) (ap (λ l. lists_onto lists (more l ls)) (sym k.steps) ∙ sym (lists_more lists found.steps ls)
-        ∙ sym (ap (λ l. lists_onto l ls) more_lists))
-        (so_far.placed (more (place_list p (universe g.vertices from a) a t k.m (source_steps from a (vertex i) k.m)) ls)
+    placed = λ w ls r. subst (ArePlaceLists g from a t 0 order) (ap (λ l. lists_onto lists (more l ls)) (sym (k.steps w))
+        ∙ sym (lists_more lists found.steps ls) ∙ sym (ap (λ l. lists_onto l ls) more_lists))
+        (so_far.placed w (more (place_list p (universe g.vertices from a) a t k.m (source_steps from a (vertex i) k.m)) ls)
         (lists_at p i _ lt (ArePlaceLists.take into k.pillow (subst (λ q. ArePlaceLists g from a t q (drop (i + 1) order) ls) is r))));
   }
 
-  pub placing_factors : (p i : ℕ) (factors : List Expr) (lists : List (Vec Step)) → length order ≤ i → Placing g order from a t p i factors lists
+  pub placing_factors : (p i : ℕ) (factors : List Expr) (lists : List (Vec Step)) → length order ≤ i → Placing wanted g order from a t p i factors lists
       → AreFactors g from a t 0 order (views factors)
   placing_factors p i factors lists le so_far = subst (AreFactors g from a t 0 order) (joined-nothing (views factors))
       (so_far.factored no_trees (subst (λ (o : List ℕ). AreFactors g from a t p o no_trees) (sym (at_drop_all (λ o. o) order i le)) AreFactors.none))
 
-  pub placing_lists : (p i : ℕ) (factors : List Expr) (lists : List (Vec Step)) → length order ≤ i → Placing g order from a t p i factors lists
-      → ArePlaceLists g from a t 0 order (lists_view lists)
-  placing_lists p i factors lists le so_far = so_far.placed no_more (subst (λ (o : List ℕ). ArePlaceLists g from a t p o no_more)
+  pub placing_lists : (p i : ℕ) (factors : List Expr) (lists : List (Vec Step)) → length order ≤ i → Placing wanted g order from a t p i factors lists
+      → wanted ≡ Derivation → ArePlaceLists g from a t 0 order (lists_view lists)
+  placing_lists p i factors lists le so_far w = so_far.placed w no_more (subst (λ (o : List ℕ). ArePlaceLists g from a t p o no_more)
       (sym (at_drop_all (λ o. o) order i le)) ArePlaceLists.none)
 
 -- how many lists there are

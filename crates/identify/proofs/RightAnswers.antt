@@ -25,7 +25,8 @@ use Rattle.hedge.proofs.Shaping.{sets_form_hedge}
 use Rattle.counter_models.specs.Pairs.{IsPairOf}
 use Rattle.counter_models.specs.declared.counter_pair.CounterPair.{CounterPair}
 use Rattle.counter_models.proofs.Excluded.{no_formula}
-use Rattle.identify.specs.Answers.{IsAnswerOf, IsRight, IsRightFormula, IsRightHedge, IfFormula, IfHedge, is_hedge, AreShallowSteps}
+use Rattle.identify.specs.declared.wanted.Wanted.TheVariants.{Derivation}
+use Rattle.identify.specs.Answers.{IsAnswerOf, IsStopHedge, IsRight, IsRightFormula, IsRightHedge, IfFormula, IfHedge, is_hedge, AreShallowSteps}
 use Rattle.identify.specs.Answers.{IsShallowFormula}
 use Rattle.identify.specs.declared.answer.Answer.{Answer}
 use Rattle.identify.specs.declared.answer.Answer.TheVariants.{Formula, Hedge}
@@ -64,20 +65,20 @@ if_ok (Err e) P Q h p = p
 -- what is true of each formula with its derivation is true of the answer
 pub if_formula : {E : Type 0} (g : MixedGraph) (x y : ℕ) (r : Result Answer E) (P : PlainFormula → PlainDerivation → Type 0)
     → ((f : PlainFormula) (d : PlainDerivation) → IsDerived g x y f d → P f d)
-    → IfOk r (IsAnswerOf g x y) → IfOk r (λ a. IfFormula a P)
-if_formula g x y r P holds found = if_ok r (IsAnswerOf g x y) (λ a. IfFormula a P) each found
+    → IfOk r (IsAnswerOf Derivation g x y) → IfOk r (λ a. IfFormula a P)
+if_formula g x y r P holds found = if_ok r (IsAnswerOf Derivation g x y) (λ a. IfFormula a P) each found
   where
-    each : (a : Answer) → IsAnswerOf g x y a → IfFormula a P
-    each (Formula f d) i = holds (formula_view f) (derivation_view d) i
+    each : (a : Answer) → IsAnswerOf Derivation g x y a → IfFormula a P
+    each (Formula f d) i = holds (formula_view f) (derivation_view d) (i.1 refl)
     each (Hedge h pair) i = tt
 
 -- what is true of each hedge with its two models is true of the answer
 pub if_hedge : {E : Type 0} (g : MixedGraph) (x y : ℕ) (r : Result Answer E) (P : HedgeData → CounterPair → Type 0)
-    → ((h : HedgeData) (pair : CounterPair) → IsAnswerOf g x y (Hedge h pair) → P h pair)
-    → IfOk r (IsAnswerOf g x y) → IfOk r (λ a. IfHedge a P)
-if_hedge g x y r P holds found = if_ok r (IsAnswerOf g x y) (λ a. IfHedge a P) each found
+    → ((h : HedgeData) (pair : CounterPair) → IsStopHedge g x y h pair → P h pair)
+    → IfOk r (IsAnswerOf Derivation g x y) → IfOk r (λ a. IfHedge a P)
+if_hedge g x y r P holds found = if_ok r (IsAnswerOf Derivation g x y) (λ a. IfHedge a P) each found
   where
-    each : (a : Answer) → IsAnswerOf g x y a → IfHedge a P
+    each : (a : Answer) → IsAnswerOf Derivation g x y a → IfHedge a P
     each (Formula f d) i = tt
     each (Hedge h pair) i = holds h pair i
 
@@ -125,17 +126,17 @@ module _ (g : MixedGraph) (valid : IsMixedGraph g) (few : g.vertices ≤ 64) (x 
     no_formula = no_formula g valid x y pair two;
   }
 
-  pub right : (a : Answer) → IsAnswerOf g x y a → IsRight g x y a
-  right (Formula f d) i = right_formula g valid x y target (formula_view f) (derivation_view d) i
+  pub right : (a : Answer) → IsAnswerOf Derivation g x y a → IsRight g x y a
+  right (Formula f d) i = right_formula g valid x y target (formula_view f) (derivation_view d) (i.1 refl)
   right (Hedge h pair) i = right_hedge h pair i.2 i.3
 
   -- a formula and a hedge never exist together
-  never_both : (f : PlainFormula) (d : PlainDerivation) → IsDerived g x y f d → (h : HedgeData) → IsHedge g x y h → ⊥
+  pub never_both : (f : PlainFormula) (d : PlainDerivation) → IsDerived g x y f d → (h : HedgeData) → IsHedge g x y h → ⊥
   never_both f d i h is =
       let found = right_formula g valid x y target f d i in
       let two = pair_of g valid few x y h is in
       (right_hedge h two is (is_pair g valid few x y h is)).no_formula f found.do_free found.effect
 
-  pub exact : (a : Answer) → IsAnswerOf g x y a → IsTrue (is_hedge a) ↔ ((h : HedgeData) × IsHedge g x y h)
-  exact (Formula f d) i = (λ t. absurd (grind (arith, t)), λ p. absurd (never_both (formula_view f) (derivation_view d) i p.0 p.1))
+  pub exact : (a : Answer) → IsAnswerOf Derivation g x y a → IsTrue (is_hedge a) ↔ ((h : HedgeData) × IsHedge g x y h)
+  exact (Formula f d) i = (λ t. absurd (grind (arith, t)), λ p. absurd (never_both (formula_view f) (derivation_view d) (i.1 refl) p.0 p.1))
   exact (Hedge h pair) i = (λ t. (h, i.2), λ p. refl)

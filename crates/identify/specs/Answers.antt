@@ -5,7 +5,7 @@ use Rattle.mixed_graph.specs.Graphs.{MixedGraph, IsAncestor}
 use Rattle.prob_expr.specs.Check.{fault_in}
 use Rattle.prob_expr.specs.Differences.{HasNoFormula}
 use Rattle.prob_expr.specs.Terms.{is_do_free}
-use Rattle.prob_expr.specs.Tree.{effect_on, PlainFormula, PlainTarget}
+use Rattle.prob_expr.specs.Tree.{effect_on, PlainFormula}
 use Rattle.prob_expr.specs.Values.{EqualsEffect}
 use Rattle.prob_expr.specs.View.{formula_view}
 use Rattle.do_derivation.specs.Accepts.{Accepts}
@@ -13,7 +13,7 @@ use Rattle.do_derivation.specs.Plans.{PlainDerivation}
 use Rattle.do_derivation.specs.View.{derivation_view}
 use Rattle.identification_theory.specs.Depth.{is_plan_within, are_lemmas_within}
 use Rattle.identification_theory.specs.Derivations.{IsDerived}
-use Rattle.identification_theory.specs.Procedure.{IsUnidentified}
+use Rattle.identification_theory.specs.Procedure.{IsIdentified, IsUnidentified}
 use Rattle.identification_theory.specs.AnswerDepth.{is_tree_within, are_defs_within}
 use Rattle.identification_theory.specs.Names.{FormulaNamesOnly}
 use Rattle.hedge.specs.Hedges.{IsHedge}
@@ -25,6 +25,10 @@ use Rattle.counter_models.specs.declared.counter_pair.CounterPair.{CounterPair}
 use Rattle.identify.specs.Hedged.{IsHedgeOf}
 use Rattle.identify.specs.declared.answer.Answer.{Answer}
 use Rattle.identify.specs.declared.answer.Answer.TheVariants as answers
+use Rattle.identify.specs.declared.answer.FormulaAnswer.{FormulaAnswer}
+use Rattle.identify.specs.declared.answer.FormulaAnswer.TheVariants as alone
+use Rattle.identify.specs.declared.wanted.Wanted.{Wanted}
+use Rattle.identify.specs.declared.wanted.Wanted.TheVariants.{Derivation}
 
 -- the formula is accepted by the check of formulas, has no intervention left, and names ancestors of y alone; the derivation turns P(y | do(x)) into
 -- it; and it equals the effect in each positive model of the graph, at each assignment
@@ -74,7 +78,45 @@ pub record IsShallowFormula (f : PlainFormula) : Type 0 where
   pub main : IsTrue (is_tree_within 7 f.main)
   pub defs : IsTrue (are_defs_within 5 f.defs)
 
--- what the procedure answers: its formula with its derivation; or the hedge at which it stops, with its two models
-abbrev pub IsAnswerOf : MixedGraph → (x y : ℕ) → Answer → Type 0
-IsAnswerOf g x y (answers.Formula f d) = IsDerived g x y (formula_view f) (derivation_view d)
-IsAnswerOf g x y (answers.Hedge h pair) = IsUnidentified g x y h.small.bits h.big.bits × IsHedgeOf g h × IsHedge g x y h × IsPairOf g x y h pair
+-- the hedge is that at which the procedure stops, with its data and its two models
+abbrev pub IsStopHedge : MixedGraph → (x y : ℕ) → Hedge → CounterPair → Type 0
+IsStopHedge g x y h pair = IsUnidentified g x y h.small.bits h.big.bits × IsHedgeOf g h × IsHedge g x y h × IsPairOf g x y h pair
+
+-- what the procedure answers: its formula, and where it is wanted the derivation; or the hedge at which it stops, with its two models
+abbrev pub IsAnswerOf : Wanted → MixedGraph → (x y : ℕ) → Answer → Type 0
+IsAnswerOf wanted g x y (answers.Formula f d) =
+    IsIdentified g x y (formula_view f) × (wanted ≡ Derivation → IsDerived g x y (formula_view f) (derivation_view d))
+IsAnswerOf wanted g x y (answers.Hedge h pair) = IsStopHedge g x y h pair
+
+-- ---- a formula alone
+
+-- the formula is right by the derivation that the procedure has for it, which needn't be made
+pub record IsRightByDerivation (g : MixedGraph) (x y : ℕ) (f : PlainFormula) : Type 0 where
+  pub derivation : PlainDerivation
+  pub derived : IsDerived g x y f derivation
+  pub right : IsRightFormula g x y f derivation
+
+-- A right answer without a derivation: a formula that is right by one, or a hedge as in a right answer with a derivation.
+abbrev pub IsRightAlone : MixedGraph → (x y : ℕ) → FormulaAnswer → Type 0
+IsRightAlone g x y (alone.Formula f) = IsRightByDerivation g x y (formula_view f)
+IsRightAlone g x y (alone.Hedge h pair) = IsRightHedge g x y h pair
+
+-- the fact holds of the formula, where it is answered
+abbrev pub IfFormulaAlone : FormulaAnswer → (PlainFormula → Type 0) → Type 0
+IfFormulaAlone (alone.Formula f) P = P (formula_view f)
+IfFormulaAlone (alone.Hedge h pair) P = Unit {0}
+
+-- the fact holds of the hedge and its two models, where they are answered
+abbrev pub IfHedgeAlone : FormulaAnswer → (Hedge → CounterPair → Type 0) → Type 0
+IfHedgeAlone (alone.Formula f) P = Unit {0}
+IfHedgeAlone (alone.Hedge h pair) P = P h pair
+
+-- a hedge is answered
+abbrev pub is_hedge_alone : FormulaAnswer → Bool
+is_hedge_alone (alone.Formula f) = false
+is_hedge_alone (alone.Hedge h pair) = true
+
+-- what the procedure answers where a formula alone is wanted: its formula, or the hedge at which it stops
+abbrev pub IsFormulaAnswerOf : MixedGraph → (x y : ℕ) → FormulaAnswer → Type 0
+IsFormulaAnswerOf g x y (alone.Formula f) = IsIdentified g x y (formula_view f)
+IsFormulaAnswerOf g x y (alone.Hedge h pair) = IsStopHedge g x y h pair

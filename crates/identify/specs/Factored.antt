@@ -14,13 +14,15 @@ use Rattle.identify.specs.declared.factors.district_factor.FactorFault.{FactorFa
 use Rattle.identify.specs.declared.factors.district_factor.FactorFault.TheVariants as faults
 use Rattle.identify.specs.Lists.{lists_view}
 use Rattle.identify.specs.declared.answer.Factors.{Factors}
+use Rattle.identify.specs.declared.wanted.Wanted.{Wanted}
+use Rattle.identify.specs.declared.wanted.Wanted.TheVariants.{Derivation}
 use Rattle.identify.specs.declared.answer.Stop.{Stop}
 use Rattle.identify.specs.declared.answer.Stop.TheVariants.{At, NoMemory}
 
--- by this order of the vertices, the factors of these districts with their definitions, at most 64 for each, and the steps to them
-pub record AreFactorsOf (g : MixedGraph) (order : List ℕ) (districts : List ℕ) (f : Factors) : Type 0 where
+-- by this order of the vertices, the factors of these districts with their definitions, at most 64 for each, and where a derivation is wanted the steps to them
+pub record AreFactorsOf (wanted : Wanted) (g : MixedGraph) (order : List ℕ) (districts : List ℕ) (f : Factors) : Type 0 where
   pub formulas : AreFactored g order 0 districts (map view f.defs.items) (views f.values.items)
-  pub steps : AreAllSteps g order 0 districts (map lemma_view f.lemmas.items) (lists_view f.lists.items)
+  pub steps : wanted ≡ Derivation → AreAllSteps g order 0 districts (map lemma_view f.lemmas.items) (lists_view f.lists.items)
   pub counted : length f.lists.items ≡ length districts
   pub few : length f.defs.items ≤ 64 * length districts
 
@@ -55,10 +57,12 @@ abbrev pub IsStopFor : VSet → Result Factor FactorFault → Stop → Type 0
 IsStopFor c (Ok more) stop = stop ≡ NoMemory
 IsStopFor c (Err fault) stop = stop ≡ stop_for c fault
 
--- The formula of these factors of the districts, with d the ancestors of y once x is left out: their product, summed down to y. Its derivation goes
--- to each district, and then by the steps of each.
-pub record AreAssembled (n : ℕ) (order districts : List ℕ) (x y d : ℕ) (made : Factors) (f : PlainFormula) (t : PlainDerivation) : Type 0 where
+-- The formula of these factors of the districts, with d the ancestors of y once x is left out: their product, summed down to y. Where its derivation
+-- is wanted, that goes to each district, and then by the steps of each.
+pub record AreAssembled (wanted : Wanted) (n : ℕ) (order districts : List ℕ) (x y d : ℕ) (made : Factors) (f : PlainFormula)
+    (t : PlainDerivation) : Type 0 where
   pub defs : f.defs ≡ map view made.defs.items
   pub main : f.main ≡ sum_if (minus d y) (product_of (views made.values.items))
   pub lemmas : t.lemmas ≡ map lemma_view made.lemmas.items
-  pub steps : t.main ≡ Plan.Then (main_steps n x y d (district_steps order d districts (lists_view made.lists.items) (views made.values.items)))
+  pub steps : wanted ≡ Derivation → t.main ≡ Plan.Then (main_steps n x y d
+      (district_steps order d districts (lists_view made.lists.items) (views made.values.items)))

@@ -13,20 +13,22 @@ use Rattle.identify.specs.declared.factors.district_factor.FactorFault.{FactorFa
 use Rattle.identify.specs.declared.factors.district_factor.FactorFault.TheVariants.{Stopped, NoMemory}
 use Rattle.identify.specs.declared.factors.rounds.Round.{Round}
 use Rattle.identify.specs.declared.factors.rounds.Round.TheVariants.{Done, Further}
+use Rattle.identify.specs.declared.wanted.Wanted.{Wanted}
+use Rattle.identify.specs.declared.wanted.Wanted.TheVariants.{Derivation}
 use Rattle.identify.specs.Bodies.{IsBodyOf}
 
--- the second is the sum over z of the first
-pub record IsSummed (z : ℕ) (whole found : Body) : Type 0 where
+-- the second is the sum over z of the first, and where a derivation is wanted its steps go there
+pub record IsSummed (wanted : Wanted) (z : ℕ) (whole found : Body) : Type 0 where
   pub value : view found.value ≡ sum z (view whole.value)
-  pub steps : steps_view found.steps.items ≡ cut_steps z (steps_view whole.steps.items)
+  pub steps : wanted ≡ Derivation → steps_view found.steps.items ≡ cut_steps z (steps_view whole.steps.items)
 
 -- the factor of c from the set a is there, and needs no definition
-pub record IsDone (g : MixedGraph) (order : List ℕ) (c a : ℕ) (from : Source) (found : Body) : Type 0 where
+pub record IsDone (wanted : Wanted) (g : MixedGraph) (order : List ℕ) (c a : ℕ) (from : Source) (found : Body) : Type 0 where
   pub factor : (k : ℕ) → IsFactor g order c a from k [] (view found.value)
-  pub steps : (k : ℕ) → AreFactorSteps g order c a from k [] (steps_view found.steps.items)
+  pub steps : wanted ≡ Derivation → (k : ℕ) → AreFactorSteps g order c a from k [] (steps_view found.steps.items)
 
 -- The district t of c in a is larger than c, and so is its part a2 that leads to c, which isn't t: the sum of the factor of t down to a2.
-pub record IsFurther (g : MixedGraph) (order : List ℕ) (c a : ℕ) (from : Source) (a2 : ℕ) (found : Body) : Type 0 where
+pub record IsFurther (wanted : Wanted) (g : MixedGraph) (order : List ℕ) (c a : ℕ) (from : Source) (a2 : ℕ) (found : Body) : Type 0 where
   pub t : ℕ
   pub district : IsDistrict g a c t
   pub larger : t ≢ c
@@ -34,13 +36,13 @@ pub record IsFurther (g : MixedGraph) (order : List ℕ) (c a : ℕ) (from : Sou
   pub smaller : a2 ≢ t
   pub more : a2 ≢ c
   pub whole : Body
-  pub is_whole : IsBodyOf g order from a t whole
-  pub is_summed : IsSummed (minus t a2) whole found
+  pub is_whole : IsBodyOf wanted g order from a t whole
+  pub is_summed : IsSummed wanted (minus t a2) whole found
 
 -- what a round for c from the set a comes to
-abbrev pub IsRound : MixedGraph → List ℕ → (c a : ℕ) → Source → Round → Type 0
-IsRound g order c a from (Done body) = IsDone g order c a from body
-IsRound g order c a from (Further a2 body) = IsFurther g order c a from a2.bits body
+abbrev pub IsRound : Wanted → MixedGraph → List ℕ → (c a : ℕ) → Source → Round → Type 0
+IsRound wanted g order c a from (Done body) = IsDone wanted g order c a from body
+IsRound wanted g order c a from (Further a2 body) = IsFurther wanted g order c a from a2.bits body
 
 -- why a round for c from the set a comes to nothing
 abbrev pub IsRoundFault : MixedGraph → (c a : ℕ) → FactorFault → Type 0

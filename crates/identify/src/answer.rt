@@ -15,6 +15,15 @@ pub enum Answer {
     Hedge(Hedge, CounterPair),
 }
 
+/// What identification answers for P(y | do(x)) where a formula alone is wanted.
+#[derive(Drop)]
+pub enum FormulaAnswer {
+    /// A formula for the effect without interventions.
+    Formula(Formula),
+    /// A hedge, and two models that agree on all observations and differ on the effect.
+    Hedge(Hedge, CounterPair),
+}
+
 /// The factors of the districts: their definitions with the lemmas for these, and of each factor its expression and its steps.
 #[derive(Drop)]
 pub struct Factors {

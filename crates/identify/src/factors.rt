@@ -2,7 +2,7 @@
 //! definitions, and the steps of the do-calculus that make it (Shpitser and Pearl 2006, on the
 //! districts of Tian and Pearl 2002).
 //!
-//! `factor(alloc, &graph, &order, c, first)` gives it. The functions on expressions and on lists of steps are
+//! `factor(alloc, wanted, &graph, &order, c, first)` gives it. The functions on expressions and on lists of steps are
 //! those of which it is made, for the formula of all districts.
 mod body;
 mod district_factor;

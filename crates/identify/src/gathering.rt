@@ -12,6 +12,7 @@ ghost use Rattle.identify.specs.Factored.{AreFactorsOf, IsStopOf, IsAdded, IsSto
 
 use crate::answer::{Factors, Stop};
 use crate::factors::{Factor, FactorFault, factor};
+use crate::wanted::Wanted;
 use hedge::joined_sets::Districts;
 use mixed_graph::{Graph, Order, VSet};
 use std::alloc::{AllocError, Global};
@@ -81,6 +82,7 @@ pub fn add_found(
 /// The factors of the districts of d in turn; or the first district whose factor stops.
 pub fn factors(
     alloc: Global,
+    wanted: Wanted,
     g: &Graph,
     order: &Order,
     d: VSet,
@@ -89,12 +91,12 @@ pub fn factors(
     requires order { IsOrder (graph_of g.now) order.now.list order.now.count }
     requires within { Within g.now.n (has d.bits) }
     requires districts { All (IsMaximalJoined (graph_of g.now) d.bits) (first_masks parts.now.sets parts.now.count) }
-    ensures { MatchResult result (AreFactorsOf (graph_of g.now) (listed order.now) (first_masks parts.now.sets parts.now.count))
+    ensures { MatchResult result (AreFactorsOf wanted (graph_of g.now) (listed order.now) (first_masks parts.now.sets parts.now.count))
         (IsStopOf (graph_of g.now) (listed order.now) (first_masks parts.now.sets parts.now.count)) }
 {
     let mut made = no_factors(alloc);
     for c in &parts.sets[..parts.count as usize] {
-        let found = factor(alloc, g, order, *c, made.defs.len() as u32);
+        let found = factor(alloc, wanted, g, order, *c, made.defs.len() as u32);
         match add_found(&mut made, *c, found) {
             Ok(()) => {}
             Err(stop) => return Err(stop),

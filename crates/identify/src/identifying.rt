@@ -18,17 +18,19 @@ ghost use Rattle.do_derivation.specs.Accepts.{Accepts};
 ghost use Rattle.do_derivation.specs.Plans.{Plan, no_plans};
 ghost use Rattle.do_derivation.specs.View.{derivation_view, listed};
 ghost use Rattle.identification_theory.specs.Derivations.{IsDerived};
-ghost use Rattle.identification_theory.specs.Procedure.{AreAncestorsIn, IsUnidentified};
+ghost use Rattle.identification_theory.specs.Procedure.{AreAncestorsIn, IsIdentified, IsUnidentified};
 ghost use Rattle.identification_theory.specs.Names.{FormulaNamesOnly};
 ghost use Rattle.counter_models.specs.Events.{AreCounterModels};
 ghost use Rattle.counter_models.specs.Pairs.{IsPairOf};
 ghost use Rattle.identify.specs.Hedged.{IsHedgeOf};
 ghost use Rattle.identify.specs.Answers.{IsAnswerOf, IsRight, IfFormula, IfHedge, is_hedge, AreShallowSteps, IsShallowFormula};
+ghost use Rattle.identify.specs.Answers.{IsFormulaAnswerOf, IsRightAlone, IfFormulaAlone, IfHedgeAlone, is_hedge_alone};
 
-use crate::answer::{Answer, Stop};
+use crate::answer::{Answer, FormulaAnswer, Stop};
 use crate::gathering::factors;
 use crate::mains::assembled;
 use crate::stops::hedge_of;
+use crate::wanted::Wanted;
 use do_derivation::{Derivation, Step};
 use hedge::joined_sets::districts;
 use mixed_graph::{Graph, Order, VSet};
@@ -74,13 +76,13 @@ pub fn order_of(g: &Graph) -> Order
     g.order()
 }
 
-/// What the procedure answers.
-fn answer(alloc: Global, g: &Graph, x: VSet, y: VSet) -> Result<Answer, AllocError>
+/// What the procedure answers, where that is wanted.
+fn answer(alloc: Global, wanted: Wanted, g: &Graph, x: VSet, y: VSet) -> Result<Answer, AllocError>
     requires x_within { Within g.now.n (has x.bits) }
     requires y_within { Within g.now.n (has y.bits) }
     requires apart { Apart (has x.bits) (has y.bits) }
     requires some { 0 < y.bits }
-    ensures answer { IfOk result (IsAnswerOf (graph_of g.now) x.bits y.bits) }
+    ensures answer { IfOk result (IsAnswerOf wanted (graph_of g.now) x.bits y.bits) }
     ensures few { IfOk result (λ a. IfFormula a (λ f d. length f.defs ≤ 4096)) }
 {
     let order = order_of(g);
@@ -90,9 +92,9 @@ fn answer(alloc: Global, g: &Graph, x: VSet, y: VSet) -> Result<Answer, AllocErr
     }
     let d = ancestors_outside(g, x, y);
     let parts = districts(g, d);
-    match factors(alloc, g, &order, d, &parts) {
+    match factors(alloc, wanted, g, &order, d, &parts) {
         Ok(made) => {
-            let (formula, derivation) = assembled(alloc, g, x, y, d, &order, &parts, made)?;
+            let (formula, derivation) = assembled(alloc, wanted, g, x, y, d, &order, &parts, made)?;
             Ok(Answer::Formula(formula, derivation))
         }
         Err(Stop::At { small, big }) => {
@@ -137,5 +139,59 @@ pub fn identify(alloc: Global, g: &Graph, x: VSet, y: VSet) -> Result<Answer, Al
     ensures pair { IfOk result (λ a. IfHedge a (IsPairOf (graph_of g.now) x.bits y.bits)) }
     ensures counter { IfOk result (λ a. IfHedge a (λ h pair. AreCounterModels (graph_of g.now) x.bits y.bits pair)) }
 {
-    answer(alloc, g, x, y)
+    answer(alloc, Wanted::Derivation, g, x, y)
+}
+
+/// What the procedure answers where a formula alone is wanted.
+fn formula_answer(alloc: Global, g: &Graph, x: VSet, y: VSet) -> Result<FormulaAnswer, AllocError>
+    requires x_within { Within g.now.n (has x.bits) }
+    requires y_within { Within g.now.n (has y.bits) }
+    requires apart { Apart (has x.bits) (has y.bits) }
+    requires some { 0 < y.bits }
+    ensures answer { IfOk result (IsFormulaAnswerOf (graph_of g.now) x.bits y.bits) }
+    ensures few { IfOk result (λ a. IfFormulaAlone a (λ f. length f.defs ≤ 4096)) }
+{
+    match answer(alloc, Wanted::Formula, g, x, y)? {
+        Answer::Formula(formula, _) => Ok(FormulaAnswer::Formula(formula)),
+        Answer::Hedge(hedge, pair) => Ok(FormulaAnswer::Hedge(hedge, pair)),
+    }
+}
+
+/// The same as `identify`, where a formula alone is wanted: its derivation exists and isn't made.
+///
+/// The only error is want of memory.
+pub fn identify_formula(
+    alloc: Global,
+    g: &Graph,
+    x: VSet,
+    y: VSet,
+) -> Result<FormulaAnswer, AllocError>
+    requires x_within { Within g.now.n (has x.bits) }
+    requires y_within { Within g.now.n (has y.bits) }
+    requires apart { Apart (has x.bits) (has y.bits) }
+    requires some { 0 < y.bits }
+
+    // Either half of the theorem: the formula is right by the derivation that the procedure has for it, or the hedge is.
+    ensures right { IfOk result (IsRightAlone (graph_of g.now) x.bits y.bits) }
+
+    // A hedge is answered exactly where there is one.
+    ensures exact { IfOk result (λ a. IsTrue (is_hedge_alone a) ↔ ((h : HedgeData) × IsHedge (graph_of g.now) x.bits y.bits h)) }
+
+    // The formula, and what is true of it.
+    ensures identified { IfOk result (λ a. IfFormulaAlone a (IsIdentified (graph_of g.now) x.bits y.bits)) }
+    ensures formed { IfOk result (λ a. IfFormulaAlone a (λ f. fault_in g.now.n f ≡ None)) }
+    ensures do_free { IfOk result (λ a. IfFormulaAlone a (λ f. is_do_free f ≡ true)) }
+    ensures names { IfOk result (λ a. IfFormulaAlone a (FormulaNamesOnly (IsAncestor (graph_of g.now) (has y.bits)))) }
+    ensures effect { IfOk result (λ a. IfFormulaAlone a (EqualsEffect (graph_of g.now) (effect_on x.bits y.bits))) }
+    ensures shallow_formula { IfOk result (λ a. IfFormulaAlone a IsShallowFormula) }
+    ensures few { IfOk result (λ a. IfFormulaAlone a (λ f. length f.defs ≤ 4096)) }
+
+    // The hedge, its data, and its two models.
+    ensures stop { IfOk result (λ a. IfHedgeAlone a (λ h pair. IsUnidentified (graph_of g.now) x.bits y.bits h.small.bits h.big.bits)) }
+    ensures hedge { IfOk result (λ a. IfHedgeAlone a (λ h pair. IsHedge (graph_of g.now) x.bits y.bits h)) }
+    ensures data { IfOk result (λ a. IfHedgeAlone a (λ h pair. IsHedgeOf (graph_of g.now) h)) }
+    ensures pair { IfOk result (λ a. IfHedgeAlone a (IsPairOf (graph_of g.now) x.bits y.bits)) }
+    ensures counter { IfOk result (λ a. IfHedgeAlone a (λ h pair. AreCounterModels (graph_of g.now) x.bits y.bits pair)) }
+{
+    formula_answer(alloc, g, x, y)
 }

@@ -5,7 +5,7 @@ ghost use Rattle.mixed_graph.specs.Orders.{IsOrder};
 ghost use Rattle.mixed_graph.specs.Shown.{graph_of};
 ghost use Rattle.hedge.specs.Listed.{first_masks};
 ghost use Rattle.prob_expr.specs.Tree.{Trees};
-ghost use Rattle.prob_expr.specs.View.{formula_view};
+ghost use Rattle.prob_expr.specs.View.{views, formula_view};
 ghost use Rattle.do_derivation.specs.Plans.{Plans, no_plans};
 ghost use Rattle.do_derivation.specs.Shapes.{has_product};
 ghost use Rattle.do_derivation.specs.View.{steps_view, listed, derivation_view};
@@ -18,10 +18,11 @@ use crate::expressions::product_of;
 use crate::factors::{push_at, push_each, push_with, sum_if};
 use crate::groups::{in_order, push_groups};
 use crate::homes::home_lists;
+use crate::wanted::Wanted;
 use do_derivation::{Derivation, Step, has_product};
 use hedge::joined_sets::Districts;
 use mixed_graph::{Graph, Order, VSet};
-use prob_expr::Formula;
+use prob_expr::{Expr, Formula};
 use std::alloc::{AllocError, Global};
 
 /// Adds the step that opens products, where a factor is one.
@@ -92,9 +93,41 @@ fn main_steps(
     Ok(out)
 }
 
+/// The steps from P(y | do(x)) to the formula of factors with these values and these lists of steps, where they are wanted.
+fn wanted_steps(
+    alloc: Global,
+    wanted: Wanted,
+    n: u32,
+    x: VSet,
+    y: VSet,
+    d: VSet,
+    order: &Order,
+    parts: &Districts,
+    values: &Vec<Expr>,
+    lists: Vec<Vec<Step>>,
+) -> Result<Vec<Step>, AllocError>
+    requires few { n ≤ 64 }
+    requires order { All (λ v. v < 64) (listed order.now) }
+    requires counted { length lists.items ≡ length (first_masks parts.now.sets parts.now.count) }
+    ensures { IfOk result (λ l. wanted ≡ Wanted.Derivation → steps_view l.items ≡ main_steps n x.bits y.bits d.bits
+        (district_steps (listed order.now) d.bits (first_masks parts.now.sets parts.now.count) (lists_view lists.items) (views values.now.items))) }
+{
+    match wanted {
+        Wanted::Formula => Ok(Vec::new(alloc)),
+        Wanted::Derivation => {
+            let rest = district_steps(alloc, order, d, parts, lists, has_product(values))?;
+            let steps = main_steps(alloc, n, x, y, d, rest)?;
+            Ok(steps)
+        }
+    }
+}
+
 /// The formula and the derivation of these factors of the districts of d, the ancestors of y once x is left out.
+///
+/// The steps of the derivation are made where they are wanted.
 pub fn assembled(
     alloc: Global,
+    wanted: Wanted,
     g: &Graph,
     x: VSet,
     y: VSet,
@@ -105,11 +138,22 @@ pub fn assembled(
 ) -> Result<(Formula, Derivation), AllocError>
     requires order { IsOrder (graph_of g.now) order.now.list order.now.count }
     requires counted { length made.lists.items ≡ length (first_masks parts.now.sets parts.now.count) }
-    ensures { IfOk result (λ p. AreAssembled g.now.n (listed order.now) (first_masks parts.now.sets parts.now.count) x.bits y.bits d.bits made (formula_view p.0) (derivation_view p.1)) }
+    ensures { IfOk result (λ p. AreAssembled wanted g.now.n (listed order.now) (first_masks parts.now.sets parts.now.count) x.bits y.bits d.bits made
+        (formula_view p.0) (derivation_view p.1)) }
 {
-    let opens = has_product(&made.values);
-    let rest = district_steps(alloc, order, d, parts, made.lists, opens)?;
-    let steps = main_steps(alloc, g.n, x, y, d, rest)?;
+    let lists = made.lists;
+    let steps = wanted_steps(
+        alloc,
+        wanted,
+        g.n,
+        x,
+        y,
+        d,
+        order,
+        parts,
+        &made.values,
+        lists,
+    )?;
     let body = product_of(alloc, made.values)?;
     let main = sum_if(alloc, d.difference(y), body)?;
     let formula = Formula {

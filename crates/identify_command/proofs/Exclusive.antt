@@ -1,8 +1,7 @@
 -- A formula, a hedge and a refused list exclude each other, also where something is given.
 use Rattle.std.proofs.Common.{◌≡◌, ℕ, List, [], ◌∷◌, Some, None, length, inl, inr, refl, ap, ◌∙◌, subst}
 use Rattle.mixed_graph.specs.Graphs.{MixedGraph, IsMixedGraph}
-use Rattle.dag_reader.specs.declared.graph.ReadGraph.{ReadGraph}
-use Rattle.dag_reader.specs.RoundTrip.{AreSame}
+use Rattle.mixed_graph.specs.Shown.{graph_of}
 use Rattle.targets.specs.declared.fault.TargetFault.{TargetFault}
 use Rattle.targets.specs.declared.fault.TargetFault.TheVariants.{EmptyX}
 use Rattle.targets.specs.Targets.{EffectLists, Lists, fault_in, IsFaultOfTarget, IsListFault}
@@ -13,17 +12,16 @@ use Rattle.conditional_id.specs.Conditionals.{IsConditionalTarget, IsConditional
 use Rattle.conditional_id.proofs.Answered.{joint_excludes_formula, derived_is_conditional}
 use Rattle.replies.specs.declared.outcome.Outcome.{Outcome}
 use Rattle.replies.specs.declared.outcome.Outcome.TheVariants.{Yes, No, Graph}
-use Rattle.replies.specs.Observed.{Names}
+use Rattle.diagram.specs.Sets.{Names, effect_lists, query_lists}
+use Rattle.diagram.proofs.OneDiagram.{same_effect_lists, same_query_lists}
 use Rattle.replies.specs.OneOutcome.{OneOutcome, IsAnswerOn}
-use Rattle.replies.proofs.OneGraph.{observed_is_mixed, observed_named}
-use Rattle.replies.proofs.OneOutcome.{IsOneOf, one_of_three, one_for_lists}
+use Rattle.replies.proofs.OneOutcome.{IsOneOf, one_of_three, one_for_diagrams}
 use Rattle.replies.proofs.OneTarget.{one_set, no_fault_of, some_list, is_some_list, some_member}
 use Rattle.short_formulas.proofs.Usable.{some_first}
-use Rattle.effect_answers.specs.Effects.{effect_lists}
-use Rattle.effect_answers.proofs.Exclusive.{formula_or_hedge, effect_refused, same_effect_lists}
+use Rattle.effect_answers.proofs.Exclusive.{formula_or_hedge, effect_refused}
 use Rattle.identify_command.specs.declared.form.Form.{Form}
 use Rattle.identify_command.specs.Answers.{EffectAnswer, IdentifyAnswer}
-use Rattle.identify_command.specs.Conditions.{target_lists, AreTargetSets, IsListRefusal, ShowsConditional, ShowsJoint, ListsAnswer}
+use Rattle.identify_command.specs.Conditions.{AreTargetSets, IsListRefusal, ShowsConditional, ShowsJoint, ListsAnswer}
 use Rattle.identify_command.specs.Conditions.{ConditionalAnswer, IdentifyAnswerGiven}
 use Rattle.identify_command.specs.Laws.{FormsAgree}
 use Rattle.targets.proofs.Effects.{listed_outcome}
@@ -51,11 +49,9 @@ module _ (q : MixedGraph) (valid : IsMixedGraph q) (l : EffectLists) (named : le
   effect_once = one_of_three Yes No Graph (SomeEffect q l) among (λ text line a b. formula_or_none a.0 b.0 text line a.1 b.1)
       (λ text line a r. effect_refused l a.1.x a.1.y line a.1.sets r.1) (λ text line a r. effect_refused l a.1.x a.1.y line a.1.sets r.1)
 
-bare_once : (bytes : List ℕ) (x y : Names) → OneOutcome (IsAnswerOn bytes (λ g o text. (form : Form) × IdentifyAnswer form g x y o text))
-bare_once bytes x y o p text line a b = one_for_lists bytes (λ g. effect_lists g x y) SomeEffect (same_effect_lists x y)
-    (λ g q is. effect_once q (observed_is_mixed g q is) (effect_lists g x y) (observed_named g q is)) o p text line
-    (record { graph = a.graph; holds = a.holds; given = (a.given.1.0, a.given.1.1, (a.given.0, a.given.1.2)) })
-    (record { graph = b.graph; holds = b.holds; given = (b.given.1.0, b.given.1.1, (b.given.0, b.given.1.2)) })
+bare_once : (bytes : List ℕ) (x y : Names) → OneOutcome (IsAnswerOn bytes (λ d o text. (form : Form) × IdentifyAnswer form d x y o text))
+bare_once bytes x y = one_for_diagrams bytes (λ d. effect_lists d.read d.observed.names x y) SomeEffect (same_effect_lists x y)
+    (λ d. effect_once (graph_of d.observed.graph) d.observed.graph.valid (effect_lists d.read d.observed.names x y) d.observed.sized)
 
 -- ---- where something is given
 
@@ -110,15 +106,11 @@ module _ (q : MixedGraph) (valid : IsMixedGraph q) (l : Lists) (named : length l
   target_once = one_of_three Yes No Graph (SomeTarget q l) given_among (λ text line a b. given_yes_no a.0 b.0 text line a.1 b.1)
       (λ text line a r. refused l a.1.target line a.1.sets r.1) (λ text line a r. refused l a.1.target line a.1.sets r.1)
 
-pub same_target_lists : (x y : Names) (given : List (List ℕ)) (g h : ReadGraph) → AreSame g h → target_lists h x y given ≡ target_lists g x y given
-same_target_lists x y given g h s = rw (s.names, s.vertices, s.latent, s.exposures, s.outcomes) refl
-
 pub conditional_once : (bytes : List ℕ) (x y : Names) (given : List (List ℕ))
-    → OneOutcome (IsAnswerOn bytes (λ g o text. (form : Form) × ConditionalAnswer form g x y given o text))
-conditional_once bytes x y given o p text line a b = one_for_lists bytes (λ g. target_lists g x y given) SomeTarget (same_target_lists x y given)
-    (λ g q is. target_once q (observed_is_mixed g q is) (target_lists g x y given) (observed_named g q is)) o p text line
-    (record { graph = a.graph; holds = a.holds; given = (a.given.1.0, a.given.1.1, (a.given.0, a.given.1.2)) })
-    (record { graph = b.graph; holds = b.holds; given = (b.given.1.0, b.given.1.1, (b.given.0, b.given.1.2)) })
+    → OneOutcome (IsAnswerOn bytes (λ d o text. (form : Form) × ConditionalAnswer form d x y given o text))
+conditional_once bytes x y given = one_for_diagrams bytes (λ d. query_lists d.read d.observed.names x y (Some given)) SomeTarget
+    (same_query_lists x y (Some given))
+    (λ d. target_once (graph_of d.observed.graph) d.observed.graph.valid (query_lists d.read d.observed.names x y (Some given)) d.observed.sized)
 
 -- answers in any two forms have one outcome
 pub forms_agree : FormsAgree
@@ -127,6 +119,6 @@ forms_agree bytes x y (Some []) = bare_once bytes x y
 forms_agree bytes x y (Some (n ∷ ns)) = conditional_once bytes x y (n ∷ ns)
 
 -- and so have answers in one form
-pub identify_once : (bytes : List ℕ) (form : Form) (x y given : Names) → OneOutcome (IsAnswerOn bytes (λ g. IdentifyAnswerGiven form g x y given))
+pub identify_once : (bytes : List ℕ) (form : Form) (x y given : Names) → OneOutcome (IsAnswerOn bytes (λ d. IdentifyAnswerGiven form d x y given))
 identify_once bytes form x y given o p text line a b = forms_agree bytes x y given o p text line
-    (record { graph = a.graph; holds = a.holds; given = (form, a.given) }) (record { graph = b.graph; holds = b.holds; given = (form, b.given) })
+    (record { diagram = a.diagram; holds = a.holds; given = (form, a.given) }) (record { diagram = b.diagram; holds = b.holds; given = (form, b.given) })

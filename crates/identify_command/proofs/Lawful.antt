@@ -37,4 +37,4 @@ one_request uses q r a b = λ i. record {
 
 -- what holds of each command holds of it
 pub identify_lawful : IsLawful identify_command
-identify_lawful = lawful_on_file one_request (λ q g. given_answered q.form g q.x q.y q.given) (λ q bytes. identify_once bytes q.form q.x q.y q.given)
+identify_lawful = lawful_on_file one_request (λ q d. given_answered q.form d q.x q.y q.given) (λ q bytes. identify_once bytes q.form q.x q.y q.given)

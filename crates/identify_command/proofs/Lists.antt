@@ -6,9 +6,9 @@ use Rattle.prob_expr.specs.Tree.{PlainTarget}
 use Rattle.mixed_graph.proofs.MaskLaws.{has_none}
 use Rattle.targets.specs.Targets.{Lists}
 use Rattle.targets.proofs.Disjoint.{disjoint_listed_sets}
-use Rattle.dag_reader.specs.declared.graph.ReadGraph.{ReadGraph}
+use Rattle.diagram.specs.Sets.{Names}
+use Rattle.diagram.specs.declared.diagram.Diagram.{Diagram}
 use Rattle.replies.specs.declared.outcome.Outcome.{Outcome}
-use Rattle.replies.specs.Observed.{Names}
 use Rattle.identify_command.specs.declared.form.Form.{Form}
 use Rattle.identify_command.specs.Answers.{IdentifyAnswer}
 use Rattle.identify_command.specs.Conditions.{ConditionalAnswer, IdentifyAnswerGiven, AreTargetSets}
@@ -27,14 +27,15 @@ with_member (suc k) v h = omega arith
 -- ---- answers
 
 -- where names are listed, the answer is that under a condition
-pub where_given : (form : Form) (g : ReadGraph) (x y : Names) (list : List (List ℕ)) (o : Outcome) (text : List ℕ) → (list ≡ [] → ⊥)
-    → ConditionalAnswer form g x y list o text
-    → IdentifyAnswerGiven form g x y (Some list) o text
-where_given form g x y [] o text some h = absurd (some refl)
-where_given form g x y (n ∷ ns) o text some h = h
+pub where_given : (form : Form) (d : Diagram) (x y : Names) (list : List (List ℕ)) (o : Outcome) (text : List ℕ) → (list ≡ [] → ⊥)
+    → ConditionalAnswer form d x y list o text
+    → IdentifyAnswerGiven form d x y (Some list) o text
+where_given form d x y [] o text some h = absurd (some refl)
+where_given form d x y (n ∷ ns) o text some h = h
 
 -- where none is, it is that without
-pub where_none : (form : Form) (g : ReadGraph) (x y : Names) (list : List (List ℕ)) (o : Outcome) (text : List ℕ) → list ≡ [] → IdentifyAnswer form g x y o text
-    → IdentifyAnswerGiven form g x y (Some list) o text
-where_none form g x y [] o text none h = h
-where_none form g x y (n ∷ ns) o text none h = absurd (cc none)
+pub where_none : (form : Form) (d : Diagram) (x y : Names) (list : List (List ℕ)) (o : Outcome) (text : List ℕ) → list ≡ []
+    → IdentifyAnswer form d x y o text
+    → IdentifyAnswerGiven form d x y (Some list) o text
+where_none form d x y [] o text none h = h
+where_none form d x y (n ∷ ns) o text none h = absurd (cc none)

@@ -1,5 +1,5 @@
--- A yes has one text, but for a short formula, and a no, but for its certificate.
-use Rattle.std.proofs.Common.{◌≡◌, ◌≤◌, ℕ, Bool, false, List, refl, sym, ap, ap₂, ◌∙◌, subst}
+-- A yes has one text, but for a short formula, and so has a no.
+use Rattle.std.proofs.Common.{◌≡◌, ◌≤◌, ℕ, Bool, false, List, sym, ap, ap₂, ◌∙◌, subst}
 use Rattle.mixed_graph.specs.Graphs.{MixedGraph, IsMixedGraph}
 use Rattle.mixed_graph.specs.Masks.{union}
 use Rattle.hedge.specs.declared.hedge.Hedge.{Hedge}
@@ -12,11 +12,14 @@ use Rattle.conditional_id.specs.Conditionals.{IsConditionalBySteps}
 use Rattle.short_formulas.specs.Short.{IsOrShorter}
 use Rattle.conditional_id.proofs.Answered.{one_conditional, one_conditional_derivation, derived_is_conditional, one_turned}
 use Rattle.targets.specs.Targets.{EffectLists, Lists}
-use Rattle.identify_text.specs.PairLines.{hedge_answer, joint_answer}
+use Rattle.identify_text.specs.PairLines.{hedge_answer}
+use Rattle.certificate.specs.Plain.{PlainHedge, hedge_view}
+use Rattle.certificate.specs.Plain as plain
 use Rattle.replies.specs.declared.outcome.Outcome.TheVariants.{Yes, No}
 use Rattle.replies.proofs.OneTarget.{same_two}
 use Rattle.effect_answers.specs.Hedges.{IsFoundHedge}
-use Rattle.effect_answers.proofs.OneNo.{one_hedge_text, joint_with}
+use Rattle.effect_answers.specs.Lines.{certificate_line}
+use Rattle.effect_answers.proofs.OneNo.{one_hedge_text, one_hedge_view, joint_with}
 use Rattle.identify_command.specs.declared.form.Form.{Form}
 use Rattle.identify_command.specs.declared.form.Writing.{Writing}
 use Rattle.identify_command.specs.declared.form.Writing.TheVariants.{Plain, Certificate, Latex}
@@ -66,26 +69,30 @@ target_yes_once form plain q l text line a b = conditional_once form plain q l.o
 
 -- ---- no
 
--- but for its certificate a hedge is shown with its models
-hedge_lines : (w : Writing) → (w ≡ Certificate → ⊥) → (names : List (List ℕ)) (x y : ℕ) (h : Hedge) (pair : CounterPair)
-    → hedge_text w names x y h pair ≡ hedge_answer names x y h pair
-hedge_lines Plain plain names x y h pair = refl
-hedge_lines Certificate plain names x y h pair = absurd (plain refl)
-hedge_lines Latex plain names x y h pair = refl
+-- hedges that are shown alike and have one plain form have one text, in each way of writing
+hedges_same : (w : Writing) (names : List (List ℕ)) (x y : ℕ) (h k : Hedge) (pair other : CounterPair)
+    → hedge_answer names x y k other ≡ hedge_answer names x y h pair → hedge_view k ≡ hedge_view h
+    → hedge_text w names x y k other ≡ hedge_text w names x y h pair
+hedges_same Plain names x y h k pair other shown views = shown
+hedges_same Certificate names x y h k pair other shown views = ap (λ (v : PlainHedge). certificate_line names (plain.hedge (effect_on x y) v)) views
+hedges_same Latex names x y h k pair other shown views = shown
 
-joint_lines : (w : Writing) → (w ≡ Certificate → ⊥) → (names : List (List ℕ)) (t : PlainTarget) (x y : ℕ) (h : Hedge) (pair : CounterPair)
-    → joint_text w names t x y h pair ≡ joint_answer names t x y h pair
-joint_lines Plain plain names t x y h pair = refl
-joint_lines Certificate plain names t x y h pair = absurd (plain refl)
-joint_lines Latex plain names t x y h pair = refl
+joints_same : (w : Writing) (names : List (List ℕ)) (t : PlainTarget) (x y : ℕ) (h k : Hedge) (pair other : CounterPair)
+    → hedge_answer names x y k other ≡ hedge_answer names x y h pair → hedge_view k ≡ hedge_view h
+    → joint_text w names t x y k other ≡ joint_text w names t x y h pair
+joints_same Plain names t x y h k pair other shown views = joint_with names t x y h k pair other shown
+joints_same Certificate names t x y h k pair other shown views = ap (λ (v : PlainHedge). certificate_line names (plain.hedge (effect_on x y) v)) views
+joints_same Latex names t x y h k pair other shown views = joint_with names t x y h k pair other shown
 
-module _ (form : Form) (plain : form.writing ≡ Certificate → ⊥) (q : MixedGraph) (valid : IsMixedGraph q) (few : q.vertices ≤ 64) where
+module _ (form : Form) (q : MixedGraph) (valid : IsMixedGraph q) (few : q.vertices ≤ 64) where
   -- the hedge of an effect has one text
   hedge_once : (names : List (List ℕ)) (x y : ℕ) (text line : List ℕ) → ShowsHedge form q names x y text → ShowsHedge form q names x y line → line ≡ text
   hedge_once names x y text line a b =
-      b.prints ∙ hedge_lines form.writing plain names x y b.hedge b.pair
-      ∙ one_hedge_text q valid few x y names a.hedge b.hedge a.pair b.pair a.found b.found
-      ∙ sym (hedge_lines form.writing plain names x y a.hedge a.pair) ∙ sym a.prints
+      b.prints
+      ∙ hedges_same form.writing names x y a.hedge b.hedge a.pair b.pair
+      (one_hedge_text q valid few x y names a.hedge b.hedge a.pair b.pair a.found b.found)
+      (one_hedge_view q x y a.hedge b.hedge a.pair b.pair a.found b.found a.arrays b.arrays)
+      ∙ sym a.prints
 
   -- so has that of the joint effect into which a target turns
   joint_once : (names : List (List ℕ)) (t : PlainTarget) (text line : List ℕ) → ShowsJoint form q names t text → ShowsJoint form q names t line → line ≡ text
@@ -95,10 +102,12 @@ module _ (form : Form) (plain : form.writing ≡ Certificate → ⊥) (q : Mixed
       let ys : b.y ≡ a.y = b.joint.joint ∙ ap (union t.y) (sym turned.1) ∙ sym a.joint.joint in
       let found : IsFoundHedge q a.x a.y b.hedge b.pair =
       subst (λ (k : ℕ). IsFoundHedge q a.x k b.hedge b.pair) ys (subst (λ (k : ℕ). IsFoundHedge q k b.y b.hedge b.pair) xs b.found) in
-      b.prints ∙ joint_lines form.writing plain names t b.x b.y b.hedge b.pair
-      ∙ ap₂ (λ (x y : ℕ). joint_answer names t x y b.hedge b.pair) xs ys
-      ∙ joint_with names t a.x a.y a.hedge b.hedge a.pair b.pair (one_hedge_text q valid few a.x a.y names a.hedge b.hedge a.pair b.pair a.found found)
-      ∙ sym (joint_lines form.writing plain names t a.x a.y a.hedge a.pair) ∙ sym a.prints
+      b.prints
+      ∙ ap₂ (λ (x y : ℕ). joint_text form.writing names t x y b.hedge b.pair) xs ys
+      ∙ joints_same form.writing names t a.x a.y a.hedge b.hedge a.pair b.pair
+      (one_hedge_text q valid few a.x a.y names a.hedge b.hedge a.pair b.pair a.found found)
+      (one_hedge_view q a.x a.y a.hedge b.hedge a.pair b.pair a.found found a.arrays b.arrays)
+      ∙ sym a.prints
 
   pub effect_no_once : (l : EffectLists) (text line : List ℕ) → EffectAnswer form q l No text → EffectAnswer form q l No line → line ≡ text
   effect_no_once l text line a b = hedge_once l.observed a.x a.y text line a.answer

@@ -1,11 +1,12 @@
--- The answer of `identify`: whether the effect of x on y can be computed from observations, in the observed graph of the one that was read.
+-- The answer of `identify`: whether the effect of x on y can be computed from observations, in the observed graph of a diagram.
 use Rattle.std.specs.Prelude.{ℕ, ◌≡◌, List, Ok}
 use Rattle.mixed_graph.specs.Graphs.{MixedGraph}
-use Rattle.dag_reader.specs.declared.graph.ReadGraph.{ReadGraph}
+use Rattle.mixed_graph.specs.Shown.{graph_of}
 use Rattle.targets.specs.Targets.{EffectLists}
 use Rattle.replies.specs.declared.outcome.Outcome.{Outcome}
 use Rattle.replies.specs.declared.outcome.Outcome.TheVariants.{Yes, No, Graph}
-use Rattle.replies.specs.Observed.{Names, IsObservedGraph}
+use Rattle.diagram.specs.Sets.{Names, effect_lists}
+use Rattle.diagram.specs.declared.diagram.Diagram.{Diagram}
 use Rattle.prob_expr.specs.Tree.{PlainFormula, PlainTarget, effect_on}
 use Rattle.do_derivation.specs.Plans.{PlainDerivation}
 use Rattle.hedge.specs.declared.hedge.Hedge.{Hedge}
@@ -16,8 +17,8 @@ use Rattle.short_formulas.specs.Short.{IsOrShorter}
 use Rattle.answer_text.specs.declared.signs.Notation.TheVariants as notations
 use Rattle.identify_text.specs.Answers.{answer_in}
 use Rattle.identify_text.specs.PairLines.{hedge_answer}
-use Rattle.effect_answers.specs.Effects.{effect_lists, IsOfSets, IsEffectRefusal}
-use Rattle.effect_answers.specs.Hedges.{IsFoundHedge}
+use Rattle.effect_answers.specs.Effects.{IsOfSets, IsEffectRefusal}
+use Rattle.effect_answers.specs.Hedges.{IsFoundHedge, HasArrays}
 use Rattle.effect_answers.specs.Lines.{certificate_line}
 use Rattle.certificate.specs.Plain.{PlainCertificate, hedge_view}
 use Rattle.certificate.specs.Plain as plain
@@ -63,6 +64,7 @@ pub record ShowsHedge (form : Form) (q : MixedGraph) (names : List (List ℕ)) (
   pub hedge : Hedge
   pub pair : CounterPair
   pub found : IsFoundHedge q x y hedge pair
+  pub arrays : HasArrays hedge
   pub prints : text ≡ hedge_text form.writing names x y hedge pair
   pub reads_back : ReadsBack form.writing names (plain.hedge (effect_on x y) (hedge_view hedge))
 
@@ -72,7 +74,7 @@ SetsAnswer form q names x y Yes text = ShowsFormula form q names x y text
 SetsAnswer form q names x y No text = ShowsHedge form q names x y text
 SetsAnswer form q names x y o text = ⊥
 
--- ---- answers on a graph that was read
+-- ---- answers on a diagram
 
 -- the lists name two sets, for which the answer is given
 abbrev pub IsAnswerOfSets : Form → MixedGraph → EffectLists → Outcome → List ℕ → Type 0
@@ -85,6 +87,6 @@ EffectAnswer form q l No text = IsAnswerOfSets form q l No text
 EffectAnswer form q l Graph text = IsEffectRefusal l text
 EffectAnswer form q l o text = ⊥
 
--- the answer on a graph that was read, in its observed graph
-abbrev pub IdentifyAnswer : Form → ReadGraph → Names → Names → Outcome → List ℕ → Type 0
-IdentifyAnswer form g x y o text = (q : MixedGraph) × IsObservedGraph g q × EffectAnswer form q (effect_lists g x y) o text
+-- the answer on a diagram, in its observed graph: x and y are those that are listed, or else the exposures and the outcomes
+abbrev pub IdentifyAnswer : Form → Diagram → Names → Names → Outcome → List ℕ → Type 0
+IdentifyAnswer form d x y o text = EffectAnswer form (graph_of d.observed.graph) (effect_lists d.read d.observed.names x y) o text

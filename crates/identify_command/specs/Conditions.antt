@@ -1,15 +1,15 @@
--- The answer of `identify` where something is given: whether P(y | do(x), given) can be computed from observations, in the observed graph of the one
--- that was read.
+-- The answer of `identify` where something is given: whether P(y | do(x), given) can be computed from observations, in the observed graph of a diagram.
 use Rattle.std.specs.Prelude.{ℕ, ◌≡◌, ◌↔◌, Bool, IsTrue, List, [], ◌∷◌, Some, None}
 use Rattle.mixed_graph.specs.Graphs.{MixedGraph}
-use Rattle.dag_reader.specs.declared.graph.ReadGraph.{ReadGraph}
+use Rattle.mixed_graph.specs.Shown.{graph_of}
 use Rattle.targets.specs.declared.fault.TargetFault.{TargetFault}
 use Rattle.targets.specs.Targets.{Lists, AreListedSets, IsListFault}
 use Rattle.answer_text.specs.Lines.{line_of}
 use Rattle.targets.specs.FaultTexts.{target_fault_text}
 use Rattle.replies.specs.declared.outcome.Outcome.{Outcome}
 use Rattle.replies.specs.declared.outcome.Outcome.TheVariants.{Yes, No, Graph}
-use Rattle.replies.specs.Observed.{Names, IsObservedGraph, query_lists}
+use Rattle.diagram.specs.Sets.{Names, query_lists}
+use Rattle.diagram.specs.declared.diagram.Diagram.{Diagram}
 use Rattle.finite_models.specs.Data.{meaning}
 use Rattle.prob_expr.specs.Differences.{DifferOnTarget, HasNoFormula}
 use Rattle.prob_expr.specs.Tree.{PlainFormula, PlainTarget, effect_on}
@@ -23,7 +23,7 @@ use Rattle.conditional_id.specs.HedgeLaws.{IsFixed}
 use Rattle.conditional_id.specs.Answers.{IsJointEffect}
 use Rattle.short_formulas.specs.Short.{IsOrShorter}
 use Rattle.identify_text.specs.PairLines.{joint_answer}
-use Rattle.effect_answers.specs.Hedges.{IsFoundHedge}
+use Rattle.effect_answers.specs.Hedges.{IsFoundHedge, HasArrays}
 use Rattle.certificate.specs.Plain.{hedge_view}
 use Rattle.certificate.specs.Plain as plain
 use Rattle.identify_command.specs.declared.form.Form.{Form}
@@ -33,10 +33,6 @@ use Rattle.identify_command.specs.declared.form.Writing.TheVariants.{Plain, Cert
 use Rattle.identify_command.specs.Answers.{formula_text, ReadsBack, IdentifyAnswer}
 
 -- ---- lists
-
--- the lists of a target: x and y are those that are listed, or else the exposures and the outcomes
-abbrev pub target_lists : ReadGraph → (x y : Names) → (given : List (List ℕ)) → Lists
-target_lists g x y given = query_lists g x y given
 
 -- the sets of a target: no name is at fault, and y isn't empty
 abbrev pub AreTargetSets : Lists → PlainTarget → Type 0
@@ -85,6 +81,7 @@ pub record ShowsJoint (form : Form) (q : MixedGraph) (names : List (List ℕ)) (
   pub settled_is : IsTrue settled ↔ IsSettled q x joint.left
   pub differs : IsTrue settled → DifferOnTarget (meaning q pair.first) (meaning q pair.second) t
   pub found : IsFoundHedge q x y hedge pair
+  pub arrays : HasArrays hedge
   pub prints : text ≡ joint_text form.writing names t x y hedge pair
   pub reads_back : ReadsBack form.writing names (plain.hedge (effect_on x y) (hedge_view hedge))
 
@@ -94,7 +91,7 @@ TargetAnswer form q names t Yes text = ShowsConditional form q names t text
 TargetAnswer form q names t No text = ShowsJoint form q names t text
 TargetAnswer form q names t o text = ⊥
 
--- ---- answers on a graph that was read
+-- ---- answers on a diagram
 
 -- the lists name a target, for which the answer is given
 pub record IsAnswerOfTarget (form : Form) (q : MixedGraph) (l : Lists) (o : Outcome) (text : List ℕ) : Type 0 where
@@ -109,12 +106,12 @@ ListsAnswer form q l No text = IsAnswerOfTarget form q l No text
 ListsAnswer form q l Graph text = IsListRefusal l text
 ListsAnswer form q l o text = ⊥
 
--- the answer where names are given, in the observed graph
-abbrev pub ConditionalAnswer : Form → ReadGraph → (x y : Names) → (given : List (List ℕ)) → Outcome → List ℕ → Type 0
-ConditionalAnswer form g x y given o text = (q : MixedGraph) × IsObservedGraph g q × ListsAnswer form q (target_lists g x y given) o text
+-- the answer where names are given, in the observed graph: x and y are those that are listed, or else the exposures and the outcomes
+abbrev pub ConditionalAnswer : Form → Diagram → (x y : Names) → (given : List (List ℕ)) → Outcome → List ℕ → Type 0
+ConditionalAnswer form d x y given o text = ListsAnswer form (graph_of d.observed.graph) (query_lists d.read d.observed.names x y (Some given)) o text
 
--- the answer on a graph that was read: that for the effect of x on y where nothing is given
-abbrev pub IdentifyAnswerGiven : Form → ReadGraph → (x y given : Names) → Outcome → List ℕ → Type 0
-IdentifyAnswerGiven form g x y None o text = IdentifyAnswer form g x y o text
-IdentifyAnswerGiven form g x y (Some []) o text = IdentifyAnswer form g x y o text
-IdentifyAnswerGiven form g x y (Some (n ∷ ns)) o text = ConditionalAnswer form g x y (n ∷ ns) o text
+-- the answer on a diagram: that for the effect of x on y where nothing is given
+abbrev pub IdentifyAnswerGiven : Form → Diagram → (x y given : Names) → Outcome → List ℕ → Type 0
+IdentifyAnswerGiven form d x y None o text = IdentifyAnswer form d x y o text
+IdentifyAnswerGiven form d x y (Some []) o text = IdentifyAnswer form d x y o text
+IdentifyAnswerGiven form d x y (Some (n ∷ ns)) o text = ConditionalAnswer form d x y (n ∷ ns) o text

@@ -1,10 +1,10 @@
 -- That the form of an answer doesn't change its outcome.
 use Rattle.std.specs.Prelude.{ℕ, List}
-use Rattle.replies.specs.Observed.{Names}
+use Rattle.diagram.specs.Sets.{Names}
 use Rattle.replies.specs.OneOutcome.{OneOutcome, IsAnswerOn}
 use Rattle.identify_command.specs.declared.form.Form.{Form}
 use Rattle.identify_command.specs.Conditions.{IdentifyAnswerGiven}
 
 -- answers on the bytes of a file in any two forms, of which one may be short, have one outcome
 abbrev pub FormsAgree : Type 0
-FormsAgree = (bytes : List ℕ) (x y given : Names) → OneOutcome (IsAnswerOn bytes (λ g o text. (form : Form) × IdentifyAnswerGiven form g x y given o text))
+FormsAgree = (bytes : List ℕ) (x y given : Names) → OneOutcome (IsAnswerOn bytes (λ d o text. (form : Form) × IdentifyAnswerGiven form d x y given o text))

@@ -1,21 +1,25 @@
 //! The answer of `identify`.
 
-ghost use Rattle.std.specs.Prelude.{◌≡◌, ◌<◌, IfOk, length, option_map};
+ghost use Rattle.std.specs.Prelude.{◌≡◌, ◌<◌, IfOk};
 ghost use Rattle.mixed_graph.specs.Bits.{has};
 ghost use Rattle.mixed_graph.specs.Sets.{Within, Apart};
 ghost use Rattle.mixed_graph.specs.Shown.{graph_of};
-ghost use Rattle.command_words.specs.ListViews.{names_in};
 ghost use Rattle.identify_command.specs.Answers.{IdentifyAnswer, SetsAnswer};
 ghost use Rattle.identify_command.specs.Conditions.{IdentifyAnswerGiven};
+ghost use Rattle.identify_command.specs.Forms.{form_in};
+ghost use Rattle.identify_command.specs.Requests.{request_of};
 
 use crate::conditional::conditional_reply;
-use crate::form::Form;
+use crate::form::{Form, Writing};
+use crate::request::Request;
 use crate::texts::{formula_text, hedge_text, target_of};
+use answer_text::Notation;
 use dag_reader::ReadGraph;
-use effect_answers::{Asked, asked_effect};
-use identify::{Answer, identify};
-use latent_projection::Observed;
-use replies::{Outcome, Reply};
+use diagram::{Diagram, asked_effect};
+use effect_answers::has_arrays;
+use identify::{Answer, FormulaAnswer, identify, identify_formula};
+use identify_text::{answer_in, hedge_answer};
+use replies::{Outcome, Reply, refuse};
 use short_formulas::{Candidate, shortened_if};
 use std::alloc::{AllocError, Global};
 use targets::EffectSets;
@@ -27,42 +31,89 @@ use targets::EffectSets;
 /// A list that is missing is that of the exposures or of the outcomes, or empty for what is given.
 pub fn identify_reply(
     alloc: Global,
-    graph: &ReadGraph,
-    x: Option<Vec<Vec<u8>>>,
-    y: Option<Vec<Vec<u8>>>,
-    given: Option<Vec<Vec<u8>>>,
-    form: Form,
+    diagram: &Diagram,
+    asked: &Request<'_>,
 ) -> Result<Reply, AllocError>
-    ensures { IfOk result (λ r. IdentifyAnswerGiven form graph.now (option_map names_in x) (option_map names_in y) (option_map names_in given) r.outcome r.text.items) }
+    ensures { let q = request_of asked.now in IfOk result (λ r. IdentifyAnswerGiven q.form diagram.now q.x q.y q.given r.outcome r.text.items) }
 {
-    let Some(given) = given else {
-        return effect_reply(alloc, graph, x, y, form);
+    let Some(given) = asked.given.as_deref() else {
+        return effect_reply(alloc, diagram, asked);
     };
     if given.is_empty() {
-        return effect_reply(alloc, graph, x, y, form);
+        return effect_reply(alloc, diagram, asked);
     }
-    conditional_reply(alloc, graph, x, y, given.as_slice(), form)
+    conditional_reply(alloc, diagram, asked, given)
 }
 
 /// The answer where nothing is given.
-fn effect_reply(
-    alloc: Global,
-    graph: &ReadGraph,
-    x: Option<Vec<Vec<u8>>>,
-    y: Option<Vec<Vec<u8>>>,
-    form: Form,
-) -> Result<Reply, AllocError>
-    ensures { IfOk result (λ r. IdentifyAnswer form graph.now (option_map names_in x) (option_map names_in y) r.outcome r.text.items) }
+fn effect_reply(alloc: Global, diagram: &Diagram, asked: &Request<'_>) -> Result<Reply, AllocError>
+    ensures { let q = request_of asked.now in IfOk result (λ r. IdentifyAnswer q.form diagram.now q.x q.y r.outcome r.text.items) }
 {
-    match asked_effect(alloc, graph, x, y)? {
-        Asked::Effect(effect) => decide(alloc, &effect.seen, effect.sets, form),
-        Asked::Refused(reply) => Ok(reply),
+    let (x, y) = (asked.x.as_deref(), asked.y.as_deref());
+    match asked_effect(alloc, diagram, x, y) {
+        Ok(sets) => decide(alloc, &diagram.observed, sets, asked.form),
+        Err(fault) => refuse(alloc, &fault),
     }
 }
 
 /// The answer for sets of the observed graph.
-fn decide(alloc: Global, seen: &Observed, sets: EffectSets, form: Form) -> Result<Reply, AllocError>
-    requires named { length seen.now.names ≡ seen.now.graph.n }
+fn decide(
+    alloc: Global,
+    seen: &ReadGraph,
+    sets: EffectSets,
+    form: Form,
+) -> Result<Reply, AllocError>
+    requires x { Within seen.now.graph.n (has sets.x.bits) }
+    requires y { Within seen.now.graph.n (has sets.y.bits) }
+    requires apart { Apart (has sets.x.bits) (has sets.y.bits) }
+    requires some { 0 < sets.y.bits }
+    ensures { IfOk result (λ r. SetsAnswer form (graph_of seen.now.graph) seen.now.names sets.x.bits sets.y.bits r.outcome r.text.items) }
+{
+    if form.short {
+        return decide_derived(alloc, seen, sets, form);
+    }
+    match form.writing {
+        Writing::Plain => decide_alone(alloc, seen, sets, Notation::Plain),
+        Writing::Latex => decide_alone(alloc, seen, sets, Notation::Latex),
+        Writing::Certificate => decide_derived(alloc, seen, sets, form),
+    }
+}
+
+/// The answer where the procedure's formula is printed in a notation: its derivation isn't asked for.
+fn decide_alone(
+    alloc: Global,
+    seen: &ReadGraph,
+    sets: EffectSets,
+    notation: Notation,
+) -> Result<Reply, AllocError>
+    requires x { Within seen.now.graph.n (has sets.x.bits) }
+    requires y { Within seen.now.graph.n (has sets.y.bits) }
+    requires apart { Apart (has sets.x.bits) (has sets.y.bits) }
+    requires some { 0 < sets.y.bits }
+    ensures { IfOk result (λ r. SetsAnswer (form_in notation) (graph_of seen.now.graph) seen.now.names sets.x.bits sets.y.bits r.outcome r.text.items) }
+{
+    match identify_formula(alloc, &seen.graph, sets.x, sets.y)? {
+        FormulaAnswer::Formula(formula) => Ok(Reply {
+            outcome: Outcome::Yes,
+            text: answer_in(alloc, notation, &formula, &target_of(sets), &seen.names)?,
+        }),
+        FormulaAnswer::Hedge(hedge, pair) => {
+            has_arrays(&hedge);
+            Ok(Reply {
+                outcome: Outcome::No,
+                text: hedge_answer(alloc, sets.x, sets.y, &hedge, &pair, &seen.names)?,
+            })
+        }
+    }
+}
+
+/// The answer by a formula with its derivation, which a short formula and a certificate ask for.
+fn decide_derived(
+    alloc: Global,
+    seen: &ReadGraph,
+    sets: EffectSets,
+    form: Form,
+) -> Result<Reply, AllocError>
     requires x { Within seen.now.graph.n (has sets.x.bits) }
     requires y { Within seen.now.graph.n (has sets.y.bits) }
     requires apart { Apart (has sets.x.bits) (has sets.y.bits) }
@@ -90,7 +141,7 @@ fn decide(alloc: Global, seen: &Observed, sets: EffectSets, form: Form) -> Resul
             })
         }
         Answer::Hedge(hedge, pair) => {
-            hedge.has_entries();
+            has_arrays(&hedge);
             Ok(Reply {
                 outcome: Outcome::No,
                 text: hedge_text(alloc, &seen.names, sets, hedge, &pair, form.writing)?,

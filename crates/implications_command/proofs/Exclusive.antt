@@ -6,9 +6,10 @@ use Rattle.mixed_graph.specs.Bits.{has}
 use Rattle.mixed_graph.specs.Graphs.{MixedGraph}
 use Rattle.implications.specs.declared.pairs.Implication.{Implication}
 use Rattle.implications.specs.Separable.{IsSeparable}
-use Rattle.implications.specs.Implications.{IsImplication, AreImplications}
-use Rattle.dag_reader.specs.declared.graph.ReadGraph.{ReadGraph}
-use Rattle.dag_reader.specs.RoundTrip.{AreSame}
+use Rattle.implications.specs.Implications.{IsImplication}
+use Rattle.mixed_graph.specs.Shown.{graph_of}
+use Rattle.diagram.specs.declared.diagram.Diagram.{Diagram}
+use Rattle.diagram.proofs.OneDiagram.{AreSameDiagrams, same_drawing}
 use Rattle.command_words.specs.Form.{Text}
 use Rattle.count_rows.specs.Records.{Field}
 use Rattle.count_rows.specs.Rows.{Table}
@@ -16,10 +17,9 @@ use Rattle.count_answers.specs.Reads.{HoldsCounts, AreRefusedCounts, too_long, f
 use Rattle.replies.specs.declared.outcome.Outcome.{Outcome}
 use Rattle.replies.specs.declared.outcome.Outcome.TheVariants.{Yes, No, Graph, Second}
 use Rattle.replies.specs.OneOutcome.{OneOutcome, IsAnswerOn}
-use Rattle.replies.proofs.OneGraph.{one_reading, one_observed_graph, same_observed_names}
-use Rattle.replies.proofs.OneOutcome.{IsOneOf, one_of_three}
+use Rattle.replies.proofs.OneOutcome.{IsOneOf, one_of_three, one_for_diagrams}
 use Rattle.implications_command.specs.Answers.{ShowsNone, FirstAnswer, CountsAnswer, DifferencesAnswer}
-use Rattle.implications_command.specs.Pairs.{PlainPairs, ArePairsOf}
+use Rattle.implications_command.specs.Pairs.{PlainPairs, ArePairs, pairs_of, pairs_in}
 use Rattle.implications_command.specs.Used.{used_in}
 use Rattle.implications_command.proofs.OneList.{one_used}
 
@@ -36,56 +36,52 @@ some_pair q (i ∷ is) some each none =
       separating = imp.given.separating;
     })
 
-none_or_pairs : (g h : ReadGraph) → AreSame g h → (text : List ℕ) (p : PlainPairs) → ShowsNone g text → ArePairsOf h p → ⊥
-none_or_pairs g h s text p a b = some_pair p.graph p.list b.pairs.some b.pairs.implications.each
-    (subst (λ (q : MixedGraph). (u v : ℕ) → IsSeparable q u v → ⊥) (one_observed_graph g h s a.graph p.graph a.observed b.graph) a.none)
+none_or_pairs : (q : MixedGraph) (names : List (List ℕ)) (list : List Implication) (text : List ℕ) → ShowsNone q text → ArePairs (pairs_of q names list) → ⊥
+none_or_pairs q names list text a b = some_pair q list b.some b.implications.each a.none
 
--- where the file alone is answered, there is no pair
-pub first_alone : (g h : ReadGraph) → AreSame g h → (counts : Text) (o : Outcome) (text : List ℕ) (p : PlainPairs) → FirstAnswer (Some counts) g o text
-    → ArePairsOf h p → ⊥
-first_alone g h s counts No text p a b = none_or_pairs g h s text p a b
-first_alone g h s counts o text p a b = a
+-- where the diagram alone is answered, there is no pair
+pub first_alone : (d e : Diagram) → AreSameDiagrams d e → (counts : Text) (o : Outcome) (text : List ℕ) (list : List Implication)
+    → FirstAnswer (Some counts) (graph_of d.observed.graph) d.observed.names o text → ArePairs (pairs_in e.observed list) → ⊥
+first_alone d e s counts No text list a b = none_or_pairs (graph_of e.observed.graph) e.observed.names list text
+    (subst (λ (q : MixedGraph). ShowsNone q text) (same_drawing d e s) a) b
+first_alone d e s counts o text list a b = a
 
-first_among : (counts : Option Text) (g : ReadGraph) (o : Outcome) (text : List ℕ) → FirstAnswer counts g o text → IsOneOf No Yes Graph o
-first_among None g No text h = inl refl
-first_among None g Yes text h = inr (inl refl)
-first_among None g o text h = absurd h
-first_among (Some counts) g No text h = inl refl
-first_among (Some counts) g o text h = absurd h
+first_among : (counts : Option Text) (q : MixedGraph) (names : List (List ℕ)) (o : Outcome) (text : List ℕ) → FirstAnswer counts q names o text
+    → IsOneOf No Yes Graph o
+first_among None q names No text h = inl refl
+first_among None q names Yes text h = inr (inl refl)
+first_among None q names o text h = absurd h
+first_among (Some counts) q names No text h = inl refl
+first_among (Some counts) q names o text h = absurd h
 
-none_or_listed : (counts : Option Text) (g h : ReadGraph) → AreSame g h → (text line : List ℕ) → FirstAnswer counts g No text → FirstAnswer counts h Yes line
-    → ⊥
-none_or_listed None g h s text line a b = none_or_pairs g h s text b.pairs a b.are
-none_or_listed (Some counts) g h s text line a b = b
+none_or_listed : (counts : Option Text) (q : MixedGraph) (names : List (List ℕ)) (text line : List ℕ) → FirstAnswer counts q names No text
+    → FirstAnswer counts q names Yes line → ⊥
+none_or_listed None q names text line a b = none_or_pairs q names b.list text a b.are
+none_or_listed (Some counts) q names text line a b = b
 
-never_refused : (counts : Option Text) (g : ReadGraph) (line : List ℕ) → FirstAnswer counts g Graph line → ⊥
-never_refused None g line h = h
-never_refused (Some counts) g line h = h
+never_refused : (counts : Option Text) (q : MixedGraph) (names : List (List ℕ)) (line : List ℕ) → FirstAnswer counts q names Graph line → ⊥
+never_refused None q names line h = h
+never_refused (Some counts) q names line h = h
 
-pub first_once : (bytes : List ℕ) (counts : Option Text) → OneOutcome (IsAnswerOn bytes (λ g. FirstAnswer counts g))
-first_once bytes counts = one_of_three No Yes Graph (IsAnswerOn bytes (λ g. FirstAnswer counts g)) (λ o text h. first_among counts h.graph o text h.given)
-    (λ text line a b. none_or_listed counts a.graph b.graph (one_reading bytes a.graph b.graph a.holds b.holds) text line a.given b.given)
-    (λ text line a b. never_refused counts b.graph line b.given) (λ text line a b. never_refused counts b.graph line b.given)
+alone_once : (counts : Option Text) (q : MixedGraph) (names : List (List ℕ)) → OneOutcome (FirstAnswer counts q names)
+alone_once counts q names = one_of_three No Yes Graph (FirstAnswer counts q names) (first_among counts q names) (none_or_listed counts q names)
+    (λ text line a b. never_refused counts q names line b) (λ text line a b. never_refused counts q names line b)
+
+-- diagrams that are the same have the same observed names
+same_names : (d e : Diagram) → AreSameDiagrams d e → e.observed.names ≡ d.observed.names
+same_names d e s = s.observed.names
+
+pub first_once : (bytes : List ℕ) (counts : Option Text)
+    → OneOutcome (IsAnswerOn bytes (λ d. FirstAnswer counts (graph_of d.observed.graph) d.observed.names))
+first_once bytes counts = one_for_diagrams bytes (λ d. d.observed.names) (λ q names. FirstAnswer counts q names) same_names
+    (λ d. alone_once counts (graph_of d.observed.graph) d.observed.names)
 
 -- ---- over the bytes of counts
 
-module _ (g h : ReadGraph) (s : AreSame g h) (p r : PlainPairs) (a : ArePairsOf g p) (b : ArePairsOf h r) (count : Option Field) (bytes : List ℕ) where
-  read_or_refused : (t : Table) (line : List ℕ) → HoldsCounts p.names (used_in p.list) count bytes t
-      → AreRefusedCounts p.names (used_in p.list) count bytes line → ⊥
-  read_or_refused t line x (too_long long is) = absurd (let small = x.small in omega (arith, small, long))
-  read_or_refused t line x (faulty fault short ne at is) = none-some fault (sym x.fits ∙ at)
-
-  same_names : r.names ≡ p.names
-  same_names = b.names ∙ same_observed_names g h s ∙ sym a.names
-
-  same_used : used_in r.list ≡ used_in p.list
-  same_used = one_used p.graph p.list r.list a.pairs.implications
-      (subst (λ (q : MixedGraph). AreImplications q r.list) (sym (one_observed_graph g h s p.graph r.graph a.graph b.graph)) b.pairs.implications)
-
-  yes_or_second : (text line : List ℕ) → CountsAnswer p count bytes Yes text → CountsAnswer r count bytes Second line → ⊥
-  yes_or_second text line x y = read_or_refused x.0 line x.1
-      (subst (λ (ns : List (List ℕ)). AreRefusedCounts ns (used_in p.list) count bytes line) same_names
-      (subst (λ (u : ℕ). AreRefusedCounts r.names u count bytes line) same_used y))
+read_or_refused : (names : List (List ℕ)) (used : ℕ) (count : Option Field) (bytes : List ℕ) (t : Table) (line : List ℕ)
+    → HoldsCounts names used count bytes t → AreRefusedCounts names used count bytes line → ⊥
+read_or_refused names used count bytes t line x (too_long long is) = absurd (let small = x.small in omega (arith, small, long))
+read_or_refused names used count bytes t line x (faulty fault short ne at is) = none-some fault (sym x.fits ∙ at)
 
 counts_among : (p : PlainPairs) (count : Option Field) (bytes : List ℕ) (o : Outcome) (text : List ℕ) → CountsAnswer p count bytes o text
     → IsOneOf Yes Second No o
@@ -93,9 +89,18 @@ counts_among p count bytes Yes text h = inl refl
 counts_among p count bytes Second text h = inr (inl refl)
 counts_among p count bytes o text h = absurd h
 
-pub implications_once : (bytes other : List ℕ) (count : Option Field) → OneOutcome (IsAnswerOn bytes (λ g. DifferencesAnswer g count other))
-implications_once bytes other count = one_of_three Yes Second No (IsAnswerOn bytes (λ g. DifferencesAnswer g count other))
-    (λ o text h. counts_among h.given.0 count other o text h.given.2)
-    (λ text line a b. yes_or_second a.graph b.graph (one_reading bytes a.graph b.graph a.holds b.holds)
-    a.given.0 b.given.0 a.given.1 b.given.1 count other text line a.given.2 b.given.2)
-    (λ text line a b. b.given.2) (λ text line a b. b.given.2)
+module _ (q : MixedGraph) (names : List (List ℕ)) (count : Option Field) (bytes : List ℕ) where
+  yes_or_second : (text line : List ℕ) → DifferencesAnswer q names count bytes Yes text → DifferencesAnswer q names count bytes Second line → ⊥
+  yes_or_second text line a b =
+      let same : used_in b.0 ≡ used_in a.0 = one_used q a.0 b.0 a.1.implications b.1.implications in
+      read_or_refused names (used_in a.0) count bytes a.2.0 line a.2.1
+      (subst (λ (used : ℕ). AreRefusedCounts names used count bytes line) same b.2)
+
+  over_once : OneOutcome (DifferencesAnswer q names count bytes)
+  over_once = one_of_three Yes Second No (DifferencesAnswer q names count bytes)
+      (λ o text h. counts_among (pairs_of q names h.0) count bytes o text h.2) yes_or_second (λ text line a b. b.2) (λ text line a b. b.2)
+
+pub implications_once : (bytes other : List ℕ) (count : Option Field)
+    → OneOutcome (IsAnswerOn bytes (λ d. DifferencesAnswer (graph_of d.observed.graph) d.observed.names count other))
+implications_once bytes other count = one_for_diagrams bytes (λ d. d.observed.names) (λ q names. DifferencesAnswer q names count other) same_names
+    (λ d. over_once (graph_of d.observed.graph) d.observed.names count other)

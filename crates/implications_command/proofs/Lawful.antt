@@ -2,11 +2,13 @@
 use Rattle.std.proofs.Common.{◌≡◌, List, Option, Some, sym, ◌∙◌, subst}
 use Rattle.std.proofs.lemmas.Option.{same_Some}
 use Rattle.command_words.specs.Form.{Text, Use}
-use Rattle.dag_reader.specs.declared.graph.ReadGraph.{ReadGraph}
+use Rattle.mixed_graph.specs.Shown.{graph_of}
+use Rattle.diagram.specs.declared.diagram.Diagram.{Diagram}
+use Rattle.implications.specs.declared.pairs.Implication.{Implication}
 use Rattle.replies.specs.Command.{IsLeft}
 use Rattle.replies.proofs.Commands.{IsLawful, lawful_on_two_inputs}
 use Rattle.implications_command.specs.Answers.{FirstAnswer}
-use Rattle.implications_command.specs.Pairs.{PlainPairs, ArePairsOf}
+use Rattle.implications_command.specs.Pairs.{ArePairs, pairs_in}
 use Rattle.implications_command.specs.Requests.{Request, IsRequest}
 use Rattle.implications_command.specs.Command.{implications_command, implications_left}
 use Rattle.implications_command.proofs.Outcomes.{first_answered, counts_answered}
@@ -23,12 +25,13 @@ one_request uses q r a b = λ i. record {
 -- what holds of each command holds of it
 pub implications_lawful : IsLawful implications_command
 implications_lawful = lawful_on_two_inputs one_request
-    (λ q g. first_answered q.counts g)
-    (λ q g other o text a. counts_answered a.0 q.count other o text a.2)
+    (λ q d. first_answered q.counts (graph_of d.observed.graph) d.observed.names)
+    (λ q d other o text a. counts_answered (pairs_in d.observed a.0) q.count other o text a.2)
     (λ q bytes. first_once bytes q.counts)
     (λ q bytes other. implications_once bytes other q.count)
-    (λ q name g h same names o text a n. first_alone g h same name o text n.0 (subst (λ (c : Option Text). FirstAnswer c g o text) names a) n.1)
+    (λ q name d e same names o text a n. first_alone d e same name o text n.0
+    (subst (λ (c : Option Text). FirstAnswer c (graph_of d.observed.graph) d.observed.names o text) names a) n.1)
 
-pub implications_is_left : (q : Request) (g : ReadGraph) (p : PlainPairs) (counts : Text) → q.counts ≡ Some counts → ArePairsOf g p
-    → IsLeft implications_command q g (implications_left p counts q.count)
-implications_is_left q g p counts names is = record { named = names; continues = (p, is); known = is.pairs; answers = λ other o text a. (p, is, a) }
+pub implications_is_left : (q : Request) (d : Diagram) (list : List Implication) (counts : Text) → q.counts ≡ Some counts
+    → ArePairs (pairs_in d.observed list) → IsLeft implications_command q d (implications_left d list counts q.count)
+implications_is_left q d list counts names is = record { named = names; continues = (list, is); known = is; answers = λ other o text a. (list, is, a) }

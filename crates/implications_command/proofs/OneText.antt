@@ -11,8 +11,6 @@ use Rattle.mixed_graph.specs.Bits.{has}
 use Rattle.mixed_graph.specs.Graphs.{MixedGraph}
 use Rattle.mixed_graph.specs.Names.{name_of}
 use Rattle.answer_text.specs.Printing.{printed}
-use Rattle.dag_reader.specs.declared.graph.ReadGraph.{ReadGraph}
-use Rattle.dag_reader.specs.RoundTrip.{AreSame}
 use Rattle.command_words.specs.Form.{Text}
 use Rattle.count_rows.specs.Records.{Field}
 use Rattle.count_rows.specs.Rows.{Table}
@@ -25,37 +23,30 @@ use Rattle.count_answers.specs.Lines.{with_commas, assignments}
 use Rattle.count_answers.specs.Reads.{HoldsCounts, AreRefusedCounts}
 use Rattle.count_answers.proofs.OneReading.{AreAlike, one_table, one_refusal}
 use Rattle.implications.specs.declared.pairs.Implication.{Implication}
-use Rattle.implications.specs.Implications.{AreImplications}
 use Rattle.implied_differences.specs.declared.largest.Difference.{Difference}
 use Rattle.implied_differences.specs.Differences.{IsLargest, axes_in, whole_of, first_of_pair, second_of_pair, distance, difference}
 use Rattle.replies.specs.declared.outcome.Outcome.{Outcome}
 use Rattle.replies.specs.declared.outcome.Outcome.TheVariants.{Yes, No, Second}
-use Rattle.replies.proofs.OneGraph.{one_observed_graph, same_observed_names}
-use Rattle.implications_command.specs.Answers.{FirstAnswer, CountsAnswer, DifferencesAnswer}
+use Rattle.implications_command.specs.Answers.{ShowsPairs, FirstAnswer, CountsAnswer, DifferencesAnswer}
 use Rattle.implications_command.specs.Lines.{pair_line, pair_lines, vertices_of, value_text, difference_line, Measured, measured_lines}
-use Rattle.implications_command.specs.Pairs.{PlainPairs, ArePairsOf}
+use Rattle.implications_command.specs.Pairs.{ArePairs, pairs_of}
 use Rattle.implications_command.specs.Used.{used_in}
 use Rattle.implications_command.proofs.SameList.{one_list}
 
 -- ---- pairs
 
-module _ (g h : ReadGraph) (s : AreSame g h) (p r : PlainPairs) (a : ArePairsOf g p) (b : ArePairsOf h r) where
-  pub names_same : r.names ≡ p.names
-  names_same = b.names ∙ same_observed_names g h s ∙ sym a.names
+-- the pairs of a graph have one text, and so has there being none
+pairs_text : (q : MixedGraph) (names : List (List ℕ)) (text line : List ℕ) → ShowsPairs q names text → ShowsPairs q names line → line ≡ text
+pairs_text q names text line a b =
+    b.prints ∙ ap (pair_lines names) (one_list q a.list b.list a.are.implications b.are.implications) ∙ sym a.prints
 
-  pub list_same : r.list ≡ p.list
-  list_same = one_list p.graph p.list r.list a.pairs.implications
-      (subst (λ (q : MixedGraph). AreImplications q r.list) (sym (one_observed_graph g h s p.graph r.graph a.graph b.graph)) b.pairs.implications)
-
--- graphs that are the same have one text of their pairs, or of there being none
-pub first_text : (counts : Option Text) (o : Outcome) (g h : ReadGraph) → AreSame g h → (text line : List ℕ) → FirstAnswer counts g o text
-    → FirstAnswer counts h o line → line ≡ text
-first_text None Yes g h s text line a b =
-    b.prints ∙ ap₂ pair_lines (names_same g h s a.pairs b.pairs a.are b.are) (list_same g h s a.pairs b.pairs a.are b.are) ∙ sym a.prints
-first_text None No g h s text line a b = b.prints ∙ sym a.prints
-first_text None o g h s text line a b = absurd a
-first_text (Some counts) No g h s text line a b = b.prints ∙ sym a.prints
-first_text (Some counts) o g h s text line a b = absurd a
+pub first_text : (counts : Option Text) (o : Outcome) (q : MixedGraph) (names : List (List ℕ)) (text line : List ℕ) → FirstAnswer counts q names o text
+    → FirstAnswer counts q names o line → line ≡ text
+first_text None Yes q names text line a b = pairs_text q names text line a b
+first_text None No q names text line a b = b.prints ∙ sym a.prints
+first_text None o q names text line a b = absurd a
+first_text (Some counts) No q names text line a b = b.prints ∙ sym a.prints
+first_text (Some counts) o q names text line a b = absurd a
 
 -- ---- differences
 
@@ -164,24 +155,28 @@ measured_text names t u same (m ∷ ms) (n ∷ ns) e a b =
     (measured_text names t u same ms ns (ap tail_of e) (All-tail (λ (k : Measured). IsLargest t k.pair k.difference) m ms a)
     (All-tail (λ (k : Measured). IsLargest u k.pair k.difference) n ns b))
 
-module _ (g h : ReadGraph) (s : AreSame g h) (p r : PlainPairs) (a : ArePairsOf g p) (b : ArePairsOf h r) (count : Option Field) (bytes : List ℕ) where
-  -- what holds of the names and the vertices of the one holds of those of the other
-  of_pairs : (P : List (List ℕ) → ℕ → Type 0) → P r.names (used_in r.list) → P p.names (used_in p.list)
-  of_pairs P x = subst (λ (l : List Implication). P p.names (used_in l)) (list_same g h s p r a b)
-      (subst (λ (names : List (List ℕ)). P names (used_in r.list)) (names_same g h s p r a b) x)
+module _ (q : MixedGraph) (names : List (List ℕ)) (list others : List Implication) (a : ArePairs (pairs_of q names list))
+    (b : ArePairs (pairs_of q names others)) (count : Option Field) (bytes : List ℕ) where
+  list_same : others ≡ list
+  list_same = one_list q list others a.implications b.implications
 
-  counts_text : (o : Outcome) (text line : List ℕ) → CountsAnswer p count bytes o text → CountsAnswer r count bytes o line → line ≡ text
+  -- what holds of the vertices of the one list holds of those of the other
+  of_list : (P : ℕ → Type 0) → P (used_in others) → P (used_in list)
+  of_list P x = subst (λ (l : List Implication). P (used_in l)) list_same x
+
+  counts_text : (o : Outcome) (text line : List ℕ) → CountsAnswer (pairs_of q names list) count bytes o text
+      → CountsAnswer (pairs_of q names others) count bytes o line → line ≡ text
   counts_text Yes text line x y =
-      let read = of_pairs (λ names used. HoldsCounts names used count bytes y.0) y.1 in
-      let alike = one_table bytes p.names (used_in p.list) count x.0 y.0 x.1.reads read.reads in
-      y.2.prints ∙ ap (λ (names : List (List ℕ)). flat_map (measured_lines names y.0) y.2.measured) (names_same g h s p r a b)
-      ∙ measured_text p.names x.0 y.0 alike x.2.measured y.2.measured (y.2.pairs ∙ list_same g h s p r a b ∙ sym x.2.pairs) x.2.largest y.2.largest
+      let read = of_list (λ used. HoldsCounts names used count bytes y.0) y.1 in
+      let alike = one_table bytes names (used_in list) count x.0 y.0 x.1.reads read.reads in
+      y.2.prints
+      ∙ measured_text names x.0 y.0 alike x.2.measured y.2.measured (y.2.pairs ∙ list_same ∙ sym x.2.pairs) x.2.largest y.2.largest
       ∙ sym x.2.prints
-  counts_text Second text line x y = one_refusal p.names (used_in p.list) count bytes text line x
-      (of_pairs (λ names used. AreRefusedCounts names used count bytes line) y)
+  counts_text Second text line x y = one_refusal names (used_in list) count bytes text line x
+      (of_list (λ used. AreRefusedCounts names used count bytes line) y)
   counts_text o text line x y = absurd x
 
 -- the answer over counts has one text, whatever its outcome
-pub differences_text : (count : Option Field) (bytes : List ℕ) (o : Outcome) (g h : ReadGraph) → AreSame g h → (text line : List ℕ)
-    → DifferencesAnswer g count bytes o text → DifferencesAnswer h count bytes o line → line ≡ text
-differences_text count bytes o g h s text line a b = counts_text g h s a.0 b.0 a.1 b.1 count bytes o text line a.2 b.2
+pub differences_text : (count : Option Field) (bytes : List ℕ) (o : Outcome) (q : MixedGraph) (names : List (List ℕ)) (text line : List ℕ)
+    → DifferencesAnswer q names count bytes o text → DifferencesAnswer q names count bytes o line → line ≡ text
+differences_text count bytes o q names text line a b = counts_text q names a.0 b.0 a.1 b.1 count bytes o text line a.2 b.2

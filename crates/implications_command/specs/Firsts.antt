@@ -1,11 +1,12 @@
 -- What is known before counts are read.
+use Rattle.mixed_graph.specs.Shown.{graph_of}
 use Rattle.dag_reader.specs.declared.graph.ReadGraph.{ReadGraph}
 use Rattle.implications_command.specs.Answers.{NoPairs}
-use Rattle.implications_command.specs.Pairs.{ArePairsOf, pairs_view}
+use Rattle.implications_command.specs.Pairs.{ArePairs, pairs_in}
 use Rattle.implications_command.specs.declared.listing.PairsOrReply.{PairsOrReply}
 use Rattle.implications_command.specs.declared.listing.PairsOrReply.TheVariants as first
 
--- the answer that there is no pair, or the pairs
+-- the answer that there is no pair in the observed graph, or its pairs
 abbrev pub IsPairsOrReply : ReadGraph → PairsOrReply → Type 0
-IsPairsOrReply g (first.Replied reply) = NoPairs g reply.outcome reply.text.items
-IsPairsOrReply g (first.Pairs p) = ArePairsOf g (pairs_view p)
+IsPairsOrReply seen (first.Replied reply) = NoPairs (graph_of seen.graph) reply.outcome reply.text.items
+IsPairsOrReply seen (first.Pairs list) = ArePairs (pairs_in seen list.items)

@@ -2,16 +2,17 @@
 
 ghost use Rattle.std.specs.Prelude.{◌≡◌, IfOk, OnOk};
 ghost use Rattle.mixed_graph.specs.Bits.{has, members_below};
+ghost use Rattle.mixed_graph.specs.Shown.{graph_of};
 ghost use Rattle.implications.specs.Implications.{IsImplication};
 ghost use Rattle.implied_differences.specs.Differences.{IsReadable};
-ghost use Rattle.implications_command.specs.Pairs.{ArePairs, pairs_view};
+ghost use Rattle.implications_command.specs.Pairs.{ArePairs, pairs_in};
 ghost use Rattle.implications_command.specs.Used.{used_in};
 ghost use Rattle.implications_command.specs.Answers.{ShowsDifferences};
 ghost use Rattle.implications_command.specs.Printing.{Appends};
 
 use crate::lines::{push_difference, push_pair};
-use crate::pairs::Pairs;
 use count_table::Counts;
+use dag_reader::ReadGraph;
 use implications::Implication;
 use implied_differences::largest_difference;
 use std::alloc::{AllocError, Global};
@@ -20,36 +21,36 @@ use std::alloc::{AllocError, Global};
 fn push_measured(
     alloc: Global,
     out: &mut Vec<u8>,
-    pairs: &Pairs,
+    seen: &ReadGraph,
     counts: &Counts,
     i: &Implication,
 ) -> Result<(), AllocError>
-    requires pairs { ArePairs (pairs_view pairs.now) }
-    requires implication { IsImplication (pairs_view pairs.now).graph i.now }
+    requires implication { IsImplication (graph_of seen.now.graph) i.now }
     requires readable { IsReadable counts.now i.now }
-    ensures { OnOk result (Appends (pairs_view pairs.now) counts.now i.now out.old.items out.new.items) }
+    ensures { OnOk result (Appends seen.now.names (graph_of seen.now.graph) counts.now i.now out.old.items out.new.items) }
 {
-    push_pair(out, &pairs.seen.names, i)?;
+    push_pair(out, &seen.names, i)?;
     let difference = largest_difference(alloc, counts, i)?;
-    push_difference(alloc, out, &pairs.seen.names, counts, i, difference)?;
+    push_difference(alloc, out, &seen.names, counts, i, difference)?;
     Ok(())
 }
 
 /// The line of each pair, followed by that of the largest difference of the counts.
 pub fn difference_lines(
     alloc: Global,
-    pairs: &Pairs,
+    seen: &ReadGraph,
+    list: &[Implication],
     counts: &Counts,
 ) -> Result<Vec<u8>, AllocError>
-    requires pairs { ArePairs (pairs_view pairs.now) }
-    requires used { counts.now.vertices ≡ members_below (has (used_in (pairs_view pairs.now).list)) 64 }
-    ensures { IfOk result (λ v. ShowsDifferences (pairs_view pairs.now) counts.now v.items) }
+    requires pairs { ArePairs (pairs_in seen.now list.now) }
+    requires used { counts.now.vertices ≡ members_below (has (used_in list.now)) 64 }
+    ensures { IfOk result (λ v. ShowsDifferences (pairs_in seen.now list.now) counts.now v.items) }
 {
     // The clause `table` of `used` is needed: each used vertex has a level, so each pair can be asked about.
     let _used = counts.used();
     let mut text = Vec::new(alloc);
-    for i in &pairs.list {
-        push_measured(alloc, &mut text, pairs, counts, i)?;
+    for i in list {
+        push_measured(alloc, &mut text, seen, counts, i)?;
     }
     Ok(text)
 }

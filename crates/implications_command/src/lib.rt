@@ -1,18 +1,16 @@
 //! The command `implications`: the pairs of observed vertices that some set separates, and how far counts are from each.
 //!
-//! `pairs_reply(alloc, &graph)` lists the pairs. With counts `counted_pairs(alloc, &graph)` finds them, and `differences_reply`
+//! `pairs_reply(alloc, &diagram)` lists the pairs. With counts `counted_pairs(alloc, &diagram)` finds them, and `differences_reply`
 //! adds the largest difference of the counts to each.
 #![tactic(auto)]
 
 mod differences;
 mod lines;
 mod listing;
-mod pairs;
 mod reply;
 mod request;
 mod used;
 
 pub use listing::{PairsOrReply, counted_pairs, pairs_reply};
-pub use pairs::Pairs;
 pub use reply::{differences_reply, long_counts};
 pub use request::{ROW, Request};

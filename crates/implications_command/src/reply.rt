@@ -3,31 +3,49 @@
 ghost use Rattle.std.specs.Prelude.{ℕ, ◌≡◌, ◌<◌, ◌≤◌, List, Option, IfOk, length, option_map};
 ghost use Rattle.mixed_graph.specs.Bits.{has, members_below};
 ghost use Rattle.count_rows.specs.Records.{Field};
-ghost use Rattle.implications_command.specs.Pairs.{PlainPairs, ArePairs, pairs_view};
+ghost use Rattle.implications_command.specs.Pairs.{PlainPairs, ArePairs, pairs_in};
 ghost use Rattle.implications_command.specs.Used.{used_in};
 ghost use Rattle.implications_command.specs.Answers.{CountsAnswer, ShowsDifferences};
 
 use crate::differences::difference_lines;
-use crate::pairs::Pairs;
 use crate::used::used_in;
 use count_rows::CountFault;
 use count_table::{Counts, read_counts};
+use dag_reader::ReadGraph;
+use diagram::Diagram;
+use implications::Implication;
 use replies::{Outcome, Reply};
 use std::alloc::{AllocError, Global};
 
 /// The pairs, each with the largest difference of counts in CSV; refused counts are answered with their line. The only error is want of memory.
 pub fn differences_reply(
     alloc: Global,
-    pairs: &Pairs,
+    diagram: &Diagram,
+    list: &Vec<Implication>,
     count: Option<&[u8]>,
     bytes: &[u8],
 ) -> Result<Reply, AllocError>
-    requires pairs { ArePairs (pairs_view pairs.now) }
+    requires pairs { ArePairs (pairs_in diagram.now.observed list.now.items) }
     requires small { length bytes.now ≤ 67108864 }
-    ensures { IfOk result (λ r. CountsAnswer (pairs_view pairs.now) (option_map (λ s. s.now) count.entry) bytes.now r.outcome r.text.items) }
+    ensures { IfOk result (λ r. CountsAnswer (pairs_in diagram.now.observed list.now.items) (option_map (λ s. s.now) count.entry) bytes.now r.outcome r.text.items) }
 {
-    match read_counts(alloc, bytes, &pairs.seen.names, used_in(&pairs.list), count) {
-        Ok(counts) => table_reply(alloc, pairs, &counts),
+    counts_reply(alloc, &diagram.observed, list.as_slice(), count, bytes)
+}
+
+/// The same in an observed graph, with the pairs of a slice.
+fn counts_reply(
+    alloc: Global,
+    seen: &ReadGraph,
+    list: &[Implication],
+    count: Option<&[u8]>,
+    bytes: &[u8],
+) -> Result<Reply, AllocError>
+    requires pairs { ArePairs (pairs_in seen.now list.now) }
+    requires small { length bytes.now ≤ 67108864 }
+    ensures { IfOk result (λ r. CountsAnswer (pairs_in seen.now list.now) (option_map (λ s. s.now) count.entry) bytes.now r.outcome r.text.items) }
+{
+    match read_counts(alloc, bytes, &seen.names, used_in(list), count) {
+        Ok(counts) => table_reply(alloc, seen, list, &counts),
         Err(fault) => Ok(Reply {
             outcome: Outcome::Second,
             text: fault.line(alloc)?,
@@ -46,14 +64,19 @@ pub fn long_counts(alloc: Global) -> Result<Reply, AllocError>
 }
 
 /// The answer over a table of counts.
-fn table_reply(alloc: Global, pairs: &Pairs, counts: &Counts) -> Result<Reply, AllocError>
-    requires pairs { ArePairs (pairs_view pairs.now) }
-    requires used { counts.now.vertices ≡ members_below (has (used_in (pairs_view pairs.now).list)) 64 }
+fn table_reply(
+    alloc: Global,
+    seen: &ReadGraph,
+    list: &[Implication],
+    counts: &Counts,
+) -> Result<Reply, AllocError>
+    requires pairs { ArePairs (pairs_in seen.now list.now) }
+    requires used { counts.now.vertices ≡ members_below (has (used_in list.now)) 64 }
     ensures outcome { IfOk result (λ r. r.outcome ≡ Outcome.Yes) }
-    ensures lines { IfOk result (λ r. ShowsDifferences (pairs_view pairs.now) counts.now r.text.items) }
+    ensures lines { IfOk result (λ r. ShowsDifferences (pairs_in seen.now list.now) counts.now r.text.items) }
 {
     Ok(Reply {
         outcome: Outcome::Yes,
-        text: difference_lines(alloc, pairs, counts)?,
+        text: difference_lines(alloc, seen, list, counts)?,
     })
 }

@@ -1,5 +1,5 @@
 -- A name that is found at a place is the name of that vertex.
-use Rattle.std.proofs.Common.{◌≡◌, ◌<◌, ℕ, true, false, List, [], length, get_or, Some, sym, ◌∙◌, arith}
+use Rattle.std.proofs.Common.{◌≡◌, ◌<◌, ℕ, true, false, List, [], length, get_or, Some, sym, subst, ◌∙◌, arith}
 use Rattle.std.specs.Prelude.{slice_get}
 use Rattle.std.specs.Str.{bytes_eq}
 use Rattle.std.proofs.lemmas.Bool.{false_from_ne_true}
@@ -10,27 +10,30 @@ use Rattle.std.proofs.lemmas.Option.{get_or_from_slice_get}
 use Rattle.std.proofs.lemmas.Slice.Eq.{bytes_eq-Decides}
 use Rattle.mixed_graph.specs.Names.{IsName, AreNames, is_named, index_of}
 
--- the name at a place, and the place of that name
+-- the name at a place is there, and this is its place
+pub name_here : (names : List (List ℕ)) (name : List ℕ) (i : ℕ) → AreNames names → i < length names → bytes_eq name (get_or names i []) ≡ true
+    → (is_named names name ≡ true) × (i ≡ index_of names name)
+name_here names name i are below same = (
+  list_any_at (bytes_eq name) names i [] below same,
+  sym (position_or_len_is (bytes_eq name) names i [] (omega arith)
+      (λ k less. false_from_ne_true (bytes_eq name (get_or names k []))
+      (λ t. are.distinct k i [] less below
+      (sym ((bytes_eq-Decides name (get_or names k [])).0 t) ∙ (bytes_eq-Decides name (get_or names i [])).0 same)))
+      (λ _. same)),
+)
+
+-- and has the form of a name
+pub formed_here : (names : List (List ℕ)) (name : List ℕ) (i : ℕ) → AreNames names → i < length names → bytes_eq name (get_or names i []) ≡ true → IsName name
+formed_here names name i are below same =
+    subst IsName (sym ((bytes_eq-Decides name (get_or names i [])).0 same)) (All-get_or IsName names i [] below are.formed)
+
+-- the same where the name that stands there was got
 pub name_at : (names : List (List ℕ)) (name at : List ℕ) (i : ℕ) → AreNames names → i < length names → slice_get names i ≡ Some at → bytes_eq at name ≡ true
     → (is_named names name ≡ true) × (i ≡ index_of names name)
 name_at names name at i are below here same =
     let found : get_or names i [] ≡ at = get_or_from_slice_get names i at [] here in
     let equal : at ≡ name = (bytes_eq-Decides at name).0 same in
-    let passes : bytes_eq name (get_or names i []) ≡ true = (bytes_eq-Decides name (get_or names i [])).1 (sym (found ∙ equal)) in (
-      list_any_at (bytes_eq name) names i [] below passes,
-      sym (position_or_len_is (bytes_eq name) names i [] (omega arith)
-          (λ k less. false_from_ne_true (bytes_eq name (get_or names k []))
-          (λ t. are.distinct k i [] less below (sym ((bytes_eq-Decides name (get_or names k [])).0 t) ∙ sym (found ∙ equal))))
-          (λ _. passes)),
-    )
-
--- another name stands at this place
-pub other_at : (names : List (List ℕ)) (name at : List ℕ) (i : ℕ) → slice_get names i ≡ Some at → bytes_eq at name ≡ false
-    → bytes_eq name (get_or names i []) ≡ false
-other_at names name at i here differs =
-    let found : get_or names i [] ≡ at = get_or_from_slice_get names i at [] here in
-    false_from_ne_true (bytes_eq name (get_or names i [])) (λ t.
-    let e : bytes_eq at name ≡ true = (bytes_eq-Decides at name).1 (sym found ∙ sym ((bytes_eq-Decides name (get_or names i [])).0 t)) in cc)
+    name_here names name i are below ((bytes_eq-Decides name (get_or names i [])).1 (sym (found ∙ equal)))
 
 -- a name that stands at no place isn't there
 pub nowhere : (names : List (List ℕ)) (name : List ℕ) → ((i : ℕ) → i < length names → bytes_eq name (get_or names i []) ≡ false) → is_named names name ≡ false

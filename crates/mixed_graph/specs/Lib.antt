@@ -10,3 +10,4 @@ pub mod Reached
 pub mod Sets
 pub mod Shown
 pub mod NameBlocks
+pub mod NameKeys

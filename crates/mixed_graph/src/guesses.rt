@@ -1,6 +1,6 @@
 //! Where names were found last.
 
-/// Where names were found last: a vertex for each sum of bytes.
+/// Where names were found last: a vertex for each of 256 places.
 ///
 /// A vertex that stands here is a guess, which the names themselves confirm.
 #[derive(Clone, Copy)]
@@ -9,20 +9,30 @@ pub struct NameGuesses {
 }
 
 impl NameGuesses {
-    /// The first vertex for each sum.
+    /// The first vertex at each place.
     pub fn new() -> NameGuesses {
         NameGuesses { vertices: [0; 256] }
     }
 
     /// The next guess for a name.
     #[inline(always)]
-    pub fn guess(&self, name: &[u8]) -> u8 {
-        self.vertices[byte_sum(name) as usize]
+    pub fn guess(&self, name: &[u8], key: u64) -> u8 {
+        self.vertices[place(name, key) as usize]
     }
 
     /// Keeps the index of a name as the next guess.
-    pub fn keep(&mut self, name: &[u8], v: u8) {
-        self.vertices[byte_sum(name) as usize] = v;
+    pub fn keep(&mut self, name: &[u8], key: u64, v: u8) {
+        self.vertices[place(name, key) as usize] = v;
+    }
+}
+
+/// A number that tells most names apart: of the key, where the name has one.
+#[inline(always)]
+fn place(name: &[u8], key: u64) -> u8 {
+    if key == 0 {
+        byte_sum(name)
+    } else {
+        (key.wrapping_mul(11400714819323198485) >> 56) as u8
     }
 }
 

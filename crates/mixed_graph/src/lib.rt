@@ -7,6 +7,7 @@ mod cycles;
 mod guesses;
 mod lists;
 mod mixed;
+mod name_keys;
 mod names;
 mod pairs;
 mod rows;

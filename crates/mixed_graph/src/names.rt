@@ -2,11 +2,13 @@
 
 ghost use Rattle.std.specs.Prelude.{◌≡◌, ◌<◌, ◌≤◌, ◌+◌, ◌↔◌, List, ℕ, [], ◌∷◌, ◌++◌, is_some, true, false, length, IfOk, IfSome, IfNone, OnOk, OnSome, OnErr, IsErrOf, IsTrue, slice_get, slice_index_or};
 ghost use Rattle.std.specs.List.{list_all};
-ghost use Rattle.std.specs.Str.{IsUtf8};
+ghost use Rattle.std.specs.Str.{IsUtf8, bytes_eq};
 ghost use Rattle.mixed_graph.specs.Names.{IsName, AreNames, is_named, with_name, index_of, is_line_byte};
 ghost use Rattle.mixed_graph.specs.NameBlocks.{start_of, cut, IsBlock};
+ghost use Rattle.mixed_graph.specs.NameKeys.{AreBytes, AreKeys, key_of};
 
 use crate::guesses::NameGuesses;
+use crate::name_keys::key_of;
 use std::alloc::{AllocError, Global};
 use std::marker::Model;
 
@@ -28,6 +30,7 @@ pub enum AddFault {
 pub struct Names {
     bytes: Vec<u8>,
     ends: [u32; 64],
+    keys: [u64; 64],
     count: u32,
     guesses: NameGuesses,
 }
@@ -36,12 +39,13 @@ impl Model for Names {
     ghost use Rattle.std.specs.Prelude.{List, ℕ};
     ghost use Rattle.mixed_graph.specs.Names.{AreNames};
     ghost use Rattle.mixed_graph.specs.NameBlocks.{cut, IsBlock};
+    ghost use Rattle.mixed_graph.specs.NameKeys.{AreKeys};
 
     ghost Value = { List (List ℕ) };
 
     ghost view = { λ s. cut s.bytes.items s.ends s.count };
 
-    ghost invariant = { λ s. AreNames (cut s.bytes.items s.ends s.count) × IsBlock s.bytes.items s.ends s.count };
+    ghost invariant = { λ s. AreNames (cut s.bytes.items s.ends s.count) × IsBlock s.bytes.items s.ends s.count × AreKeys s.keys (cut s.bytes.items s.ends s.count) };
 }
 
 impl Names {
@@ -52,6 +56,7 @@ impl Names {
         Names {
             bytes: Vec::new(alloc),
             ends: [0; 64],
+            keys: [0; 64],
             count: 0,
             guesses: NameGuesses::new(),
         }
@@ -65,6 +70,7 @@ impl Names {
         Ok(Names {
             bytes,
             ends: self.ends,
+            keys: self.keys,
             count: self.count,
             guesses: self.guesses,
         })
@@ -92,15 +98,18 @@ impl Names {
         ensures err { OnErr result (self.new ≡ self.old) }
         ensures names { AreNames self.new }
     {
-        if let Some(index) = self.guessed(name) {
+        let key = key_of(name);
+        if let Some(index) = self.guessed(name, key) {
             return Ok(index);
         }
-        self.add_unguessed(name)
+        self.add_unguessed(name, key)
     }
 
     /// The same without a guess.
     #[inline(never)]
-    fn add_unguessed(&mut self, name: &[u8]) -> Result<u8, AddFault>
+    fn add_unguessed(&mut self, name: &[u8], key: u64) -> Result<u8, AddFault>
+        requires key { key ≡ key_of name.now }
+        requires bytes { (key ≡ 0 → ⊥) → AreBytes name.now }
         ensures added { OnOk result (self.new ≡ with_name self.old name.now) }
         ensures index { IfOk result (λ i. i ≡ index_of self.old name.now) }
         ensures within { IfOk result (λ i. i < length self.new) }
@@ -114,8 +123,8 @@ impl Names {
         if !is_name(name) {
             return Err(AddFault::NotAName);
         }
-        if let Some(index) = self.look_up(name) {
-            self.guesses.keep(name, index);
+        if let Some(index) = self.look_up(name, key) {
+            self.guesses.keep(name, key, index);
             return Ok(index);
         }
         if count >= 64 {
@@ -124,8 +133,9 @@ impl Names {
         let Ok(()) = append(&mut self.bytes, &mut self.ends, count, name) else {
             return Err(AddFault::NoMemory);
         };
+        self.keys[count as usize] = key;
         self.count = count + 1;
-        self.guesses.keep(name, count as u8);
+        self.guesses.keep(name, key, count as u8);
         Ok(count as u8)
     }
 
@@ -135,22 +145,25 @@ impl Names {
         ensures has { is_some result ≡ is_named self.now name.now }
         ensures names { AreNames self.now }
     {
-        match self.guessed(name) {
+        let key = key_of(name);
+        match self.guessed(name, key) {
             Some(index) => Some(index),
-            None => self.look_up(name),
+            None => self.look_up(name, key),
         }
     }
 
     /// The index of a name, where the guess is right.
     #[inline(always)]
-    fn guessed(&self, name: &[u8]) -> Option<u8>
+    fn guessed(&self, name: &[u8], key: u64) -> Option<u8>
+        requires key { key ≡ key_of name.now }
+        requires bytes { (key ≡ 0 → ⊥) → AreBytes name.now }
         ensures found { IfSome result (λ i. (i ≡ index_of self.now name.now) × (i < length self.now)) }
         ensures has { OnSome result (is_named self.now name.now ≡ true) }
         ensures formed { OnSome result (IsName name.now) }
         ensures names { AreNames self.now }
     {
-        let guess = self.guesses.guess(name);
-        if (guess as u32) < self.count && self.get(guess) == name {
+        let guess = self.guesses.guess(name, key);
+        if (guess as u32) < self.count && self.is_at(guess, name, key) {
             Some(guess)
         } else {
             None
@@ -159,17 +172,34 @@ impl Names {
 
     /// The same by all names.
     #[inline(never)]
-    fn look_up(&self, name: &[u8]) -> Option<u8>
+    fn look_up(&self, name: &[u8], key: u64) -> Option<u8>
+        requires key { key ≡ key_of name.now }
+        requires bytes { (key ≡ 0 → ⊥) → AreBytes name.now }
         ensures found { IfSome result (λ i. (i ≡ index_of self.now name.now) × (i < length self.now)) }
         ensures has { is_some result ≡ is_named self.now name.now }
         ensures names { AreNames self.now }
     {
         for v in 0..self.count {
-            if self.get(v as u8) == name {
+            if self.is_at(v as u8, name, key) {
                 return Some(v as u8);
             }
         }
         None
+    }
+
+    /// Whether vertex v has the name of this key: by its key where it has one, else by its bytes.
+    #[inline(always)]
+    fn is_at(&self, v: u8, name: &[u8], key: u64) -> bool
+        requires below { v < length self.now }
+        requires key { key ≡ key_of name.now }
+        requires bytes { (key ≡ 0 → ⊥) → AreBytes name.now }
+        ensures { result ≡ bytes_eq name.now (slice_index_or self.now v []) }
+    {
+        if key == 0 {
+            self.get(v) == name
+        } else {
+            self.keys[v as usize] == key
+        }
     }
 
     /// The name of vertex v.

@@ -6,6 +6,7 @@ use crate::formulas::shown;
 use case_rows::{Members, graph, names, vertex};
 use do_derivation::{Lemma, Step, apply};
 use hedge::joined_sets::district_of;
+use identify::Wanted;
 use identify::factors::{Factor, FactorFault, factor};
 use mixed_graph::{Graph, Names, VSet};
 use prob_expr::{Expr, Formula, are_term_sets, is_same};
@@ -72,7 +73,7 @@ fn factor_of(alloc: Global, graph: &Graph, v: u8) -> Option<Result<Factor, Facto
     }
     let district = district_of(graph, alone, v);
     let order = graph.order();
-    Some(factor(alloc, graph, &order, district, 0))
+    Some(factor(alloc, Wanted::Derivation, graph, &order, district, 0))
 }
 
 /// Whether a factor's steps make its value, and this with its definitions.

@@ -1,12 +1,12 @@
 -- Outcomes that exclude each other make one outcome.
 use Rattle.std.proofs.Common.{◌≡◌, ◌⊎◌, ℕ, List, inl, inr, sym, subst, ◌∙◌}
 use Rattle.mixed_graph.specs.Graphs.{MixedGraph}
-use Rattle.dag_reader.specs.declared.graph.ReadGraph.{ReadGraph}
-use Rattle.dag_reader.specs.RoundTrip.{AreSame}
+use Rattle.mixed_graph.specs.Shown.{graph_of}
+use Rattle.diagram.specs.declared.diagram.Diagram.{Diagram}
+use Rattle.diagram.proofs.OneDiagram.{AreSameDiagrams, same_drawing}
 use Rattle.replies.specs.declared.outcome.Outcome.{Outcome}
-use Rattle.replies.specs.Observed.{IsObservedGraph}
 use Rattle.replies.specs.OneOutcome.{OneOutcome, IsAnswerOn}
-use Rattle.replies.proofs.OneGraph.{one_reading, one_observed_graph}
+use Rattle.replies.proofs.OneGraph.{one_holding}
 
 -- two outcomes of an answer can't both be
 abbrev pub Exclude : (Outcome → List ℕ → Type 0) → Outcome → Outcome → Type 0
@@ -38,22 +38,24 @@ one_of_three a b c answer among ab ac bc o p text line x y = go (among o text x)
     go (inr (inr e)) (inr (inl f)) = absurd (bc line text (of_p b f) (of_o c e))
     go (inr (inr e)) (inr (inr f)) = e ∙ sym f
 
--- an answer that has one outcome on graphs that are the same has one on the graph that the bytes hold
-pub one_on_graph : (bytes : List ℕ) (answer : ReadGraph → Outcome → List ℕ → Type 0)
-    → ((g h : ReadGraph) → AreSame g h → (o p : Outcome) (text line : List ℕ) → answer g o text → answer h p line → o ≡ p)
+-- ---- answers on diagrams
+
+-- an answer that has one outcome on diagrams that are the same has one on the diagram that the bytes hold
+pub one_on_diagram : (bytes : List ℕ) (answer : Diagram → Outcome → List ℕ → Type 0)
+    → ((d e : Diagram) → AreSameDiagrams d e → (o p : Outcome) (text line : List ℕ) → answer d o text → answer e p line → o ≡ p)
     → OneOutcome (IsAnswerOn bytes answer)
-one_on_graph bytes answer once o p text line a b = once a.graph b.graph (one_reading bytes a.graph b.graph a.holds b.holds) o p text line a.given b.given
+one_on_diagram bytes answer once o p text line a b = once a.diagram b.diagram
+    (one_holding bytes a.diagram b.diagram a.holds b.holds) o p text line a.given b.given
 
 -- the same of an answer for lists in the observed graph
-pub one_for_lists : {L : Type 0} (bytes : List ℕ) (lists : ReadGraph → L) (answer : MixedGraph → L → Outcome → List ℕ → Type 0)
-    → ((g h : ReadGraph) → AreSame g h → lists h ≡ lists g)
-    → ((g : ReadGraph) (q : MixedGraph) → IsObservedGraph g q → OneOutcome (answer q (lists g)))
-    → OneOutcome (IsAnswerOn bytes (λ g o text. (q : MixedGraph) × IsObservedGraph g q × answer q (lists g) o text))
-one_for_lists {L} bytes lists answer same once = one_on_graph bytes (λ g o text. (q : MixedGraph) × IsObservedGraph g q × answer q (lists g) o text) go
+pub one_for_diagrams : {L : Type 0} (bytes : List ℕ) (lists : Diagram → L) (answer : MixedGraph → L → Outcome → List ℕ → Type 0)
+    → ((d e : Diagram) → AreSameDiagrams d e → lists e ≡ lists d)
+    → ((d : Diagram) → OneOutcome (answer (graph_of d.observed.graph) (lists d)))
+    → OneOutcome (IsAnswerOn bytes (λ d. answer (graph_of d.observed.graph) (lists d)))
+one_for_diagrams {L} bytes lists answer same once = one_on_diagram bytes (λ d. answer (graph_of d.observed.graph) (lists d)) go
   where
-    go : (g h : ReadGraph) → AreSame g h → (o p : Outcome) (text line : List ℕ) → ((q : MixedGraph) × IsObservedGraph g q × answer q (lists g) o text)
-        → ((q : MixedGraph) × IsObservedGraph h q × answer q (lists h) p line) → o ≡ p
-    go g h s o p text line a b =
-        let e : b.0 ≡ a.0 = sym (one_observed_graph g h s a.0 b.0 a.1 b.1) in
-        once g a.0 a.1 o p text line a.2
-        (subst (λ (l : L). answer a.0 l p line) (same g h s) (subst (λ (q : MixedGraph). answer q (lists h) p line) e b.2))
+    go : (d e : Diagram) → AreSameDiagrams d e → (o p : Outcome) (text line : List ℕ) → answer (graph_of d.observed.graph) (lists d) o text
+        → answer (graph_of e.observed.graph) (lists e) p line → o ≡ p
+    go d e s o p text line a b = once d o p text line a
+        (subst (λ (l : L). answer (graph_of d.observed.graph) l p line) (same d e s)
+        (subst (λ (q : MixedGraph). answer q (lists e) p line) (sym (same_drawing d e s)) b))

@@ -1,11 +1,10 @@
--- The observed part of a graph that was read, and refused names.
-use Rattle.std.specs.Prelude.{ℕ, ◌≡◌, ◌≤◌, ◌⊎◌, List, length, Option, Ok}
-use Rattle.mixed_graph.specs.Bits.{has}
-use Rattle.mixed_graph.specs.Graphs.{MixedGraph}
-use Rattle.mixed_graph.specs.Shown.{graph_of}
+-- The graph that bytes hold, and refused names.
+use Rattle.std.specs.Prelude.{ℕ, ◌≡◌, ◌≤◌, ◌⊎◌, List, length, Ok}
 use Rattle.dag_reader.specs.declared.graph.ReadGraph.{ReadGraph}
 use Rattle.dag_reader.specs.Reads.{Reads}
-use Rattle.latent_projection.specs.Renumbering.{IsObserved, observed_below, names_at}
+use Rattle.diagram.specs.declared.diagram.Diagram.{Diagram}
+use Rattle.diagram.specs.Observed.{observed_names}
+use Rattle.diagram.specs.Sets.{Names}
 use Rattle.targets.specs.declared.fault.TargetFault.{TargetFault}
 use Rattle.targets.specs.Targets.{listed, Lists, AreSets, IsTargetFault}
 use Rattle.answer_text.specs.Lines.{line_of}
@@ -13,22 +12,14 @@ use Rattle.targets.specs.FaultTexts.{target_fault_text}
 use Rattle.replies.specs.declared.outcome.Outcome.{Outcome}
 use Rattle.replies.specs.declared.outcome.Outcome.TheVariants.{Graph}
 
--- the names of a list, where an option gives one
-abbrev pub Names : Type 0
-Names = Option (List (List ℕ))
-
--- the names of the observed vertices, in their order
-abbrev pub observed_names : ReadGraph → List (List ℕ)
-observed_names g = names_at (observed_below (has g.latent.bits) g.graph.n) g.names
-
--- q is the observed graph of g
-abbrev pub IsObservedGraph : ReadGraph → MixedGraph → Type 0
-IsObservedGraph g q = IsObserved (graph_of g.graph) (has g.latent.bits) q
-
 -- the bytes are the text of this graph, and at most 1,048,576
 pub record HoldsGraph (bytes : List ℕ) (g : ReadGraph) : Type 0 where
   pub small : length bytes ≤ 1048576
   pub reads : Reads bytes (Ok g)
+
+-- the bytes are the text of this diagram's graph
+abbrev pub HoldsDiagram : List ℕ → Diagram → Type 0
+HoldsDiagram bytes d = HoldsGraph bytes d.read
 
 -- a name is at fault, or a set is empty: the line says so
 pub record IsTargetRefusal (l : Lists) (line : List ℕ) : Type 0 where

@@ -17,4 +17,4 @@ one_request uses q r a b = λ i. record {
 
 -- what holds of each command holds of it
 pub graph_lawful : IsLawful graph_command
-graph_lawful = lawful_on_file one_request (λ q g. graph_answered q.project g) (λ q bytes. graph_once bytes q.project)
+graph_lawful = lawful_on_file one_request (λ q d. graph_answered q.project d) (λ q bytes. graph_once bytes q.project)

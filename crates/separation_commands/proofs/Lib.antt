@@ -1,12 +1,12 @@
-mod Texts
 pub mod GraphOutcomes
 pub mod GraphExclusive
 pub mod GraphLawful
 mod SeparateSets
-mod Refused
+mod SeparateListed
 pub mod SeparateOutcomes
 pub mod SeparateExclusive
 pub mod SeparateLawful
+mod RuleListed
 mod RuleSets
 mod Equations
 pub mod RuleOutcomes

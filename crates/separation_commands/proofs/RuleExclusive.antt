@@ -6,15 +6,16 @@ use Rattle.mixed_graph.specs.Graphs.{MixedGraph}
 use Rattle.m_separation.specs.Paths.{steps_from, IsOpenPath}
 use Rattle.do_rules.specs.declared.rules.Rule.{Rule}
 use Rattle.do_rules.proofs.RuleGraphs.{one_graph}
-use Rattle.dag_reader.specs.declared.graph.ReadGraph.{ReadGraph}
-use Rattle.dag_reader.specs.RoundTrip.{AreSame}
+use Rattle.mixed_graph.specs.Shown.{graph_of}
+use Rattle.diagram.specs.Sets.{rule_lists}
+use Rattle.diagram.proofs.OneDiagram.{same_rule_lists}
 use Rattle.targets.specs.Targets.{RuleLists, AreRuleSets}
 use Rattle.replies.specs.declared.outcome.Outcome.{Outcome}
 use Rattle.replies.specs.declared.outcome.Outcome.TheVariants.{Yes, No, Graph}
 use Rattle.replies.specs.OneOutcome.{OneOutcome, IsAnswerOn}
-use Rattle.replies.proofs.OneOutcome.{IsOneOf, one_of_three, one_for_lists}
+use Rattle.replies.proofs.OneOutcome.{IsOneOf, one_of_three, one_for_diagrams}
 use Rattle.replies.proofs.OneTarget.{one_set, no_fault_of}
-use Rattle.separation_commands.specs.RuleAnswers.{ShowsEquation, ShowsOpenPath, IsRuleRefusal, ListsAnswer, rule_lists, RuleAnswer}
+use Rattle.separation_commands.specs.RuleAnswers.{ShowsEquation, ShowsOpenPath, IsRuleRefusal, ListsAnswer, RuleAnswer}
 
 module _ (rule : Rule) (q : MixedGraph) where
   -- a rule has one cut graph, and an open path is an open walk
@@ -53,9 +54,6 @@ module _ (rule : Rule) (q : MixedGraph) where
   lists_once l = one_of_three Yes No Graph (ListsAnswer rule q l) (among l) (yes_no l)
       (λ text line a r. refused l line a.y a.x a.z a.given a.sets r) (λ text line a r. refused l line a.y a.x a.z a.given a.sets r)
 
-same_lists : (y x z given : List (List ℕ)) (g h : ReadGraph) → AreSame g h → rule_lists h y x z given ≡ rule_lists g y x z given
-same_lists y x z given g h s = rw (s.names, s.vertices, s.latent) refl
-
-pub rule_once : (bytes : List ℕ) (rule : Rule) (y x z given : List (List ℕ)) → OneOutcome (IsAnswerOn bytes (λ g. RuleAnswer rule g y x z given))
-rule_once bytes rule y x z given = one_for_lists bytes (λ g. rule_lists g y x z given) (λ q l. ListsAnswer rule q l) (same_lists y x z given)
-    (λ g q is. lists_once rule q (rule_lists g y x z given))
+pub rule_once : (bytes : List ℕ) (rule : Rule) (y x z given : List (List ℕ)) → OneOutcome (IsAnswerOn bytes (λ d. RuleAnswer rule d y x z given))
+rule_once bytes rule y x z given = one_for_diagrams bytes (λ d. rule_lists d.read d.observed.names y x z given) (λ q l. ListsAnswer rule q l)
+    (same_rule_lists y x z given) (λ d. lists_once rule (graph_of d.observed.graph) (rule_lists d.read d.observed.names y x z given))

@@ -32,4 +32,4 @@ one_request uses q r a b = λ i. record {
 
 -- what holds of each command holds of it
 pub rule_lawful : IsLawful rule_command
-rule_lawful = lawful_on_file one_request (λ q g. rule_answered q.rule g q.y q.x q.z q.given) (λ q bytes. rule_once bytes q.rule q.y q.x q.z q.given)
+rule_lawful = lawful_on_file one_request (λ q d. rule_answered q.rule d q.y q.x q.z q.given) (λ q bytes. rule_once bytes q.rule q.y q.x q.z q.given)

@@ -1,18 +1,18 @@
 -- A separation, an open path and a refused list exclude each other.
-use Rattle.std.proofs.Common.{◌≡◌, ◌-◌, ℕ, List, inl, inr, refl}
+use Rattle.std.proofs.Common.{◌-◌, ℕ, List, inl, inr, refl}
 use Rattle.std.specs.Prelude.{slice_index}
 use Rattle.mixed_graph.specs.Graphs.{MixedGraph}
 use Rattle.m_separation.specs.Paths.{steps_from}
-use Rattle.dag_reader.specs.declared.graph.ReadGraph.{ReadGraph}
-use Rattle.dag_reader.specs.RoundTrip.{AreSame}
 use Rattle.targets.specs.Targets.{Lists}
 use Rattle.replies.specs.declared.outcome.Outcome.{Outcome}
 use Rattle.replies.specs.declared.outcome.Outcome.TheVariants.{Yes, No, Graph}
-use Rattle.replies.specs.Observed.{Names}
+use Rattle.mixed_graph.specs.Shown.{graph_of}
+use Rattle.diagram.specs.Sets.{Names, query_lists}
+use Rattle.diagram.proofs.OneDiagram.{same_query_lists}
 use Rattle.replies.specs.OneOutcome.{OneOutcome, IsAnswerOn}
-use Rattle.replies.proofs.OneOutcome.{IsOneOf, one_of_three, one_for_lists}
+use Rattle.replies.proofs.OneOutcome.{IsOneOf, one_of_three, one_for_diagrams}
 use Rattle.replies.proofs.OneTarget.{sets_refused, same_three}
-use Rattle.separation_commands.specs.SeparateAnswers.{ShowsSeparation, ShowsOpenPath, IsAnswerOfSets, ListsAnswer, separation_lists, SeparateAnswer}
+use Rattle.separation_commands.specs.SeparateAnswers.{ShowsSeparation, ShowsOpenPath, IsAnswerOfSets, ListsAnswer, SeparateAnswer}
 
 -- an open path is an open walk
 apart_or_open : (q : MixedGraph) (names : List (List ℕ)) (x y w : ℕ) (text line : List ℕ) → ShowsSeparation q names x y w text
@@ -33,9 +33,6 @@ lists_once : (q : MixedGraph) (l : Lists) → OneOutcome (ListsAnswer q l)
 lists_once q l = one_of_three Yes No Graph (ListsAnswer q l) (among q l) (yes_no q l)
     (λ text line a r. sets_refused l a.x a.y a.w line a.sets r) (λ text line a r. sets_refused l a.x a.y a.w line a.sets r)
 
-same_lists : (x y given : Names) (g h : ReadGraph) → AreSame g h → separation_lists h x y given ≡ separation_lists g x y given
-same_lists x y given g h s = rw (s.names, s.vertices, s.latent, s.exposures, s.outcomes, s.adjusted) refl
-
-pub separate_once : (bytes : List ℕ) (x y given : Names) → OneOutcome (IsAnswerOn bytes (λ g. SeparateAnswer g x y given))
-separate_once bytes x y given = one_for_lists bytes (λ g. separation_lists g x y given) (λ q l. ListsAnswer q l) (same_lists x y given)
-    (λ g q is. lists_once q (separation_lists g x y given))
+pub separate_once : (bytes : List ℕ) (x y given : Names) → OneOutcome (IsAnswerOn bytes (λ d. SeparateAnswer d x y given))
+separate_once bytes x y given = one_for_diagrams bytes (λ d. query_lists d.read d.observed.names x y given) (λ q l. ListsAnswer q l)
+    (same_query_lists x y given) (λ d. lists_once (graph_of d.observed.graph) (query_lists d.read d.observed.names x y given))

@@ -21,4 +21,4 @@ one_request uses q r a b = λ i. record {
 
 -- what holds of each command holds of it
 pub separate_lawful : IsLawful separate_command
-separate_lawful = lawful_on_file one_request (λ q g. separate_answered g q.x q.y q.given) (λ q bytes. separate_once bytes q.x q.y q.given)
+separate_lawful = lawful_on_file one_request (λ q d. separate_answered d q.x q.y q.given) (λ q bytes. separate_once bytes q.x q.y q.given)

@@ -5,7 +5,8 @@ use Rattle.mixed_graph.specs.Graphs.{MixedGraph}
 use Rattle.m_separation.specs.declared.paths.OpenPath.{OpenPath}
 use Rattle.do_rules.specs.declared.rules.Rule.{Rule}
 use Rattle.do_rules.specs.Rules.{IsBlockedFor, IsRuleFor, IsOpenFor, DifferSomewhere, left_of, right_of}
-use Rattle.dag_reader.specs.declared.graph.ReadGraph.{ReadGraph}
+use Rattle.mixed_graph.specs.Shown.{graph_of}
+use Rattle.diagram.specs.declared.diagram.Diagram.{Diagram}
 use Rattle.targets.specs.declared.fault.TargetFault.{TargetFault}
 use Rattle.targets.specs.Targets.{RuleLists, AreRuleSets, IsRuleFault}
 use Rattle.answer_text.specs.Lines.{line_of}
@@ -13,7 +14,7 @@ use Rattle.targets.specs.FaultTexts.{target_fault_text}
 use Rattle.replies.specs.declared.outcome.Outcome.{Outcome}
 use Rattle.replies.specs.declared.outcome.Outcome.TheVariants.{Yes, No, Graph}
 use Rattle.replies.specs.Lines.{open_text}
-use Rattle.replies.specs.Observed.{observed_names, IsObservedGraph}
+use Rattle.diagram.specs.Sets.{rule_lists}
 use Rattle.separation_commands.specs.RuleLines.{rule_holds_text, rule_fails_text}
 
 -- ---- answers for sets of the observed graph q
@@ -37,11 +38,7 @@ SetsAnswer r q names y x z given Yes text = ShowsEquation r q names y x z given 
 SetsAnswer r q names y x z given No text = ShowsOpenPath r q names y x z given text
 SetsAnswer r q names y x z given o text = ⊥
 
--- ---- answers on a graph that was read
-
--- the lists of a rule
-abbrev pub rule_lists : ReadGraph → (y x z given : List (List ℕ)) → RuleLists
-rule_lists g y x z given = record { all = g.names; observed = observed_names g; y = y; x = x; z = z; given = given }
+-- ---- answers on a diagram
 
 -- the lists name these sets, for which the answer is given
 pub record IsAnswerOfSets (r : Rule) (q : MixedGraph) (l : RuleLists) (o : Outcome) (text : List ℕ) : Type 0 where
@@ -65,6 +62,6 @@ ListsAnswer r q l No text = IsAnswerOfSets r q l No text
 ListsAnswer r q l Graph text = IsRuleRefusal l text
 ListsAnswer r q l o text = ⊥
 
--- the answer on a graph that was read, in its observed graph
-abbrev pub RuleAnswer : Rule → ReadGraph → (y x z given : List (List ℕ)) → Outcome → List ℕ → Type 0
-RuleAnswer r g y x z given o text = (q : MixedGraph) × IsObservedGraph g q × ListsAnswer r q (rule_lists g y x z given) o text
+-- the answer on a diagram, in its observed graph
+abbrev pub RuleAnswer : Rule → Diagram → (y x z given : List (List ℕ)) → Outcome → List ℕ → Type 0
+RuleAnswer r d y x z given o text = ListsAnswer r (graph_of d.observed.graph) (rule_lists d.read d.observed.names y x z given) o text

@@ -6,12 +6,14 @@ use Rattle.m_separation.specs.declared.marks.Mark.{Mark}
 use Rattle.m_separation.specs.Walks.{IsSeparated}
 use Rattle.m_separation.specs.Paths.{IsOpenPath}
 use Rattle.do_rules.specs.Rules.{AreIndependent, AreDependent}
-use Rattle.dag_reader.specs.declared.graph.ReadGraph.{ReadGraph}
-use Rattle.targets.specs.Targets.{Lists, listed, AreSets}
+use Rattle.mixed_graph.specs.Shown.{graph_of}
+use Rattle.targets.specs.Targets.{Lists, AreSets}
+use Rattle.diagram.specs.declared.diagram.Diagram.{Diagram}
 use Rattle.replies.specs.declared.outcome.Outcome.{Outcome}
 use Rattle.replies.specs.declared.outcome.Outcome.TheVariants.{Yes, No, Graph}
 use Rattle.replies.specs.Lines.{open_text}
-use Rattle.replies.specs.Observed.{Names, observed_names, IsObservedGraph, IsTargetRefusal}
+use Rattle.diagram.specs.Sets.{Names, query_lists}
+use Rattle.replies.specs.Observed.{IsTargetRefusal}
 use Rattle.separation_commands.specs.SeparateLines.{separated_text, not_separated_text}
 
 -- ---- answers for sets of the observed graph q
@@ -37,17 +39,7 @@ SetsAnswer q names x y w Yes text = ShowsSeparation q names x y w text
 SetsAnswer q names x y w No text = ShowsOpenPath q names x y w text
 SetsAnswer q names x y w o text = ⊥
 
--- ---- answers on a graph that was read
-
--- the lists of a separation: those that are given, or else the exposures, the outcomes and the adjusted vertices
-abbrev pub separation_lists : ReadGraph → Names → Names → Names → Lists
-separation_lists g x y given = record {
-  all = g.names;
-  observed = observed_names g;
-  x = listed g.names g.exposures.bits x;
-  y = listed g.names g.outcomes.bits y;
-  given = listed g.names g.adjusted.bits given;
-}
+-- ---- answers on a diagram
 
 -- the lists name these sets, for which the answer is given
 pub record IsAnswerOfSets (q : MixedGraph) (l : Lists) (o : Outcome) (text : List ℕ) : Type 0 where
@@ -64,6 +56,6 @@ ListsAnswer q l No text = IsAnswerOfSets q l No text
 ListsAnswer q l Graph text = IsTargetRefusal l text
 ListsAnswer q l o text = ⊥
 
--- the answer on a graph that was read, in its observed graph
-abbrev pub SeparateAnswer : ReadGraph → (x y given : Names) → Outcome → List ℕ → Type 0
-SeparateAnswer g x y given o text = (q : MixedGraph) × IsObservedGraph g q × ListsAnswer q (separation_lists g x y given) o text
+-- the answer on a diagram, in its observed graph: for the lists that are given, or else the exposures, the outcomes and the adjusted vertices
+abbrev pub SeparateAnswer : Diagram → (x y given : Names) → Outcome → List ℕ → Type 0
+SeparateAnswer d x y given o text = ListsAnswer (graph_of d.observed.graph) (query_lists d.read d.observed.names x y given) o text

@@ -2,7 +2,7 @@
 use Rattle.std.specs.Prelude.{◌≡◌, List, Some, [], ◌∷◌, codes, option_map}
 use Rattle.command_words.specs.Form.{Text, Row, Use, word_of, value_of}
 use Rattle.command_words.specs.Values as values
-use Rattle.replies.specs.Observed.{Names}
+use Rattle.diagram.specs.Sets.{Names}
 use Rattle.command_words.specs.ListViews.{names_in}
 use Rattle.separation_commands.specs.declared.separate.request.Request.{Request as CodeRequest}
 

@@ -3,6 +3,4 @@ mod Contents
 mod Counts
 mod Endings
 mod Telling
-mod Claims
-mod Completing
-pub mod Replying
+mod Calling

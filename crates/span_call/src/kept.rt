@@ -1,15 +1,15 @@
 //! Questions about a diagram that a caller keeps, over spans of bytes: the commands, answered as on the text that was read.
-ghost use Rattle.std.specs.Prelude.{◌≡◌, ◌≤◌, List, ℕ};
+ghost use Rattle.std.specs.Prelude.{◌≡◌, ◌≤◌, List, ℕ, Some, IfOk, IsErrOf};
 ghost use Rattle.dag_reader.specs.declared.graph.ReadGraph.{ReadGraph};
 ghost use Rattle.caller_memory.specs.Kept.{KeepsText, Keeps};
 ghost use Rattle.span_call.specs.Ends.{IsEnd};
-ghost use Rattle.span_call.specs.Asked.{Asked};
+ghost use Rattle.span_call.specs.Called.{Called, LacksInput};
 
-mod reply;
-
-use crate::{Arguments, CallEnd, call_words, show_both};
-use caller_memory::kept::KeptDiagram;
-use reply::{answer_in, line_in, reply_kept};
+use crate::answering::{answer_words, show_reply};
+use crate::{Arguments, CallEnd, call_words};
+use caller_memory::kept::{KeptDiagram, NamesFault};
+use diagram::Diagram;
+use replies::{Outcome, Reply};
 use std::alloc::Global;
 
 /// The status where no diagram with names on these lines is kept.
@@ -27,8 +27,13 @@ pub fn ask_kept(
     err: &mut [u8],
 ) -> CallEnd
     ensures end { IsEnd arguments.now.bytes.now arguments.now.words.now out.old out.new err.old err.new result.sizes result.status }
-    ensures asked { result.status ≤ 8 → (diagram : List ℕ) → KeepsText diagram kept.now lines.now
-        → Asked diagram arguments.now.bytes.now arguments.now.words.now arguments.now.inputs.now out.old out.new err.old err.new result.sizes result.status }
+    ensures called { result.status ≤ 8 → (text : List ℕ) → KeepsText text kept.now lines.now
+        → Called (Some text) arguments.now.bytes.now arguments.now.words.now arguments.now.inputs.now out.old out.new err.old err.new result.sizes result.status }
+
+    // 6: the second input that the words name isn't there. 7 doesn't come.
+    ensures lacked { result.status ≡ 6 → (text : List ℕ) → KeepsText text kept.now lines.now
+        → LacksInput (Some text) arguments.now.bytes.now arguments.now.words.now arguments.now.inputs.now }
+    ensures never_cut_short { result.status ≡ 7 → (text : List ℕ) → KeepsText text kept.now lines.now → ⊥ }
 
     // 11: no graph with names on these lines is kept.
     ensures kept { result.status ≤ 7 → (g : ReadGraph) × Keeps kept.now lines.now g }
@@ -39,19 +44,24 @@ pub fn ask_kept(
         Ok(words) => words,
         Err(end) => return end,
     };
-    let reply = match reply_kept(
-        alloc,
-        kept,
-        lines,
-        &words,
-        arguments.bytes,
-        arguments.inputs,
-    ) {
-        Ok(reply) => reply,
-        Err(_) => return CallEnd::silent(NOT_KEPT),
+    match diagram_kept(alloc, kept, lines) {
+        Ok(diagram) => answer_words(alloc, &words, Some(&diagram), arguments, out, err),
+        Err(NamesFault::NotNames) => CallEnd::silent(NOT_KEPT),
+        Err(NamesFault::NoMemory) => show_reply(&Reply::bare(alloc, Outcome::Memory), out, err),
+    }
+}
+
+/// The diagram that is kept with the names on these lines.
+fn diagram_kept(alloc: Global, kept: &KeptDiagram, lines: &[u8]) -> Result<Diagram, NamesFault>
+    ensures keeps { IfOk result (λ d. Keeps kept.now lines.now d.read) }
+    ensures refused { IsErrOf result NamesFault.NotNames → (g : ReadGraph) → Keeps kept.now lines.now g → ⊥ }
+{
+    let read = match kept.graph(alloc, lines) {
+        Ok(read) => read,
+        Err(fault) => return Err(fault),
     };
-    CallEnd {
-        status: reply.outcome.code(),
-        sizes: show_both(answer_in(&reply), line_in(&reply), out, err),
+    match Diagram::of(alloc, read) {
+        Ok(diagram) => Ok(diagram),
+        Err(_) => Err(NamesFault::NoMemory),
     }
 }

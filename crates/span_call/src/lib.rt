@@ -1,16 +1,16 @@
 //! The top call over spans of bytes, for callers that are no Rattle code.
 #![tactic(auto)]
 
-ghost use Rattle.std.specs.Prelude.{◌≡◌, ◌≤◌};
-ghost use Rattle.span_call.specs.Called.{Called, LacksInput, IsCutShort};
+ghost use Rattle.std.specs.Prelude.{◌≡◌, ◌≤◌, None};
+ghost use Rattle.span_call.specs.Called.{Called, LacksInput};
 ghost use Rattle.span_call.specs.Ends.{IsEnd};
 
+mod answering;
 mod ends;
 pub mod kept;
 mod wanted;
 
-use caller_memory::spans::{GrowingSink, SpanShelf};
-use causal_cli::run;
+use answering::answer_words;
 pub use ends::{Arguments, CallEnd, call_words, show, show_both};
 use std::alloc::Global;
 pub use wanted::{Wanted, WantedEnd, wanted_spans};
@@ -31,23 +31,15 @@ pub fn run_spans(
     err: &mut [u8],
 ) -> CallEnd
     ensures end { IsEnd arguments.now.bytes.now arguments.now.words.now out.old out.new err.old err.new result.sizes result.status }
-    ensures called { result.status ≤ 8 → Called arguments.now.bytes.now arguments.now.words.now arguments.now.inputs.now out.old out.new err.old err.new result.sizes result.status }
+    ensures called { result.status ≤ 8 → Called None arguments.now.bytes.now arguments.now.words.now arguments.now.inputs.now out.old out.new err.old err.new result.sizes result.status }
 
-    // 6: an input that the words name isn't there. 7: memory was refused for the answer.
-    ensures lacked { result.status ≡ 6 → LacksInput arguments.now.bytes.now arguments.now.words.now arguments.now.inputs.now }
-    ensures cut_short { result.status ≡ 7 → IsCutShort arguments.now.bytes.now arguments.now.words.now arguments.now.inputs.now out.old out.new result.sizes }
+    // 6: an input that the words name isn't there. 7 doesn't come.
+    ensures lacked { result.status ≡ 6 → LacksInput None arguments.now.bytes.now arguments.now.words.now arguments.now.inputs.now }
+    ensures never_cut_short { result.status ≡ 7 → ⊥ }
     ensures known { result.status ≤ 10 }
 {
-    let words = match call_words(alloc, arguments) {
-        Ok(words) => words,
-        Err(end) => return end,
-    };
-    let mut shelf = SpanShelf::of(arguments.bytes, arguments.inputs);
-    let mut text = GrowingSink::new(alloc);
-    let mut line = GrowingSink::new(alloc);
-    let status = run(alloc, &words, &mut shelf, &mut text, &mut line);
-    CallEnd {
-        status: status.code,
-        sizes: show_both(text.bytes(), line.bytes(), out, err),
+    match call_words(alloc, arguments) {
+        Ok(words) => answer_words(alloc, &words, None, arguments, out, err),
+        Err(end) => end,
     }
 }

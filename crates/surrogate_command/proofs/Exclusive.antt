@@ -1,23 +1,23 @@
 -- A formula over experiments, a stopped district and a refused list exclude each other.
-use Rattle.std.proofs.Common.{◌≡◌, ℕ, List, inl, inr, refl, ap, subst}
+use Rattle.std.proofs.Common.{◌≡◌, ℕ, List, inl, inr, refl, subst}
 use Rattle.mixed_graph.specs.Graphs.{MixedGraph}
-use Rattle.dag_reader.specs.declared.graph.ReadGraph.{ReadGraph}
-use Rattle.dag_reader.specs.RoundTrip.{AreSame}
+use Rattle.mixed_graph.specs.Shown.{graph_of}
 use Rattle.targets.specs.declared.fault.TargetFault.{TargetFault}
 use Rattle.targets.specs.declared.fault.TargetFault.TheVariants.{EmptyX}
 use Rattle.targets.specs.Targets.{IsFaultOfTarget}
 use Rattle.surrogates.proofs.RightAnswers.{some_blocked}
 use Rattle.replies.specs.declared.outcome.Outcome.{Outcome}
 use Rattle.replies.specs.declared.outcome.Outcome.TheVariants.{Yes, No, Graph}
-use Rattle.replies.specs.Observed.{Names}
+use Rattle.diagram.specs.Sets.{Names}
+use Rattle.diagram.specs.declared.diagram.Diagram.{Diagram}
+use Rattle.diagram.proofs.OneDiagram.{AreSameDiagrams, same_effect_lists}
 use Rattle.replies.specs.OneOutcome.{OneOutcome, IsAnswerOn}
-use Rattle.replies.proofs.OneOutcome.{IsOneOf, one_of_three, one_for_lists}
+use Rattle.replies.proofs.OneOutcome.{IsOneOf, one_of_three, one_for_diagrams}
 use Rattle.replies.proofs.OneTarget.{same_two, no_fault_of, some_list, is_some_list}
-use Rattle.effect_answers.proofs.Exclusive.{same_effect_lists}
 use Rattle.experiment_lists.specs.Words.{Lists}
 use Rattle.experiment_lists.proofs.OneSet.{one_by_one}
-use Rattle.surrogate_command.specs.Sets.{SurrogateLists, surrogate_fault, AreSurrogateSets, IsSurrogateFault}
-use Rattle.surrogate_command.specs.Asked.{surrogate_lists, IsRefusal}
+use Rattle.surrogate_command.specs.Sets.{SurrogateLists, surrogate_lists, surrogate_fault, AreSurrogateSets, IsSurrogateFault}
+use Rattle.surrogate_command.specs.Asked.{IsRefusal}
 use Rattle.surrogate_command.specs.declared.form.Form.{Form}
 use Rattle.surrogate_command.specs.Answers.{ShowsFormula, ShowsStop, ListsAnswer, SurrogateAnswer}
 
@@ -51,11 +51,14 @@ module _ (form : Form) (q : MixedGraph) (l : SurrogateLists) where
   lists_once = one_of_three Yes No Graph (ListsAnswer form q l) among yes_no
       (λ text line a r. refused l a.x a.y a.experiments line a.sets r) (λ text line a r. refused l a.x a.y a.experiments line a.sets r)
 
-same_lists : (x y : Names) (experiments : Lists) (g h : ReadGraph) → AreSame g h → surrogate_lists h x y experiments ≡ surrogate_lists g x y experiments
-same_lists x y experiments g h s = ap (λ l. let k : SurrogateLists = record { effect = l; experiments = experiments } in k) (same_effect_lists x y g h s)
+-- diagrams that are the same have the same lists
+pub same_surrogate_lists : (x y : Names) (experiments : Lists) (d e : Diagram) → AreSameDiagrams d e
+    → surrogate_lists e.read e.observed.names x y experiments ≡ surrogate_lists d.read d.observed.names x y experiments
+same_surrogate_lists x y experiments d e s = λ i. record { effect = same_effect_lists x y d e s i; experiments = experiments }
 
 pub surrogate_once : (bytes : List ℕ) (x y : Names) (experiments : Lists) (form : Form)
-    → OneOutcome (IsAnswerOn bytes (λ g. SurrogateAnswer form g x y experiments))
-surrogate_once bytes x y experiments form = one_for_lists bytes (λ g. surrogate_lists g x y experiments) (λ q l. ListsAnswer form q l)
-    (same_lists x y experiments)
-    (λ g q is. lists_once form q (surrogate_lists g x y experiments))
+    → OneOutcome (IsAnswerOn bytes (λ d. SurrogateAnswer form d x y experiments))
+surrogate_once bytes x y experiments form =
+    one_for_diagrams bytes (λ d. surrogate_lists d.read d.observed.names x y experiments) (λ q l. ListsAnswer form q l)
+    (same_surrogate_lists x y experiments)
+    (λ d. lists_once form (graph_of d.observed.graph) (surrogate_lists d.read d.observed.names x y experiments))

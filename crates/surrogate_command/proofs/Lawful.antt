@@ -31,5 +31,5 @@ one_request uses q r a b = λ i. record {
 
 -- what holds of each command holds of it
 pub surrogate_lawful : IsLawful surrogate_command
-surrogate_lawful = lawful_on_file one_request (λ q g. surrogate_answered g q.x q.y q.experiments q.form)
+surrogate_lawful = lawful_on_file one_request (λ q d. surrogate_answered d q.x q.y q.experiments q.form)
     (λ q bytes. surrogate_once bytes q.x q.y q.experiments q.form)

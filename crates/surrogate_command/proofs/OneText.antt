@@ -1,4 +1,4 @@
--- A yes has one text, and so has a no, but for the certificate of a common hedge.
+-- A yes has one text, and so has a no.
 use Rattle.std.proofs.Common.{◌≡◌, ◌≤◌, ℕ, List, [], ◌++◌, Option, Some, None, refl, sym, ap, ap₂, ◌∙◌, subst}
 use Rattle.std.specs.Prelude.{◌↔◌, IsSome, IfSome}
 use Rattle.std.proofs.lemmas.Bool.{false≢true}
@@ -22,6 +22,11 @@ use Rattle.replies.specs.declared.outcome.Outcome.TheVariants.{Yes, No}
 use Rattle.replies.proofs.OneTarget.{same_two}
 use Rattle.effect_answers.proofs.OneHedge.{AreAlike, hedges_alike}
 use Rattle.effect_answers.proofs.HedgeTexts.{sets_alike, models_alike}
+use Rattle.effect_answers.proofs.HedgeViews.{views_alike}
+use Rattle.effect_answers.specs.Hedges.{HasArrays}
+use Rattle.effect_answers.specs.Lines.{certificate_line}
+use Rattle.certificate.specs.Plain.{PlainHedge}
+use Rattle.certificate.specs.Plain as plain
 use Rattle.surrogate_command.specs.declared.form.Form.{Form}
 use Rattle.surrogate_command.specs.declared.form.Form.TheVariants.{Plain, Models, Certificate}
 use Rattle.surrogate_command.specs.Answers.{ShowsFormula, ShowsStop, ListsAnswer}
@@ -86,34 +91,46 @@ module _ (q : MixedGraph) (valid : IsMixedGraph q) (few : q.vertices ≤ 64) (zs
       ap₂ (λ (c : ℕ) (l : List ℕ). unidentifiable_with_line names x y ++ (district_line names c ++ l)) same
       (ap₂ (λ (l m : List ℕ). l ++ m) (sets_alike names h k alike.big alike.small alike.roots) models)
 
+  -- a common hedge of the district, which arrays hold
+  abbrev IsHeldBlock : VSet → CommonHedge → Type 0
+  IsHeldBlock d k = IsBlockShown q zs x y d k.hedge k.pair × HasArrays k.hedge
+
   -- the text of a stop, where there is a common hedge and where there is none
-  stopped_same : (form : Form) → (form ≡ Certificate → ⊥) → (names : List (List ℕ)) (d e : VSet) (h k : Hedge) (c m : Option CommonHedge) (P : Type 0)
+  stopped_same : (form : Form) (names : List (List ℕ)) (d e : VSet) (h k : Hedge) (c m : Option CommonHedge) (P : Type 0)
       → e.bits ≡ d.bits → stop_answer names x y e.bits k ≡ stop_answer names x y d.bits h → (IsSome c ↔ P) → (IsSome m ↔ P)
-      → IfSome c (λ i. IsBlockShown q zs x y d i.hedge i.pair) → IfSome m (λ i. IsBlockShown q zs x y e i.hedge i.pair)
+      → IfSome c (IsHeldBlock d) → IfSome m (IsHeldBlock e)
       → stopped_text form names x y e.bits k m ≡ stopped_text form names x y d.bits h c
-  stopped_same form plain names d e h k None None P same stop a b i j = stop
-  stopped_same form plain names d e h k None (Some m) P same stop a b i j = absurd (false≢true (a.1 (b.0 refl)))
-  stopped_same form plain names d e h k (Some c) None P same stop a b i j = absurd (false≢true (b.1 (a.0 refl)))
-  stopped_same Plain plain names d e h k (Some c) (Some m) P same stop a b i j = stop
-  stopped_same Models plain names d e h k (Some c) (Some m) P same stop a b i j = common_same names d e c.hedge m.hedge c.pair m.pair same i j
-  stopped_same Certificate plain names d e h k (Some c) (Some m) P same stop a b i j = absurd (plain refl)
+  stopped_same form names d e h k None None P same stop a b i j = stop
+  stopped_same form names d e h k None (Some m) P same stop a b i j = absurd (false≢true (a.1 (b.0 refl)))
+  stopped_same form names d e h k (Some c) None P same stop a b i j = absurd (false≢true (b.1 (a.0 refl)))
+  stopped_same Plain names d e h k (Some c) (Some m) P same stop a b i j = stop
+  stopped_same Models names d e h k (Some c) (Some m) P same stop a b i j = common_same names d e c.hedge m.hedge c.pair m.pair same i.0 j.0
+  stopped_same Certificate names d e h k (Some c) (Some m) P same stop a b i j =
+      ap (λ (v : PlainHedge). certificate_line names (plain.hedge (effect_on x y) v))
+      (views_alike c.hedge m.hedge (blocks_alike d e c.hedge m.hedge c.pair m.pair same i.0 j.0) i.1 j.1)
+
+  held : (d : VSet) (c : Option CommonHedge) → IfSome c (λ i. IsBlockShown q zs x y d i.hedge i.pair) → IfSome c (λ i. HasArrays i.hedge)
+      → IfSome c (IsHeldBlock d)
+  held d None i j = tt
+  held d (Some c) i j = (i, j)
 
   -- a stop has one text
-  stop_once : (form : Form) → (form ≡ Certificate → ⊥) → (names : List (List ℕ)) (text line : List ℕ) → ShowsStop form q names zs x y text
+  stop_once : (form : Form) (names : List (List ℕ)) (text line : List ℕ) → ShowsStop form q names zs x y text
       → ShowsStop form q names zs x y line → line ≡ text
-  stop_once form plain names text line a b =
+  stop_once form names text line a b =
       let same = district_same a.district b.district a.hedge b.hedge a.pair b.pair a.stop b.stop in
       let alike = stops_alike a.district b.district a.hedge b.hedge a.pair b.pair a.stop b.stop in
       let stop : stop_answer names x y b.district.bits b.hedge ≡ stop_answer names x y a.district.bits a.hedge =
       ap₂ (λ (c : ℕ) (l : List ℕ). unfound_line names x y ++ (district_line names c ++ l)) same
       (sets_alike names a.hedge b.hedge alike.big alike.small alike.roots) in
-      b.prints ∙ stopped_same form plain names a.district b.district a.hedge b.hedge a.common b.common _ same stop a.exact b.exact a.shown b.shown
+      b.prints ∙ stopped_same form names a.district b.district a.hedge b.hedge a.common b.common _ same stop a.exact b.exact
+      (held a.district a.common a.shown a.arrays) (held b.district b.common b.shown b.arrays)
       ∙ sym a.prints
 
 -- the answer for lists of names
-pub surrogate_no_once : (form : Form) → (form ≡ Certificate → ⊥) → (q : MixedGraph) → IsMixedGraph q → q.vertices ≤ 64 → (l : SurrogateLists)
+pub surrogate_no_once : (form : Form) (q : MixedGraph) → IsMixedGraph q → q.vertices ≤ 64 → (l : SurrogateLists)
     (text line : List ℕ) → ListsAnswer form q l No text → ListsAnswer form q l No line → line ≡ text
-surrogate_no_once form plain q valid few l text line a b = stop_once q valid few a.experiments a.x a.y form plain l.effect.observed text line a.answer
+surrogate_no_once form q valid few l text line a b = stop_once q valid few a.experiments a.x a.y form l.effect.observed text line a.answer
     (subst (λ (zs : List ℕ). ShowsStop form q l.effect.observed zs a.x a.y line)
     (one_by_one l.effect.observed l.experiments a.experiments b.experiments a.sets.experiments b.sets.experiments)
     (same_two (λ u v. ShowsStop form q l.effect.observed b.experiments u v line) l.effect a.x a.y b.x b.y a.sets.effect b.sets.effect b.answer))

@@ -1,27 +1,29 @@
--- The answer of `surrogate`: whether the procedure over experiments finds a formula for the effect of x on y, in the observed graph of the one that was read.
+-- The answer of `surrogate`: whether the procedure over experiments finds a formula for the effect of x on y, in the observed graph of a diagram.
 use Rattle.std.specs.Prelude.{ℕ, ◌≡◌, ◌↔◌, List, Option, IsSome, IfSome}
 use Rattle.mixed_graph.specs.Graphs.{MixedGraph}
+use Rattle.mixed_graph.specs.Shown.{graph_of}
 use Rattle.mixed_graph.specs.declared.sets.VSet.{VSet}
-use Rattle.dag_reader.specs.declared.graph.ReadGraph.{ReadGraph}
 use Rattle.replies.specs.declared.outcome.Outcome.{Outcome}
 use Rattle.replies.specs.declared.outcome.Outcome.TheVariants.{Yes, No, Graph}
-use Rattle.replies.specs.Observed.{Names, IsObservedGraph}
+use Rattle.diagram.specs.Sets.{Names}
+use Rattle.diagram.specs.declared.diagram.Diagram.{Diagram}
 use Rattle.prob_expr.specs.Tree.{PlainFormula, effect_on}
 use Rattle.do_derivation.specs.Plans.{PlainDerivation}
 use Rattle.hedge.specs.declared.hedge.Hedge.{Hedge}
 use Rattle.counter_models.specs.declared.counter_pair.CounterPair.{CounterPair}
 use Rattle.identification_theory.specs.Procedure.{IsIdentified}
 use Rattle.identify.specs.Answers.{IsRightHedge}
+use Rattle.effect_answers.specs.Hedges.{HasArrays}
 use Rattle.certificate.specs.Plain.{hedge_view}
 use Rattle.certificate.specs.Plain as certificates
 use Rattle.surrogates.specs.Surrogates.{IsSurrogate, IsSurrogateBySteps, SomeBlocked}
 use Rattle.surrogates.specs.Answers.{IsRightFormulaWith, IsRightBlock, IsStopShown, IsBlockShown, IsBlockedTogether}
 use Rattle.surrogates.specs.declared.answer.CommonHedge.{CommonHedge}
-use Rattle.surrogate_command.specs.Asked.{surrogate_lists, IsOfSets, IsRefusal}
+use Rattle.surrogate_command.specs.Asked.{IsOfSets, IsRefusal}
 use Rattle.experiment_lists.specs.Words.{Lists}
 use Rattle.surrogate_command.specs.Lines.{formula_text, stopped_text, ReadsBack}
 use Rattle.surrogate_command.specs.declared.form.Form.{Form}
-use Rattle.surrogate_command.specs.Sets.{SurrogateLists}
+use Rattle.surrogate_command.specs.Sets.{SurrogateLists, surrogate_lists}
 
 -- ---- answers for sets of the observed graph q, with experiments on the sets zs
 
@@ -55,6 +57,7 @@ pub record ShowsStop (form : Form) (q : MixedGraph) (names : List (List ℕ)) (z
   pub stop : IsStopShown q zs x y district hedge pair
   pub blocked : IfSome common (λ k. IsRightBlock q zs x y k.hedge k.pair)
   pub shown : IfSome common (λ k. IsBlockShown q zs x y district k.hedge k.pair)
+  pub arrays : IfSome common (λ k. HasArrays k.hedge)
   pub exact : IsSome common ↔ IsBlockedTogether q zs x y
   pub prints : text ≡ stopped_text form names x y district.bits hedge common
   pub reads_back : IfSome common (λ k. ReadsBack form names (certificates.hedge (effect_on x y) (hedge_view k.hedge)))
@@ -65,7 +68,7 @@ SetsAnswer form q names zs x y Yes text = ShowsFormula form q names zs x y text
 SetsAnswer form q names zs x y No text = ShowsStop form q names zs x y text
 SetsAnswer form q names zs x y o text = ⊥
 
--- ---- answers on a graph that was read
+-- ---- answers on a diagram
 
 -- the lists name sets, for which the answer is given
 abbrev pub IsAnswerOfSets : Form → MixedGraph → SurrogateLists → Outcome → List ℕ → Type 0
@@ -78,6 +81,7 @@ ListsAnswer form q l No text = IsAnswerOfSets form q l No text
 ListsAnswer form q l Graph text = IsRefusal l text
 ListsAnswer form q l o text = ⊥
 
--- the answer on a graph that was read, in its observed graph
-abbrev pub SurrogateAnswer : Form → ReadGraph → Names → Names → Lists → Outcome → List ℕ → Type 0
-SurrogateAnswer form g x y experiments o text = (q : MixedGraph) × IsObservedGraph g q × ListsAnswer form q (surrogate_lists g x y experiments) o text
+-- the answer on a diagram, in its observed graph
+abbrev pub SurrogateAnswer : Form → Diagram → Names → Names → Lists → Outcome → List ℕ → Type 0
+SurrogateAnswer form d x y experiments o text =
+    ListsAnswer form (graph_of d.observed.graph) (surrogate_lists d.read d.observed.names x y experiments) o text

@@ -1,18 +1,21 @@
 -- What the lists of an effect over experiments stand for: sets of vertices, or the first fault.
 use Rattle.std.specs.Prelude.{ℕ, ◌≡◌, List, Option, None}
+use Rattle.dag_reader.specs.declared.graph.ReadGraph.{ReadGraph}
+use Rattle.diagram.specs.Sets.{Names, effect_lists}
 use Rattle.targets.specs.declared.fault.TargetFault.{TargetFault}
 use Rattle.targets.specs.declared.fault.TargetFault.TheVariants.{EmptyX}
 use Rattle.targets.specs.Targets.{NameFault, or_fault, IsFaultOfTarget, EffectLists, effect_fault, AreEffectSets}
 use Rattle.experiment_lists.specs.Sets.{experiments_fault, AreExperimentSets}
+use Rattle.experiment_lists.specs.Words.{Lists}
 
 -- the lists of an effect, and one for each experiment
 pub record SurrogateLists : Type 0 where
   pub effect : EffectLists
-  pub experiments : List (List (List ℕ))
+  pub experiments : Lists
 
--- lists of these parts
-abbrev pub lists_of : (all observed x y : List (List ℕ)) → List (List (List ℕ)) → SurrogateLists
-lists_of all observed x y experiments = record { effect = record { all = all; observed = observed; x = x; y = y }; experiments = experiments }
+-- the lists, on a graph with these observed names: those of the effect, each given, or else the exposures or the outcomes; and the experiments
+abbrev pub surrogate_lists : ReadGraph → (observed : List (List ℕ)) → (x y : Names) → Lists → SurrogateLists
+surrogate_lists g observed x y experiments = record { effect = effect_lists g observed x y; experiments = experiments }
 
 -- the first name at fault: x first, then y, then each experiment, which may share names with x and y
 abbrev pub surrogate_fault : SurrogateLists → Option NameFault

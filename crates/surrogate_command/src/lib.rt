@@ -1,7 +1,6 @@
 //! The command `surrogate`.
 #![tactic(auto)]
 
-mod effect;
 mod form;
 mod reply;
 mod request;

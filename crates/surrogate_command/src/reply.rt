@@ -1,25 +1,21 @@
 //! The answer of `surrogate`.
 
-ghost use Rattle.std.specs.Prelude.{◌≡◌, ◌<◌, ◌≤◌, true, IfOk, length, option_map};
+ghost use Rattle.std.specs.Prelude.{◌≡◌, ◌<◌, ◌≤◌, true, IfOk, length};
 ghost use Rattle.mixed_graph.specs.Bits.{has};
 ghost use Rattle.mixed_graph.specs.Sets.{Within, Apart};
 ghost use Rattle.mixed_graph.specs.Shown.{graph_of};
 ghost use Rattle.prob_expr.specs.Listed.{masks_of};
 ghost use Rattle.do_derivation.specs.Accepts.{are_sets};
-ghost use Rattle.command_words.specs.ListViews.{names_in};
 ghost use Rattle.surrogate_command.specs.Answers.{SurrogateAnswer, SetsAnswer};
-ghost use Rattle.experiment_lists.specs.Words.{AreFilled};
 ghost use Rattle.surrogate_command.specs.Requests.{request_of};
-ghost use Rattle.experiment_lists.specs.Views.{lists_in};
 
-use crate::effect::{Asked, asked_effect};
 use crate::form::Form;
 use crate::request::Request;
-use crate::sets::SurrogateSets;
+use crate::sets::{SurrogateSets, asked_sets};
 use crate::texts::{effect_of, formula_text, stopped_text};
 use dag_reader::ReadGraph;
-use latent_projection::Observed;
-use replies::{Outcome, Reply};
+use diagram::Diagram;
+use replies::{Outcome, Reply, refuse};
 use std::alloc::{AllocError, Global};
 use surrogates::{Surrogate, identify_with};
 
@@ -33,47 +29,25 @@ use surrogates::{Surrogate, identify_with};
 /// A list that is missing is that of the exposures or of the outcomes. The only error is want of memory.
 pub fn surrogate_reply(
     alloc: Global,
-    graph: &ReadGraph,
-    request: Request<'_>,
+    diagram: &Diagram,
+    asked: &Request<'_>,
 ) -> Result<Reply, AllocError>
-    ensures { IfOk result (λ r. SurrogateAnswer (request_of request.entry).form graph.now (request_of request.entry).x (request_of request.entry).y (request_of request.entry).experiments r.outcome r.text.items) }
+    ensures { let q = request_of asked.now in IfOk result (λ r. SurrogateAnswer q.form diagram.now q.x q.y q.experiments r.outcome r.text.items) }
 {
-    reply_for(
-        alloc,
-        graph,
-        request.x,
-        request.y,
-        request.experiments,
-        request.form,
-    )
-}
-
-/// The answer for lists and experiments.
-fn reply_for(
-    alloc: Global,
-    graph: &ReadGraph,
-    x: Option<Vec<Vec<u8>>>,
-    y: Option<Vec<Vec<u8>>>,
-    experiments: Vec<Vec<Vec<u8>>>,
-    form: Form,
-) -> Result<Reply, AllocError>
-    requires { AreFilled (lists_in experiments) }
-    ensures { IfOk result (λ r. SurrogateAnswer form graph.now (option_map names_in x) (option_map names_in y) (lists_in experiments) r.outcome r.text.items) }
-{
-    match asked_effect(alloc, graph, x, y, &experiments)? {
-        Asked::Effect(effect) => decide(alloc, &effect.seen, &effect.sets, form),
-        Asked::Refused(reply) => Ok(reply),
+    let (x, y) = (asked.x.as_deref(), asked.y.as_deref());
+    match asked_sets(alloc, diagram, x, y, &asked.experiments) {
+        Ok(sets) => decide(alloc, &diagram.observed, &sets, asked.form),
+        Err(fault) => refuse(alloc, &fault),
     }
 }
 
 /// The answer for sets of the observed graph.
 fn decide(
     alloc: Global,
-    seen: &Observed,
+    seen: &ReadGraph,
     sets: &SurrogateSets,
     form: Form,
 ) -> Result<Reply, AllocError>
-    requires named { length seen.now.names ≡ seen.now.graph.n }
     requires x { Within seen.now.graph.n (has sets.now.x.bits) }
     requires y { Within seen.now.graph.n (has sets.now.y.bits) }
     requires apart { Apart (has sets.now.x.bits) (has sets.now.y.bits) }

@@ -7,12 +7,12 @@ ghost use Rattle.prob_expr.specs.Check.{fault_in};
 ghost use Rattle.prob_expr.specs.View.{target_view, formula_view};
 ghost use Rattle.do_derivation.specs.View.{derivation_view};
 ghost use Rattle.prob_expr.specs.Tree.{effect_on};
-ghost use Rattle.hedge.specs.Entries.{HasEntries};
 ghost use Rattle.identify_text.specs.Below.{IsHedgeBelow, ArePairBelow};
 ghost use Rattle.certificate.specs.Plain.{hedge_view, formula as formula_case, hedge as hedge_case};
 ghost use Rattle.certificate.specs.Reading.{certificate_in};
 ghost use Rattle.certificate_writing.specs.Writable.{IsTargetWithin, IsBareTarget, IsDerivationWithin, IsHedgeWithin, IsFormulaShallow};
 ghost use Rattle.certificate_writing.specs.Written.{certificate_text};
+ghost use Rattle.effect_answers.specs.Hedges.{HasArrays};
 ghost use Rattle.effect_answers.specs.Lines.{certificate_line};
 ghost use Rattle.surrogate_command.specs.Commons.{IsCommonBelow};
 ghost use Rattle.surrogate_command.specs.Lines.{unfound_line, district_line, stop_answer, common_answer, formula_text, stopped_text, ReadsBack};
@@ -24,6 +24,7 @@ use certificate::Certificate;
 use counter_models::CounterPair;
 use do_derivation::Derivation;
 use effect_answers::certificates::certificate_line;
+use effect_answers::has_arrays;
 use experiment_lists::unidentifiable_text;
 use hedge::Hedge;
 use identify_text::{answer_in, effect_text, push_hedge_sets, push_models};
@@ -154,11 +155,10 @@ fn hedge_certificate(
     hedge: Hedge,
 ) -> Result<Vec<u8>, AllocError>
     requires target { IsBareTarget (length names.now) (target_view target) }
-    requires data { HasEntries hedge → IsHedgeWithin (length names.now) (hedge_view hedge) }
+    requires data { IsHedgeWithin (length names.now) (hedge_view hedge) }
     ensures text { IfOk result (λ v. v.items ≡ certificate_line names.now (hedge_case (target_view target) (hedge_view hedge))) }
     ensures reads_back { IfOk result (λ v. certificate_in names.now (certificate_text names.now (hedge_case (target_view target) (hedge_view hedge))) ≡ Ok (hedge_case (target_view target) (hedge_view hedge))) }
 {
-    hedge.has_entries();
     let certificate = Certificate::Hedge(target, hedge);
     certificate_line(alloc, &certificate, names)
 }
@@ -180,6 +180,7 @@ pub fn stopped_text(
     requires hedge { IsHedgeBelow (length names.now) hedge.now }
     requires common { IfSome common (λ k. IsCommonBelow (length names.now) k) }
     ensures text { IfOk result (λ v. v.items ≡ stopped_text form names.now sets.now.x.bits sets.now.y.bits district.bits hedge.now common) }
+    ensures arrays { IfOk result (λ v. IfSome common (λ k. HasArrays k.hedge)) }
     ensures reads_back { IfOk result (λ v. IfSome common (λ k. ReadsBack form names.now (hedge_case (effect_on sets.now.x.bits sets.now.y.bits) (hedge_view k.hedge)))) }
 {
     let Some(common) = common else {
@@ -189,6 +190,7 @@ pub fn stopped_text(
         hedge: shared,
         pair,
     } = common;
+    has_arrays(&shared);
     match form {
         Form::Plain => stop_answer(alloc, sets.x, sets.y, district, hedge, names),
         Form::Models => common_answer(alloc, sets, district, &shared, &pair, names),

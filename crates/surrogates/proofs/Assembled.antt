@@ -1,5 +1,5 @@
 -- What is assembled of the factors over experiments is the formula with its derivation.
-use Rattle.std.proofs.Common.{ℕ, List, map, sym, subst}
+use Rattle.std.proofs.Common.{ℕ, List, map, refl, sym, subst}
 use Rattle.hedge.specs.Linked.{AreDistricts}
 use Rattle.mixed_graph.specs.Graphs.{MixedGraph}
 use Rattle.mixed_graph.specs.Masks.{all, minus}
@@ -10,12 +10,13 @@ use Rattle.identification_theory.specs.Procedure.{AreAncestorsIn}
 use Rattle.identify.specs.Factored.{AreAssembled}
 use Rattle.identify.specs.Lists.{lists_view}
 use Rattle.identify.specs.declared.answer.Factors.{Factors}
+use Rattle.identify.specs.declared.wanted.Wanted.TheVariants.{Derivation}
 use Rattle.surrogates.specs.Surrogates.{AreDerivedWith, IsComposedBySteps}
 use Rattle.surrogates.specs.Gathered.{AreFactorsWith}
 
 pub by_steps : (g : MixedGraph) (zs order ts : List ℕ) (x y d : ℕ) (made : Factors) → AreAncestorsIn g (minus (all g.vertices) x) y d
     → AreDistricts g d 0 order ts → AreFactorsWith g zs ts made
-    → (f : PlainFormula) (t : PlainDerivation) → AreAssembled g.vertices order ts x y d made f t → IsComposedBySteps g order zs x y f t
+    → (f : PlainFormula) (t : PlainDerivation) → AreAssembled Derivation g.vertices order ts x y d made f t → IsComposedBySteps g order zs x y f t
 by_steps g zs order ts x y d made is_d districts of f t a = record {
   split = record { d = d; is_d = is_d; districts = ts; are_districts = districts };
   factors = views made.values.items;
@@ -23,5 +24,5 @@ by_steps g zs order ts x y d made is_d districts of f t a = record {
   are_derived = subst (λ z. AreDerivedWith g zs 0 ts z (views made.values.items) t.lemmas (lists_view made.lists.items)) (sym a.defs)
       (subst (λ z. AreDerivedWith g zs 0 ts (map view made.defs.items) (views made.values.items) z (lists_view made.lists.items)) (sym a.lemmas) of.derived);
   main = a.main;
-  steps = a.steps;
+  steps = a.steps refl;
 }

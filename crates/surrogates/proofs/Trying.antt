@@ -1,11 +1,12 @@
 -- A factor of the graph without z, as a try of the graph.
-use Rattle.std.proofs.Common.{ℕ, ◌≡◌, ◌≤◌, ◌==◌, true, List, length, Result, Ok, Err, sym, subst, eqb-true}
+use Rattle.std.proofs.Common.{ℕ, ◌≡◌, ◌≤◌, ◌==◌, true, List, length, Result, Ok, Err, refl, sym, subst, eqb-true}
 use Rattle.std.specs.Prelude.{IfOk, IfErr}
 use Rattle.hedge.specs.Linked.{IsJoinedSet}
 use Rattle.identify.specs.Factors.{IsMadeFactor, IsFactorFault}
 use Rattle.identify.specs.declared.factors.district_factor.Factor.{Factor}
 use Rattle.identify.specs.declared.factors.district_factor.FactorFault.{FactorFault}
 use Rattle.identify.specs.declared.factors.district_factor.FactorFault.TheVariants.{Stopped, NoMemory}
+use Rattle.identify.specs.declared.wanted.Wanted.TheVariants.{Derivation}
 use Rattle.do_derivation.specs.View.{lemma_view, steps_view}
 use Rattle.identification_theory.specs.Derivations.{AreFactorSteps}
 use Rattle.identification_theory.specs.Procedure.{AreAncestorsIn, IsFactor, IsStopped, Source}
@@ -32,7 +33,8 @@ module _ (g : MixedGraph) (ok : IsMixedGraph g) (z c : ℕ) (off : is_apart z c 
   low_in = subst (λ (h : MixedGraph). Within h.vertices (has c)) (sym same) low
 
   module _ (order : List ℕ) (is_order : IsOrder h order (length order)) where
-    tried : (k : ℕ) (f : Factor) → IsMadeFactor h order z c k f → length f.defs.items ≤ 64 → length f.lemmas.items ≡ length f.defs.items → IsTried g z c k f
+    tried : (k : ℕ) (f : Factor) → IsMadeFactor Derivation h order z c k f → length f.defs.items ≤ 64 → length f.lemmas.items ≡ length f.defs.items
+        → IsTried g z c k f
     tried k f is few paired = record {
       derived = record {
         made = record {
@@ -42,13 +44,13 @@ module _ (g : MixedGraph) (ok : IsMixedGraph g) (z c : ℕ) (off : is_apart z c 
           is_order = subst (λ h. IsOrder h order (length order)) same is_order;
           factor = subst (λ h. IsFactor h order c is.a (Source.Under z) k (map view f.defs.items) (view f.value)) same is.factor;
         };
-        steps = subst (λ h. AreFactorSteps h order c is.a (Source.Under z) k (map lemma_view f.lemmas.items) (steps_view f.steps.items)) same is.steps;
+        steps = subst (λ h. AreFactorSteps h order c is.a (Source.Under z) k (map lemma_view f.lemmas.items) (steps_view f.steps.items)) same (is.steps refl);
       };
       few = few;
       paired = paired;
     }
 
-    pub tried_ok : (k : ℕ) (r : Result Factor FactorFault) → IfOk r (IsMadeFactor h order z c k) → IfOk r (λ f. length f.defs.items ≤ 64)
+    pub tried_ok : (k : ℕ) (r : Result Factor FactorFault) → IfOk r (IsMadeFactor Derivation h order z c k) → IfOk r (λ f. length f.defs.items ≤ 64)
         → IfOk r (λ f. length f.lemmas.items ≡ length f.defs.items) → IfOk r (IsTried g z c k)
     tried_ok k (Ok f) is few paired = tried k f is few paired
     tried_ok k (Err e) is few paired = tt

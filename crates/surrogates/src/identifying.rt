@@ -18,7 +18,7 @@ use crate::answer::{CommonHedge, Surrogate};
 use crate::blocking::common_stop;
 use crate::gathering::factors_with;
 use hedge::joined_sets::districts;
-use identify::{Stop, ancestors_outside, assembled, hedge_of, observed, order_of};
+use identify::{Stop, Wanted, ancestors_outside, assembled, hedge_of, observed, order_of};
 use mixed_graph::{Graph, VSet};
 use std::alloc::{AllocError, Global};
 
@@ -133,7 +133,8 @@ fn answer(
     let parts = districts(g, d);
     match factors_with(alloc, g, experiments, d, &parts) {
         Ok(made) => {
-            let (formula, derivation) = assembled(alloc, g, x, y, d, &order, &parts, made)?;
+            let wanted = Wanted::Derivation;
+            let (formula, derivation) = assembled(alloc, wanted, g, x, y, d, &order, &parts, made)?;
             Ok(Surrogate::Formula(formula, derivation))
         }
         Err(Stop::At { small, big }) => stopped_answer(alloc, g, x, y, experiments, small, big),

@@ -11,7 +11,7 @@ ghost use Rattle.surrogates.specs.Surrogates.{IsStoppedUnder};
 ghost use Rattle.surrogates.specs.Tries.{IsDistrictFrom, IsTried, IsTryFault, IsAttempt, IsAttemptOf, IsFirstTried, IsBlockedFactor};
 
 use identify::factors::{Factor, FactorFault, factor_under};
-use identify::order_of;
+use identify::{Wanted, order_of};
 use mixed_graph::{Graph, VSet};
 use std::alloc::{AllocError, Global};
 
@@ -30,7 +30,7 @@ pub fn factor_without(
 {
     let rest = g.induced(VSet::below(g.n).difference(z));
     let order = order_of(&rest);
-    factor_under(alloc, &rest, &order, z, c, first)
+    factor_under(alloc, Wanted::Derivation, &rest, &order, z, c, first)
 }
 
 /// No factor, but for want of memory.

@@ -1,6 +1,6 @@
 //! What the names that a command lists stand for: sets of observed vertices, or the first name at fault.
 //!
-//! `find_sets(alloc, &all, &observed, x, y, given)` gives the sets of three lists.
+//! `walk(alloc, &all, &observed, walked, list)` gives the set of a list.
 #![tactic(auto)]
 
 ghost use Rattle.std.specs.Prelude.{◌≡◌, ◌<◌, ◌++◌, ℕ, IsTrue, false, true, length, IfOk, IfErr, OnOk, None, Some, ◌||◌};
@@ -14,10 +14,7 @@ mod query;
 pub use fault::TargetFault;
 use fault::{latent, twice, unknown};
 use mixed_graph::{Names, VSet};
-pub use query::{
-    EffectSets, RuleSets, Sets, find_effect_sets, find_listed_sets, find_rule_sets, find_sets,
-    names_of,
-};
+pub use query::{EffectSets, RuleSets, Sets, find_effect_sets, find_rule_sets};
 use std::alloc::Global;
 
 /// The set of the observed vertices that a list names, where no name of it is at fault and none is in `walked`.

@@ -7,9 +7,9 @@ ghost use Rattle.mixed_graph.specs.Names.{texts, name_of};
 ghost use Rattle.targets.specs.Targets.{OrMemory, AreListedSets, IsListFault, AreSets, IsTargetFault, AreRuleSets, IsRuleFault, AreEffectSets, IsEffectFault};
 
 use crate::fault::TargetFault;
-use crate::{walk, walk_two};
+use crate::walk_two;
 use mixed_graph::{Names, VSet};
-use std::alloc::{AllocError, Global};
+use std::alloc::Global;
 
 /// The sets of a query: exposures, outcomes, and what is given.
 #[derive(Clone, Copy)]
@@ -17,60 +17,6 @@ pub struct Sets {
     pub x: VSet,
     pub y: VSet,
     pub given: VSet,
-}
-
-/// The sets that the lists of a query name, all of them observed and none named twice. x may be empty.
-///
-/// Else the first name at fault, x walked first, then y, then given; else `EmptyY`.
-pub fn find_listed_sets(
-    alloc: Global,
-    all: &Names,
-    observed: &Names,
-    x: &[Vec<u8>],
-    y: &[Vec<u8>],
-    given: &[Vec<u8>],
-) -> Result<Sets, TargetFault>
-    ensures sets { IfOk result (λ s. AreListedSets (record { all = all.now; observed = observed.now; x = texts x.now; y = texts y.now; given = texts given.now }) s.x.bits s.y.bits s.given.bits) }
-    ensures fault { IfErr result (OrMemory (IsListFault (record { all = all.now; observed = observed.now; x = texts x.now; y = texts y.now; given = texts given.now }))) }
-{
-    let (set_x, set_y) = match walk_two(alloc, all, observed, VSet::empty(), x, y) {
-        Ok(sets) => sets,
-        Err(fault) => return Err(fault),
-    };
-    let set_given = match walk(alloc, all, observed, set_x.union(set_y), given) {
-        Ok(set) => set,
-        Err(fault) => return Err(fault),
-    };
-    if y.is_empty() {
-        return Err(TargetFault::EmptyY);
-    }
-    Ok(Sets {
-        x: set_x,
-        y: set_y,
-        given: set_given,
-    })
-}
-
-/// The same where x may not be empty: else `EmptyX`.
-pub fn find_sets(
-    alloc: Global,
-    all: &Names,
-    observed: &Names,
-    x: &[Vec<u8>],
-    y: &[Vec<u8>],
-    given: &[Vec<u8>],
-) -> Result<Sets, TargetFault>
-    ensures sets { IfOk result (λ s. AreSets (record { all = all.now; observed = observed.now; x = texts x.now; y = texts y.now; given = texts given.now }) s.x.bits s.y.bits s.given.bits) }
-    ensures fault { IfErr result (OrMemory (IsTargetFault (record { all = all.now; observed = observed.now; x = texts x.now; y = texts y.now; given = texts given.now }))) }
-{
-    let sets = match find_listed_sets(alloc, all, observed, x, y, given) {
-        Ok(sets) => sets,
-        Err(fault) => return Err(fault),
-    };
-    if x.is_empty() {
-        return Err(TargetFault::EmptyX);
-    }
-    Ok(sets)
 }
 
 /// The sets of a rule of the do-calculus: y and z, with what is done and what is given.
@@ -148,16 +94,4 @@ pub fn find_effect_sets(
         return Err(TargetFault::EmptyY);
     }
     Ok(EffectSets { x: set_x, y: set_y })
-}
-
-/// The names of a set's vertices, in index order.
-pub fn names_of(alloc: Global, names: &Names, set: VSet) -> Result<Vec<Vec<u8>>, AllocError>
-    requires { Within (length names.now) (has set.bits) }
-    ensures { IfOk result (λ v. texts v.items ≡ map (name_of names.now) (members_below (has set.bits) 64)) }
-{
-    let mut list = Vec::new(alloc);
-    'members: for v in set.iter() {
-        list.push(Vec::from_slice(alloc, names.get(v))?)?;
-    }
-    Ok(list)
 }

@@ -1,6 +1,6 @@
 // Names as lines.
 
-ghost use Rattle.std.specs.Prelude.{◌≡◌, ◌<◌, ◌++◌, [], ◌∷◌, ℕ, List, false, length, position, IfOk, OnOk, OnSome, IfSome, IsNone, IsErrOf};
+ghost use Rattle.std.specs.Prelude.{◌≡◌, ◌<◌, ◌≤◌, ◌++◌, [], ◌∷◌, ℕ, List, false, length, position, IfOk, OnOk, OnSome, IfSome, IsNone, IsErrOf};
 ghost use Rattle.std.specs.List.{before_first, after_first, position_or_len};
 ghost use Rattle.mixed_graph.specs.Names.{AreNames, IsName, is_named};
 ghost use Rattle.caller_memory.specs.Kept.{lines_of};
@@ -55,13 +55,23 @@ fn add_new(names: &mut Names, name: &[u8]) -> Result<(), NamesFault>
     ensures added { OnOk result (names.new ≡ names.old ++ name.now ∷ []) }
     ensures refused { IsErrOf result NamesFault.NotNames → IsName name.now → is_named names.old name.now ≡ false → length names.old < 64 → ⊥ }
 {
-    if names.index(name).is_some() {
-        return Err(NamesFault::NotNames);
-    }
+    let before = names.count();
     match names.add(name) {
-        Ok(_) => Ok(()),
+        Ok(_) => grown(names, before),
         Err(AddFault::NoMemory) => Err(NamesFault::NoMemory),
         Err(AddFault::NotAName | AddFault::Full) => Err(NamesFault::NotNames),
+    }
+}
+
+/// Whether there are more names than before.
+fn grown(names: &Names, before: u32) -> Result<(), NamesFault>
+    ensures more { OnOk result (before < length names.now) }
+    ensures same { IsErrOf result NamesFault.NotNames → length names.now ≤ before }
+{
+    if names.count() > before {
+        Ok(())
+    } else {
+        Err(NamesFault::NotNames)
     }
 }
 

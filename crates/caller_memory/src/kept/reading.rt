@@ -2,7 +2,7 @@
 
 ghost use Rattle.std.specs.Prelude.{◌≡◌, ◌↔◌, IsTrue, IfErr, IfOk};
 ghost use Rattle.mixed_graph.specs.Shown.{graph_of};
-ghost use Rattle.replies.specs.Observed.{IsObservedGraph};
+ghost use Rattle.diagram.specs.Observed.{IsObservedGraph};
 ghost use Rattle.caller_memory.specs.Kept.{graph_in, KeepsText, IsNoGraphText, Keeps, lines_of};
 
 use crate::kept::kept::{KeptDiagram, KeptGraph};

@@ -7,7 +7,6 @@ ghost use Rattle.explain_call.specs.Graphs.{graph_text, IsRuleGraphText};
 
 use dag_reader::{ReadGraph, write_graph};
 use do_rules::Rule;
-use latent_projection::{Observed, observed};
 use mixed_graph::{Graph, Names, VSet};
 use std::alloc::{AllocError, Global};
 
@@ -31,31 +30,20 @@ fn graph_text(alloc: Global, names: Names, graph: Graph) -> Result<Vec<u8>, Allo
 /// The text of the graph in which a rule is asked: that of g without the edges that the rule cuts.
 pub fn rule_graph_text(
     alloc: Global,
-    names: Names,
+    names: &Names,
     g: &Graph,
     rule: Rule,
     doing: VSet,
     z: VSet,
     given: VSet,
 ) -> Result<Vec<u8>, AllocError>
-    requires named { length names ≡ g.now.n }
+    requires named { length names.now ≡ g.now.n }
     requires doing { Within g.now.n (has doing.bits) }
     requires z { Within g.now.n (has z.bits) }
     requires given { Within g.now.n (has given.bits) }
-    ensures { IfOk result (λ v. IsRuleGraphText rule (graph_of g.now) names doing.bits z.bits given.bits v.items) }
+    ensures { IfOk result (λ v. IsRuleGraphText rule (graph_of g.now) names.now doing.bits z.bits given.bits v.items) }
 {
+    let copies = names.copy()?;
     let cut = rule.graph(g, doing, z, given);
-    graph_text(alloc, names, cut)
-}
-
-/// The names once more: those of a graph in which no vertex is hidden.
-pub fn copy_names(alloc: Global, names: &Names, g: &Graph) -> Result<Names, AllocError>
-    requires { length names.now ≡ g.now.n }
-    ensures { IfOk result (λ copies. copies ≡ names.now) }
-{
-    let Observed {
-        names: copies,
-        graph: _,
-    } = observed(alloc, names, g, VSet::EMPTY)?;
-    Ok(copies)
+    graph_text(alloc, copies, cut)
 }

@@ -7,7 +7,7 @@ ghost use Rattle.answer_text.specs.Texts.{set_text};
 ghost use Rattle.explain_call.specs.Questions.{asked_of, IsBelow};
 ghost use Rattle.explain_call.specs.ToldRules.{question_line, TellsQuestion, TellsAsked};
 
-use crate::explaining::graphs::{copy_names, rule_graph_text};
+use crate::explaining::graphs::rule_graph_text;
 use crate::explaining::questions::Question;
 use answer_text::names::with_number;
 use answer_text::push_set;
@@ -55,8 +55,7 @@ fn question_text(
     ensures { IfOk result (λ v. TellsQuestion q.now.rule (graph_of g.now) names.now q.now.doing.bits q.now.y.bits q.now.z.bits q.now.given.bits v.items) }
 {
     let mut text = question_line(alloc, names, q)?;
-    let copies = copy_names(alloc, names, g)?;
-    let graph = rule_graph_text(alloc, copies, g, q.rule, q.doing, q.z, q.given)?;
+    let graph = rule_graph_text(alloc, names, g, q.rule, q.doing, q.z, q.given)?;
     text.extend_from_slice(graph.as_slice())?;
     Ok(text)
 }

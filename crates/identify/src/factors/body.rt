@@ -7,7 +7,7 @@ ghost use Rattle.mixed_graph.specs.Sets.{Within};
 ghost use Rattle.mixed_graph.specs.Shown.{graph_of};
 ghost use Rattle.do_derivation.specs.Plans.{no_plans, plan};
 ghost use Rattle.do_derivation.specs.View.{listed, step_view, steps_view};
-ghost use Rattle.identification_theory.specs.Derivations.{at_each, body_steps};
+ghost use Rattle.identification_theory.specs.Derivations.{at_each, body_steps, in_order};
 ghost use Rattle.identify.specs.Lists.{lists_view};
 ghost use Rattle.identify.specs.Parts.{source_of};
 ghost use Rattle.identify.specs.Bodies.{ArePlaces, IsBodyOf};
@@ -16,19 +16,20 @@ use crate::factors::moves::members_in;
 use crate::factors::place::{VertexFactor, place_of};
 use crate::factors::pushing::push_each;
 use crate::factors::terms::Source;
+use crate::wanted::Wanted;
 use do_derivation::{Step, as_one};
 use mixed_graph::{Graph, Order, VSet};
 use prob_expr::Expr;
 use std::alloc::{AllocError, Global};
 
-/// The factors of the members of a district in the order, and for each the steps to it.
+/// The factors of the members of a district in the order, and for each the steps to it, where these are wanted.
 #[derive(Drop)]
 struct Places {
     factors: Vec<Expr>,
     lists: Vec<Vec<Step>>,
 }
 
-/// The factor of a district, and the steps that make it of the district's term.
+/// The factor of a district, and the steps that make it of the district's term, where these are wanted.
 #[derive(Drop)]
 pub struct Body {
     pub value: Expr,
@@ -38,6 +39,7 @@ pub struct Body {
 /// The factors of the members of the district t of a.
 fn places_of(
     alloc: Global,
+    wanted: Wanted,
     g: &Graph,
     order: &[u8],
     from: Source,
@@ -46,14 +48,14 @@ fn places_of(
 ) -> Result<Places, AllocError>
     requires vertices { All (λ v. v < g.now.n) order.now }
     requires within { Within g.now.n (has a.bits) }
-    ensures { IfOk result (ArePlaces (graph_of g.now) order.now (source_of from) a.bits t.bits) }
+    ensures { IfOk result (ArePlaces wanted (graph_of g.now) order.now (source_of from) a.bits t.bits) }
 {
     let mut factors = Vec::new(alloc);
     let mut lists = Vec::new(alloc);
     let mut before = VSet::EMPTY;
     for v in order {
         if t.has(*v) {
-            let VertexFactor { term, steps } = place_of(alloc, g, from, a, t, before, *v)?;
+            let VertexFactor { term, steps } = place_of(alloc, wanted, g, from, a, t, before, *v)?;
             factors.push(term)?;
             lists.push(steps)?;
         }
@@ -87,9 +89,29 @@ fn body_steps(alloc: Global, members: Order, lists: Vec<Vec<Step>>) -> Result<Ve
     }
 }
 
+/// The steps of the members of t as one list, where they are wanted.
+fn wanted_steps(
+    alloc: Global,
+    wanted: Wanted,
+    order: &[u8],
+    t: VSet,
+    lists: Vec<Vec<Step>>,
+) -> Result<Vec<Step>, AllocError>
+    requires long { length order.now ≤ 64 }
+    requires low { All (λ v. v < 64) order.now }
+    requires counted { wanted ≡ Wanted.Derivation → length lists.items ≡ length (in_order t.bits order.now) }
+    ensures { IfOk result (λ s. wanted ≡ Wanted.Derivation → steps_view s.items ≡ body_steps (in_order t.bits order.now) (lists_view lists.items)) }
+{
+    match wanted {
+        Wanted::Formula => Ok(Vec::new(alloc)),
+        Wanted::Derivation => body_steps(alloc, members_in(order, t), lists),
+    }
+}
+
 /// The factor of the district t of a, read directly from the source.
 pub fn body_of(
     alloc: Global,
+    wanted: Wanted,
     g: &Graph,
     order: &[u8],
     from: Source,
@@ -99,10 +121,10 @@ pub fn body_of(
     requires long { length order.now ≤ 64 }
     requires vertices { All (λ v. v < g.now.n) order.now }
     requires within { Within g.now.n (has a.bits) }
-    ensures { IfOk result (IsBodyOf (graph_of g.now) order.now (source_of from) a.bits t.bits) }
+    ensures { IfOk result (IsBodyOf wanted (graph_of g.now) order.now (source_of from) a.bits t.bits) }
 {
-    let Places { factors, lists } = places_of(alloc, g, order, from, a, t)?;
-    let steps = body_steps(alloc, members_in(order, t), lists)?;
+    let Places { factors, lists } = places_of(alloc, wanted, g, order, from, a, t)?;
+    let steps = wanted_steps(alloc, wanted, order, t, lists)?;
     Ok(Body {
         value: as_one(factors),
         steps,

@@ -8,7 +8,7 @@ use mixed_graph::VSet;
 use prob_expr::Expr;
 use std::alloc::{AllocError, AllocFailed};
 
-/// The factor of a district, P(district | do(all others)), and how it is derived.
+/// The factor of a district, P(district | do(all others)), and how it is derived, where that is wanted.
 #[derive(Drop)]
 pub struct Factor {
     /// Its definitions, each of which may name earlier ones.

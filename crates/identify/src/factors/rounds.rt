@@ -19,6 +19,7 @@ use crate::factors::district_factor::{Factor, FactorFault};
 use crate::factors::moves::cut_steps;
 use crate::factors::sets::ancestors_in;
 use crate::factors::terms::Source;
+use crate::wanted::Wanted;
 use do_derivation::{Lemma, Step};
 use hedge::joined_sets::district_of;
 use mixed_graph::{Graph, Order, VSet};
@@ -34,9 +35,24 @@ enum Round {
     Further(VSet, Body),
 }
 
-/// The sum over a set of what the body has, and the steps to it.
-fn summed(alloc: Global, over: VSet, body: Body) -> Result<Body, AllocError>
-    ensures { IfOk result (IsSummed over.bits body) }
+/// The steps to a sum over a set, whose body has these steps, where they are wanted.
+fn sum_steps(
+    alloc: Global,
+    wanted: Wanted,
+    over: VSet,
+    inner: Vec<Step>,
+) -> Result<Vec<Step>, AllocError>
+    ensures { IfOk result (λ s. wanted ≡ Wanted.Derivation → steps_view s.items ≡ cut_steps over.bits (steps_view inner.items)) }
+{
+    match wanted {
+        Wanted::Formula => Ok(inner),
+        Wanted::Derivation => cut_steps(alloc, over, inner),
+    }
+}
+
+/// The sum over a set of what the body has, and the steps to it, where these are wanted.
+fn summed(alloc: Global, wanted: Wanted, over: VSet, body: Body) -> Result<Body, AllocError>
+    ensures { IfOk result (IsSummed wanted over.bits body) }
 {
     let Body { value, steps } = body;
     Ok(Body {
@@ -44,13 +60,14 @@ fn summed(alloc: Global, over: VSet, body: Body) -> Result<Body, AllocError>
             over,
             body: Box::new(alloc, value)?,
         },
-        steps: cut_steps(alloc, over, steps)?,
+        steps: sum_steps(alloc, wanted, over, steps)?,
     })
 }
 
 /// One round for c from its ancestral set a: the district of c in a, and its part that leads to c.
 fn next_round(
     alloc: Global,
+    wanted: Wanted,
     g: &Graph,
     order: &[u8],
     c: VSet,
@@ -63,19 +80,19 @@ fn next_round(
     requires inside { IsInside c.bits a.bits }
     requires some { (v : ℕ) × IsTrue (has c.bits v) }
     requires joined { IsJoinedSet (graph_of g.now) c.bits }
-    ensures round { IfOk result (IsRound (graph_of g.now) order.now c.bits a.bits (source_of from)) }
+    ensures round { IfOk result (IsRound wanted (graph_of g.now) order.now c.bits a.bits (source_of from)) }
     ensures fault { IfErr result (IsRoundFault (graph_of g.now) c.bits a.bits) }
 {
     let t = district_of(g, a, c.lowest());
     if t.bits == c.bits {
-        return Ok(Round::Done(body_of(alloc, g, order, from, a, t)?));
+        return Ok(Round::Done(body_of(alloc, wanted, g, order, from, a, t)?));
     }
     let leading = ancestors_in(g, t, c);
     if leading.bits == t.bits {
         return Err(FactorFault::Stopped(t));
     }
-    let body = body_of(alloc, g, order, from, a, t)?;
-    let body = summed(alloc, t.difference(leading), body)?;
+    let body = body_of(alloc, wanted, g, order, from, a, t)?;
+    let body = summed(alloc, wanted, t.difference(leading), body)?;
     if leading.bits == c.bits {
         return Ok(Round::Done(body));
     }
@@ -85,10 +102,11 @@ fn next_round(
 /// The factor of a district of some set of vertices, its definitions from number `first` on, read
 /// from the observed distribution.
 ///
-/// `Stopped` where the procedure stops inside the ancestors of the district. Memory may be refused
-/// at any time.
+/// Its steps, and those of its lemmas, are made where a derivation is wanted. `Stopped` where the procedure
+/// stops inside the ancestors of the district. Memory may be refused at any time.
 pub fn factor(
     alloc: Global,
+    wanted: Wanted,
     g: &Graph,
     order: &Order,
     c: VSet,
@@ -99,21 +117,22 @@ pub fn factor(
     requires some { (v : ℕ) × IsTrue (has c.bits v) }
     requires joined { IsJoinedSet (graph_of g.now) c.bits }
     requires room { first + 64 < 2 ^ 32 }
-    ensures factor { IfOk result (IsFactorOf (graph_of g.now) (listed order.now) c.bits first) }
+    ensures factor { IfOk result (IsFactorOf wanted (graph_of g.now) (listed order.now) c.bits first) }
     ensures few { IfOk result (λ f. length f.defs.items ≤ 64) }
     ensures paired { IfOk result (λ f. length f.lemmas.items ≡ length f.defs.items) }
     ensures fault { IfErr result (IsFactorFault (graph_of g.now) c.bits) }
 {
-    factor_under(alloc, g, order, VSet::EMPTY, c, first)
+    factor_under(alloc, wanted, g, order, VSet::EMPTY, c, first)
 }
 
 /// The factor of a district of some set of vertices, its definitions from number `first` on, read
 /// from the distribution under an intervention on z.
 ///
-/// `Stopped` where the procedure stops inside the ancestors of the district. Memory may be refused
-/// at any time.
+/// Its steps, and those of its lemmas, are made where a derivation is wanted. `Stopped` where the procedure
+/// stops inside the ancestors of the district. Memory may be refused at any time.
 pub fn factor_under(
     alloc: Global,
+    wanted: Wanted,
     g: &Graph,
     order: &Order,
     z: VSet,
@@ -125,7 +144,7 @@ pub fn factor_under(
     requires some { (v : ℕ) × IsTrue (has c.bits v) }
     requires joined { IsJoinedSet (graph_of g.now) c.bits }
     requires room { first + 64 < 2 ^ 32 }
-    ensures factor { IfOk result (IsMadeFactor (graph_of g.now) (listed order.now) z.bits c.bits first) }
+    ensures factor { IfOk result (IsMadeFactor wanted (graph_of g.now) (listed order.now) z.bits c.bits first) }
     ensures few { IfOk result (λ f. length f.defs.items ≤ 64) }
     ensures paired { IfOk result (λ f. length f.lemmas.items ≡ length f.defs.items) }
     ensures fault { IfErr result (IsFactorFault (graph_of g.now) c.bits) }
@@ -137,7 +156,7 @@ pub fn factor_under(
     let mut lemmas = Vec::new(alloc);
     let mut next = first;
     'rounds: loop {
-        let round = match next_round(alloc, g, vertices, c, a, from) {
+        let round = match next_round(alloc, wanted, g, vertices, c, a, from) {
             Ok(round) => round,
             Err(fault) => return Err(fault),
         };

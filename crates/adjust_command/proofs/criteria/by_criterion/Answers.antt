@@ -10,7 +10,7 @@ pub not_admissible_text-requires-clause-fault : goal.not_admissible_text-require
 not_admissible_text-requires-clause-fault c =
     let q = graph_of c.args.seen.now.graph in let b = c.args.by_back_door in let x = c.args.sets.x.bits in let y = c.args.sets.y.bits in let z =
     c.args.sets.given.bits in
-    subst (λ n. IsPrintable n c.in-Breaks.fault) (sym c.requires.named)
+    subst (λ n. IsPrintable n c.in-Breaks.fault) (sym c.args.seen.now.sized)
     (fault_printable b q c.args.seen.now.graph.valid x y z c.requires.sets.w_within c.in-Breaks.fault
     (subst (IsVerdict b q x y z) c.in-Breaks.is c.judge.ensures))
 

@@ -5,32 +5,30 @@ use Rattle.causal_cli.specs.declared.request.Request.TheVariants.{Graph, Separat
 use Rattle.causal_cli.proofs.request.reply_on.Goals as goal
 
 pub returns-in-Graph : goal.returns-in-Graph
-returns-in-Graph c = subst (λ q. IfOk c.replied.result (GivesOn left_of commands (request_of q) c.args.graph)) (sym c.in-Graph.is)
-    (c.replied.ensures (request_of (Graph c.in-Graph.asked)) c.args.graph c.graph_reply.ensures)
+returns-in-Graph c = subst (λ q. IfOk c.replied.result (GivesOn (left_of c.args.diagram.now) commands (request_of q) c.args.diagram.now)) (sym c.in-Graph.is)
+    (c.replied.ensures (request_of (Graph c.in-Graph.asked)) c.args.diagram.now c.graph_reply.ensures)
 
 pub returns-in-Separate : goal.returns-in-Separate
-returns-in-Separate c = subst (λ q. IfOk c.replied-in-Separate.result (GivesOn left_of commands (request_of q) c.args.graph)) (sym c.in-Separate.is)
-    (c.replied-in-Separate.ensures (request_of (Separate c.in-Separate.asked)) c.args.graph c.separate_reply.ensures)
+returns-in-Separate c = subst (λ q. IfOk c.replied-in-Separate.result
+    (GivesOn (left_of c.args.diagram.now) commands (request_of q) c.args.diagram.now)) (sym c.in-Separate.is)
+    (c.replied-in-Separate.ensures (request_of (Separate c.in-Separate.asked)) c.args.diagram.now c.separate_reply.ensures)
 
 pub returns-in-Rule : goal.returns-in-Rule
-returns-in-Rule c =
-    let given = rw (
-      c.deref.ensures.value,
-      c.deref-in-Rule.ensures.value,
-      c.deref-in-Rule-2.ensures.value,
-      c.deref-in-Rule-3.ensures.value,
-    ) at c.rule_reply.ensures in
-    subst (λ q. IfOk c.replied-in-Rule.result (GivesOn left_of commands (request_of q) c.args.graph)) (sym c.in-Rule.is)
-    (c.replied-in-Rule.ensures (request_of (Rule c.in-Rule.asked)) c.args.graph given)
+returns-in-Rule c = subst (λ q. IfOk c.replied-in-Rule.result (GivesOn (left_of c.args.diagram.now) commands (request_of q) c.args.diagram.now))
+    (sym c.in-Rule.is)
+    (c.replied-in-Rule.ensures (request_of (Rule c.in-Rule.asked)) c.args.diagram.now c.rule_reply.ensures)
 
 pub returns-in-Identify : goal.returns-in-Identify
-returns-in-Identify c = subst (λ q. IfOk c.replied-in-Identify.result (GivesOn left_of commands (request_of q) c.args.graph)) (sym c.in-Identify.is)
-    (c.replied-in-Identify.ensures (request_of (Identify c.in-Identify.asked)) c.args.graph c.identify_reply.ensures)
+returns-in-Identify c = subst (λ q. IfOk c.replied-in-Identify.result
+    (GivesOn (left_of c.args.diagram.now) commands (request_of q) c.args.diagram.now)) (sym c.in-Identify.is)
+    (c.replied-in-Identify.ensures (request_of (Identify c.in-Identify.asked)) c.args.diagram.now c.identify_reply.ensures)
 
 pub returns-in-Adjust : goal.returns-in-Adjust
-returns-in-Adjust c = subst (λ q. IfOk c.replied-in-Adjust.result (GivesOn left_of commands (request_of q) c.args.graph)) (sym c.in-Adjust.is)
-    (c.replied-in-Adjust.ensures (request_of (Adjust c.in-Adjust.asked)) c.args.graph c.adjust_reply.ensures)
+returns-in-Adjust c = subst (λ q. IfOk c.replied-in-Adjust.result (GivesOn (left_of c.args.diagram.now) commands (request_of q) c.args.diagram.now))
+    (sym c.in-Adjust.is)
+    (c.replied-in-Adjust.ensures (request_of (Adjust c.in-Adjust.asked)) c.args.diagram.now c.adjust_reply.ensures)
 
-pub returns : goal.returns
-returns c = subst (λ q. IfOk c.replied-in-Surrogate.result (GivesOn left_of commands (request_of q) c.args.graph)) (sym c.in-Surrogate.is)
-    (c.replied-in-Surrogate.ensures (request_of (Surrogate c.in-Surrogate.asked)) c.args.graph c.surrogate_reply.ensures)
+pub returns-in-Surrogate : goal.returns-in-Surrogate
+returns-in-Surrogate c = subst (λ q. IfOk c.replied-in-Surrogate.result
+    (GivesOn (left_of c.args.diagram.now) commands (request_of q) c.args.diagram.now)) (sym c.in-Surrogate.is)
+    (c.replied-in-Surrogate.ensures (request_of (Surrogate c.in-Surrogate.asked)) c.args.diagram.now c.surrogate_reply.ensures)

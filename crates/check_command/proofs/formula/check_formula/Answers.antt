@@ -22,7 +22,7 @@ answer_in-requires-clause-given c = given_within (length c.args.seen.now.names) 
 pub derivation_text-requires : goal.derivation_text-requires
 derivation_text-requires c =
     let g = c.args.seen.now.graph in
-    subst (λ n. IsLowFault n c.in-Err.fault) (sym c.requires.named)
+    subst (λ n. IsLowFault n c.in-Err.fault) (sym c.args.seen.now.sized)
     (low_unless (graph_of g) g.valid (masks_of c.args.experiments.now) (target_view c.args.target.now) (formula_view c.args.formula.now)
     (derivation_view c.args.derivation.now) c.in-Err.fault c.in-Err.ensures.fault)
 

@@ -26,9 +26,9 @@ heading_over-requires c =
     record {
       x = x_within (length c.args.seen.now.names) (target_view t) c.requires.target;
       y = y_within (length c.args.seen.now.names) (target_view t) c.requires.target;
-      big = subst (λ n. Within n (has h.big.bits)) (sym c.requires.named) below.big;
-      small = subst (λ n. Within n (has h.small.bits)) (sym c.requires.named) below.small;
-      roots = subst (λ n. Within n (has h.roots.bits)) (sym c.requires.named) below.roots;
+      big = subst (λ n. Within n (has h.big.bits)) (sym c.args.seen.now.sized) below.big;
+      small = subst (λ n. Within n (has h.small.bits)) (sym c.args.seen.now.sized) below.small;
+      roots = subst (λ n. Within n (has h.roots.bits)) (sym c.args.seen.now.sized) below.roots;
     }
 
 pub returns : goal.returns

@@ -7,7 +7,7 @@ use Rattle.check_command.proofs.hedge_data.check_hedge.Goals as goal
 
 pub holds-requires : goal.holds-requires
 holds-requires c =
-    subst (λ n. Within n (has c.args.target.now.y.bits)) c.requires.named
+    subst (λ n. Within n (has c.args.target.now.y.bits)) c.args.seen.now.sized
     (y_within (length c.args.seen.now.names) (target_view c.args.target.now) c.requires.target)
 
 pub returns-in_ok-hedge_text-in-Err-clause-answer : goal.returns-in_ok-hedge_text-in-Err-clause-answer

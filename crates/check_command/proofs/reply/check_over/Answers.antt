@@ -1,4 +1,3 @@
-use Rattle.std.proofs.Common.{sym, ◌∙◌, ap}
 use Rattle.mixed_graph.specs.Shown.{graph_of}
 use Rattle.prob_expr.specs.Listed.{masks_of}
 use Rattle.prob_expr.specs.View.{formula_view, target_view}
@@ -14,34 +13,33 @@ use Rattle.check_command.proofs.reply.check_over.Goals as goal
 pub check_formula-requires : goal.check_formula-requires
 check_formula-requires c =
     let reads = rw c.in-Ok-Formula.field-0-is at c.in-Ok-Formula.ensures in
-    let sound = read_sound c.in_ok-seen.seen.names c.args.certificate.now
+    let sound = read_sound c.args.seen.now.names c.args.certificate.now
     (formula (target_view c.in-Ok-Formula.target) (formula_view c.in-Ok-Formula.formula) (derivation_view c.in-Ok-Formula.derivation)) reads in
-    record { named = c.in_ok-seen.ensures.named; target = sound.target; formula = sound.formula; derivation = sound.derivation }
+    record { target = sound.target; formula = sound.formula; derivation = sound.derivation }
 
 pub returns-in-Ok-Formula : goal.returns-in-Ok-Formula
 returns-in-Ok-Formula c =
     let reads = rw c.in-Ok-Formula.field-0-is at c.in-Ok-Formula.ensures in
-    formula_answers c.args.graph.now (graph_of c.in_ok-seen.seen.graph) c.in_ok-seen.seen.names (masks_of c.args.experiments.now)
-    c.args.certificate.now c.in_ok-seen.ensures.graph c.in_ok-seen.ensures.names c.requires
+    formula_answers (graph_of c.args.seen.now.graph) c.args.seen.now.names (masks_of c.args.experiments.now) c.args.certificate.now c.requires
     (target_view c.in-Ok-Formula.target) (formula_view c.in-Ok-Formula.formula) (derivation_view c.in-Ok-Formula.derivation)
     reads c.check_formula.result c.check_formula.ensures
 
-pub check_hedge-requires-clause-target : goal.check_hedge-requires-clause-target
-check_hedge-requires-clause-target c =
+pub check_hedge-requires : goal.check_hedge-requires
+check_hedge-requires c =
     let reads = rw c.in-Ok-Hedge.field-0-is at c.in-Ok-Hedge.ensures in
-    read_sound c.in_ok-seen.seen.names c.args.certificate.now (hedge (target_view c.in-Ok-Hedge.target) (hedge_view c.in-Ok-Hedge.hedge)) reads
+    record {
+      target = read_sound c.args.seen.now.names c.args.certificate.now (hedge (target_view c.in-Ok-Hedge.target) (hedge_view c.in-Ok-Hedge.hedge)) reads;
+    }
 
 pub returns-in-Ok-Hedge : goal.returns-in-Ok-Hedge
 returns-in-Ok-Hedge c =
     let reads = rw c.in-Ok-Hedge.field-0-is at c.in-Ok-Hedge.ensures in
-    hedge_answers c.args.graph.now (graph_of c.in_ok-seen.seen.graph) c.in_ok-seen.seen.names (masks_of c.args.experiments.now)
-    c.args.certificate.now c.in_ok-seen.ensures.graph c.in_ok-seen.ensures.names c.requires
+    hedge_answers (graph_of c.args.seen.now.graph) c.args.seen.now.names (masks_of c.args.experiments.now) c.args.certificate.now c.requires
     (target_view c.in-Ok-Hedge.target) c.in-Ok-Hedge.hedge c.check_hedge.ensures.entries reads c.check_hedge.result c.check_hedge.ensures.answer
 
-pub returns : goal.returns
-returns c =
+pub returns-in_ok-line-in-Err : goal.returns-in_ok-line-in-Err
+returns-in_ok-line-in-Err c =
     let line = c.in_ok-line-in-Err in
     faulty c.in-Err.fault c.requires line.ensures.memory
-    (ap (λ n. certificate_in n c.args.certificate.now) (sym c.in_ok-seen.ensures.names)
-    ∙ unread c.in-Err.fault (certificate_in c.in_ok-seen.seen.names c.args.certificate.now) c.in-Err.ensures line.ensures.memory)
+    (unread c.in-Err.fault (certificate_in c.args.seen.now.names c.args.certificate.now) c.in-Err.ensures line.ensures.memory)
     line.ensures.line

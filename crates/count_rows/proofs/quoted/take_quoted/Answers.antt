@@ -37,5 +37,6 @@ returns-in-EndRecord-clause-fields c =
 
 pub returns-clause-fields : goal.returns-clause-fields
 returns-clause-fields c =
-    text_ended c.args.text.now c.loop-at.place c.loop-at.fields c.push-2.new.self c.loop-at.field.items c.loop-at.at _ c.loop-at.invariant.read (omega arith) refl
+    text_ended c.args.text.now c.loop-at.place c.loop-at.fields c.push-2.new.self c.loop-at.field.items c.loop-at.at _ c.loop-at.invariant.read
+    (omega arith) refl
     (c.in_ok-push.ensures ∙ ap (λ (f : List ℕ). c.loop-at.fields ++ f ∷ []) c.as_slice-2.ensures.value)

@@ -8,7 +8,7 @@ use Rattle.markov_equivalence.proofs.Independences.{same_independences, differ_i
 use Rattle.markov_equivalence.proofs.Separations.{same_separations}
 use Rattle.equivalent_command.specs.Numbers.{places, on_names}
 use Rattle.equivalent_command.specs.Answers.{ShowsDifference, IsSame, edge, collider}
-use Rattle.equivalent_command.proofs.Directed.{renumbered_arrows}
+use Rattle.equivalent_command.proofs.Placing.{renumbered_arrows}
 use Rattle.equivalent_command.proofs.reply.compared_reply.Goals as goal
 
 -- the second graph on the numbers of the first one's names has as many vertices
@@ -18,48 +18,58 @@ same_size names others n g q named is =
 
 pub compare-requires-clause-second : goal.compare-requires-clause-second
 compare-requires-clause-second c = subst HasArrowsAlone (sym c.graph_on-moved.ensures)
-    (renumbered_arrows (graph_of c.args.second.now.graph) (places c.args.first.now.names c.args.second.now.names) c.requires.second_arrows)
+    (renumbered_arrows (graph_of c.args.second.now.graph) (places c.args.first.now.names c.args.second.now.names) c.requires.comparable.second_arrows)
 
 pub agreement_text-requires-clause-second_arrows : goal.agreement_text-requires-clause-second_arrows
 agreement_text-requires-clause-second_arrows c = subst HasArrowsAlone (sym c.graph_on-moved.ensures)
-    (renumbered_arrows (graph_of c.args.second.now.graph) (places c.args.first.now.names c.args.second.now.names) c.requires.second_arrows)
+    (renumbered_arrows (graph_of c.args.second.now.graph) (places c.args.first.now.names c.args.second.now.names) c.requires.comparable.second_arrows)
 
 pub returns-in_ok-edge_text-in-Edge : goal.returns-in_ok-edge_text-in-Edge
 returns-in_ok-edge_text-in-Edge c =
     let p = c.args.first.now.graph in let q = c.graph_on-moved.result in let d = c.in-Edge.d in let named = c.in-Edge.ensures.vertices in
     let size : p.n ≡ q.n = same_size c.args.first.now.names c.args.second.now.names p.n (graph_of c.args.second.now.graph) (graph_of q)
-    c.requires.named c.graph_on-moved.ensures in
-    subst (λ r. ShowsDifference c.args.first.now.names (graph_of p) r c.in_ok-edge_text-in-Edge.field-0.items) c.graph_on-moved.ensures (record {
-      difference = edge d c.in-Edge.ensures.compared c.in-Edge.ensures.shown c.in_ok-edge_text-in-Edge.ensures;
-      independences = differ_in_models (graph_of p) (graph_of q) p.valid q.valid size d.holds_in d.a d.b (has d.given.bits)
-          named.a named.b named.given c.in-Edge.ensures.shown;
-    })
+    c.args.first.now.sized c.graph_on-moved.ensures in
+    record {
+      comparable = c.requires.comparable;
+      answer = subst (λ r. ShowsDifference c.args.first.now.names (graph_of p) r c.in_ok-edge_text-in-Edge.field-0.items) c.graph_on-moved.ensures (record {
+        difference = edge d c.in-Edge.ensures.compared c.in-Edge.ensures.shown c.in_ok-edge_text-in-Edge.ensures;
+        independences = differ_in_models (graph_of p) (graph_of q) p.valid q.valid size d.holds_in d.a d.b (has d.given.bits)
+            named.a named.b named.given c.in-Edge.ensures.shown;
+      });
+    }
 
 pub returns-in_ok-collider_text-in-Collider : goal.returns-in_ok-collider_text-in-Collider
 returns-in_ok-collider_text-in-Collider c =
     let p = c.args.first.now.graph in let q = c.graph_on-moved.result in let d = c.in-Collider.d in let named = c.in-Collider.ensures.vertices.0 in
     let size : p.n ≡ q.n = same_size c.args.first.now.names c.args.second.now.names p.n (graph_of c.args.second.now.graph) (graph_of q)
-    c.requires.named c.graph_on-moved.ensures in
-    subst (λ r. ShowsDifference c.args.first.now.names (graph_of p) r c.in_ok-collider_text-in-Collider.field-0.items) c.graph_on-moved.ensures (record {
-      difference = collider d c.in-Collider.m c.in-Collider.ensures.compared c.in-Collider.ensures.shown c.in_ok-collider_text-in-Collider.ensures;
-      independences = differ_in_models (graph_of p) (graph_of q) p.valid q.valid size d.holds_in d.a d.b (has d.given.bits)
-          named.a named.b named.given c.in-Collider.ensures.shown;
-    })
+    c.args.first.now.sized c.graph_on-moved.ensures in
+    record {
+      comparable = c.requires.comparable;
+      answer = subst (λ r. ShowsDifference c.args.first.now.names (graph_of p) r c.in_ok-collider_text-in-Collider.field-0.items) c.graph_on-moved.ensures
+          (record {
+            difference = collider d c.in-Collider.m c.in-Collider.ensures.compared c.in-Collider.ensures.shown c.in_ok-collider_text-in-Collider.ensures;
+            independences = differ_in_models (graph_of p) (graph_of q) p.valid q.valid size d.holds_in d.a d.b (has d.given.bits)
+                named.a named.b named.given c.in-Collider.ensures.shown;
+          });
+    }
 
 pub returns-in_ok-agreement_text-in-Same : goal.returns-in_ok-agreement_text-in-Same
 returns-in_ok-agreement_text-in-Same c =
     let p = graph_of c.args.first.now.graph in let gok = c.args.first.now.graph.valid in let hok = c.graph_on-moved.result.valid in
     let arrows = subst HasArrowsAlone (sym c.graph_on-moved.ensures)
-    (renumbered_arrows (graph_of c.args.second.now.graph) (places c.args.first.now.names c.args.second.now.names) c.requires.second_arrows) in
+    (renumbered_arrows (graph_of c.args.second.now.graph) (places c.args.first.now.names c.args.second.now.names) c.requires.comparable.second_arrows) in
     let size : c.args.first.now.graph.n ≡ c.graph_on-moved.result.n =
     same_size c.args.first.now.names c.args.second.now.names c.args.first.now.graph.n (graph_of c.args.second.now.graph) (graph_of c.graph_on-moved.result)
-    c.requires.named
+    c.args.first.now.sized
     c.graph_on-moved.ensures in
-    let same = same_separations p (graph_of c.graph_on-moved.result) gok hok size c.requires.first_arrows arrows c.in-Same.ensures.compared in
-    subst (λ q. IsSame c.args.first.now.names p q c.args.sets c.in_ok-agreement_text-in-Same.field-0.items) c.graph_on-moved.ensures
-    (record {
-      equivalent = c.in-Same.ensures.compared;
-      separations = same;
-      independences = same_independences p (graph_of c.graph_on-moved.result) gok hok size same;
-      sets = c.in_ok-agreement_text-in-Same.ensures;
-    })
+    let same = same_separations p (graph_of c.graph_on-moved.result) gok hok size c.requires.comparable.first_arrows arrows c.in-Same.ensures.compared in
+    record {
+      comparable = c.requires.comparable;
+      answer = subst (λ q. IsSame c.args.first.now.names p q c.args.sets c.in_ok-agreement_text-in-Same.field-0.items) c.graph_on-moved.ensures
+          (record {
+            equivalent = c.in-Same.ensures.compared;
+            separations = same;
+            independences = same_independences p (graph_of c.graph_on-moved.result) gok hok size same;
+            sets = c.in_ok-agreement_text-in-Same.ensures;
+          });
+    }

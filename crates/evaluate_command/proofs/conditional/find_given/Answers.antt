@@ -1,7 +1,5 @@
-use Rattle.std.proofs.Common.{◌<◌, ◌≤◌, ◌⊎◌, inl, inr, ℕ, IsTrue, [], length, refl, sym, subst}
+use Rattle.std.proofs.Common.{◌≤◌, ℕ, length, refl, sym, subst}
 use Rattle.mixed_graph.specs.Bits.{has}
-use Rattle.mixed_graph.specs.Graphs.{IsAncestor}
-use Rattle.mixed_graph.specs.Masks.{union}
 use Rattle.mixed_graph.specs.Sets.{Within}
 use Rattle.mixed_graph.specs.Shown.{graph_of}
 use Rattle.prob_expr.specs.View.{formula_view, target_view}
@@ -14,14 +12,12 @@ use Rattle.conditional_id.specs.Answers.{IsRight, IsJointEffect, IsJointShown, I
 use Rattle.identify_text.specs.Below.{IsHedgeBelow, ArePairBelow}
 use Rattle.identify_text.proofs.Belows.{hedge_below}
 use Rattle.effect_answers.proofs.Belows.{pair_below}
-use Rattle.evaluate_command.specs.Effects.{PlainEffect}
-use Rattle.evaluate_command.proofs.Columns.{used_only}
-use Rattle.evaluate_command.proofs.Mentions.{in_left, in_right, mentioned_only}
+use Rattle.evaluate_command.proofs.RightFormulas.{found_by_condition}
 use Rattle.evaluate_command.proofs.conditional.find_given.Goals as goal
 
 pub shortened_if-requires-clause-usable : goal.shortened_if-requires-clause-usable
 shortened_if-requires-clause-usable c =
-    let g = graph_of c.args.seen.now.graph in
+    let g = graph_of c.args.diagram.now.observed.graph in
     let t = target_view c.args.target in
     usable_given g t (formula_view c.in-Formula.formula) (derivation_view c.in-Formula.derivation)
     (subst (IsRight g t) c.in-Formula.is c.in_ok-formula.ensures.right)
@@ -30,12 +26,13 @@ shortened_if-requires-clause-usable c =
 
 pub joint_answer-requires : goal.joint_answer-requires
 joint_answer-requires c =
-    let g = graph_of c.args.seen.now.graph in
+    let seen = c.args.diagram.now.observed in
+    let g = graph_of seen.graph in
     let t = target_view c.args.target in
     let sets = c.requires.sets in
     let effect = subst (λ a. IfJoint a (λ x y b h pair. IsJointEffect g t x.bits y.bits)) c.in-Joint.is c.in_ok-formula.ensures.joint in
     let shown = subst (λ a. IfJoint a (IsJointShown g t)) c.in-Joint.is c.in_ok-formula.ensures.shown in
-    let on_names : (P : ℕ → Type 0) → P c.args.seen.now.graph.n → P (length c.args.seen.now.names) = λ P. subst P (sym c.requires.named) in
+    let on_names : (P : ℕ → Type 0) → P seen.graph.n → P (length seen.names) = λ P. subst P (sym seen.sized) in
     record {
       target = record {
         what = on_names (λ n. Within n (has c.args.target.y.bits)) sets.y_within;
@@ -44,74 +41,51 @@ joint_answer-requires c =
       };
       x = on_names (λ n. Within n (has c.in-Joint.x.bits)) effect.target.sets.x_within;
       y = on_names (λ n. Within n (has c.in-Joint.y.bits)) effect.target.sets.y_within;
-      hedge = on_names (λ n. IsHedgeBelow n c.in-Joint.hedge) (hedge_below g c.in-Joint.x.bits c.in-Joint.y.bits c.in-Joint.hedge c.args.seen.now.graph.small
+      hedge = on_names (λ n. IsHedgeBelow n c.in-Joint.hedge) (hedge_below g c.in-Joint.x.bits c.in-Joint.y.bits c.in-Joint.hedge seen.graph.small
           shown.hedge);
       models = on_names (λ n. ArePairBelow n c.in-Joint.pair)
-          (pair_below g c.args.seen.now.graph.valid c.in-Joint.x.bits c.in-Joint.y.bits c.in-Joint.hedge c.in-Joint.pair effect.target.sets.y_within
+          (pair_below g seen.graph.valid c.in-Joint.x.bits c.in-Joint.y.bits c.in-Joint.hedge c.in-Joint.pair effect.target.sets.y_within
           shown.models
           (subst (λ a. IfJoint a (λ x y b h pair. AreCounterModels g x.bits y.bits pair)) c.in-Joint.is c.in_ok-formula.ensures.counter));
     }
 
 pub returns-in_ok-shown-in-Formula : goal.returns-in_ok-shown-in-Formula
-returns-in_ok-shown-in-Formula c =
-    let g = graph_of c.args.seen.now.graph in
+returns-in_ok-shown-in-Formula c = λ x y given asked.
+    let seen = c.args.diagram.now.observed in
+    let g = graph_of seen.graph in
     let t = target_view c.args.target in
-    let sets = c.requires.sets in
     let f = formula_view c.in_ok-shown-in-Formula.shown.formula in
     let d = derivation_view c.in_ok-shown-in-Formula.shown.derivation in
-    let right = c.in_ok-shown-in-Formula.ensures.usable.right in
-    let both = union t.y t.given in
-    let e : PlainEffect = record { names = c.args.seen.now.names; graph = g; x = t.x; y = t.y; given = t.given; formula = f } in
-    let named = mentioned_only (IsAncestor g (has both)) e.formula right.names in
-    let of_y : (v : ℕ) → IsTrue (has t.y v) → IsAncestor g (has both) v =
-    λ v h. record { vertex = sets.y_within v h; path = []; end = v; leads = refl; inside = in_left t.y t.given v h } in
-    let of_given : (v : ℕ) → IsTrue (has t.given v) → IsAncestor g (has both) v =
-    λ v h. record { vertex = sets.w_within v h; path = []; end = v; leads = refl; inside = in_right t.y t.given v h } in (
-      record {
-        named = c.requires.named;
-        few = c.args.seen.now.graph.small;
-        graph = c.args.seen.now.graph.valid;
-        x = sets.x_within;
-        y = sets.y_within;
-        given = sets.w_within;
-        apart = sets.x_y;
-        some = c.requires.some;
-        used = used_only (λ v. v < g.vertices) e (λ v h. (named v h).vertex) sets.x_within sets.y_within sets.w_within;
-        formed = right.formed;
-        do_free = right.do_free;
-        effect = right.effect;
-      },
-      record {
-        derivation = d;
-        right = right;
-        derived = or_shorter c.args.short (IsConditionalBySteps g t) (formula_view c.in-Formula.formula) (derivation_view c.in-Formula.derivation) f d
-            c.in_ok-shown-in-Formula.ensures.first
-            (subst (λ a. IfFormula a (IsConditionalBySteps g t)) c.in-Formula.is c.in_ok-formula.ensures.derived);
-        columns = used_only (λ v. IsTrue (has t.x v) ⊎ IsAncestor g (has both) v) e (λ v h. inr (named v h)) (λ v h. inl h) (λ v h. inr (of_y v h))
-            (λ v h. inr (of_given v h));
-      },
-    )
+    let found = found_by_condition seen t c.requires.sets c.requires.some f c.args.short d c.in_ok-shown-in-Formula.ensures.usable.right
+    (or_shorter c.args.short (IsConditionalBySteps g t) (formula_view c.in-Formula.formula) (derivation_view c.in-Formula.derivation) f d
+    c.in_ok-shown-in-Formula.ensures.first (subst (λ a. IfFormula a (IsConditionalBySteps g t)) c.in-Formula.is c.in_ok-formula.ensures.derived)) in
+    record { names = refl; graph = refl; identified = found.0; found = (asked, found.1) }
 
 pub returns-in_ok-joint_answer-in-Joint : goal.returns-in_ok-joint_answer-in-Joint
-returns-in_ok-joint_answer-in-Joint c =
-    let g = graph_of c.args.seen.now.graph in
+returns-in_ok-joint_answer-in-Joint c = λ x y given asked.
+    let g = graph_of c.args.diagram.now.observed.graph in
     let t = target_view c.args.target in
     let shown = subst (λ a. IfJoint a (IsJointShown g t)) c.in-Joint.is c.in_ok-formula.ensures.shown in
     let right = subst (IsRight g t) c.in-Joint.is c.in_ok-formula.ensures.right in (
-      refl,
+      λ yes. absurd (cc yes),
       record {
-        x = c.in-Joint.x.bits;
-        y = c.in-Joint.y.bits;
-        settled = c.in-Joint.settled;
-        hedge = c.in-Joint.hedge;
-        pair = c.in-Joint.pair;
-        joint = right.effect;
-        not_fixed = right.not_fixed;
-        no_formula = right.no_formula;
-        settled_is = right.settled_is;
-        differs = right.target;
-        found = record { right = right.hedge; evidence = shown.hedge; stop = shown.stop; built = shown.built; models = shown.models };
-        prints = c.in_ok-joint_answer-in-Joint.ensures;
-        reads_back = λ certificate. absurd (cc certificate);
+        target = t;
+        sets = asked;
+        answer = record {
+          x = c.in-Joint.x.bits;
+          y = c.in-Joint.y.bits;
+          settled = c.in-Joint.settled;
+          hedge = c.in-Joint.hedge;
+          pair = c.in-Joint.pair;
+          joint = right.effect;
+          not_fixed = right.not_fixed;
+          no_formula = right.no_formula;
+          settled_is = right.settled_is;
+          differs = right.target;
+          found = record { right = right.hedge; evidence = shown.hedge; stop = shown.stop; built = shown.built; models = shown.models };
+          arrays = c.has_arrays.ensures;
+          prints = c.in_ok-joint_answer-in-Joint.ensures;
+          reads_back = λ certificate. absurd (cc certificate);
+        };
       },
     )

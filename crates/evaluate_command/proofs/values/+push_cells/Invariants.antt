@@ -12,6 +12,6 @@ decreases-push_cells g l = length l.vertices.now
 abbrev pub invariant-loop-k : goal.invariant-loop-k
 invariant-loop-k g l = record {
   same : (j : ℕ) → set l.cell l.place j ≡ set l.initial.cell l.place j;
-  lines : Appends (rule g.Q.Quantity.kind l.prepared.zero) g.Q.Quantity.covers l.sign (effect_view l.found) l.counts
+  lines : Appends (rule g.Q.Quantity.kind l.prepared.zero) g.Q.Quantity.covers l.sign (effect_view l.effect) l.counts
       (flat_map (λ j. cells_along l.counts (set l.initial.cell l.place j) l.rest) (range_with_len 0 l.k)) l.initial.out.items l.out.items;
 }

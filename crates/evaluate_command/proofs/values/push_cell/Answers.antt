@@ -12,7 +12,7 @@ use Rattle.evaluate_command.proofs.values.push_cell.Goals as goal
 pub returns-in-Ok-push_value-clause-lines : goal.returns-in-Ok-push_value-clause-lines
 returns-in-Ok-push_value-clause-lines g c =
     let kind = g.Q.Quantity.kind in let covers = g.Q.Quantity.covers in
-    let e = effect_view c.args.found.now in let t = c.args.counts.now in let p = c.args.prepared.now in let cell = c.args.cell.now in
+    let e = effect_view c.args.effect.now in let t = c.args.counts.now in let p = c.args.prepared.now in let cell = c.args.cell.now in
     let q : Pair = g.Q.Quantity.numbers c.in-Ok.quantity in
     appends_one (rule kind p.zero) covers c.args.sign.now e t cell q c.args.out.now.items c.push_value.new.out.items
     (on_prepared (λ n u f. formula_value (rule kind p.zero) (weights_in n u) f (cell_of cell) ≡ Ok q) e t p c.requires.prepared c.in-Ok.ensures.value)

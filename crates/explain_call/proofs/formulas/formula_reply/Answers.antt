@@ -1,16 +1,36 @@
-use Rattle.std.proofs.Common.{option_map, refl, ap, ◌∙◌}
+use Rattle.std.proofs.Common.{◌≡◌, ℕ, List, Some, IfOk, ap, subst, ◌∙◌}
 use Rattle.mixed_graph.specs.Names.{texts}
 use Rattle.mixed_graph.specs.Shown.{graph_of}
-use Rattle.command_words.specs.ListViews.{names_in}
+use Rattle.targets.specs.Targets.{Lists}
 use Rattle.targets.proofs.Effects.{query_exposure, query_outcome}
-use Rattle.replies.specs.Observed.{observed_names}
-use Rattle.adjust_command.proofs.Lists.{three_sets, same_lists, lists_refused}
+use Rattle.diagram.specs.Sets.{Names, lent, query_lists}
+use Rattle.diagram.proofs.Lent.{lent_owned}
+use Rattle.replies.specs.Observed.{AnswerForSets}
+use Rattle.adjust_command.proofs.Lists.{three_sets, lists_answered, lists_refused}
 use Rattle.explain_call.specs.Formulas.{FormulaFor}
+use Rattle.explain_call.specs.Requests.{formula_of}
 use Rattle.explain_call.proofs.formulas.formula_reply.Goals as goal
+use Rattle.explain_call.proofs.formulas.formula_reply.Goals.{After-asked_query}
+
+-- the lists that are lent
+abbrev lists : After-asked_query → Lists
+lists c = query_lists c.args.diagram.now.read c.args.diagram.now.observed.names (lent c.as_deref-x.result) (lent c.as_deref-y.result)
+    (Some (texts c.as_slice.result.now))
+
+-- are those of the request
+abbrev same : (c : After-asked_query) → lists c ≡ (let q = formula_of c.args.asked.now in
+    query_lists c.args.diagram.now.read c.args.diagram.now.observed.names q.x q.y (Some q.set))
+same c =
+    let lists_by : Names → Names → List (List ℕ) → Lists =
+    λ x y set. query_lists c.args.diagram.now.read c.args.diagram.now.observed.names x y (Some set) in
+    let q = formula_of c.args.asked.now in
+    ap (λ (x : Names). lists_by x (lent c.as_deref-y.result) (texts c.as_slice.result.now)) (lent_owned _ _ c.as_deref-x.ensures.value)
+    ∙ ap (λ (y : Names). lists_by q.x y (texts c.as_slice.result.now)) (lent_owned _ _ c.as_deref-y.ensures.value)
+    ∙ ap (λ (set : List (List ℕ)). lists_by q.x q.y set) (ap texts c.as_slice.ensures.value)
 
 pub decide-requires-clause-sets : goal.decide-requires-clause-sets
-decide-requires-clause-sets c = three_sets _ c.in_ok-seen.field-0.seen.graph.n c.in-Ok.sets.x.bits c.in-Ok.sets.y.bits c.in-Ok.sets.given.bits
-    c.in_ok-seen.ensures.named c.in-Ok.ensures.sets
+decide-requires-clause-sets c = three_sets _ c.args.diagram.now.observed.graph.n c.in-Ok.sets.x.bits c.in-Ok.sets.y.bits c.in-Ok.sets.given.bits
+    c.args.diagram.now.observed.sized c.in-Ok.ensures.sets
 
 pub decide-requires-clause-some_x : goal.decide-requires-clause-some_x
 decide-requires-clause-some_x c = query_exposure _ c.in-Ok.sets.x.bits c.in-Ok.sets.y.bits c.in-Ok.sets.given.bits c.in-Ok.ensures.sets
@@ -18,10 +38,18 @@ decide-requires-clause-some_x c = query_exposure _ c.in-Ok.sets.x.bits c.in-Ok.s
 pub decide-requires-clause-some_y : goal.decide-requires-clause-some_y
 decide-requires-clause-some_y c = query_outcome _ c.in-Ok.sets.x.bits c.in-Ok.sets.y.bits c.in-Ok.sets.given.bits c.in-Ok.ensures.sets
 
-pub returns : goal.returns
-returns c =
-    let g = c.args.graph.now in let e = c.in_ok-seen.ensures in
-    let x = option_map names_in c.args.x in let y = option_map names_in c.args.y in let set = texts c.args.set.now in
-    lists_refused g x y set (graph_of c.in_ok-seen.field-0.seen.graph) e.graph (λ q. FormulaFor c.args.by_back_door q (observed_names g)) _
-    (same_lists g x y set _ _ _ _ e.names (ap texts c.deref.ensures.value ∙ e.x) (ap texts c.deref-2.ensures.value ∙ e.y) refl)
-    c.in-Err.fault c.in-Err.ensures.fault c.refuse.result c.refuse.ensures.outcome c.refuse.ensures.line c.refuse.ensures.fault
+pub returns-in-Ok : goal.returns-in-Ok
+returns-in-Ok c =
+    let at = (goal.at.returns-in-Ok c).After-asked_query in
+    let answer = FormulaFor c.args.asked.now.back_door (graph_of c.args.diagram.now.observed.graph) c.args.diagram.now.observed.names in
+    let sets = c.in-Ok.sets in
+    subst (λ (l : Lists). IfOk c.decide.result (λ r. AnswerForSets l answer r.outcome r.text.items)) (same at)
+    (lists_answered (lists at) answer sets.x.bits sets.y.bits sets.given.bits c.in-Ok.ensures.sets c.decide.result c.decide.ensures)
+
+pub returns-in-Err : goal.returns-in-Err
+returns-in-Err c =
+    let at = (goal.at.returns-in-Err c).After-asked_query in
+    let answer = FormulaFor c.args.asked.now.back_door (graph_of c.args.diagram.now.observed.graph) c.args.diagram.now.observed.names in
+    subst (λ (l : Lists). IfOk c.refuse.result (λ r. AnswerForSets l answer r.outcome r.text.items)) (same at)
+    (lists_refused (lists at) answer c.in-Err.fault c.in-Err.ensures.fault c.refuse.result
+    c.refuse.ensures.outcome c.refuse.ensures.line c.refuse.ensures.fault)

@@ -1,26 +1,56 @@
-use Rattle.std.proofs.Common.{option_map, refl, ap, ◌∙◌, subst}
+use Rattle.std.proofs.Common.{◌≡◌, ℕ, List, Some, IfOk, ap, subst, ◌∙◌}
 use Rattle.mixed_graph.specs.Names.{texts}
 use Rattle.mixed_graph.specs.Shown.{graph_of}
-use Rattle.command_words.specs.ListViews.{names_in}
-use Rattle.targets.specs.Targets.{Lists, AreListedSets}
+use Rattle.prob_expr.specs.Tree.{PlainTarget}
+use Rattle.targets.specs.Targets.{Lists, IsListFault}
 use Rattle.targets.proofs.Effects.{listed_outcome}
-use Rattle.adjust_command.proofs.Lists.{same_lists}
+use Rattle.diagram.specs.Sets.{Names, lent, query_lists}
+use Rattle.diagram.proofs.Lent.{lent_owned}
 use Rattle.identify_command.proofs.Lists.{three_sets}
+use Rattle.explain_call.specs.Requests.{settled_of}
+use Rattle.explain_call.specs.Settled.{KindIn}
+use Rattle.explain_call.proofs.Refusing.{refused_lists}
 use Rattle.explain_call.proofs.Settling.{on_target}
 use Rattle.explain_call.proofs.settled.settled_reply.Goals as goal
+use Rattle.explain_call.proofs.settled.settled_reply.Goals.{After-asked_condition}
+
+-- the lists that are lent
+abbrev lists : After-asked_condition → Lists
+lists c = query_lists c.args.diagram.now.read c.args.diagram.now.observed.names (lent c.as_deref-x.result) (lent c.as_deref-y.result)
+    (Some (texts c.as_slice.result.now))
+
+-- are those of the request
+abbrev same : (c : After-asked_condition) → lists c ≡ (let q = settled_of c.args.asked.now in
+    query_lists c.args.diagram.now.read c.args.diagram.now.observed.names q.x q.y (Some q.given))
+same c =
+    let lists_by : Names → Names → List (List ℕ) → Lists =
+    λ x y given. query_lists c.args.diagram.now.read c.args.diagram.now.observed.names x y (Some given) in
+    let q = settled_of c.args.asked.now in
+    ap (λ (x : Names). lists_by x (lent c.as_deref-y.result) (texts c.as_slice.result.now)) (lent_owned _ _ c.as_deref-x.ensures.value)
+    ∙ ap (λ (y : Names). lists_by q.x y (texts c.as_slice.result.now)) (lent_owned _ _ c.as_deref-y.ensures.value)
+    ∙ ap (λ (given : List (List ℕ)). lists_by q.x q.y given) (ap texts c.as_slice.ensures.value)
 
 pub tell_kind-requires-clause-sets : goal.tell_kind-requires-clause-sets
-tell_kind-requires-clause-sets c = three_sets _ c.in_ok-seen.field-0.seen.graph.n
-    (record { x = c.in-Ok.sets.x.bits; y = c.in-Ok.sets.y.bits; given = c.in-Ok.sets.given.bits }) c.in_ok-seen.ensures.named c.in-Ok.ensures.sets
+tell_kind-requires-clause-sets c = three_sets _ c.args.diagram.now.observed.graph.n
+    (record { x = c.in-Ok.sets.x.bits; y = c.in-Ok.sets.y.bits; given = c.in-Ok.sets.given.bits }) c.args.diagram.now.observed.sized c.in-Ok.ensures.sets
 
 pub tell_kind-requires-clause-some : goal.tell_kind-requires-clause-some
 tell_kind-requires-clause-some c = listed_outcome _ c.in-Ok.sets.x.bits c.in-Ok.sets.y.bits c.in-Ok.sets.given.bits c.in-Ok.ensures.sets
 
 pub returns-in-Ok : goal.returns-in-Ok
 returns-in-Ok c =
-    let g = c.args.graph.now in let e = c.in_ok-seen.ensures in let s = c.in-Ok.sets in
-    let x = option_map names_in c.args.x in let y = option_map names_in c.args.y in let given = texts c.args.given.now in
-    let named = subst (λ (l : Lists). AreListedSets l s.x.bits s.y.bits s.given.bits)
-    (same_lists g x y given _ _ _ _ e.names (ap texts c.deref.ensures.value ∙ e.x) (ap texts c.deref-2.ensures.value ∙ e.y) refl) c.in-Ok.ensures.sets in
-    on_target g x y given (graph_of c.in_ok-seen.field-0.seen.graph) e.graph (record { x = s.x.bits; y = s.y.bits; given = s.given.bits }) named
-    c.tell_kind.result c.tell_kind.ensures
+    let at = (goal.at.returns-in-Ok c).After-asked_condition in
+    let q = graph_of c.args.diagram.now.observed.graph in
+    let s = c.in-Ok.sets in
+    let target : PlainTarget = record { x = s.x.bits; y = s.y.bits; given = s.given.bits } in
+    subst (λ (l : Lists). IfOk c.tell_kind.result (λ r. KindIn q l r.outcome r.text.items)) (same at)
+    (on_target q (lists at) target c.in-Ok.ensures.sets c.tell_kind.result c.tell_kind.ensures)
+
+pub returns-in-Err : goal.returns-in-Err
+returns-in-Err c =
+    let at = (goal.at.returns-in-Err c).After-asked_condition in
+    let q = graph_of c.args.diagram.now.observed.graph in
+    subst (λ (l : Lists). IfOk c.refuse.result (λ r. KindIn q l r.outcome r.text.items)) (same at)
+    (refused_lists (IsListFault (lists at)) (KindIn q (lists at)) c.in-Err.fault c.in-Err.ensures.fault
+    (λ is line prints. record { fault = c.in-Err.fault; is_fault = is; prints = prints })
+    c.refuse.result c.refuse.ensures.outcome c.refuse.ensures.line c.refuse.ensures.fault)

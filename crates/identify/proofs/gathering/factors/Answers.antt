@@ -13,7 +13,7 @@ loop-c-init c =
     let g = graph_of c.args.g.now in
     let order = listed c.args.order.now in
     let no = c.no_factors-made.ensures in
-    gathered_none (Derives g order) (StopsAt g order) c.no_factors-made.result no.defs no.lemmas no.values no.lists
+    gathered_none (Derives c.args.wanted g order) (StopsAt g order) c.no_factors-made.result no.defs no.lemmas no.values no.lists
 
 -- the set at hand is a district
 district : (c : After-len) → IsMaximalJoined (graph_of c.args.g.now) c.args.d.bits
@@ -34,10 +34,10 @@ factor-found-requires-clause-joined c = (district (goal.at.factor-found-requires
 counted : (c : After-factor-found) → c.len.result ≡ length c.loop-c.made.defs.items
 counted c = let e = c.len.ensures in let o = c.loop-c.made.defs.ok in omega (arith, e, o)
 
-goes_on : (c : After-factor-found) → GoesOn (Derives (graph_of c.args.g.now) (listed c.args.order.now))
+goes_on : (c : After-factor-found) → GoesOn (Derives c.args.wanted (graph_of c.args.g.now) (listed c.args.order.now))
     (StopsAt (graph_of c.args.g.now) (listed c.args.order.now))
     (get_or (take c.args.parts.now.count c.args.parts.now.sets) c.loop-c.c-index (record { bits = 0 })).bits c.len.result c.factor-found.result
-goes_on c = let is = c.factor-found.ensures in factor_goes_on (graph_of c.args.g.now) (listed c.args.order.now)
+goes_on c = let is = c.factor-found.ensures in factor_goes_on c.args.wanted (graph_of c.args.g.now) (listed c.args.order.now)
     (get_or (take c.args.parts.now.count c.args.parts.now.sets) c.loop-c.c-index (record { bits = 0 })).bits c.len.result c.factor-found.result
     is.factor is.few is.paired is.fault
 
@@ -46,7 +46,7 @@ returns-in-Err c =
     let g = graph_of c.args.g.now in
     let order = listed c.args.order.now in
     let after = (goal.at.returns-in-Err c).After-factor-found in
-    turn_stop (Derives g order) (StopsAt g order) c.args.parts.now.sets c.args.parts.now.count c.loop-c.c-index c.loop-c.made c.loop-c.invariant
+    turn_stop (Derives c.args.wanted g order) (StopsAt g order) c.args.parts.now.sets c.args.parts.now.count c.loop-c.c-index c.loop-c.made c.loop-c.invariant
     c.loop-c-test.true c.len.result c.factor-found.result c.in-Err.stop (counted after) (goes_on after) c.in-Err.ensures.stop
 
 pub loop-c-preserved : goal.loop-c-preserved
@@ -54,13 +54,13 @@ loop-c-preserved c =
     let g = graph_of c.args.g.now in
     let order = listed c.args.order.now in
     let after = (goal.at.loop-c-preserved c).After-factor-found in
-    turn_next (Derives g order) (StopsAt g order) c.args.parts.now.sets c.args.parts.now.count c.loop-c.c-index c.loop-c.made c.loop-c.invariant
+    turn_next (Derives c.args.wanted g order) (StopsAt g order) c.args.parts.now.sets c.args.parts.now.count c.loop-c.c-index c.loop-c.made c.loop-c.invariant
     c.loop-c-test.true c.add_found.new.made c.len.result c.factor-found.result (counted after) (goes_on after) c.in-Ok.ensures.added
 
 pub returns : goal.returns
 returns c =
     let g = graph_of c.args.g.now in
     let order = listed c.args.order.now in
-    factors_of g order (first_masks c.args.parts.now.sets c.args.parts.now.count) c.loop-c.made
-    (turn_end (Derives g order) (StopsAt g order) c.args.parts.now.sets c.args.parts.now.count c.loop-c.c-index c.loop-c.made c.loop-c.invariant
+    factors_of c.args.wanted g order (first_masks c.args.parts.now.sets c.args.parts.now.count) c.loop-c.made
+    (turn_end (Derives c.args.wanted g order) (StopsAt g order) c.args.parts.now.sets c.args.parts.now.count c.loop-c.c-index c.loop-c.made c.loop-c.invariant
     c.loop-c-test.false)

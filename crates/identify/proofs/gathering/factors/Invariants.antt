@@ -7,5 +7,5 @@ use Rattle.identify.proofs.GatheredFactors.{Derives, Gathered}
 use Rattle.identify.proofs.gathering.factors.Given as goal
 
 abbrev pub invariant-loop-c : goal.invariant-loop-c
-invariant-loop-c l = Gathered (Derives (graph_of l.g) (listed l.order)) (StopsAt (graph_of l.g) (listed l.order))
+invariant-loop-c l = Gathered (Derives l.wanted (graph_of l.g) (listed l.order)) (StopsAt (graph_of l.g) (listed l.order))
     (map (λ (s : VSet). s.bits) (take l.c-index l.c-items)) l.made

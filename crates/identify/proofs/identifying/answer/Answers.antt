@@ -9,7 +9,7 @@ use Rattle.do_derivation.specs.View.{derivation_view, listed}
 use Rattle.identification_theory.specs.Procedure.{IsTarget, IsUnidentified, StopsAt}
 use Rattle.identification_theory.proofs.Answered.{stop_is_hedge}
 use Rattle.identification_theory.specs.AnswerLaws.{AreRoots}
-use Rattle.identify.proofs.Composed.{few_defs, with_steps}
+use Rattle.identify.proofs.Composed.{few_defs, with_steps, without_steps}
 use Rattle.identify.proofs.Orders.{districts_by}
 use Rattle.identify.proofs.RightAnswers.{target_from, unidentified, unidentified_at}
 use Rattle.identify.proofs.identifying.answer.Goals as goal
@@ -33,39 +33,57 @@ stop_at c small big stops = unidentified (graph_of c.args.g.now) (listed c.order
     small big c.order_of-order.ensures.listed c.ancestors_outside-d.ensures (are_districts c) stops
 
 pub returns-then-is_empty-clause-answer : goal.returns-then-is_empty-clause-answer
-returns-then-is_empty-clause-answer c = record {
-  order = listed c.order_of-order.result;
-  is_order = c.order_of-order.ensures.listed;
-  answer = inl (
-    eqb-true c.args.x.bits 0 (sym c.is_empty.ensures.mask ∙ c.if-is_empty.true),
-    c.observed-formula.ensures.formula,
-    c.observed-formula.ensures.derivation,
-  );
-}
+returns-then-is_empty-clause-answer c =
+    let none = eqb-true c.args.x.bits 0 (sym c.is_empty.ensures.mask ∙ c.if-is_empty.true) in (
+      record {
+        order = listed c.order_of-order.result;
+        is_order = c.order_of-order.ensures.listed;
+        answer = inl (none, c.observed-formula.ensures.formula);
+      },
+      λ w. record {
+        order = listed c.order_of-order.result;
+        is_order = c.order_of-order.ensures.listed;
+        answer = inl (none, c.observed-formula.ensures.formula, c.observed-formula.ensures.derivation);
+      },
+    )
 
 pub assembled-requires-clause-counted : goal.assembled-requires-clause-counted
 assembled-requires-clause-counted c = c.in-Ok.ensures.counted
 
 pub returns-in_ok-formula-in-Ok-clause-answer : goal.returns-in_ok-formula-in-Ok-clause-answer
-returns-in_ok-formula-in-Ok-clause-answer c =
-    record {
-      order = listed c.order_of-order.result;
-      is_order = c.order_of-order.ensures.listed;
-      answer = inr (
-        λ z. absurd (let e = c.is_empty.ensures.mask in let f = c.if-is_empty.false in grind (arith, z, e, f)),
-        with_steps (graph_of c.args.g.now) (listed c.order_of-order.result) (first_masks c.districts-parts.result.sets c.districts-parts.result.count)
-            c.args.x.bits c.args.y.bits c.ancestors_outside-d.result.bits c.in-Ok.made
-            c.ancestors_outside-d.ensures (are_districts (goal.at.returns-in_ok-formula-in-Ok-clause-answer c).After-districts-parts)
-            c.in-Ok.ensures _ _ c.in_ok-formula-in-Ok.ensures,
-      );
-    }
+returns-in_ok-formula-in-Ok-clause-answer c = (
+  record {
+    order = listed c.order_of-order.result;
+    is_order = c.order_of-order.ensures.listed;
+    answer = inr (
+      λ z. absurd (let e = c.is_empty.ensures.mask in let f = c.if-is_empty.false in grind (arith, z, e, f)),
+      without_steps c.args.wanted (graph_of c.args.g.now) (listed c.order_of-order.result)
+          (first_masks c.districts-parts.result.sets c.districts-parts.result.count)
+          c.args.x.bits c.args.y.bits c.ancestors_outside-d.result.bits c.in-Ok.made
+          c.ancestors_outside-d.ensures (are_districts (goal.at.returns-in_ok-formula-in-Ok-clause-answer c).After-districts-parts)
+          c.in-Ok.ensures _ _ c.in_ok-formula-in-Ok.ensures,
+    );
+  },
+  λ w. record {
+    order = listed c.order_of-order.result;
+    is_order = c.order_of-order.ensures.listed;
+    answer = inr (
+      λ z. absurd (let e = c.is_empty.ensures.mask in let f = c.if-is_empty.false in grind (arith, z, e, f)),
+      with_steps c.args.wanted (graph_of c.args.g.now) (listed c.order_of-order.result)
+          (first_masks c.districts-parts.result.sets c.districts-parts.result.count)
+          c.args.x.bits c.args.y.bits c.ancestors_outside-d.result.bits c.in-Ok.made
+          c.ancestors_outside-d.ensures (are_districts (goal.at.returns-in_ok-formula-in-Ok-clause-answer c).After-districts-parts)
+          c.in-Ok.ensures _ _ c.in_ok-formula-in-Ok.ensures w,
+    );
+  },
+)
 
 pub returns-in_ok-formula-in-Ok-clause-few : goal.returns-in_ok-formula-in-Ok-clause-few
 returns-in_ok-formula-in-Ok-clause-few c =
     let sets = c.districts-parts.result.sets in
     let n = c.districts-parts.result.count in
     let most = c.districts-parts.result.in_range in
-    let few = few_defs c.args.g.now.n (listed c.order_of-order.result) (first_masks sets n)
+    let few = few_defs c.args.wanted c.args.g.now.n (listed c.order_of-order.result) (first_masks sets n)
     c.args.x.bits c.args.y.bits c.ancestors_outside-d.result.bits c.in-Ok.made c.in-Ok.ensures.few
     (formula_view c.in_ok-formula-in-Ok.formula) (derivation_view c.in_ok-formula-in-Ok.derivation) c.in_ok-formula-in-Ok.ensures in
     let size = length-take n (map (λ (s : VSet). s.bits) sets) in

@@ -1,6 +1,7 @@
 use Rattle.std.proofs.Common.{arith}
 use Rattle.mixed_graph.specs.Shown.{graph_of}
 use Rattle.counter_models.proofs.Final.{counter}
+use Rattle.identify.specs.declared.wanted.Wanted.TheVariants.{Derivation}
 use Rattle.identify.specs.Answers.{IsAnswerOf}
 use Rattle.identify.proofs.RightAnswers.{target_from, if_ok, if_formula, if_hedge, right, right_formula, exact, shallow_steps, shallow_formula}
 use Rattle.identify.proofs.identifying.identify.Goals as goal
@@ -17,8 +18,8 @@ returns c =
     let r = c.answer.result in
     let found = c.answer.ensures.answer in
     record {
-      right = if_ok r (IsAnswerOf g x y) _ (right g valid small x y target off) found;
-      exact = if_ok r (IsAnswerOf g x y) _ (exact g valid small x y target off) found;
+      right = if_ok r (IsAnswerOf Derivation g x y) _ (right g valid small x y target off) found;
+      exact = if_ok r (IsAnswerOf Derivation g x y) _ (exact g valid small x y target off) found;
       derived = if_formula g x y r _ (λ f d i. i) found;
       accepted = if_formula g x y r _ (λ f d i. (right_formula g valid x y target f d i).accepted) found;
       formed = if_formula g x y r _ (λ f d i. (right_formula g valid x y target f d i).formed) found;

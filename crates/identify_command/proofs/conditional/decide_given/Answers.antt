@@ -23,16 +23,16 @@ use Rattle.effect_answers.proofs.Writing.{target_within, bare_target, hedge_with
 use Rattle.identify_command.proofs.conditional.decide_given.Goals as goal
 
 pub formula_text-requires-clause-what : goal.formula_text-requires-clause-what
-formula_text-requires-clause-what c = subst (λ n. Within n (has c.args.target.y.bits)) (sym c.requires.named) c.requires.sets.y_within
+formula_text-requires-clause-what c = subst (λ n. Within n (has c.args.target.y.bits)) (sym c.args.seen.now.sized) c.requires.sets.y_within
 
 pub formula_text-requires-clause-doing : goal.formula_text-requires-clause-doing
-formula_text-requires-clause-doing c = subst (λ n. Within n (has c.args.target.x.bits)) (sym c.requires.named) c.requires.sets.x_within
+formula_text-requires-clause-doing c = subst (λ n. Within n (has c.args.target.x.bits)) (sym c.args.seen.now.sized) c.requires.sets.x_within
 
 pub formula_text-requires-clause-given : goal.formula_text-requires-clause-given
-formula_text-requires-clause-given c = subst (λ n. Within n (has c.args.target.given.bits)) (sym c.requires.named) c.requires.sets.w_within
+formula_text-requires-clause-given c = subst (λ n. Within n (has c.args.target.given.bits)) (sym c.args.seen.now.sized) c.requires.sets.w_within
 
 pub formula_text-requires-clause-target : goal.formula_text-requires-clause-target
-formula_text-requires-clause-target c = subst (λ n. IsTargetWithin n (target_view c.args.target)) (sym c.requires.named)
+formula_text-requires-clause-target c = subst (λ n. IsTargetWithin n (target_view c.args.target)) (sym c.args.seen.now.sized)
     (target_within c.args.seen.now.graph.n (target_view c.args.target) c.requires.sets c.requires.some)
 
 pub shortened_if-requires-clause-usable : goal.shortened_if-requires-clause-usable
@@ -45,14 +45,14 @@ shortened_if-requires-clause-usable c =
     (subst (λ a. IfFormula a (λ f d. length f.defs ≤ 4096)) c.in-Formula.is c.in_ok-formula.ensures.few)
 
 pub formula_text-requires-clause-formula : goal.formula_text-requires-clause-formula
-formula_text-requires-clause-formula c = subst (λ n. fault_in n (formula_view c.in_ok-shown-in-Formula.shown.formula) ≡ None) (sym c.requires.named)
+formula_text-requires-clause-formula c = subst (λ n. fault_in n (formula_view c.in_ok-shown-in-Formula.shown.formula) ≡ None) (sym c.args.seen.now.sized)
     c.in_ok-shown-in-Formula.ensures.usable.right.formed
 
 pub formula_text-requires-clause-derivation : goal.formula_text-requires-clause-derivation
 formula_text-requires-clause-derivation c =
     let g = graph_of c.args.seen.now.graph in
     let t = target_view c.args.target in
-    subst (λ n. IsDerivationWithin n (derivation_view c.in_ok-shown-in-Formula.shown.derivation)) (sym c.requires.named)
+    subst (λ n. IsDerivationWithin n (derivation_view c.in_ok-shown-in-Formula.shown.derivation)) (sym c.args.seen.now.sized)
     (derivation_within g c.args.seen.now.graph.valid [] t (formula_view c.in_ok-shown-in-Formula.shown.formula)
     (derivation_view c.in_ok-shown-in-Formula.shown.derivation)
     (target_within c.args.seen.now.graph.n t c.requires.sets c.requires.some) c.in_ok-shown-in-Formula.ensures.usable.right.accepted)
@@ -84,7 +84,7 @@ joint_text-requires c =
     let sets = c.requires.sets in
     let effect = subst (λ a. IfJoint a (λ x y b h pair. IsJointEffect g t x.bits y.bits)) c.in-Joint.is c.in_ok-formula.ensures.joint in
     let shown = subst (λ a. IfJoint a (IsJointShown g t)) c.in-Joint.is c.in_ok-formula.ensures.shown in
-    let on_names : (P : ℕ → Type 0) → P c.args.seen.now.graph.n → P (length c.args.seen.now.names) = λ P. subst P (sym c.requires.named) in
+    let on_names : (P : ℕ → Type 0) → P c.args.seen.now.graph.n → P (length c.args.seen.now.names) = λ P. subst P (sym c.args.seen.now.sized) in
     record {
       what = on_names (λ n. Within n (has c.args.target.y.bits)) sets.y_within;
       doing = on_names (λ n. Within n (has c.args.target.x.bits)) sets.x_within;
@@ -102,7 +102,7 @@ joint_text-requires c =
           shown.models
           (subst (λ a. IfJoint a (λ x y b h pair. AreCounterModels g x.bits y.bits pair)) c.in-Joint.is c.in_ok-formula.ensures.counter));
       «data» = on_names (λ n. IsHedgeWithin n (hedge_view c.in-Joint.hedge))
-          (hedge_within g c.in-Joint.x.bits c.in-Joint.y.bits c.in-Joint.hedge c.has_entries.ensures shown.hedge);
+          (hedge_within g c.in-Joint.x.bits c.in-Joint.y.bits c.in-Joint.hedge c.has_arrays.ensures.links shown.hedge);
     }
 
 pub returns-in_ok-joint_text-in-Joint : goal.returns-in_ok-joint_text-in-Joint
@@ -123,6 +123,7 @@ returns-in_ok-joint_text-in-Joint c =
       settled_is = right.settled_is;
       differs = right.target;
       found = record { right = right.hedge; evidence = shown.hedge; stop = shown.stop; built = shown.built; models = shown.models };
+      arrays = c.has_arrays.ensures;
       prints = c.in_ok-joint_text-in-Joint.ensures.text;
       reads_back = c.in_ok-joint_text-in-Joint.ensures.reads_back;
     }

@@ -16,9 +16,7 @@ none_listed g list are none a b s = (let there = are.all a b s in let lt = there
 
 pub returns-then-is_empty : goal.returns-then-is_empty
 returns-then-is_empty c = record {
-  graph = graph_of c.in_ok-seen.seen.graph;
-  observed = c.in_ok-seen.ensures.graph;
-  none = none_listed (graph_of c.in_ok-seen.seen.graph) c.in_ok-list.list.items c.in_ok-list.ensures.implications
+  none = none_listed (graph_of c.args.diagram.now.observed.graph) c.in_ok-list.list.items c.in_ok-list.ensures.implications
       (let empty = no_element _ c.if-is_empty.ensures in omega (arith, empty));
   dependent = λ a b i. (let there = c.in_ok-list.ensures.complete a b i in let lt = there.2 in
       let empty = no_element _ c.if-is_empty.ensures in omega (arith, lt, empty));

@@ -1,27 +1,14 @@
-use Rattle.std.proofs.Common.{◌<◌, sym, ap, subst, ◌∙◌, option_map, List}
-use Rattle.mixed_graph.specs.Bits.{has}
-use Rattle.count_table.specs.Reading.{text_fault}
-use Rattle.count_answers.specs.Reads.{faulty}
+use Rattle.std.proofs.Common.{IfOk, List, option_map, sym, subst}
 use Rattle.implications.specs.declared.pairs.Implication.{Implication}
-use Rattle.implications_command.specs.Pairs.{pairs_view}
-use Rattle.implications_command.specs.Used.{used_in}
-use Rattle.implications_command.proofs.Using.{some, within}
+use Rattle.implications_command.specs.Answers.{CountsAnswer}
+use Rattle.implications_command.specs.Pairs.{ArePairs, pairs_in}
 use Rattle.implications_command.proofs.reply.differences_reply.Goals as goal
 
-pub read_counts-requires-clause-some : goal.read_counts-requires-clause-some
-read_counts-requires-clause-some c =
-    subst (λ m. 0 < m) (sym (c.used_in.ensures ∙ ap (λ (l : List Implication). used_in l) c.deref.ensures.value))
-    (some (pairs_view c.args.pairs.now) c.requires.pairs)
+pub counts_reply-requires-clause-pairs : goal.counts_reply-requires-clause-pairs
+counts_reply-requires-clause-pairs c = subst (λ (l : List Implication). ArePairs (pairs_in c.args.diagram.now.observed l)) (sym c.as_slice.ensures.value)
+    c.requires.pairs
 
-pub read_counts-requires-clause-named : goal.read_counts-requires-clause-named
-read_counts-requires-clause-named c = λ v h.
-    within (pairs_view c.args.pairs.now) c.requires.pairs v (ap (λ m. has m v)
-    (sym (c.used_in.ensures ∙ ap (λ (l : List Implication). used_in l) c.deref.ensures.value)) ∙ h)
-
-pub returns-in_ok-line-in-Err : goal.returns-in_ok-line-in-Err
-returns-in_ok-line-in-Err c =
-    faulty c.in-Err.fault c.requires.small c.in_ok-line-in-Err.ensures.memory
-    (ap (λ m. text_fault c.args.bytes.now c.args.pairs.now.seen.names m (option_map (λ s. s.now) c.args.count))
-    (sym (c.used_in.ensures ∙ ap (λ (l : List Implication). used_in l) c.deref.ensures.value))
-    ∙ c.in-Err.ensures.fault c.in_ok-line-in-Err.ensures.memory)
-    c.in_ok-line-in-Err.ensures.line
+pub returns : goal.returns
+returns c = subst (λ (l : List Implication). IfOk c.counts_reply.result
+    (λ r. CountsAnswer (pairs_in c.args.diagram.now.observed l) (option_map (λ s. s.now) c.args.count) c.args.bytes.now r.outcome r.text.items))
+    c.as_slice.ensures.value c.counts_reply.ensures

@@ -1,61 +1,109 @@
-use Rattle.std.proofs.Common.{◌≤◌, ◌∙◌, ap, map, subst, lit≤, arith}
+use Rattle.std.proofs.Common.{◌≡◌, Some, Err, is_none, ap, map, refl, ◌∙◌, arith}
 use Rattle.std.specs.Prelude.{string_bytes}
-use Rattle.replies.specs.declared.outcome.Outcome.{Outcome}
-use Rattle.replies.specs.declared.outcome.Outcome.TheVariants.{Yes}
+use Rattle.caller_memory.specs.Parts.{place_named, content_named}
+use Rattle.caller_memory.specs.Words.{texts}
 use Rattle.replies.specs.Outcomes.{code_of}
-use Rattle.span_call.specs.Rooms.{ShowsText}
+use Rattle.caller_memory.proofs.OneGraph.{kept_holds}
+use Rattle.command_run.proofs.Deliveries.{no_room}
+use Rattle.causal_cli.specs.Commands.{commands}
+use Rattle.causal_cli.proofs.Lawful.{lawful}
 use Rattle.span_call.proofs.CallEnds.{ended, silent}
-use Rattle.span_call.specs.Replies.{RepliesWith, question}
-use Rattle.span_call.proofs.Claims.{kept_headline, kept_checked, kept_drawn, kept_refuted}
-use Rattle.span_call.proofs.Completing.{complete}
+use Rattle.span_call.proofs.Calling.{called}
+use Rattle.span_call.proofs.Endings.{lacks_input, never_cut_short}
 use Rattle.span_call.proofs.kept.ask_kept.Goals as goal
 
--- statuses end at 8
-small_code : (o : Outcome) → code_of o ≤ 8
-small_code Yes = lit≤ tt
-small_code o = lit≤ tt
+-- ---- a word is no text, or there is no memory for the words
 
 pub returns-in-Err-clause-end : goal.returns-in-Err-clause-end
 returns-in-Err-clause-end c = c.in-Err.ensures.end c.args.out.now c.args.err.now
 
-pub returns-in-Err-clause-asked : goal.returns-in-Err-clause-asked
-returns-in-Err-clause-asked c = λ small diagram kept. absurd (omega (arith, small, c.in-Err.ensures.least))
+pub returns-in-Err-clause-called : goal.returns-in-Err-clause-called
+returns-in-Err-clause-called c = λ small text kept. absurd (omega (arith, small, c.in-Err.ensures.least))
 
-pub returns-in-Err-clause-not_kept : goal.returns-in-Err-clause-not_kept
-returns-in-Err-clause-not_kept c = λ eleven g keeps. absurd (omega (arith, eleven, c.in-Err.ensures.most))
+pub returns-in-Err-clause-lacked : goal.returns-in-Err-clause-lacked
+returns-in-Err-clause-lacked c = λ six text kept. absurd (omega (arith, six, c.in-Err.ensures.least))
 
-pub returns-in-Err-reply_kept-clause-end : goal.returns-in-Err-reply_kept-clause-end
-returns-in-Err-reply_kept-clause-end c = silent _ _ _ _ _ _ (omega (arith, c.silent.ensures.status)) c.silent.ensures.sizes
-
-pub returns-in-Err-reply_kept-clause-asked : goal.returns-in-Err-reply_kept-clause-asked
-returns-in-Err-reply_kept-clause-asked c = λ small diagram kept. absurd (omega (arith, small, c.silent.ensures.status))
-
-pub returns-clause-end : goal.returns-clause-end
-returns-clause-end c = ended _ _ _ _ _ _ _ _ c.in-Ok.ensures.are_texts (omega (arith, c.code.ensures, small_code c.in-Ok-reply_kept.reply.outcome))
-
-pub returns-clause-asked : goal.returns-clause-asked
-returns-clause-asked c = λ small diagram kept.
-    let words = ap (map string_bytes) c.deref.ensures.value ∙ c.in-Ok.ensures.words in
-    let replies = subst (λ ws. RepliesWith (question diagram ws c.args.arguments.now.bytes.now c.args.arguments.now.inputs.now) c.in-Ok-reply_kept.reply)
-    words (c.in-Ok-reply_kept.ensures.replies diagram kept) in
-    record {
-      reply = c.in-Ok-reply_kept.reply;
-      replies = replies;
-      status = c.code.ensures;
-      complete = complete _ _ c.in-Ok-reply_kept.reply.outcome c.in-Ok-reply_kept.reply.text.items c.code.ensures replies;
-      headline = kept_headline _ c.in-Ok-reply_kept.reply _ c.code.ensures replies;
-      checked = kept_checked _ c.in-Ok-reply_kept.reply _ c.code.ensures replies;
-      drawn = kept_drawn _ c.in-Ok-reply_kept.reply _ c.code.ensures replies;
-      refuted = kept_refuted _ c.in-Ok-reply_kept.reply _ c.code.ensures replies;
-      shows_out = subst (λ t. ShowsText t c.args.out.now c.show_both.new.out c.show_both.result.out) c.answer_in.ensures c.show_both.ensures.out;
-      shows_err = subst (λ t. ShowsText t c.args.err.now c.show_both.new.err c.show_both.result.err) c.line_in.ensures c.show_both.ensures.err;
-    }
+pub returns-in-Err-clause-never_cut_short : goal.returns-in-Err-clause-never_cut_short
+returns-in-Err-clause-never_cut_short c = λ seven text kept. absurd (omega (arith, seven, c.in-Err.ensures.least))
 
 pub returns-in-Err-clause-kept : goal.returns-in-Err-clause-kept
 returns-in-Err-clause-kept c = λ small. absurd (omega (arith, small, c.in-Err.ensures.least))
 
-pub returns-in-Err-reply_kept-clause-kept : goal.returns-in-Err-reply_kept-clause-kept
-returns-in-Err-reply_kept-clause-kept c = λ small. absurd (omega (arith, small, c.silent.ensures.status))
+pub returns-in-Err-clause-not_kept : goal.returns-in-Err-clause-not_kept
+returns-in-Err-clause-not_kept c = λ eleven g keeps. absurd (omega (arith, eleven, c.in-Err.ensures.most))
+
+-- ---- no graph with such names is kept
+
+pub returns-in-Err-NotNames-clause-end : goal.returns-in-Err-NotNames-clause-end
+returns-in-Err-NotNames-clause-end c = silent _ _ _ _ _ _ (omega (arith, c.silent.ensures.status)) c.silent.ensures.sizes
+
+pub returns-in-Err-NotNames-clause-called : goal.returns-in-Err-NotNames-clause-called
+returns-in-Err-NotNames-clause-called c = λ small text kept. absurd (omega (arith, small, c.silent.ensures.status))
+
+pub returns-in-Err-NotNames-clause-lacked : goal.returns-in-Err-NotNames-clause-lacked
+returns-in-Err-NotNames-clause-lacked c = λ six text kept. absurd (omega (arith, six, c.silent.ensures.status))
+
+pub returns-in-Err-NotNames-clause-never_cut_short : goal.returns-in-Err-NotNames-clause-never_cut_short
+returns-in-Err-NotNames-clause-never_cut_short c = λ seven text kept. absurd (omega (arith, seven, c.silent.ensures.status))
+
+pub returns-in-Err-NotNames-clause-kept : goal.returns-in-Err-NotNames-clause-kept
+returns-in-Err-NotNames-clause-kept c = λ small. absurd (omega (arith, small, c.silent.ensures.status))
+
+pub returns-in-Err-NotNames-clause-not_kept : goal.returns-in-Err-NotNames-clause-not_kept
+returns-in-Err-NotNames-clause-not_kept c = λ eleven. c.in-Err-NotNames.ensures.refused (ap (λ f. Err f) c.in-Err-NotNames.field-0-is)
+
+-- ---- memory was refused for the diagram
+
+pub returns-clause-end : goal.returns-clause-end
+returns-clause-end c = ended _ _ _ _ _ _ _ _ c.in-Ok.ensures.are_texts c.show_reply.ensures.known
+
+pub returns-clause-called : goal.returns-clause-called
+returns-clause-called c = λ small text kept.
+    let bytes = c.args.arguments.now.bytes.now in
+    let inputs = c.args.arguments.now.inputs.now in
+    called (Some text) bytes c.args.arguments.now.words.now inputs _ _ _ _ _ _ c.bare.result (texts bytes c.args.arguments.now.words.now)
+    (λ name. content_named bytes inputs name) (λ name. is_none (place_named bytes inputs name)) (λ name. 0) (λ name. 0)
+    (record {
+      words_are = refl;
+      kept_is = refl;
+      held_is = λ name. refl;
+      lacks_is = λ name. refl;
+      none_failed = λ name. refl;
+      fails_lacked = λ name there. refl;
+    })
+    (no_room commands lawful _ c.bare.result c.bare.ensures) c.show_reply.ensures.status c.show_reply.ensures.out c.show_reply.ensures.err
+
+pub returns-clause-lacked : goal.returns-clause-lacked
+returns-clause-lacked c = λ six text kept. lacks_input _ _ _ _ _ _ _ _ _ _
+    (returns-clause-called c (omega (arith, six)) text kept) six
+
+pub returns-clause-never_cut_short : goal.returns-clause-never_cut_short
+returns-clause-never_cut_short c = λ seven text kept. never_cut_short _ _ _ _ _ _ _ _ _ _
+    (returns-clause-called c (omega (arith, seven)) text kept) seven
 
 pub returns-clause-kept : goal.returns-clause-kept
-returns-clause-kept c = λ small. c.in-Ok-reply_kept.ensures.kept (subst (λ k. k ≤ 7) c.code.ensures small)
+returns-clause-kept c = λ small.
+    let eight : code_of c.bare.result.outcome ≡ 8 = ap code_of c.bare.ensures in
+    absurd (omega (arith, small, eight, c.show_reply.ensures.status))
+
+-- ---- the words are answered
+
+pub returns-in-Ok-diagram_kept-clause-end : goal.returns-in-Ok-diagram_kept-clause-end
+returns-in-Ok-diagram_kept-clause-end c = ended _ _ _ _ _ _ _ _ c.in-Ok.ensures.are_texts c.answer_words.ensures.known
+
+pub returns-in-Ok-diagram_kept-clause-called : goal.returns-in-Ok-diagram_kept-clause-called
+returns-in-Ok-diagram_kept-clause-called c = λ small text kept.
+    c.answer_words.ensures.called (Some text)
+    (kept_holds text c.args.kept.now c.args.lines.now c.in-Ok-diagram_kept.diagram.read kept c.in-Ok-diagram_kept.ensures.keeps)
+    (ap (map string_bytes) c.deref.ensures.value ∙ c.in-Ok.ensures.words)
+
+pub returns-in-Ok-diagram_kept-clause-lacked : goal.returns-in-Ok-diagram_kept-clause-lacked
+returns-in-Ok-diagram_kept-clause-lacked c = λ six text kept. lacks_input _ _ _ _ _ _ _ _ _ _
+    (returns-in-Ok-diagram_kept-clause-called c (omega (arith, six)) text kept) six
+
+pub returns-in-Ok-diagram_kept-clause-never_cut_short : goal.returns-in-Ok-diagram_kept-clause-never_cut_short
+returns-in-Ok-diagram_kept-clause-never_cut_short c = λ seven text kept. never_cut_short _ _ _ _ _ _ _ _ _ _
+    (returns-in-Ok-diagram_kept-clause-called c (omega (arith, seven)) text kept) seven
+
+pub returns-in-Ok-diagram_kept-clause-kept : goal.returns-in-Ok-diagram_kept-clause-kept
+returns-in-Ok-diagram_kept-clause-kept c = λ small. (c.in-Ok-diagram_kept.diagram.read, c.in-Ok-diagram_kept.ensures.keeps)

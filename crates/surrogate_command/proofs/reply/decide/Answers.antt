@@ -30,7 +30,7 @@ stopped_text-requires-clause-district c =
     let x = c.args.sets.now.x.bits in
     let y = c.args.sets.now.y.bits in
     district_named g zs x y c.in-Stopped.district c.in-Stopped.hedge c.in-Stopped.pair
-    (length c.args.seen.now.names) c.requires.named c.args.seen.now.graph.small
+    (length c.args.seen.now.names) c.args.seen.now.sized c.args.seen.now.graph.small
     (subst (λ a. IfStopped a (IsStopShown g zs x y)) c.in-Stopped.is c.in_ok-formula.ensures.stopped)
 
 pub stopped_text-requires-clause-hedge : goal.stopped_text-requires-clause-hedge
@@ -40,7 +40,7 @@ stopped_text-requires-clause-hedge c =
     let x = c.args.sets.now.x.bits in
     let y = c.args.sets.now.y.bits in
     hedge_named g zs x y c.in-Stopped.district c.in-Stopped.hedge c.in-Stopped.pair
-    (length c.args.seen.now.names) c.requires.named c.args.seen.now.graph.small
+    (length c.args.seen.now.names) c.args.seen.now.sized c.args.seen.now.graph.small
     (subst (λ a. IfStopped a (IsStopShown g zs x y)) c.in-Stopped.is c.in_ok-formula.ensures.stopped)
 
 pub stopped_text-requires-clause-common : goal.stopped_text-requires-clause-common
@@ -50,21 +50,21 @@ stopped_text-requires-clause-common c =
     let x = c.args.sets.now.x.bits in
     let y = c.args.sets.now.y.bits in
     common_named g c.args.seen.now.graph.valid zs x y c.in-Stopped.district c.in-Stopped.common
-    (length c.args.seen.now.names) c.requires.named c.args.seen.now.graph.small
+    (length c.args.seen.now.names) c.args.seen.now.sized c.args.seen.now.graph.small
     c.requires.y (subst (IsRightWith g zs x y) c.in-Stopped.is c.in_ok-formula.ensures.right).1
     (subst (λ a. IfCommon a (IsBlockShown g zs x y)) c.in-Stopped.is c.in_ok-formula.ensures.blocked)
 
 pub stopped_text-requires-clause-target : goal.stopped_text-requires-clause-target
-stopped_text-requires-clause-target c = subst (λ n. IsBareTarget n (effect_on c.args.sets.now.x.bits c.args.sets.now.y.bits)) (sym c.requires.named)
+stopped_text-requires-clause-target c = subst (λ n. IsBareTarget n (effect_on c.args.sets.now.x.bits c.args.sets.now.y.bits)) (sym c.args.seen.now.sized)
     (bare_target c.args.seen.now.graph.n c.args.sets.now.x.bits c.args.sets.now.y.bits c.requires.x c.requires.y c.requires.apart c.requires.some)
 
 pub formula_text-requires-clause-what : goal.formula_text-requires-clause-what
 formula_text-requires-clause-what c = subst (λ (t : PlainTarget). Within (length c.args.seen.now.names) (has t.y)) (sym c.effect_of.ensures.view)
-    (subst (λ n. Within n (has c.args.sets.now.y.bits)) (sym c.requires.named) c.requires.y)
+    (subst (λ n. Within n (has c.args.sets.now.y.bits)) (sym c.args.seen.now.sized) c.requires.y)
 
 pub formula_text-requires-clause-doing : goal.formula_text-requires-clause-doing
 formula_text-requires-clause-doing c = subst (λ (t : PlainTarget). Within (length c.args.seen.now.names) (has t.x)) (sym c.effect_of.ensures.view)
-    (subst (λ n. Within n (has c.args.sets.now.x.bits)) (sym c.requires.named) c.requires.x)
+    (subst (λ n. Within n (has c.args.sets.now.x.bits)) (sym c.args.seen.now.sized) c.requires.x)
 
 pub formula_text-requires-clause-given : goal.formula_text-requires-clause-given
 formula_text-requires-clause-given c = subst (λ (t : PlainTarget). Within (length c.args.seen.now.names) (has t.given)) (sym c.effect_of.ensures.view)
@@ -72,7 +72,7 @@ formula_text-requires-clause-given c = subst (λ (t : PlainTarget). Within (leng
 
 pub formula_text-requires-clause-target : goal.formula_text-requires-clause-target
 formula_text-requires-clause-target c = subst (IsTargetWithin (length c.args.seen.now.names)) (sym c.effect_of.ensures.view)
-    (subst (λ n. IsTargetWithin n (effect_on c.args.sets.now.x.bits c.args.sets.now.y.bits)) (sym c.requires.named)
+    (subst (λ n. IsTargetWithin n (effect_on c.args.sets.now.x.bits c.args.sets.now.y.bits)) (sym c.args.seen.now.sized)
     (bare_target c.args.seen.now.graph.n c.args.sets.now.x.bits c.args.sets.now.y.bits c.requires.x c.requires.y c.requires.apart c.requires.some).sets)
 
 pub formula_text-requires-clause-derivation : goal.formula_text-requires-clause-derivation
@@ -82,7 +82,7 @@ formula_text-requires-clause-derivation c =
     let x = c.args.sets.now.x.bits in
     let y = c.args.sets.now.y.bits in
     let right = subst (IsRightWith g zs x y) c.in-Formula.is c.in_ok-formula.ensures.right in
-    subst (λ n. IsDerivationWithin n (derivation_view c.in-Formula.derivation)) (sym c.requires.named)
+    subst (λ n. IsDerivationWithin n (derivation_view c.in-Formula.derivation)) (sym c.args.seen.now.sized)
     (derivation_within g c.args.seen.now.graph.valid zs (effect_on x y) (formula_view c.in-Formula.formula) (derivation_view c.in-Formula.derivation)
     (bare_target c.args.seen.now.graph.n x y c.requires.x c.requires.y c.requires.apart c.requires.some).sets right.accepted)
 
@@ -134,6 +134,7 @@ returns c =
       stop = subst (λ a. IfStopped a (IsStopShown g zs x y)) c.in-Stopped.is c.in_ok-formula.ensures.stopped;
       blocked = right.1;
       shown = subst (λ a. IfCommon a (IsBlockShown g zs x y)) c.in-Stopped.is c.in_ok-formula.ensures.blocked;
+      arrays = c.in_ok-stopped_text-in-Stopped.ensures.arrays;
       exact = subst (λ a. HasCommon a ↔ IsBlockedTogether g zs x y) c.in-Stopped.is c.in_ok-formula.ensures.common;
       prints = c.in_ok-stopped_text-in-Stopped.ensures.text;
       reads_back = c.in_ok-stopped_text-in-Stopped.ensures.reads_back;

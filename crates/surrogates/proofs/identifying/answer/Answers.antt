@@ -6,6 +6,7 @@ use Rattle.hedge.specs.Listed.{first_masks}
 use Rattle.prob_expr.specs.Listed.{masks_of}
 use Rattle.prob_expr.specs.View.{formula_view}
 use Rattle.do_derivation.specs.View.{derivation_view, listed}
+use Rattle.identify.specs.declared.wanted.Wanted.TheVariants.{Derivation}
 use Rattle.identify.proofs.Composed.{few_defs}
 use Rattle.identify.proofs.Orders.{districts_by}
 use Rattle.identify.proofs.RightAnswers.{target_from}
@@ -74,7 +75,7 @@ returns-in_ok-formula-in-Ok-clause-few c =
     let sets = c.districts-parts.result.sets in
     let n = c.districts-parts.result.count in
     let most = c.districts-parts.result.in_range in
-    let few = few_defs c.args.g.now.n (listed c.order_of-order.result) (first_masks sets n)
+    let few = few_defs Derivation c.args.g.now.n (listed c.order_of-order.result) (first_masks sets n)
     c.args.x.bits c.args.y.bits c.ancestors_outside-d.result.bits c.in-Ok.made c.in-Ok.ensures.few
     (formula_view c.in_ok-formula-in-Ok.formula) (derivation_view c.in_ok-formula-in-Ok.derivation) c.in_ok-formula-in-Ok.ensures in
     let size = length-take n (map (λ (s : VSet). s.bits) sets) in

@@ -37,7 +37,8 @@ returns-in_default-clause-none c = λ uses g e. record {
       is.given c.flag-back_door.result c.flag-short.result r.way
       (c.in_ok-set.ensures.ok evaluate_row uses g refl) is.is_set (c.in_ok-given.ensures.ok evaluate_row uses g refl) is.is_given c.in_default.ensures
       (subst (λ b. way_for is.set is.given c.flag-back_door.result b ≡ Some r.way) (sym (c.flag-short.ensures evaluate_row uses g refl))
-      (subst (λ b. way_for is.set is.given b (has_flag uses (codes "short")) ≡ Some r.way) (sym (c.flag-back_door.ensures evaluate_row uses g refl)) is.is_way));
+      (subst (λ b. way_for is.set is.given b (has_flag uses (codes "short")) ≡ Some r.way)
+      (sym (c.flag-back_door.ensures evaluate_row uses g refl)) is.is_way));
 }
 
 pub returns-clause-ok : goal.returns-clause-ok
@@ -51,7 +52,8 @@ returns-clause-ok c = λ uses g. let s = c.in_ok-file.ensures.ok evaluate_row us
   is_set = c.in_ok-set.ensures.ok evaluate_row uses g refl;
   given = names_in c.in_ok-given.given;
   is_given = c.in_ok-given.ensures.ok evaluate_row uses g refl;
-  is_way = subst (λ b. way_for (option_map names_in c.in_ok-set.set) (names_in c.in_ok-given.given) b (has_flag uses (codes "short")) ≡ Some (way_of c.in-Some.way))
+  is_way = subst (λ b. way_for (option_map names_in c.in_ok-set.set) (names_in c.in_ok-given.given) b (has_flag uses (codes "short")) ≡ Some
+      (way_of c.in-Some.way))
       (c.flag-back_door.ensures evaluate_row uses g refl)
       (subst (λ b. way_for (option_map names_in c.in_ok-set.set) (names_in c.in_ok-given.given) c.flag-back_door.result b ≡ Some (way_of c.in-Some.way))
       (c.flag-short.ensures evaluate_row uses g refl) (sym c.in-Some.ensures));

@@ -17,7 +17,7 @@ loop-v-preserved c =
     elim c.if-has.branch [
       | then-has+in_ok-term+in_ok-push+in_ok-push-2 w ↦
           let into : has c.args.t.bits (get_or c.args.order.now c.loop-v.v-index 0) ≡ true = sym c.has.ensures ∙ w.if-has.true in
-          placing_take (graph_of c.args.g.now) c.args.order.now (source_of c.args.from)
+          placing_take c.args.wanted (graph_of c.args.g.now) c.args.order.now (source_of c.args.from)
           c.args.a.bits c.args.t.bits c.loop-v.before.bits c.union-before.result.bits c.loop-v.v-index
           c.loop-v.factors.items c.if-has.factors.items c.loop-v.lists.items c.if-has.lists.items w.in_ok-term.field-0 (omega arith)
           into is w.in_ok-term.ensures
@@ -25,15 +25,15 @@ loop-v-preserved c =
           (ap (λ (x : Vec (Vec Step)). x.items) w.lists-is ∙ w.in_ok-push-2.ensures.items) c.loop-v.invariant
       | else-has w ↦
           let out : has c.args.t.bits (get_or c.args.order.now c.loop-v.v-index 0) ≡ false = sym c.has.ensures ∙ w.if-has.false in
-          rw (w.factors-is, w.lists-is) (placing_skip (graph_of c.args.g.now) c.args.order.now (source_of c.args.from)
+          rw (w.factors-is, w.lists-is) (placing_skip c.args.wanted (graph_of c.args.g.now) c.args.order.now (source_of c.args.from)
           c.args.a.bits c.args.t.bits c.loop-v.before.bits c.union-before.result.bits c.loop-v.v-index
           c.loop-v.factors.items c.loop-v.lists.items (omega arith) out is c.loop-v.invariant)
     ]
 
 pub returns : goal.returns
 returns c = record {
-  factors = placing_factors (graph_of c.args.g.now) c.args.order.now (source_of c.args.from)
+  factors = placing_factors c.args.wanted (graph_of c.args.g.now) c.args.order.now (source_of c.args.from)
       c.args.a.bits c.args.t.bits c.loop-v.before.bits c.loop-v.v-index c.loop-v.factors.items c.loop-v.lists.items (omega arith) c.loop-v.invariant;
-  lists = placing_lists (graph_of c.args.g.now) c.args.order.now (source_of c.args.from)
+  lists = placing_lists c.args.wanted (graph_of c.args.g.now) c.args.order.now (source_of c.args.from)
       c.args.a.bits c.args.t.bits c.loop-v.before.bits c.loop-v.v-index c.loop-v.factors.items c.loop-v.lists.items (omega arith) c.loop-v.invariant;
 }

@@ -23,7 +23,7 @@ rounds-init c =
       number = omega (arith, ap length no_defs);
       few = omega (arith, ap length no_defs, few);
       paired = ap length no_lemmas ∙ sym (ap length no_defs);
-      reaching = reaching_none (graph_of c.args.g.now) (listed c.args.order.now) (Source.Under c.args.z.bits)
+      reaching = reaching_none c.args.wanted (graph_of c.args.g.now) (listed c.args.order.now) (Source.Under c.args.z.bits)
           c.args.c.bits c.ancestors_in-a.result.bits c.args.first c.new-defs.result.items c.new-lemmas.result.items no_defs no_lemmas;
     }
 
@@ -32,9 +32,9 @@ next_round-requires-clause-vertices c = entry_below (graph_of c.args.g.now) c.ar
 
 pub returns-in-Done-clause-factor : goal.returns-in-Done-clause-factor
 returns-in-Done-clause-factor c =
-    let d = subst (IsRound (graph_of c.args.g.now) (listed c.args.order.now) c.args.c.bits c.rounds.a.bits (source_of c.rounds.from))
+    let d = subst (IsRound c.args.wanted (graph_of c.args.g.now) (listed c.args.order.now) c.args.c.bits c.rounds.a.bits (source_of c.rounds.from))
     c.in-Done.is c.in-Ok.ensures.round in
-    let r = reached (graph_of c.args.g.now) (listed c.args.order.now) (Source.Under c.args.z.bits)
+    let r = reached c.args.wanted (graph_of c.args.g.now) (listed c.args.order.now) (Source.Under c.args.z.bits)
     c.args.c.bits c.ancestors_in-a.result.bits c.args.first c.rounds.a.bits (source_of c.rounds.from) c.rounds.next
     c.rounds.defs.items c.rounds.lemmas.items c.in-Done.field-0 d c.rounds.invariant.reaching in
     record {
@@ -54,17 +54,17 @@ overflow_add-next c =
 
 pub rounds-smaller : goal.rounds-smaller
 rounds-smaller c =
-    let k = subst (IsRound (graph_of c.args.g.now) (listed c.args.order.now) c.args.c.bits c.rounds.a.bits (source_of c.rounds.from))
+    let k = subst (IsRound c.args.wanted (graph_of c.args.g.now) (listed c.args.order.now) c.args.c.bits c.rounds.a.bits (source_of c.rounds.from))
     c.in-Further.is c.in-Ok.ensures.round in
-    shrinks (graph_of c.args.g.now) c.args.g.now.valid (listed c.args.order.now) c.args.c.bits c.rounds.a.bits (source_of c.rounds.from)
+    shrinks c.args.wanted (graph_of c.args.g.now) c.args.g.now.valid (listed c.args.order.now) c.args.c.bits c.rounds.a.bits (source_of c.rounds.from)
     c.in-Further.set.bits c.in-Further.field-1 k c.rounds.invariant.inside
     (fits_64 c.args.g.now.n c.rounds.a.bits c.args.g.now.small c.rounds.invariant.within)
 
 pub rounds-preserved : goal.rounds-preserved
 rounds-preserved c =
-    let k = subst (IsRound (graph_of c.args.g.now) (listed c.args.order.now) c.args.c.bits c.rounds.a.bits (source_of c.rounds.from))
+    let k = subst (IsRound c.args.wanted (graph_of c.args.g.now) (listed c.args.order.now) c.args.c.bits c.rounds.a.bits (source_of c.rounds.from))
     c.in-Further.is c.in-Ok.ensures.round in
-    let s = shrinks (graph_of c.args.g.now) c.args.g.now.valid (listed c.args.order.now) c.args.c.bits c.rounds.a.bits (source_of c.rounds.from)
+    let s = shrinks c.args.wanted (graph_of c.args.g.now) c.args.g.now.valid (listed c.args.order.now) c.args.c.bits c.rounds.a.bits (source_of c.rounds.from)
     c.in-Further.set.bits c.in-Further.field-1 k c.rounds.invariant.inside
     (fits_64 c.args.g.now.n c.rounds.a.bits c.args.g.now.small c.rounds.invariant.within) in
     let d = c.in_ok-push-in-Further.ensures.len in
@@ -75,7 +75,7 @@ rounds-preserved c =
       number = omega (arith, d, c.rounds.invariant.number);
       few = omega (arith, d, s, c.rounds.invariant.few);
       paired = omega (arith, d, l, c.rounds.invariant.paired);
-      reaching = reaching_further (graph_of c.args.g.now) (listed c.args.order.now) (Source.Under c.args.z.bits)
+      reaching = reaching_further c.args.wanted (graph_of c.args.g.now) (listed c.args.order.now) (Source.Under c.args.z.bits)
           c.args.c.bits c.ancestors_in-a.result.bits c.args.first c.rounds.a.bits (source_of c.rounds.from) c.in-Further.set c.rounds.next
           c.rounds.defs.items c.push.new.self.items c.rounds.lemmas.items c.push-in-Further.new.self.items c.in-Further.field-1 _ k
           c.in_ok-push-in-Further.ensures.items c.in_ok-push-in-Further-2.ensures.items

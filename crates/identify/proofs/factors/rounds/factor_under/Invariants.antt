@@ -16,7 +16,7 @@ invariant-rounds l = record {
   number : l.next ≡ l.first + length l.defs.items;
   few : length l.defs.items + size l.a.bits ≤ 64;
   paired : length l.lemmas.items ≡ length l.defs.items;
-  reaching : Reaching (graph_of l.g) (listed l.order) (source_of l.initial.from) l.c.bits l.initial.a.bits l.first l.a.bits (source_of l.from)
+  reaching : Reaching l.wanted (graph_of l.g) (listed l.order) (source_of l.initial.from) l.c.bits l.initial.a.bits l.first l.a.bits (source_of l.from)
       l.next l.defs.items l.lemmas.items;
 }
 

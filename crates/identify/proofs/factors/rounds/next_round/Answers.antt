@@ -19,7 +19,7 @@ district c = district_of_set (graph_of c.args.g.now) c.args.g.now.valid c.args.c
     c.district_of-t.ensures.district
 
 pub returns-then-t-c-clause-round : goal.returns-then-t-c-clause-round
-returns-then-t-c-clause-round c = done_whole (graph_of c.args.g.now) c.args.order.now c.args.c.bits c.args.a.bits (source_of c.args.from)
+returns-then-t-c-clause-round c = done_whole c.args.wanted (graph_of c.args.g.now) c.args.order.now c.args.c.bits c.args.a.bits (source_of c.args.from)
     c.district_of-t.result.bits c.in_ok-body_of.field-0
     (district (goal.at.returns-then-t-c-clause-round c).After-district_of-t) c.if-t-c.true c.in_ok-body_of.ensures
 
@@ -28,11 +28,11 @@ returns-then-leading-t-clause-fault c = IsStopped.here (district (goal.at.return
     (subst (λ u. AreAncestorsIn (graph_of c.args.g.now) c.district_of-t.result.bits c.args.c.bits u) c.if-leading-t.true c.ancestors_in-leading.ensures)
 
 pub returns-then-leading-c-clause-round : goal.returns-then-leading-c-clause-round
-returns-then-leading-c-clause-round c = done_summed (graph_of c.args.g.now) c.args.order.now c.args.c.bits c.args.a.bits (source_of c.args.from)
+returns-then-leading-c-clause-round c = done_summed c.args.wanted (graph_of c.args.g.now) c.args.order.now c.args.c.bits c.args.a.bits (source_of c.args.from)
     c.district_of-t.result.bits c.ancestors_in-leading.result.bits
     c.in_ok-body.body c.in_ok-body-2.body (district (goal.at.returns-then-leading-c-clause-round c).After-district_of-t)
     c.if-t-c.false c.ancestors_in-leading.ensures c.if-leading-c.true c.in_ok-body.ensures
-    (subst (λ z. IsSummed z c.in_ok-body.body c.in_ok-body-2.body) c.difference.ensures.mask c.in_ok-body-2.ensures)
+    (subst (λ z. IsSummed c.args.wanted z c.in_ok-body.body c.in_ok-body-2.body) c.difference.ensures.mask c.in_ok-body-2.ensures)
 
 pub returns-clause-round : goal.returns-clause-round
 returns-clause-round c = record {
@@ -44,5 +44,5 @@ returns-clause-round c = record {
   more = c.if-leading-c.false;
   whole = c.in_ok-body.body;
   is_whole = c.in_ok-body.ensures;
-  is_summed = subst (λ z. IsSummed z c.in_ok-body.body c.in_ok-body-2.body) c.difference.ensures.mask c.in_ok-body-2.ensures;
+  is_summed = subst (λ z. IsSummed c.args.wanted z c.in_ok-body.body c.in_ok-body-2.body) c.difference.ensures.mask c.in_ok-body-2.ensures;
 }

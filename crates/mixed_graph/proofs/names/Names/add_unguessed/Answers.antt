@@ -1,6 +1,8 @@
-use Rattle.std.proofs.Common.{◌≡◌, ◌∙◌, ◌+◌, ◌++◌, ◌∷◌, [], length, arith, sym, ap, subst}
+use Rattle.std.proofs.Common.{◌≡◌, ◌∙◌, ◌+◌, ◌++◌, ◌∷◌, [], length, set, arith, sym, ap, subst}
 use Rattle.mixed_graph.specs.Names.{AreNames}
 use Rattle.mixed_graph.specs.NameBlocks.{cut}
+use Rattle.mixed_graph.specs.NameKeys.{AreKeys}
+use Rattle.mixed_graph.proofs.NameKeys.{keys-more}
 use Rattle.mixed_graph.proofs.NameBlocks.{length-cut}
 use Rattle.mixed_graph.proofs.NameLists.{index_of-absent, AreNames-append}
 use Rattle.mixed_graph.proofs.names.Names.add_unguessed.Goals as goal
@@ -21,7 +23,16 @@ grown c =
     (sym c.in_default.ensures.has) (omega (arith, n, c.if-count-ge64.false)))
 
 pub invariant_of-self-2 : goal.invariant_of-self-2
-invariant_of-self-2 c = (grown (goal.at.invariant_of-self-2 c).In-Ok, c.in-Ok.ensures.block)
+invariant_of-self-2 c =
+    let n = many (goal.at.invariant_of-self-2 c).After-self in
+    let keys = subst (λ names. AreKeys c.self.inside.keys names) c.self.view_is c.self.invariant.2 in (
+      grown (goal.at.invariant_of-self-2 c).In-Ok,
+      c.in-Ok.ensures.block,
+      subst (AreKeys (set c.self.inside.keys c.self.inside.count c.args.key)) (sym (names_are (goal.at.invariant_of-self-2 c).In-Ok))
+          (subst (λ k. AreKeys (set c.self.inside.keys c.self.inside.count k) (c.args.self.now ++ c.args.name.now ∷ [])) (sym c.requires.key)
+          (keys-more c.self.inside.keys c.args.self.now c.args.name.now c.self.inside.count n (omega (arith, c.if-count-ge64.false)) keys
+          (λ some. c.requires.bytes (λ z. some (sym c.requires.key ∙ z))))),
+    )
 
 pub returns-clause-index : goal.returns-clause-index
 returns-clause-index c =

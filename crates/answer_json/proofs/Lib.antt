@@ -1,0 +1,4 @@
+pub mod Arrays
+mod Fitting
+mod Lines
+mod Texts

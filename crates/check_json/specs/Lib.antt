@@ -1,0 +1,2 @@
+pub mod CertificateFaults
+pub mod Refusals

@@ -1,0 +1,160 @@
+-- The objects of a refused derivation and of a refused hedge.
+use Rattle.std.specs.Prelude.{ℕ, nat_lt, ◌==◌, List, [], ◌∷◌, length, Option, Some, None, if◌then◌else◌, codes, decimal}
+use Rattle.json.specs.Json.{Json, null, string, number}
+use Rattle.do_derivation.specs.declared.faults.StepFault.{StepFault}
+use Rattle.do_derivation.specs.declared.faults.StepFault.TheVariants.{NotATerm, Sets, Unblocked, BadOrder, Grouping, NoLemma, NoPlace, Shape}
+use Rattle.do_derivation.specs.declared.faults.CheckFault.{CheckFault}
+use Rattle.do_derivation.specs.declared.faults.CheckFault.TheVariants.{Step, EndDiffers, DoLeft, NoMemory}
+use Rattle.hedge.specs.declared.hedge.HedgeFault.{HedgeFault}
+use Rattle.hedge.specs.declared.hedge.HedgeFault.TheVariants as hedges
+use Rattle.answer_json.specs.Progress.{Progress, nothing, members, at_key, object_of}
+use Rattle.answer_json.specs.Values.{vertex_json, path_json, IsNamedPath}
+
+-- ---- derivations
+
+-- the number of a step's fault
+abbrev pub step_number : StepFault → ℕ
+step_number NotATerm = 1
+step_number Sets = 2
+step_number (Unblocked p) = 3
+step_number BadOrder = 4
+step_number Grouping = 5
+step_number (NoLemma k) = 6
+step_number (NoPlace i) = 7
+step_number Shape = 8
+
+-- the same in words
+unfoldable pub step_message : StepFault → List ℕ
+step_message NotATerm = codes "the step wants a term"
+step_message Sets = codes "the sets of the step are wrong"
+step_message (Unblocked p) = codes "the separation of the rule fails"
+step_message BadOrder = codes "the order of the chain is wrong"
+step_message Grouping = codes "the groups are wrong"
+step_message (NoLemma k) = codes "there is no such lemma"
+step_message (NoPlace i) = codes "there is no such child"
+step_message Shape = codes "the expression has another shape"
+
+-- the open path, where that is the fault
+abbrev pub open_members : List (List ℕ) → StepFault → List (List ℕ × Json)
+open_members names NotATerm = []
+open_members names Sets = []
+open_members names (Unblocked p) = (codes "open", path_json names p.vertices p.marks p.count) ∷ []
+open_members names BadOrder = []
+open_members names Grouping = []
+open_members names (NoLemma k) = []
+open_members names (NoPlace i) = []
+open_members names Shape = []
+
+-- its path, where it has one, is of named vertices
+abbrev pub HasNamedPath : ℕ → StepFault → Type 0
+HasNamedPath n NotATerm = Unit {0}
+HasNamedPath n Sets = Unit {0}
+HasNamedPath n (Unblocked p) = IsNamedPath n p
+HasNamedPath n BadOrder = Unit {0}
+HasNamedPath n Grouping = Unit {0}
+HasNamedPath n (NoLemma k) = Unit {0}
+HasNamedPath n (NoPlace i) = Unit {0}
+HasNamedPath n Shape = Unit {0}
+
+-- the same of a derivation's fault
+abbrev pub IsNamedFault : ℕ → CheckFault → Type 0
+IsNamedFault n (Step place fault) = HasNamedPath n fault
+IsNamedFault n (EndDiffers k) = Unit {0}
+IsNamedFault n DoLeft = Unit {0}
+IsNamedFault n NoMemory = Unit {0}
+
+-- a number, where there is one
+abbrev pub number_or_null : Option ℕ → Json
+number_or_null None = null
+number_or_null (Some k) = number (decimal k)
+
+-- where a step stands: the number of its lemma, or none for main, and its own
+abbrev pub at_json : (lemma step : Option ℕ) → Json
+at_json lemma step = object_of ((codes "lemma", number_or_null lemma) ∷ (codes "step", number_or_null step) ∷ [])
+
+-- what is refused of a formula: where, by which fault, and what follows
+abbrev pub refused_json : (at : Json) (n : ℕ) (message : List ℕ) → List (List ℕ × Json) → Json
+refused_json at n message rest = object_of (
+    (codes "answer", string (codes "refused")) ∷ (codes "of", string (codes "formula")) ∷ (codes "at", at)
+    ∷ (codes "number", number (decimal n)) ∷ (codes "message", string message) ∷ rest)
+
+-- the same up to the key of the place
+abbrev pub begun_refusal : Progress
+begun_refusal = at_key nothing ((codes "answer", string (codes "refused")) ∷ (codes "of", string (codes "formula")) ∷ []) (codes "at")
+
+-- the place of another end: lemma k, or main where k is the number of lemmas
+abbrev pub end_place : (lemmas k : ℕ) → Option ℕ
+end_place lemmas k = if k == lemmas then None else Some k
+
+-- the message of another end
+unfoldable pub end_message : List ℕ
+end_message = codes "the steps end in another expression than the one that stands there"
+
+-- the message of an intervention that is left
+unfoldable pub do_message : List ℕ
+do_message = codes "a term still has a do"
+
+-- a derivation of so many lemmas that is refused; want of memory has no object
+abbrev pub derivation_json : List (List ℕ) → (lemmas : ℕ) → CheckFault → Json
+derivation_json names lemmas (Step place fault) =
+    refused_json (at_json place.lemma (Some place.number)) (step_number fault) (step_message fault) (open_members names fault)
+derivation_json names lemmas (EndDiffers k) = refused_json (at_json (end_place lemmas k) None) 9 end_message []
+derivation_json names lemmas DoLeft = refused_json null 10 do_message []
+derivation_json names lemmas NoMemory = null
+
+-- ---- hedges
+
+-- the number of a hedge's fault
+abbrev pub hedge_number : HedgeFault → ℕ
+hedge_number hedges.Sets = 1
+hedge_number hedges.BigMissesX = 2
+hedge_number hedges.SmallMeetsX = 3
+hedge_number (hedges.Choice v) = 4
+hedge_number (hedges.Link v) = 5
+hedge_number (hedges.Root v) = 6
+
+-- the same in words
+unfoldable pub hedge_message : HedgeFault → List ℕ
+hedge_message hedges.Sets = codes "the smaller set is not inside the larger one, or the roots are none or not inside the smaller one"
+hedge_message hedges.BigMissesX = codes "the larger set has no member of x"
+hedge_message hedges.SmallMeetsX = codes "the smaller set has a member of x"
+hedge_message (hedges.Choice v) = codes "the choice of this vertex is wrong"
+hedge_message (hedges.Link v) = codes "the links do not join the sets as they have to"
+hedge_message (hedges.Root v) = codes "this root has no directed path to y outside x"
+
+-- the name of vertex v, where there is such a vertex
+abbrev pub name_or_null : List (List ℕ) → ℕ → Json
+name_or_null names v = if nat_lt v (length names) then vertex_json names v else null
+
+-- the vertex of a fault that has one
+abbrev pub vertex_members : List (List ℕ) → HedgeFault → List (List ℕ × Json)
+vertex_members names hedges.Sets = []
+vertex_members names hedges.BigMissesX = []
+vertex_members names hedges.SmallMeetsX = []
+vertex_members names (hedges.Choice v) = (codes "vertex", name_or_null names v) ∷ []
+vertex_members names (hedges.Link v) = (codes "vertex", name_or_null names v) ∷ []
+vertex_members names (hedges.Root v) = (codes "vertex", name_or_null names v) ∷ []
+
+-- a hedge that is refused by the fault of that number
+abbrev pub refused_hedge_json : (n : ℕ) (message : List ℕ) → List (List ℕ × Json) → Json
+refused_hedge_json n message rest = object_of (
+    (codes "answer", string (codes "refused")) ∷ (codes "of", string (codes "hedge"))
+    ∷ (codes "number", number (decimal n)) ∷ (codes "message", string message) ∷ rest)
+
+-- the same up to the message
+abbrev pub begun_hedge : (n : ℕ) (message : List ℕ) → Progress
+begun_hedge n message = members nothing (
+    (codes "answer", string (codes "refused")) ∷ (codes "of", string (codes "hedge"))
+    ∷ (codes "number", number (decimal n)) ∷ (codes "message", string message) ∷ [])
+
+-- a hedge that is refused
+abbrev pub hedge_fault_json : List (List ℕ) → HedgeFault → Json
+hedge_fault_json names fault = refused_hedge_json (hedge_number fault) (hedge_message fault) (vertex_members names fault)
+
+-- the message of an experiment that meets a hedge
+unfoldable pub met_message : List ℕ
+met_message = codes "an experiment sets a member of the larger set and none of the smaller one"
+
+-- a hedge that an experiment meets
+abbrev pub met_json : Json
+met_json = refused_hedge_json 7 met_message []

@@ -1,0 +1,3 @@
+pub mod CountFaults
+pub mod Cells
+pub mod Stops

@@ -1,0 +1,80 @@
+//! The levels of a cell.
+
+ghost use Rattle.std.specs.Prelude.{◌≡◌, ◌<◌, All, length, map, OnOk};
+ghost use Rattle.mixed_graph.specs.Bits.{has, members_below};
+ghost use Rattle.mixed_graph.specs.Sets.{Within};
+ghost use Rattle.count_eval.specs.Programs.{cell_of};
+ghost use Rattle.count_answers.specs.Lines.{level_text};
+ghost use Rattle.answer_json.specs.Progress.{with_value, with_values};
+ghost use Rattle.count_json.specs.Cells.{level_json, cell_json};
+
+use answer_json::Object;
+use count_table::Counts;
+use mixed_graph::{Names, VSet};
+use std::alloc::AllocError;
+
+/// The level of vertex v with the number k; empty where it has no such level.
+fn level_text(counts: &Counts, v: u8, k: u32) -> &[u8]
+    ensures { result.now ≡ level_text counts.now v k }
+{
+    if k >= counts.levels(v) {
+        return b"";
+    }
+    counts.level(v, k)
+}
+
+/// A vertex with its level of that number.
+pub fn push_level(
+    object: &mut Object,
+    names: &Names,
+    counts: &Counts,
+    v: u8,
+    k: u32,
+) -> Result<(), AllocError>
+    requires { v < length names.now }
+    ensures { OnOk result (object.new ≡ with_value (level_json names.now counts.now v k) object.old) }
+{
+    object.begin_array()?;
+    object.vertex(names, v)?;
+    object.text(level_text(counts, v, k))?;
+    object.end_array()?;
+    Ok(())
+}
+
+/// Vertices with their levels in a cell, in their order.
+pub(crate) fn push_levels(
+    object: &mut Object,
+    names: &Names,
+    counts: &Counts,
+    vertices: &[u8],
+    cell: &[u32],
+) -> Result<(), AllocError>
+    requires named { All (λ v. v < length names.now) vertices.now }
+    requires entries { All (λ v. v < length cell.now) vertices.now }
+    ensures { OnOk result (object.new ≡ with_values (map (λ v. level_json names.now counts.now v (cell_of cell.now v)) vertices.now) object.old) }
+{
+    for v in vertices {
+        push_level(object, names, counts, *v, cell[*v as usize])?;
+    }
+    Ok(())
+}
+
+/// The levels of a set's members in a cell, in index order.
+#[tactic(auto, using(answer_json::proofs::Arrays::array_written))]
+pub fn push_cell(
+    object: &mut Object,
+    names: &Names,
+    counts: &Counts,
+    set: VSet,
+    cell: &[u32],
+) -> Result<(), AllocError>
+    requires named { Within (length names.now) (has set.bits) }
+    requires entries { Within (length cell.now) (has set.bits) }
+    ensures { OnOk result (object.new ≡ with_value (cell_json names.now counts.now (cell_of cell.now) (members_below (has set.bits) 64)) object.old) }
+{
+    let list = set.members(object.alloc())?;
+    object.begin_array()?;
+    push_levels(object, names, counts, list.as_slice(), cell)?;
+    object.end_array()?;
+    Ok(())
+}

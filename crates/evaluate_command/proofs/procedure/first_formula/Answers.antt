@@ -1,0 +1,43 @@
+use Rattle.std.proofs.Common.{false, length, refl, subst}
+use Rattle.mixed_graph.specs.Shown.{graph_of}
+use Rattle.identify.specs.Answers.{IsRightAlone}
+use Rattle.effect_answers.proofs.Found.{found_alone, hedge_named_alone, pair_named_alone}
+use Rattle.prob_expr.specs.View.{formula_view}
+use Rattle.evaluate_command.proofs.RightFormulas.{bare_sets, found_by_procedure}
+use Rattle.evaluate_command.proofs.procedure.first_formula.Goals as goal
+
+pub hedge_answer-requires-clause-hedge : goal.hedge_answer-requires-clause-hedge
+hedge_answer-requires-clause-hedge c =
+    let seen = c.args.diagram.now.observed in
+    hedge_named_alone (graph_of seen.graph) c.args.sets.x.bits c.args.sets.y.bits c.in-Hedge.hedge c.in-Hedge.pair c.in-Hedge.is
+    (length seen.names) seen.sized seen.graph.small c.in_ok-formula.ensures.hedge
+
+pub hedge_answer-requires-clause-models : goal.hedge_answer-requires-clause-models
+hedge_answer-requires-clause-models c =
+    let seen = c.args.diagram.now.observed in
+    pair_named_alone (graph_of seen.graph) c.args.sets.x.bits c.args.sets.y.bits c.in-Hedge.hedge c.in-Hedge.pair c.in-Hedge.is
+    (length seen.names) seen.sized seen.graph.valid c.requires.y c.in_ok-formula.ensures.pair c.in_ok-formula.ensures.counter
+
+pub returns-in-Formula : goal.returns-in-Formula
+returns-in-Formula c = λ x y asked.
+    let seen = c.args.diagram.now.observed in let on = c.args.sets.x.bits in let of = c.args.sets.y.bits in
+    let right = subst (IsRightAlone (graph_of seen.graph) on of) c.in-Formula.is c.in_ok-formula.ensures.right in
+    let found = found_by_procedure seen on of (bare_sets seen.graph.n on of c.requires.x c.requires.y c.requires.apart) c.requires.some false
+    (formula_view c.in-Formula.formula) right.derivation right.right right.derived in
+    record { names = refl; graph = refl; identified = found.0; found = (asked, found.1) }
+
+pub returns-in_ok-hedge_answer-in-Hedge : goal.returns-in_ok-hedge_answer-in-Hedge
+returns-in_ok-hedge_answer-in-Hedge c = λ x y asked.
+    let e = c.in_ok-formula.ensures in let on = c.args.sets.x.bits in let of = c.args.sets.y.bits in
+    record {
+      x = on;
+      y = of;
+      sets = asked;
+      answer = record {
+        hedge = c.in-Hedge.hedge;
+        pair = c.in-Hedge.pair;
+        found = found_alone (graph_of c.args.diagram.now.observed.graph) on of c.in-Hedge.hedge c.in-Hedge.pair c.in-Hedge.is e.right e.hedge e.stop e.data
+            e.pair;
+        prints = c.in_ok-hedge_answer-in-Hedge.ensures;
+      };
+    }

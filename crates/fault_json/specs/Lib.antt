@@ -1,0 +1,2 @@
+pub mod GraphFaults
+pub mod TargetFaults

@@ -1,0 +1,2 @@
+pub mod Hedges
+pub mod Models

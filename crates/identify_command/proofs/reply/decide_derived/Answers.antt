@@ -1,0 +1,153 @@
+use Rattle.std.proofs.Common.{◌≡◌, ◌≤◌, ◌<◌, ℕ, [], None, length, refl, sym, subst}
+use Rattle.mixed_graph.specs.Bits.{has}
+use Rattle.mixed_graph.specs.Sets.{Within, Apart}
+use Rattle.mixed_graph.specs.Shown.{graph_of}
+use Rattle.hedge.specs.Hedges.{IsHedge}
+use Rattle.do_rules.specs.Rules.{AreThreeSets}
+use Rattle.mixed_graph.proofs.MaskLaws.{has_none}
+use Rattle.prob_expr.specs.Check.{fault_in}
+use Rattle.prob_expr.specs.Tree.{PlainTarget, effect_on}
+use Rattle.prob_expr.specs.View.{formula_view}
+use Rattle.do_derivation.specs.Accepts.{Accepts}
+use Rattle.do_derivation.specs.View.{derivation_view}
+use Rattle.identification_theory.specs.Derivations.{IsDerived}
+use Rattle.identify.specs.Answers.{IsRight, IfFormula, IfHedge, AreShallowSteps, IsShallowFormula}
+use Rattle.conditional_id.specs.TurnLaws.{IsRightGiven}
+use Rattle.short_formulas.specs.Short.{IsUsable}
+use Rattle.short_formulas.proofs.Usable.{usable_plain, right_bare, or_shorter}
+use Rattle.identify_text.proofs.Free.{none_within}
+use Rattle.certificate.specs.Plain.{hedge_view, formula as formula_case}
+use Rattle.certificate_writing.specs.Writable.{IsTargetWithin, IsBareTarget, IsDerivationWithin, IsHedgeWithin}
+use Rattle.identify_command.specs.Answers.{formula_text, ReadsBack}
+use Rattle.identify_command.proofs.Shallow.{readable_shallow}
+use Rattle.effect_answers.proofs.Within.{derivation_within}
+use Rattle.effect_answers.proofs.Found.{found, hedge_named, pair_named}
+use Rattle.effect_answers.proofs.Writing.{bare_target, hedge_within}
+use Rattle.identify_command.proofs.reply.decide_derived.Goals as goal
+
+-- the sets of the effect
+sets_of : (n x y : ℕ) → Within n (has x) → Within n (has y) → Apart (has x) (has y) → AreThreeSets n (has x) (has y) (has 0)
+sets_of n x y in_x in_y apart = record {
+  x_within = in_x;
+  y_within = in_y;
+  w_within = λ v i. none_within n 0 v refl i;
+  x_y = apart;
+  x_w = λ v i. has_none v;
+  y_w = λ v i. has_none v;
+}
+
+pub shortened_if-requires-clause-sets : goal.shortened_if-requires-clause-sets
+shortened_if-requires-clause-sets c = subst (λ (t : PlainTarget). AreThreeSets c.args.seen.now.graph.n (has t.x) (has t.y) (has t.given))
+    (sym c.target_of-target.ensures)
+    (sets_of c.args.seen.now.graph.n c.args.sets.x.bits c.args.sets.y.bits c.requires.x c.requires.y c.requires.apart)
+
+pub shortened_if-requires-clause-some : goal.shortened_if-requires-clause-some
+shortened_if-requires-clause-some c = subst (λ (t : PlainTarget). 0 < t.y) (sym c.target_of-target.ensures) c.requires.some
+
+pub shortened_if-requires-clause-usable : goal.shortened_if-requires-clause-usable
+shortened_if-requires-clause-usable c =
+    let g = graph_of c.args.seen.now.graph in
+    let x = c.args.sets.x.bits in
+    let y = c.args.sets.y.bits in
+    let f = formula_view c.in-Formula.formula in
+    let d = derivation_view c.in-Formula.derivation in
+    subst (λ (t : PlainTarget). IsUsable g t f d) (sym c.target_of-target.ensures)
+    (usable_plain g x y f d
+    (subst (IsRight g x y) c.in-Formula.is c.in_ok-formula.ensures.right)
+    (subst (λ a. IfFormula a (λ f d. AreShallowSteps d)) c.in-Formula.is c.in_ok-formula.ensures.shallow_steps)
+    (subst (λ a. IfFormula a (λ f d. IsShallowFormula f)) c.in-Formula.is c.in_ok-formula.ensures.shallow_formula)
+    (subst (λ a. IfFormula a (λ f d. length f.defs ≤ 4096)) c.in-Formula.is c.in_ok-formula.ensures.few))
+
+pub formula_text-requires-clause-what : goal.formula_text-requires-clause-what
+formula_text-requires-clause-what c = subst (λ (t : PlainTarget). Within (length c.args.seen.now.names) (has t.y)) (sym c.target_of-target.ensures)
+    (subst (λ n. Within n (has c.args.sets.y.bits)) (sym c.args.seen.now.sized) c.requires.y)
+
+pub formula_text-requires-clause-doing : goal.formula_text-requires-clause-doing
+formula_text-requires-clause-doing c = subst (λ (t : PlainTarget). Within (length c.args.seen.now.names) (has t.x)) (sym c.target_of-target.ensures)
+    (subst (λ n. Within n (has c.args.sets.x.bits)) (sym c.args.seen.now.sized) c.requires.x)
+
+pub formula_text-requires-clause-given : goal.formula_text-requires-clause-given
+formula_text-requires-clause-given c = subst (λ (t : PlainTarget). Within (length c.args.seen.now.names) (has t.given)) (sym c.target_of-target.ensures)
+    (λ v i. none_within (length c.args.seen.now.names) 0 v refl i)
+
+pub formula_text-requires-clause-target : goal.formula_text-requires-clause-target
+formula_text-requires-clause-target c = subst (IsTargetWithin (length c.args.seen.now.names)) (sym c.target_of-target.ensures)
+    (subst (λ n. IsTargetWithin n (effect_on c.args.sets.x.bits c.args.sets.y.bits)) (sym c.args.seen.now.sized)
+    (bare_target c.args.seen.now.graph.n c.args.sets.x.bits c.args.sets.y.bits c.requires.x c.requires.y c.requires.apart c.requires.some).sets)
+
+pub formula_text-requires-clause-formula : goal.formula_text-requires-clause-formula
+formula_text-requires-clause-formula c = subst (λ n. fault_in n (formula_view c.in_ok-shown-in-Formula.shown.formula) ≡ None) (sym c.args.seen.now.sized)
+    c.in_ok-shown-in-Formula.ensures.usable.right.formed
+
+pub formula_text-requires-clause-derivation : goal.formula_text-requires-clause-derivation
+formula_text-requires-clause-derivation c =
+    let g = graph_of c.args.seen.now.graph in
+    let f = formula_view c.in_ok-shown-in-Formula.shown.formula in
+    let d = derivation_view c.in_ok-shown-in-Formula.shown.derivation in
+    subst (λ n. IsDerivationWithin n d) (sym c.args.seen.now.sized)
+    (derivation_within g c.args.seen.now.graph.valid [] (effect_on c.args.sets.x.bits c.args.sets.y.bits) f d
+    (bare_target c.args.seen.now.graph.n c.args.sets.x.bits c.args.sets.y.bits c.requires.x c.requires.y c.requires.apart c.requires.some).sets
+    (subst (λ (t : PlainTarget). Accepts g [] t f d) c.target_of-target.ensures c.in_ok-shown-in-Formula.ensures.usable.right.accepted))
+
+pub formula_text-requires-clause-shallow : goal.formula_text-requires-clause-shallow
+formula_text-requires-clause-shallow c = readable_shallow (formula_view c.in_ok-shown-in-Formula.shown.formula)
+    (derivation_view c.in_ok-shown-in-Formula.shown.derivation)
+    c.in_ok-shown-in-Formula.ensures.usable.readable
+
+pub returns-in_ok-formula_text-in-Formula : goal.returns-in_ok-formula_text-in-Formula
+returns-in_ok-formula_text-in-Formula c =
+    let g = graph_of c.args.seen.now.graph in
+    let x = c.args.sets.x.bits in
+    let y = c.args.sets.y.bits in
+    let f = formula_view c.in_ok-shown-in-Formula.shown.formula in
+    let d = derivation_view c.in_ok-shown-in-Formula.shown.derivation in
+    let t = c.target_of-target.ensures in record {
+      formula = f;
+      derivation = d;
+      right = right_bare g x y f d (subst (λ (u : PlainTarget). IsRightGiven g u f d) t c.in_ok-shown-in-Formula.ensures.usable.right);
+      derived = or_shorter c.args.form.short (IsDerived g x y) (formula_view c.in-Formula.formula) (derivation_view c.in-Formula.derivation) f d
+          c.in_ok-shown-in-Formula.ensures.first (subst (λ a. IfFormula a (IsDerived g x y)) c.in-Formula.is c.in_ok-formula.ensures.derived);
+      prints = subst (λ (u : PlainTarget). c.in_ok-formula_text-in-Formula.field-0.items ≡ formula_text c.args.form.writing c.args.seen.now.names u f d)
+          t c.in_ok-formula_text-in-Formula.ensures.text;
+      reads_back = subst (λ (u : PlainTarget). ReadsBack c.args.form.writing c.args.seen.now.names (formula_case u f d))
+          t c.in_ok-formula_text-in-Formula.ensures.reads_back;
+    }
+
+pub hedge_text-requires-clause-x : goal.hedge_text-requires-clause-x
+hedge_text-requires-clause-x c = subst (λ n. Within n (has c.args.sets.x.bits)) (sym c.args.seen.now.sized) c.requires.x
+
+pub hedge_text-requires-clause-y : goal.hedge_text-requires-clause-y
+hedge_text-requires-clause-y c = subst (λ n. Within n (has c.args.sets.y.bits)) (sym c.args.seen.now.sized) c.requires.y
+
+pub hedge_text-requires-clause-target : goal.hedge_text-requires-clause-target
+hedge_text-requires-clause-target c = subst (λ n. IsBareTarget n (effect_on c.args.sets.x.bits c.args.sets.y.bits)) (sym c.args.seen.now.sized)
+    (bare_target c.args.seen.now.graph.n c.args.sets.x.bits c.args.sets.y.bits c.requires.x c.requires.y c.requires.apart c.requires.some)
+
+pub hedge_text-requires-clause-hedge : goal.hedge_text-requires-clause-hedge
+hedge_text-requires-clause-hedge c = hedge_named (graph_of c.args.seen.now.graph)
+    c.args.sets.x.bits c.args.sets.y.bits c.in-Hedge.hedge c.in-Hedge.pair c.in-Hedge.is
+    (length c.args.seen.now.names) c.args.seen.now.sized c.args.seen.now.graph.small c.in_ok-formula.ensures.hedge
+
+pub hedge_text-requires-clause-models : goal.hedge_text-requires-clause-models
+hedge_text-requires-clause-models c = pair_named (graph_of c.args.seen.now.graph)
+    c.args.sets.x.bits c.args.sets.y.bits c.in-Hedge.hedge c.in-Hedge.pair c.in-Hedge.is
+    (length c.args.seen.now.names) c.args.seen.now.sized c.args.seen.now.graph.valid c.requires.y c.in_ok-formula.ensures.pair c.in_ok-formula.ensures.counter
+
+pub hedge_text-requires-clause-data : goal.hedge_text-requires-clause-data
+hedge_text-requires-clause-data c =
+    let g = graph_of c.args.seen.now.graph in
+    subst (λ n. IsHedgeWithin n (hedge_view c.in-Hedge.hedge)) (sym c.args.seen.now.sized)
+    (hedge_within g c.args.sets.x.bits c.args.sets.y.bits c.in-Hedge.hedge c.has_arrays.ensures.links
+    (subst (λ a. IfHedge a (λ h pair. IsHedge g c.args.sets.x.bits c.args.sets.y.bits h)) c.in-Hedge.is c.in_ok-formula.ensures.hedge))
+
+pub returns-in_ok-hedge_text-in-Hedge : goal.returns-in_ok-hedge_text-in-Hedge
+returns-in_ok-hedge_text-in-Hedge c =
+    let e = c.in_ok-formula.ensures in record {
+      hedge = c.in-Hedge.hedge;
+      pair = c.in-Hedge.pair;
+      found = found (graph_of c.args.seen.now.graph) c.args.sets.x.bits c.args.sets.y.bits c.in-Hedge.hedge c.in-Hedge.pair c.in-Hedge.is e.right e.hedge
+          e.stop e.data e.pair;
+      arrays = c.has_arrays.ensures;
+      prints = c.in_ok-hedge_text-in-Hedge.ensures.text;
+      reads_back = c.in_ok-hedge_text-in-Hedge.ensures.reads_back;
+    }
