@@ -14,16 +14,11 @@ import sys
 import tempfile
 
 import causal
+from make_ascending import edges_of
 
 HERE = os.path.dirname(os.path.abspath(__file__))
 EXAMPLES = os.path.join(HERE, "..", "examples")
 ROUNDS = 9
-
-
-def edges_of(vertices, chance, source):
-    """The edges of a random acyclic graph: each pair in ascending order with the chance."""
-    pairs = [(f"v{a}", f"v{b}") for a in range(vertices) for b in range(a + 1, vertices)]
-    return [pair for pair in pairs if source.random() < chance]
 
 
 def questions_of(vertices, number, source):
@@ -94,12 +89,26 @@ def separations(vertices, chance):
     )
 
 
+def repeated(call):
+    """The call, 200 times, each answer dropped before the next."""
+
+    def calls():
+        for _ in range(200):
+            call()
+
+    return calls
+
+
 def identifications():
-    """Prints the time of one identification of each example."""
+    """Prints the time of one identification of each example, alone, with its LaTeX and with its certificate."""
     for name in ("kidney_stones.dag", "front_door.dag", "napkin.dag", "exported.dag", "bow.dag"):
         diagram = causal.Diagram.from_file(os.path.join(EXAMPLES, name))
-        [own] = best(lambda: [diagram.identify() for _ in range(200)])
-        print(f"identify {name}: {own / 200:.1f} us")
+        own, latex, certificate = best(
+            repeated(diagram.identify),
+            repeated(lambda: getattr(diagram.identify(), "latex", None)),
+            repeated(lambda: diagram.identify().certificate),
+        )
+        print(f"identify {name}: {own / 200:.1f} us, with its LaTeX {latex / 200:.1f}, with its certificate {certificate / 200:.1f}")
 
 
 def identifications_of_many(vertices, chance):

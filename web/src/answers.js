@@ -1,6 +1,8 @@
 import { CARDS } from "./cards/index.js";
 import { tableName } from "./cards/data.js";
 import { byId, h, speak } from "./dom.js";
+import { AS_JSON } from "./names.js";
+import { saidOf } from "./objects.js";
 import { toast } from "./page/notices.js";
 import { forgetGone } from "./seen.js";
 import { howToRead, rewritten } from "./text/csv.js";
@@ -66,7 +68,7 @@ export class Answers {
 
   /** Asks with a text's graph what the card that is seen will ask. @param {import("./program.js").Reading} reading */
   askAhead(reading) {
-    for (const words of this.active.ahead ?? []) reading.ask(words);
+    for (const words of this.active.ahead ?? []) reading.read(words);
   }
 
   /** Forgets what was chosen for another diagram: the way to the formula and its form, the condition of the effect, and the trials. */
@@ -173,9 +175,11 @@ export class Answers {
       asked.push([words, answer.status, answer.out, answer.err]);
       return answer;
     };
+    const read = async (words) => saidOf(await ask([...words, AS_JSON]));
+    const print = async (words) => (await reading.ask(words)).out;
     const turn = this.#turn;
     const ctx = {
-      ...this.around, graph, text, ask, memory: this.#memory,
+      ...this.around, graph, text, ask, read, print, memory: this.#memory,
       observed: this.#observed(),
       put: (name, content) => this.program.put(name, content),
       askAbout: (other, words) => this.program.ask(other, words),

@@ -1,6 +1,5 @@
-import { readFault } from "./faults.js";
 import { DIAGRAM } from "./names.js";
-import { readGraph } from "./text/printed.js";
+import { graphOf } from "./objects.js";
 
 /** @typedef {import("./text/printed.js").Graph} Graph  @typedef {import("./faults.js").Fault} Fault */
 /**
@@ -17,6 +16,7 @@ import { readGraph } from "./text/printed.js";
  * @property {(fault: Fault | null, text: string, how: Shown) => void} judged
  */
 
+const GRAPH = ["graph", DIAGRAM];
 const SLOW_MS = 3000;
 const BURST_MS = 700;
 
@@ -54,13 +54,12 @@ export class Draft {
     this.on.text(text, how);
     const mine = ++this.#turn, reading = this.program.of(text);
     this.program.giveUpAfter(SLOW_MS);
-    const asked = reading.ask(["graph", DIAGRAM]);
+    const asked = reading.read(GRAPH);
     this.on.asking(reading);
-    const answer = await asked;
+    const { object, fault } = await asked;
     if (mine !== this.#turn) return;
-    const fault = answer.status === 0 ? null : readFault(answer.err);
     this.isFaulty = Boolean(fault);
-    if (!fault) this.accepted = { graph: readGraph(answer.out), text };
+    if (!fault) this.accepted = { graph: graphOf(object), text };
     this.on.judged(fault, text, how);
     if (!fault) await this.on.accepted(this.accepted.graph, text, how);
   }
@@ -89,8 +88,8 @@ export class Draft {
   /** Takes a text that an act in the drawing makes. @returns {Promise<string | null>} why it was refused */
   async propose(text) {
     if (this.isFaulty) return "The text has a fault; mend it first, or undo.";
-    const answer = await this.program.of(text).ask(["graph", DIAGRAM]);
-    if (answer.status !== 0) return readFault(answer.err).sentence;
+    const { fault } = await this.program.of(text).read(GRAPH);
+    if (fault) return fault.sentence;
     await this.show(text);
     return null;
   }

@@ -52,7 +52,7 @@ export class Editor {
     if (!fault) return this.paint();
     if (!fault.number) return line.replaceChildren(fault.sentence);
     const marks = placesOf(fault, text), other = taken(text);
-    line.title = fault.line;
+    line.title = fault.told;
     line.replaceChildren(this.#placeButton(marks[0], text), ` ${fault.sentence} `,
       other ? button("Write it as the program reads it", () => this.on.pasted(text), { data: { key: "take text" } }) : "");
     this.paint(marks);

@@ -1,10 +1,10 @@
 // What the program explains beside its answers, by the call causal_explain: the steps of a derivation with the graphs of
-// its rules, the graph in which a rule is asked, an adjustment formula in LaTeX, and of which kind an answer under a condition is.
-// Nothing of it is made here.
+// its rules, the graph in which a rule is asked, and of which kind an answer under a condition is. Nothing of it is made here.
 import { CERTIFICATE, DIAGRAM, EXPLAIN } from "./names.js";
 import { keyOf } from "./diagram/geometry.js";
+import { graphOf } from "./objects.js";
 import { readSteps } from "./steps.js";
-import { readGraph } from "./text/printed.js";
+import { readGraph } from "./text/told.js";
 
 /** @typedef {import("./cards/parts.js").Context} Context */
 /** @typedef {import("./text/printed.js").Graph} Graph  @typedef {import("./text/printed.js").Edge} Edge */
@@ -40,12 +40,6 @@ export async function kindOf(ctx, words) {
 
 /** The edges of the observed diagram that another printed graph lacks. @returns {Promise<Edge[]>} */
 export async function lostEdges(ctx, /** @type {Graph} */ graph) {
-  const left = new Set(graph.edges.map(keyOf)), { out } = await ctx.ask(PROJECTED);
-  return readGraph(out).edges.filter((edge) => !left.has(keyOf(edge)));
-}
-
-/** The lines of an adjustment formula in LaTeX. @param {string[]} words those of `adjust` with a set */
-export async function adjustmentLatex(ctx, words) {
-  const told = await ctx.ask([EXPLAIN, ...words]);
-  return told.out.trimEnd().split("\n").filter((line) => !line.startsWith("free "));
+  const left = new Set(graph.edges.map(keyOf)), { object } = await ctx.read(PROJECTED);
+  return graphOf(object).edges.filter((edge) => !left.has(keyOf(edge)));
 }

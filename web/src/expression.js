@@ -1,32 +1,39 @@
-// Reading an expression that the program printed as text, and writing it in LaTeX to be typeset.
+// Expressions: trees as the program's objects have them, and reading those that it tells as text.
+import { nameText } from "./text/printed.js";
 
 /**
- * @typedef {{k: "P", of: string[], doing: string[], given: string[], text: string}} Term with its text as it was printed
- * @typedef {Term | {k: "sum", over: string[], body: Expr} | {k: "mul", list: Expr[]} | {k: "div", list: [Expr, Expr]}
- *   | {k: "q", n: number}} Expr
+ * @typedef {{term: string[], do: string[], given: string[]}} Term
+ * @typedef {Term | {sum: string[], of: Expr} | {product: Expr[]} | {quotient: [Expr, Expr]} | {definition: number}} Expr
  */
+
+const childrenOf = (/** @type {Expr} */ e) => (e.sum ? [e.of] : e.product ?? e.quotient ?? []);
+
+/** The nodes of an expression as the program numbers them, a parent before its parts. @param {Expr} e @returns {Expr[]} */
+export const nodesOf = (e) => [e, ...childrenOf(e).flatMap(nodesOf)];
+
+/** The part of an expression at a path of children. @param {number[]} path @returns {Expr} */
+export const partAt = (e, path) => path.reduce((x, i) => childrenOf(x)[i], e);
 
 /** A name as the program writes it in LaTeX. */
 function escape(name) {
   const named = { "\\": "\\textbackslash{}", "^": "\\^{}", "~": "\\~{}" };
-  const quoted = /[\s{}[\]";=,<>\-@()|*/]|^[#\u2190-\u21FF\u27F0-\u27FF\u2900-\u297F]/.test(name) ? `"${name}"` : name;
-  return quoted.replace(/[\\_#&$%{}^~]/g, (c) => named[c] ?? `\\${c}`);
+  return nameText(name).replace(/[\\_#&$%{}^~]/g, (c) => named[c] ?? `\\${c}`);
 }
 
 export function latex(/** @type {Expr} */ e) {
   const names = (list) => list.map(escape).join(", ");
-  const wrap = (x) => (x.k === "P" || x.k === "q" ? latex(x) : `\\left( ${latex(x)} \\right)`);
-  if (e.k === "P") {
-    const conditions = [...(e.doing.length ? [`\\mathrm{do}(${names(e.doing)})`] : []), ...e.given.map(escape)];
-    return `P(${names(e.of)}${conditions.length ? ` \\mid ${conditions.join(", ")}` : ""})`;
+  const wrap = (x) => (x.sum || x.product || x.quotient ? `\\left( ${latex(x)} \\right)` : latex(x));
+  if (e.term) {
+    const conditions = [...(e.do.length ? [`\\mathrm{do}(${names(e.do)})`] : []), ...e.given.map(escape)];
+    return `P(${names(e.term)}${conditions.length ? ` \\mid ${conditions.join(", ")}` : ""})`;
   }
-  if (e.k === "sum") return `\\sum_{${names(e.over)}} ${latex(e.body)}`;
-  if (e.k === "mul") return e.list.map(wrap).join(" ");
-  if (e.k === "div") return `\\frac{${latex(e.list[0])}}{${latex(e.list[1])}}`;
-  return `q_{${e.n}}`;
+  if (e.sum) return `\\sum_{${names(e.sum)}} ${latex(e.of)}`;
+  if (e.product) return e.product.map(wrap).join(" ");
+  if (e.quotient) return `\\frac{${latex(e.quotient[0])}}{${latex(e.quotient[1])}}`;
+  return `q_{${e.definition}}`;
 }
 
-/** Reads an expression as the program prints it. */
+/** Reads an expression as the program tells it in the steps of a derivation. */
 class Reader {
   #at = 0;
 
@@ -50,21 +57,19 @@ class Reader {
       this.#at++;
       return inner;
     }
-    if (tokens[this.#at + 1] !== "(") return { k: "q", n: Number(tokens[this.#at++].slice(1)) };
-    const start = this.#at;
+    if (tokens[this.#at + 1] !== "(") return { definition: Number(tokens[this.#at++].slice(1)) };
     this.#at += 2;
-    const term = { k: "P", of: this.#names(), doing: [], given: [], text: "" };
+    const term = { term: this.#names(), do: [], given: [] };
     if (tokens[this.#at] === "|") {
       this.#at++;
       if (tokens[this.#at + 1] === "(") {
         this.#at += 2;
-        term.doing = this.#names();
+        term.do = this.#names();
         this.#at++;
       }
       term.given = this.#names();
     }
     this.#at++;
-    term.text = tokens.slice(start, this.#at).join("");
     return term;
   }
 
@@ -74,26 +79,20 @@ class Reader {
       this.#at += 2;
       const over = this.#names();
       this.#at++;
-      return { k: "sum", over, body: this.expression() };
+      return { sum: over, of: this.expression() };
     }
     const list = [this.#operand()];
     if (tokens[this.#at] === "/") {
       this.#at++;
-      return { k: "div", list: [list[0], this.#operand()] };
+      return { quotient: [list[0], this.#operand()] };
     }
     while (tokens[this.#at] === "*") {
       this.#at++;
       list.push(this.#operand());
     }
-    return list.length > 1 ? { k: "mul", list } : list[0];
+    return list.length > 1 ? { product: list } : list[0];
   }
 }
 
 /** @returns {Expr} */
 export const parse = (text) => new Reader(text).expression();
-
-/** A printed equation such as `P(Y|do(X)) = ..` in LaTeX. */
-export const equationLatex = (line) => line.split(" = ").map((side) => latex(parse(side))).join(" = ");
-
-/** The part of an expression at a path of children. @param {number[]} path @returns {Expr} */
-export const partAt = (e, path) => path.reduce((x, i) => (x.k === "sum" ? x.body : x.list[i]), e);

@@ -68,7 +68,7 @@ function shrink(parts, width) {
   });
 }
 
-/** What a formula's coloured parts mean, at the pointer. */
+/** What a formula's coloured parts mean, at the pointer. @param {string[]} printed its lines */
 function explainParts(box, printed) {
   for (const el of box.querySelectorAll(".bound")) {
     el.title = "a bound name: it runs over all its values, by the sum to its left";
@@ -80,20 +80,16 @@ function explainParts(box, printed) {
 
 /**
  * The lines of a formula. The first is typeset at once, the others when they are seen.
- * @param {string[]} tex lines of LaTeX @param {string} printed the program's text of the same lines
+ * @param {string[]} tex lines of LaTeX @param {string[]} printed the program's text of the same lines
  */
 export function formula(tex, printed) {
-  const rows = printed.split("\n");
   return tex.map((line, i) => {
-    const text = rows.find((row) => isAbout(row, i)) ?? "";
-    const el = h("div", { class: "line", role: "math", "aria-label": text });
-    if (i === 0) typesetLine(el, line, rows);
-    else whenSeen(el, () => typesetLine(el, line, rows), text);
+    const el = h("div", { class: "line", role: "math", "aria-label": printed[i] });
+    if (i === 0) typesetLine(el, line, printed);
+    else whenSeen(el, () => typesetLine(el, line, printed), printed[i]);
     return el;
   });
 }
-
-const isAbout = (row, i) => (i === 0 ? row.startsWith("P(") : row.startsWith(`q${i - 1} = `));
 
 /** A part that is typeset when it is seen. */
 export function typesetWhenSeen(tex, text, display = false) {

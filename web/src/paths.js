@@ -2,8 +2,9 @@
 // directed ways (ways.js), and which paths are open, one after another, in diagrams from which edges of earlier ones were left
 // out. A path that is open without some edges is open with them.
 import { keyOf } from "./diagram/geometry.js";
-import { DIAGRAM } from "./names.js";
-import { listWord, openPath, readPath } from "./text/printed.js";
+import { AS_JSON, DIAGRAM } from "./names.js";
+import { edgesOf, saidOf } from "./objects.js";
+import { listWord } from "./text/printed.js";
 import { plainText, Ways } from "./ways.js";
 
 /** @typedef {import("./text/printed.js").Graph} Graph  @typedef {import("./text/printed.js").Edge} Edge  @typedef {import("./ways.js").Ask} Ask */
@@ -37,13 +38,13 @@ const without = ({ vertices, edges }, names) => ({
 
 /** The edges of open paths between two sets. */
 async function openEdges(ask, graph, xs, ys, given) {
-  const words = ["separate", DIAGRAM, "--x", listWord(xs), "--y", listWord(ys), "--given", listWord(given)];
+  const words = ["separate", DIAGRAM, "--x", listWord(xs), "--y", listWord(ys), "--given", listWord(given), AS_JSON];
   const found = new Set(), asked = new Set([""]), waiting = [new Set()];
   for (let i = 0; i < waiting.length; i++) {
     if (i === MOST_ASKED) return { edges: found, isAll: false };
     const edges = graph.edges.filter((e) => !waiting[i].has(keyOf(e)));
-    const path = openPath((await ask(plainText({ ...graph, edges }), words)).out);
-    for (const key of path ? readPath(path).map(keyOf) : []) {
+    const { open } = saidOf(await ask(plainText({ ...graph, edges }), words)).object;
+    for (const key of open ? edgesOf(open).map(keyOf) : []) {
       const next = new Set([...waiting[i], key]), name = [...next].sort().join("\n\n");
       found.add(key);
       if (!asked.has(name)) waiting.push(next);

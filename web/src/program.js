@@ -1,3 +1,6 @@
+import { AS_JSON } from "./names.js";
+import { saidOf } from "./objects.js";
+
 const KEPT = 8;
 
 /** What the program answers about one text. Each question is asked once. */
@@ -19,6 +22,11 @@ export class Reading {
       answer.then(({ status }) => status < 0 && this.#answers.delete(key));
     }
     return this.#answers.get(key);
+  }
+
+  /** The answer as an object. @param {string[]} words @returns {Promise<import("./objects.js").Said>} */
+  async read(words) {
+    return saidOf(await this.ask([...words, AS_JSON]));
   }
 
   forget(name) {

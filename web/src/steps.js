@@ -1,6 +1,6 @@
 // The steps of a derivation, as the program tells them.
 import { latex, parse, partAt } from "./expression.js";
-import { readGraph, readSet } from "./text/printed.js";
+import { readGraph, readSet } from "./text/told.js";
 
 /**
  * @typedef {import("./expression.js").Expr} Expr  @typedef {import("./expression.js").Term} Term

@@ -6,7 +6,7 @@
 //   {id, compute: "draws", text, words, name, ..}   values over draws of a table, which the words name; {id, values}
 //   {id, compute: "tests", table, pairs, seed}      tests of independences; {id, tests}
 import { load } from "./causal.mjs";
-import { DIAGRAM, EXPLAIN } from "./names.js";
+import { AS_JSON, DIAGRAM, EXPLAIN } from "./names.js";
 import { drawValues, testPairs } from "./statistics/work.js";
 
 const files = new Map();
@@ -38,7 +38,7 @@ onmessage = async ({ data }) => {
     postMessage({ id: data.id, answers: data.questions.map((words) => answer(program, words, data.text)) });
   } else if (data.compute === "draws") {
     const program = await causal;
-    const evaluate = (csv) => answer(program, data.words, data.text, { [data.name]: csv });
+    const evaluate = (csv) => answer(program, [...data.words, AS_JSON], data.text, { [data.name]: csv });
     postMessage({ id: data.id, values: drawValues(data, evaluate) });
   } else if (data.compute === "tests") postMessage({ id: data.id, tests: testPairs(data) });
   else if (data.text === null) files.delete(data.name);

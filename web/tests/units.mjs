@@ -4,21 +4,22 @@ import katex from "katex";
 import { readFileSync } from "node:fs";
 import { load } from "../src/causal.mjs";
 import { routed } from "../src/diagram/route.js";
-import { placesOf, readFault } from "../src/faults.js";
+import { faultOf, placesOf } from "../src/faults.js";
 import { annotate, annotatePieces } from "../src/latex.js";
-import { equationLatex, latex, parse } from "../src/expression.js";
+import { latex, parse } from "../src/expression.js";
 import { keyOf } from "../src/diagram/geometry.js";
+import { bitsOf, boundIn, edgesOf, graphOf as graphIn, impliedBy, nodesIn, saidOf, sumText, textOf, valuesOf } from "../src/objects.js";
 import { readSteps } from "../src/steps.js";
 import { missingOf } from "../src/support.js";
 import { levelsOf, readRows } from "../src/text/csv.js";
 import * as edit from "../src/text/edit.js";
-import {
-  experimentsWord, listWord, openPath, readCells, readGraph, readHedge, readImplications, readLevels, readPath, readSet, readStopped,
-} from "../src/text/printed.js";
+import { experimentsWord, levelsText, listWord, pathText, setText, termText } from "../src/text/printed.js";
+import { readGraph } from "../src/text/told.js";
 
 const causal = await load(readFileSync(process.argv[2]));
 const GRAPHS = Number(process.argv[3] ?? 1500);
 const run = (words, text, more = {}) => causal.run(words, { g: text, ...more });
+const read = (words, text, more) => saidOf(run([...words, "--json"], text, more));
 
 let seed = 7;
 const random = (n) => ((seed = (seed * 1103515245 + 12345) % 2147483648) >> 12) % n; // the low bits go round in short circles
@@ -60,8 +61,8 @@ function randomAttributes() {
 
 /** The graph of a text, by the program; its line where it's refused. */
 function graphOf(text, ...flags) {
-  const answer = run(["graph", "g", ...flags], text);
-  return answer.status ? answer.err : readGraph(answer.out);
+  const { object, fault } = read(["graph", "g", ...flags], text);
+  return fault ? fault.told : graphIn(object);
 }
 
 /** A graph's edges as a set, since a changed text may say them in another order. */
@@ -142,7 +143,9 @@ function testDerivation(text, words) {
   const ends = derived.map(({ start, steps }) => steps.reduce((end, step) => step.whole ?? step.after, start));
   same("the last expressions", ends, [...defs, formula].map((printed) => latex(parse(printed))), text);
   for (const { rule, graph } of derived.flatMap((part) => part.steps)) if (rule) testRule(text, rule, graph);
-  const lines = run([...words, "--latex"], text).out.trim().split("\n").filter((line) => !line.startsWith("free"));
+  const { object } = read(words, text), lines = object.latex.split("\n");
+  same("its text is what is printed", textOf(object), run(words, text).out, text);
+  same("its trees are its texts", [object.tree, ...object.definition_trees], [object.formula, ...object.definitions].map(parse), text);
   for (const line of lines) {
     const right = line.slice(line.indexOf(" = ") + 3);
     for (const tex of [annotate(line), ...annotatePieces(right)]) typesets(tex, line);
@@ -165,27 +168,55 @@ function testAnswers(text, graph) {
   const order = graph.vertices.filter((x) => x.role !== "latent").map((x) => x.name);
   if (order.length < 2) return;
   const [x, y] = shuffled(order), sets = ["--x", listWord([x]), "--y", listWord([y])];
-  const identified = run(["identify", "g", ...sets], text);
-  same("identify", identified.status < 2, true, identified.err);
-  const short = run(["identify", "g", ...sets, "--short"], text);
-  same("a short form has the same status", short.status, identified.status, text + short.err);
+  const identified = read(["identify", "g", ...sets], text), short = read(["identify", "g", ...sets, "--short"], text);
+  same("identify", identified.fault, null, text);
+  same("a short form has the same status", short.status, identified.status, text);
   if (identified.status === 0) testDerivation(text, ["identify", "g", ...sets]);
-  if (short.status === 0 && short.out !== identified.out) testDerivation(text, ["identify", "g", ...sets, "--short"]);
+  else testHedge(identified.object, run(["identify", "g", ...sets], text).out);
+  if (short.status === 0 && short.object.formula !== identified.object.formula) testDerivation(text, ["identify", "g", ...sets, "--short"]);
   if (KNOWN.given) testCondition(text, order, x, y);
   if (KNOWN.implications) testImplications(text, order);
   if (KNOWN.surrogate) testSurrogate(text, order, sets, identified);
-  const separated = run(["separate", "g", ...sets, "--given", "{}"], text);
-  if (separated.status === 1) testPath(openPath(separated.out), x, y, graph, text);
-  const adjusted = run(["adjust", "g", ...sets], text).out.split("\n").filter((line) => line.startsWith("{"));
-  for (const set of adjusted) {
-    const words = ["adjust", "g", ...sets, "--set", listWord(readSet(set))], answer = run(words, text);
-    const told = causal.explain(words, { g: text }), [, printed] = answer.out.split("\n"), [tex] = told.out.split("\n");
-    same("a minimal set", [answer.status, told.status], [0, 0], text + set + told.err);
-    same("its formula in LaTeX", tex, equationLatex(printed), text + set);
-    typesets(annotate(tex), tex);
-  }
+  const ask = ["separate", "g", ...sets, "--given", "{}"], separated = read(ask, text);
+  if (separated.status === 1) testPath(separated.object.open, run(ask, text).out, x, y, graph, text);
+  const adjusted = read(["adjust", "g", ...sets], text).object.sets;
+  for (const set of adjusted) testMinimalSet(text, sets, set);
   testOtherSet(text, order, sets, [x, y]);
-  testValues(text, order, x, y, adjusted.map(readSet));
+  testAnyRule(text, order);
+  testValues(text, order, x, y, adjusted);
+}
+
+/** That the objects of a hedge say what is printed of it. */
+function testHedge({ effect, given, joint, hedge, models }, printed) {
+  const lines = new Set(printed.trim().split("\n")), asked = given.length ? `${effect} not identified; ` : "";
+  const wanted = [
+    `${asked}${termText({ term: joint.y, do: joint.x, given: [] })} is not identifiable`,
+    `hedge ${setText(hedge.larger)} over ${setText(hedge.smaller)} with roots ${setText(hedge.roots)}`,
+    ...models.causes.map(({ acts_on: on, weights }, i) => `cause ${i} on ${setText(on)} with weights ${weights.join(" ")}`),
+    ...[...bitsOf(models)].flatMap(([bit, sums]) => Object.entries(sums).map(([model, sum]) => `${model} ${bit} = ${sum}`)),
+    `event ${sumText(models.event.sum)} even: ${models.event.first} in the first, ${models.event.second} in the second`,
+  ];
+  same("a hedge", wanted.filter((line) => !lines.has(line)), [], printed);
+}
+
+/** That a minimal set is admissible, and that its object says what is printed of its formula. */
+function testMinimalSet(text, sets, set) {
+  const words = ["adjust", "g", ...sets, "--set", listWord(set)], { status, object } = read(words, text);
+  const told = causal.explain(words, { g: text });
+  same("a minimal set", [status, told.status], [0, 0], text + set + told.err);
+  same("its formula as it is printed", `admissible: ${setText(set)}\n${textOf(object)}`, run(words, text).out, text);
+  same("its tree is its text", [object.tree, ...object.definition_trees], [object.formula, ...object.definitions].map(parse), text);
+  same("its LaTeX", object.latex, [object.effect, object.formula].map((side) => latex(parse(side))).join(" = "), text);
+  same("the same that is explained", told.out.split("\n").filter((line) => line && !line.startsWith("free ")), object.latex.split("\n"), text);
+  typesets(annotate(object.latex), object.latex);
+}
+
+/** A rule that need not hold: its object says what is printed of it. */
+function testAnyRule(text, order) {
+  const [y, z, ...rest] = shuffled(order), doing = rest.filter(() => !random(3)), given = rest.filter((name) => !doing.includes(name) && !random(3));
+  const words = ruleWords({ n: 1 + random(3), y: [y], z: [z], doing, given }), { object } = read(words, text);
+  const path = object.open ? `open: ${pathText(object.open)}\n` : "";
+  same("a rule", `rule ${object.rule} ${object.answer}: ${object.left} = ${object.right}\n${path}`, run(words, text).out, text);
 }
 
 /** A set that need not be admissible, by both criteria: both calls agree. */
@@ -218,15 +249,21 @@ function testValues(text, order, x, y, sets) {
     ...[[], ["--short"]].map((more) => [["--given", listWord(given), ...more], ["identify", "g", "--given", listWord(given), ...more], given]),
   ];
   for (const [words, question, condition] of ways) {
-    const about = `${text}${t}${words.join(" ")}`, formula = run([...question, ...ends], text).out;
-    const said = [[], ["--zero"]].map((more) => run(["evaluate", "g", "t", ...ends, ...words, "--exact", ...more], text, { t }));
-    for (const { status, out, err } of said) {
-      if (status === 0) testCells(readCells(out, condition), records, [y, x, condition], about);
-      else if (status === 5) testMissing(readFault(err), formula, order, records, about);
-      else same("no formula", [status, /^P\(.* = /m.test(formula)], [1, false], about + err);
+    const about = `${text}${t}${words.join(" ")}`, formula = formulaOf([...question, ...ends], text);
+    const said = [[], ["--zero"]].map((more) => read(["evaluate", "g", "t", ...ends, ...words, "--exact", ...more], text, { t }));
+    for (const { status, object, fault } of said) {
+      if (status === 0) testCells(valuesOf(object), records, [y, x, condition], about);
+      else if (status === 5) testMissing(fault, formula, records, about);
+      else same("no formula", [status, formula], [1, null], about);
     }
     if (said[0].status === 0) same("zero cells change no value", said[1], said[0], about);
   }
+}
+
+/** The formula for these words; null where there is none. */
+function formulaOf(words, text) {
+  const { status, object } = read(words, text);
+  return status === 0 ? object : null;
 }
 
 /** That each combination of levels is read once, with its levels. */
@@ -244,16 +281,16 @@ function testCells(cells, records, [y, x, given], about) {
 const named = (part, names) => names.reduce((rest, name) => rest.replace(`"${name}"=`, `${name}=`), part);
 
 /** That no record has what is told to be missing, and that all that is given is told. */
-function testMissing(fault, formula, order, records, about) {
+function testMissing(fault, formula, records, about) {
   if (fault.number !== 1) return;
-  const missing = missingOf(fault.detail, formula, order);
-  same("what is missing is read", Boolean(missing), true, about + fault.line + formula);
+  const missing = missingOf(fault, formula);
+  same("what is missing is read", Boolean(missing), true, about + fault.told);
   if (!missing?.term) return;
   missed++;
   const has = (record) => missing.at.every(({ name, level }) => record.get(name) === level);
-  same("no record has it", records.some(has), false, about + fault.line + JSON.stringify(missing));
-  same("all that is given is told", missing.at.map(({ name }) => name).sort(), parse(missing.term).given.sort(), about + fault.line);
-  same("the term stands in the formula", formula.includes(missing.term), true, about + missing.term);
+  same("no record has it", records.some(has), false, about + fault.told + JSON.stringify(missing));
+  same("all that is given is told", missing.at.map(({ name }) => name).sort(), parse(missing.term).given.sort(), about + fault.told);
+  same("the term stands in the formula", nodesIn(formula).some((node) => node.term && termText(node) === missing.term), true, about + missing.term);
 }
 
 /** Which of the later questions the program of this module knows; the others aren't asked. */
@@ -272,68 +309,59 @@ function testCondition(text, order, x, y) {
   same("a condition", said.status < 2, true, said.err + text);
   if (said.status === 0) testDerivation(text, words);
   if (said.status === 0) testDerivation(text, [...words, "--short"]);
-  if (said.status === 1) same("what was asked", Boolean(readHedge(said.out).asked), true, said.out);
+  if (said.status === 1) testHedge(read(words, text).object, said.out);
   const kind = causal.explain(["settled", ...words.slice(1)], { g: text });
   same("its kind", KINDS[said.status].includes(kind.out.trim()), true, kind.out + kind.err + said.out + text);
   same("its status", kind.status, kind.out === "settled\n" ? 0 : 1, kind.out + text);
 }
 
 function testImplications(text, order) {
-  const said = run(["implications", "g"], text), pairs = readImplications(said.out);
+  const said = run(["implications", "g"], text), pairs = impliedBy(read(["implications", "g"], text).object);
   same("pairs", [pairs.length > 0, pairs.length], [said.status === 0, said.status ? 0 : said.out.trim().split("\n").length], said.out);
   for (const { a, b, given } of pairs) {
     const words = ["separate", "g", "--x", listWord([a]), "--y", listWord([b]), "--given", listWord(given)];
     same("a pair is separated", run(words, text).status, 0, text + said.out);
   }
   const rows = `${order.map((name) => `"${name}"`).join(",")}\n${[0, 1, 0].map((k) => order.map((_, i) => (i + k) % 2)).join("\n")}\n`;
-  const counted = run(["implications", "g", "t"], text, { t: rows }), told = readImplications(counted.out);
+  const counted = run(["implications", "g", "t"], text, { t: rows }), told = impliedBy(read(["implications", "g", "t"], text, { t: rows }).object);
   same("pairs over counts", told.map(({ a, b, given }) => ({ a, b, given })), pairs, counted.out + counted.err);
-  same("each has a difference", told.every(({ difference, at }) => /^-?\d+$/.test(difference) && at), true, counted.out);
+  const lines = told.map(({ difference, cell }) => `largest difference ${difference} at ${levelsText(cell)}`);
+  same("each has its difference", lines, counted.out.trim().split("\n").filter((line) => line.startsWith("largest")), counted.out);
 }
 
 function testSurrogate(text, order, sets, identified) {
   const trials = [shuffled(order).slice(0, 1), shuffled(order).slice(0, 2)];
-  const said = run(["surrogate", "g", ...sets, "--experiments", experimentsWord(trials)], text);
-  same("experiments", said.status < 2, true, said.err + text);
-  if (identified.status === 0) same("what is identified needs none", said.status, 0, said.out + text);
-  if (said.status === 1) return same("a district", readStopped(said.out).district.length > 0, true, said.out);
-  for (const line of said.out.trim().split("\n").filter((it) => !it.startsWith("free "))) {
-    katex.renderToString(annotate(equationLatex(line)), { trust: true, strict: "ignore" });
-  }
+  const words = ["surrogate", "g", ...sets, "--experiments", experimentsWord(trials)], { status, object, fault } = read(words, text);
+  same("experiments", fault, null, text);
+  if (identified.status === 0) same("what is identified needs none", status, 0, text);
+  if (status === 1) return same("a district", run(words, text).out.split("\n")[1], `district ${setText(object.district)}`, text);
+  same("its text is what is printed", textOf(object), run(words, text).out, text);
+  for (const line of object.latex.split("\n")) typesets(annotate(line), line);
 }
 
-/** Printed answers of the questions that a program may not know yet. */
-function testLaterForms() {
-  const read = readImplications('A from "b c" given {}\nlargest difference -5 at A=0,"b c"=1\nC from D given {A,"b c"}\n');
-  same("implications", read, [{ a: "A", b: "b c", given: [], difference: "-5", at: 'A=0,"b c"=1' }, { a: "C", b: "D", given: ["A", "b c"] }], "");
-  same("no implication", readImplications("none\n"), [], "");
-  const stopped = readStopped("P(Y|do(X)) has no formula found from these experiments\ndistrict {Y}\nhedge {X,Y} over {Y} with roots {Y}\n");
-  same("no formula", stopped, { effect: "P(Y|do(X))", district: ["Y"], big: ["X", "Y"], small: ["Y"], roots: ["Y"] }, "");
+/** Objects that few diagrams give. */
+function testObjects() {
   same("trials", experimentsWord([["a;b", "c"], ["{}"], ["-d,e"]]), '"a;b",c;"{}";"-d,e"', "");
-  const bow = run(["identify", "g"], "dag{X [exposure] Y [outcome] X->Y X<->Y}").out;
-  same("a hedge", [readHedge(bow).asked ?? null, readHedge(bow).effect], [null, "P(Y|do(X))"], bow);
-  const kidney = readCells("P(R=success|do(T=A),S=small) = 27/29\nP(R=success|do(T=A),S=large) from 0.5 to 0.7\n", ["S"]);
-  same("cells under a condition", kidney, [
-    { y: "R=success", x: "T=A", given: "S=small", text: "27/29", value: 27 / 29 },
-    { y: "R=success", x: "T=A", given: "S=large", text: "0.5 … 0.7", value: 0.6 },
-  ], "");
-  const seen = readCells("P(R=success|S=small) = 15/17\n", ["S"]), [plainCell] = readCells("P(R=success|do(T=A)) = 1/2\n");
-  same("cells where nothing is done", [seen[0].y, seen[0].x, seen[0].given], ["R=success", "", "S=small"], "");
-  same("cells under none", [plainCell.y, plainCell.x, plainCell.given], ["R=success", "T=A", ""], "");
-  same("levels", readLevels('S=a,b,"b c"=,T=1', ["R", "S", "b c", "T"]), [
-    { name: "S", level: "a,b" }, { name: "b c", level: "" }, { name: "T", level: "1" },
-  ], "");
-  const napkin = "P(Y|do(X)) = q0 / (sum{Y} q0)\nq0 = sum{W} P(W) * P(X|W,Z) * P(Y|X,W,Z)\nfree {Z}\n", order = ["W", "Z", "X", "Y"];
-  same("a condition in a part", missingOf("q0 node 3 at W=1,Z=0,X=0,Y=0", napkin, order),
+  const bytes = impliedBy({ pairs: [{ x: "A", y: "b c", given: [], difference: "-5", cell: [["A", "0"], ["b c", [99, 97, 102, 233]]] }] });
+  same("a level that isn't UTF-8", levelsText(bytes[0].cell), 'A=0,"b c"=caf\ufffd', "");
+  const cell = { y: [["R", "success"]], x: [], given: [["S", "a,b"]], from: "0.5", to: "0.7" };
+  same("bounds", valuesOf({ cells: [cell] }), [{ y: "R=success", x: "", given: "S=a,b", text: "0.5 … 0.7", value: 0.6 }], "");
+  const napkin = read(["identify", "g"], "dag { X [exposure] Y [outcome] W Z W -> Z -> X -> Y W <-> X W <-> Y }").object;
+  const levels = [["W", "1"], ["Z", "0"], ["X", "1"], ["Y", "0"]];
+  same("a condition in a part", missingOf({ definition: 0, node: 3, cell: levels }, napkin),
     { term: "P(X|W,Z)", at: [{ name: "W", level: "1" }, { name: "Z", level: "0" }] }, "");
-  same("a divisor", missingOf("main node 0 at W=1,Z=0,X=1,Y=0", napkin, order),
+  same("a divisor", missingOf({ definition: null, node: 0, cell: levels }, napkin),
     { term: null, at: [{ name: "Z", level: "0" }, { name: "X", level: "1" }] }, "");
-  const joint = readHedge(bow.replace("P(Y|do(X)) is", "P(Y|do(X),Z) not identified; P(Y,Z|do(X)) is"));
-  same("a hedge of a joint effect", [joint.asked, joint.effect], ["P(Y|do(X),Z)", "P(Y,Z|do(X))"], bow);
+  same("bound names", boundIn(napkin), ["Y", "W"], "");
+  same("what has no object", faultOf(undefined, "causal: no memory\n"), { number: 0, sentence: "causal: no memory", told: "causal: no memory" }, "");
+  const at = (stage, more) => faultOf({ stage, number: 1, message: "a thing is so", ...more }, "").sentence;
+  same("sentences", [at("graph", { names: ["A", "B"] }), at("target", { names: ["A", "B"] }), at("counts", { row: 7 }), at("target", { name: "Z" }), at("graph", {})],
+    ["A thing is so: A → B → A.", "A thing is so: A ↔ B.", "A thing is so: row 7.", "A thing is so: Z.", "A thing is so."], "");
 }
 
-function testPath(printed, x, y, graph, text) {
-  const path = readPath(printed), ends = (e) => [e.a, e.b];
+function testPath(open, printed, x, y, graph, text) {
+  const path = edgesOf(open), ends = (e) => [e.a, e.b];
+  same("a path as it is printed", printed.includes(`open: ${pathText(open)}\n`), true, printed);
   same("a path's ends", [ends(path[0]).includes(x), ends(path.at(-1)).includes(y)], [true, true], text);
   const drawn = (e) => graph.edges.some((f) => edit.isSame(e, f));
   same("a path is drawn", routed(graph, path).every(drawn), true, text + printed);
@@ -341,19 +369,19 @@ function testPath(printed, x, y, graph, text) {
 
 let accepted = 0, missed = 0;
 for (let k = 0; k < GRAPHS; k++) {
-  const text = randomText(), before = run(["graph", "g"], text);
-  if (before.status) {
-    const places = placesOf(readFault(before.err), text);
+  const text = randomText(), { object, fault } = read(["graph", "g"], text);
+  if (fault) {
+    const places = placesOf(fault, text);
     same("a fault's places", places.every((p) => p.start <= p.end && p.start <= text.length), true, text);
     continue;
   }
   accepted++;
-  testEdits(text, readGraph(before.out));
-  testAnswers(text, readGraph(before.out));
+  testEdits(text, graphIn(object));
+  testAnswers(text, graphIn(object));
 }
 
-testLaterForms();
-const circle = "dag { A -> B -> C\nC -> A\nD }", marks = placesOf(readFault(run(["graph", "g"], circle).err), circle);
+testObjects();
+const circle = "dag { A -> B -> C\nC -> A\nD }", marks = placesOf(read(["graph", "g"], circle).fault, circle);
 same("a circle's places", marks.map((m) => circle.slice(m.start, m.end)), ["A -> B", "B -> C", "C -> A"], circle);
 const rows = readRows('a,"b ""x""",n\r\n1,"p,q",2\n1,r,3\n');
 same("a CSV", rows, [["a", 'b "x"', "n"], ["1", "p,q", "2"], ["1", "r", "3"]], "");

@@ -3,7 +3,7 @@
 A `Diagram` is asked: whether sets are separated, whether a rule of do-calculus applies, for a formula of an effect or a hedge, also
 from experiments on other variables, for adjustment sets, for what it implies of data, and for effects in data. What each answer is
 proved to say stands in its class and method. Nothing about causality is computed in Python: each question is a call of the library,
-and its printed answer is read.
+and the object of JSON in which it answers is read.
 
 >>> import causal
 >>> diagram = causal.Diagram("dag { X -> M -> Y X <-> Y }")

@@ -9,6 +9,7 @@ from itertools import accumulate
 from typing import Any, Callable, Dict, Iterable, List, Mapping, NamedTuple, Optional, Tuple, Union
 
 from causal.errors import LibraryMissing
+from causal.objects import Answer, Told, read_line
 
 Text = Union[str, bytes]
 # Texts by the names of inputs. (Any: a mapping's keys are of one type alone, where types are checked.)
@@ -306,22 +307,23 @@ class KeptDiagram:
 
 
 def ask(
+    read: Callable[[Told], Answer],
     command: str,
     text: bytes,
     *options: Text,
     second: Optional[bytes] = None,
-    levels: Any = None,
+    level_of: Optional[Callable[[str, str], Any]] = None,
     formula: Any = None,
     kept: Optional[KeptDiagram] = None,
-) -> Tuple[int, str]:
-    """Asks a diagram's text, and gives the status (0 or 1) and the answer. A refusal is raised.
+) -> Answer:
+    """Asks a diagram's text, and reads the object of the answer. A refusal is raised.
 
-    Where the text is kept, it isn't read again. A cell that the line of a refusal names is read by `levels`, where it is given, and a
-    node of the formula is looked up in `formula`.
+    Where the text is kept, it isn't read again. The levels of a cell at which a refusal is are found by `level_of`, where it is
+    given, and a node of the formula is looked up in `formula`.
 
     >>> from causal._library import ask
-    >>> ask("equivalent", b"dag{A->B}", second=b"dag{A<-B}")
-    (0, 'equivalent\\n')
+    >>> ask(dict, "equivalent", b"dag{A->B}", second=b"dag{A<-B}")
+    {'answer': 'equivalent'}
     """
     inputs: Dict[Text, Text] = {} if kept else {"diagram": text}
     words: List[Text] = [command, "diagram"]
@@ -329,9 +331,11 @@ def ask(
         inputs["second"] = second
         words.append("second")
     words.extend(options)
-    status, out, err = kept.run(words, inputs) if kept else run(words, inputs)
+    asked = [*words, "--json"]
+    status, out, err = kept.run(asked, inputs) if kept else run(asked, inputs)
     if status > 1:
         from causal.faults import Sources, raise_refusal
 
-        raise_refusal(status, err, words, Sources(text, second or b"", levels, formula))
-    return status, out.decode("utf-8", "surrogateescape")
+        levels = {} if level_of is None else {"level_of": level_of}
+        raise_refusal(status, out, err, words, Sources(text, second or b"", formula=formula, **levels))
+    return read_line(read, out)

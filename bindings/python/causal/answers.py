@@ -1,85 +1,31 @@
-"""Reads what the program prints for each question, but formulas and hedges. Each answer prints as it was printed."""
+"""The answers to each question, but formulas and hedges. Each prints as the program prints it."""
 from __future__ import annotations
 
-from dataclasses import dataclass
+from dataclasses import dataclass, field
 from typing import Any, Dict, Iterator, List, Optional, Sequence, Tuple, Union, overload
 
-from causal.formula import Formula, HedgeSets, Term, read_formula, read_hedge_sets, read_term
+from causal.formula import Formula, HedgeSets, Term
 from causal.framed import Framed
-from causal.names import Cursor, printed_name, printed_set
-
-STEP_FAULTS = {
-    1: "the step is for a term, and stands at something else",
-    2: "the sets of the step don't fit the term",
-    3: "the rule doesn't hold: a path is open",
-    4: "the chain doesn't list the term's variables, each once",
-    5: "the groups don't hold each factor once",
-    6: "no such lemma is there",
-    7: "there is no such part of the expression",
-    8: "the expression hasn't the form that the step is for",
-    9: "the steps end at another formula than the one that is claimed",
-    10: "an intervention is left in the formula",
-}
-HEDGE_FAULTS = {
-    1: "the sets aren't nested, or there is no root",
-    2: "the big set has no exposure",
-    3: "the small set has an exposure",
-    4: "the choice of a child isn't a hedge's",
-    5: "the links don't join the sets as a hedge's do",
-    6: "a root has no directed path to the outcomes outside the exposures",
-    7: "an experiment sets a member of the big set and none of the small one",
-}
-
-
-def _lines(text: str) -> Sequence[str]:
-    """The lines of an answer. Only a line feed ends one: a name may hold any other break."""
-    return text[:-1].split("\n") if text.endswith("\n") else text.split("\n")
+from causal.names import printed_name, printed_set
 
 
 @dataclass(frozen=True)
 class GraphText:
-    """What the text of a diagram says.
+    """What the text of a diagram says, and how it is printed.
 
-    >>> from causal.answers import read_graph
-    >>> read_graph("dag {\\nX [exposure]\\nY\\nX -> Y\\nX <-> Y\\n}\\n")
-    GraphText(vertices=('X', 'Y'), roles={'X': 'exposure'}, edges=(('X', 'Y'),), bidirected=(('X', 'Y'),))
+    >>> from causal import Diagram
+    >>> Diagram("dag{ X -> Y [pos=1] }")._content
+    GraphText(vertices=('X', 'Y'), roles={}, edges=(('X', 'Y'),), bidirected=(), text='dag {\\nX\\nY\\nX -> Y\\n}\\n')
     """
 
     vertices: Tuple[str, ...]
     roles: Dict[str, str]
     edges: Tuple[Tuple[str, str], ...]
     bidirected: Tuple[Tuple[str, str], ...]
+    text: str = ""
 
     def __str__(self) -> str:
-        lines = ["dag {"]
-        lines += [printed_name(v) + (f" [{self.roles[v]}]" if v in self.roles else "") for v in self.vertices]
-        lines += [f"{printed_name(a)} -> {printed_name(b)}" for a, b in self.edges]
-        lines += [f"{printed_name(a)} <-> {printed_name(b)}" for a, b in self.bidirected]
-        return "\n".join([*lines, "}"])
-
-
-def read_graph(text: str) -> GraphText:
-    """Reads the printed text of a diagram."""
-    lines = _lines(text)
-    Cursor(lines[0]).take("dag {")
-    Cursor(lines[-1]).take("}")
-    vertices: List[str] = []
-    roles: Dict[str, str] = {}
-    edges: List[Tuple[str, str]] = []
-    bidirected: List[Tuple[str, str]] = []
-    for line in lines[1:-1]:
-        cursor = Cursor(line)
-        name = cursor.name()
-        mark = cursor.mark()
-        if mark:
-            (edges if mark == "->" else bidirected).append((name, cursor.name()))
-        else:
-            vertices.append(name)
-            if cursor.accept(" ["):
-                roles[name] = cursor.name()
-                cursor.take("]")
-        cursor.end()
-    return GraphText(tuple(vertices), roles, tuple(edges), tuple(bidirected))
+        return self.text.rstrip("\n")
 
 
 @dataclass(frozen=True)
@@ -98,25 +44,6 @@ class Path:
     def __str__(self) -> str:
         rest = "".join(f" {mark} {printed_name(v)}" for mark, v in zip(self.marks, self.vertices[1:]))
         return printed_name(self.vertices[0]) + rest
-
-
-def read_path(line: str, head: str = "open: ") -> Path:
-    """Reads the line of an open path, behind its head.
-
-    >>> from causal.answers import read_path
-    >>> read_path('open: A <-> "b c"')
-    Path(vertices=('A', 'b c'), marks=('<->',))
-    """
-    cursor = Cursor(line)
-    cursor.take(head)
-    vertices, marks = [cursor.name()], []
-    mark = cursor.mark()
-    while mark:
-        marks.append(mark)
-        vertices.append(cursor.name())
-        mark = cursor.mark()
-    cursor.end()
-    return Path(tuple(vertices), tuple(marks))
 
 
 @dataclass(frozen=True)
@@ -142,30 +69,6 @@ class Separation(Framed):
     def __str__(self) -> str:
         sets = f"separated: {printed_set(self.x)} from {printed_set(self.y)} given {printed_set(self.given)}"
         return sets if self.path is None else f"not {sets}\nopen: {self.path}"
-
-
-def _read_sets(cursor: Cursor) -> Tuple[Tuple[str, ...], Tuple[str, ...], Tuple[str, ...]]:
-    x = cursor.set()
-    cursor.take(" from ")
-    y = cursor.set()
-    cursor.take(" given ")
-    given = cursor.set()
-    cursor.end()
-    return x, y, given
-
-
-def read_separation(text: str) -> Separation:
-    """Reads the answer of `separate`.
-
-    >>> from causal.answers import read_separation
-    >>> read_separation("separated: {A} from {C} given {B}\\n")
-    Separation(x=('A',), y=('C',), given=('B',), path=None)
-    """
-    lines = _lines(text)
-    cursor = Cursor(lines[0])
-    is_not = cursor.accept("not ")
-    cursor.take("separated: ")
-    return Separation(*_read_sets(cursor), read_path(lines[1]) if is_not else None)
 
 
 @dataclass(frozen=True)
@@ -194,33 +97,13 @@ class RuleAnswer(Framed):
         return text if self.path is None else f"{text}\nopen: {self.path}"
 
 
-def read_rule(text: str) -> RuleAnswer:
-    """Reads the answer of `rule`.
-
-    >>> from causal.answers import read_rule
-    >>> str(read_rule("rule 1 holds: P(Y|do(X),Z) = P(Y|do(X))\\n").left)
-    'P(Y|do(X),Z)'
-    """
-    lines = _lines(text)
-    cursor = Cursor(lines[0])
-    cursor.take("rule ")
-    number = cursor.number()
-    holds = cursor.accept(" holds: ")
-    if not holds:
-        cursor.take(" does not hold: ")
-    left = read_term(cursor)
-    cursor.take(" = ")
-    right = read_term(cursor)
-    cursor.end()
-    return RuleAnswer(number, left, right, None if holds else read_path(lines[1]))
-
-
 @dataclass(frozen=True)
 class Refusal:
     """Why a certificate is refused: the fault's number with a sentence, and where it is.
 
     `lemma` is the number of the lemma, or None for the main derivation; `step` is the number of the step, or None; `vertex` is a
-    vertex of a hedge that is at fault; `path` is open where a rule was used that doesn't hold.
+    vertex of a hedge that is at fault; `path` is open where a rule was used that doesn't hold. `sentence` is what the number
+    says.
     """
 
     number: int
@@ -229,11 +112,7 @@ class Refusal:
     step: Optional[int] = None
     vertex: Optional[str] = None
     path: Optional[Path] = None
-
-    @property
-    def sentence(self) -> str:
-        """What the number says."""
-        return (HEDGE_FAULTS if self.of_hedge else STEP_FAULTS)[self.number]
+    sentence: str = field(default="", repr=False, compare=False)
 
     def __str__(self) -> str:
         if self.of_hedge:
@@ -262,7 +141,7 @@ class Check(Framed):
     True
     >>> refusal = front_door.check(certificate.replace('["rule2see",["M"]]', '["rule1out",["M"]]')).refusal
     >>> refusal.step, refusal.sentence
-    (19, "the sets of the step don't fit the term")
+    (19, 'the sets of the step are wrong')
     """
 
     formula: Optional[Formula] = None
@@ -279,52 +158,6 @@ class Check(Framed):
 
     def __str__(self) -> str:
         return str(self.refusal) if self.refusal else f"accepted\n{self.hedge if self.formula is None else self.formula}"
-
-
-def _read_place(cursor: Cursor) -> Optional[int]:
-    if cursor.accept("main"):
-        return None
-    cursor.take("lemma ")
-    return cursor.number()
-
-
-def _read_refusal(lines: Sequence[str]) -> Refusal:
-    cursor = Cursor(lines[0])
-    cursor.take("refused: ")
-    if cursor.accept("hedge fault "):
-        number, vertex = cursor.number(), None
-        if cursor.accept(" at ") and not cursor.accept("-"):
-            vertex = cursor.name()
-        cursor.end()
-        return Refusal(number, of_hedge=True, vertex=vertex)
-    if cursor.accept("fault "):
-        number = cursor.number()
-        lemma = _read_place(cursor) if cursor.accept(" at ") else None
-        cursor.end()
-        return Refusal(number, lemma=lemma)
-    lemma = _read_place(cursor)
-    cursor.take(" step ")
-    step = cursor.number()
-    cursor.take(" fault ")
-    number = cursor.number()
-    cursor.end()
-    return Refusal(number, lemma=lemma, step=step, path=read_path(lines[1]) if len(lines) > 1 else None)
-
-
-def read_check(text: str) -> Check:
-    """Reads the answer of `check`.
-
-    >>> from causal.answers import read_check
-    >>> read_check("refused: main step 12 fault 3\\nopen: Y <- M\\n").refusal.step
-    12
-    """
-    lines = _lines(text)
-    if lines[0] != "accepted":
-        return Check(refusal=_read_refusal(lines))
-    rest = "\n".join(lines[1:])
-    if len(lines) > 2 and lines[2].startswith("hedge "):
-        return Check(hedge=read_hedge_sets(rest))
-    return Check(formula=read_formula(rest))
 
 
 @dataclass(frozen=True)
@@ -353,29 +186,6 @@ class Adjustment(Framed):
             return f"admissible: {printed_set(self.members)}\n{self.formula}"
         why = f"open: {self.path}" if self.forbidden is None else f"forbidden: {printed_name(self.forbidden)}"
         return f"not admissible: {printed_set(self.members)}\n{why}"
-
-
-def read_adjustment(text: str) -> Adjustment:
-    """Reads the answer of `adjust` with a set.
-
-    >>> from causal.answers import read_adjustment
-    >>> read_adjustment("not admissible: {D}\\nforbidden: D\\n").forbidden
-    'D'
-    """
-    lines = _lines(text)
-    cursor = Cursor(lines[0])
-    is_not = cursor.accept("not ")
-    cursor.take("admissible: ")
-    members = cursor.set()
-    cursor.end()
-    if not is_not:
-        return Adjustment(members, formula=read_formula("\n".join(lines[1:])))
-    why = Cursor(lines[1])
-    if not why.accept("forbidden: "):
-        return Adjustment(members, path=read_path(lines[1]))
-    forbidden = why.name()
-    why.end()
-    return Adjustment(members, forbidden=forbidden)
 
 
 @dataclass(frozen=True)
@@ -415,25 +225,6 @@ class AdjustmentSets(Framed, Sequence[Tuple[str, ...]]):
         return ("set", "term"), [[number, name] for number, members in enumerate(self.sets, 1) for name in members]
 
 
-def read_sets(text: str) -> AdjustmentSets:
-    """Reads a listing of `adjust`.
-
-    >>> from causal.answers import read_sets
-    >>> read_sets("{A,Z}\\nmore\\n"), len(read_sets("none\\n"))
-    (AdjustmentSets(sets=(('A', 'Z'),), more=True), 0)
-    """
-    lines = list(_lines(text))
-    if lines == ["none"]:
-        return AdjustmentSets(())
-    more = lines[-1] == "more"
-    sets = []
-    for line in lines[: len(lines) - more]:
-        cursor = Cursor(line)
-        sets.append(cursor.set())
-        cursor.end()
-    return AdjustmentSets(tuple(sets), more)
-
-
 @dataclass(frozen=True)
 class Equivalence(Framed):
     """Whether two diagrams imply the same: it counts as true where they do. Else the first difference.
@@ -471,45 +262,3 @@ class Equivalence(Framed):
             f"not equivalent: {self.kind} {','.join(map(printed_name, self.vertices))} in the {place}\n"
             f"separated in the {other} alone: {str(self.separation)[len('separated: '):]}"
         )
-
-
-def _read_which(cursor: Cursor) -> bool:
-    if cursor.accept("first"):
-        return True
-    cursor.take("second")
-    return False
-
-
-def _read_agreement(lines: Sequence[str]) -> Equivalence:
-    if len(lines) == 1:
-        cursor = Cursor(lines[0])
-        cursor.take("separated in both: ")
-        return Equivalence(separated_in_both=Separation(*_read_sets(cursor)))
-    heads = ("open in the first: ", "open in the second: ")
-    return Equivalence(paths=tuple(read_path(line, head) for line, head in zip(lines, heads)))
-
-
-def read_equivalence(text: str) -> Equivalence:
-    """Reads the answer of `equivalent`.
-
-    >>> from causal.answers import read_equivalence
-    >>> bool(read_equivalence("equivalent\\n"))
-    True
-    """
-    lines = _lines(text)
-    if lines[0] == "equivalent":
-        return _read_agreement(lines[1:])
-    cursor = Cursor(lines[0])
-    cursor.take("not equivalent: ")
-    kind = "edge" if cursor.accept("edge ") else "collider"
-    if kind == "collider":
-        cursor.take("collider ")
-    vertices = cursor.names()
-    cursor.take(" in the ")
-    first = _read_which(cursor)
-    cursor.end()
-    cursor = Cursor(lines[1])
-    cursor.take("separated in the ")
-    separated_in_first = _read_which(cursor)
-    cursor.take(" alone: ")
-    return Equivalence(kind, vertices, first, Separation(*_read_sets(cursor)), separated_in_first)

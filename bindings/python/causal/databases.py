@@ -11,13 +11,13 @@ from typing import Any, Dict, List, Optional, Sequence, Tuple, Union
 
 from causal.columns import Column, column_of
 from causal.errors import CountsError, RequestError
-from causal.faults import COUNTS
 
 # The name of a table, or that of a schema and further ones before it.
 TableName = Union[str, Sequence[str]]
 
 # As many combinations of levels a formula reads at most.
 MOST_ROWS = 1 << 20
+TOO_MANY = "the used columns have more than 2^20 combinations of levels"
 QUOTES = ('"', "`")
 # The name of the table within a query. A column behind it is never taken for a text, as SQLite takes a lone name in quotes that no
 # column has.
@@ -127,7 +127,7 @@ class DatabaseTable:
         select, rest = counts_sql(names, self.table, count).split("\n", 1)
         rows = self._rows(f"{select}, COUNT(*)\n{rest}", MOST_ROWS + 1)
         if len(rows) > MOST_ROWS:
-            raise CountsError(COUNTS[5], 5)
+            raise CountsError(TOO_MANY, 5)
         heads = [*names, count_name(names) if count is None else count]
         held = [[_plain(row[place]) for row in rows] for place in range(len(heads) + 1)]
         self._check_texts(names, held)

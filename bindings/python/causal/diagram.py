@@ -2,16 +2,17 @@
 from __future__ import annotations
 
 import warnings
-from dataclasses import dataclass
-from typing import TYPE_CHECKING, Any, Dict, Iterable, List, Mapping, Optional, Sequence, Tuple, Union
+from typing import TYPE_CHECKING, Any, Callable, Dict, Iterable, List, Mapping, Optional, Sequence, Tuple, Union
 
-from causal import answers, formula
-from causal._library import KeptDiagram, Text, as_bytes, ask, explain
+from causal import answers, reading
+from causal._library import KeptDiagram, Text, as_bytes, ask
 from causal.doubts import doubts_of
 from causal.errors import DiagramWarning, RequestError
-from causal.formula import SETTLED, Formula, Hedge, HedgeSets
+from causal.formula import Formula, Hedge, HedgeSets
 from causal.names import Name, Names, list_word, names_of
-from causal.surrogates import Stopped, StoppedHedge, experiments_word, read_surrogate
+from causal.objects import Answer, Told, text_in
+from causal.question import Question
+from causal.surrogates import Stopped, StoppedHedge, experiments_word
 
 if TYPE_CHECKING:
     import os
@@ -35,30 +36,6 @@ def options(**lists: Optional[Names]) -> List[Text]:
     ['--x', '"A"', '--given', '{}']
     """
     return [word for name, names in lists.items() if names is not None for word in (f"--{name}", list_word(names))]
-
-
-@dataclass(frozen=True)
-class OtherForm:
-    """Asks for another form of an answer of a command: `--latex` or `--certificate`; or with `settled` of which kind the answer of
-    `identify` under a condition is. None where the command has no such form, or the library doesn't tell.
-
-    >>> from causal.diagram import Diagram, OtherForm
-    >>> OtherForm(Diagram("dag { X -> Y }"), ("--x=X", "--y=Y"))("--latex")
-    'P(Y \\\\mid \\\\mathrm{do}(X)) = P(Y \\\\mid X)'
-    >>> OtherForm(Diagram("dag { X -> Y X <-> Y Y -> Z }"), ("--x=X", "--y=Y", "--given=Z"))("settled")
-    'unsettled'
-    """
-
-    diagram: "Diagram"
-    words: Tuple[Text, ...]
-    command: str = "identify"
-
-    def __call__(self, form: str) -> Optional[str]:
-        if self.command == "surrogate" and form != "--certificate":
-            return None
-        if form == SETTLED:
-            return self.diagram._explain(form, *self.words)
-        return self.diagram._ask(self.command, *self.words, form)[1].rstrip("\n")
 
 
 class Diagram:
@@ -86,10 +63,10 @@ class Diagram:
             warnings.warn(doubt, DiagramWarning, stacklevel=2)
 
     def _read(self, source: bytes) -> None:
+        """Takes a text in."""
         self.source = source
-        self._text = ask("graph", source)[1]
-        self._content = answers.read_graph(self._text)
         self._kept: Optional[KeptDiagram] = None
+        self._content = ask(reading.read_graph, "graph", source)
 
     def __getstate__(self) -> Dict[str, Any]:
         # (what is kept for the library belongs to this process)
@@ -237,7 +214,7 @@ class Diagram:
         >>> Diagram("dag { A -> B; B <-> C }").text
         'dag {\\nA\\nB\\nC\\nA -> B\\nB <-> C\\n}\\n'
         """
-        return self._text
+        return self._content.text
 
     @property
     def vertices(self) -> Tuple[str, ...]:
@@ -260,16 +237,16 @@ class Diagram:
         return self._content.bidirected
 
     def __str__(self) -> str:
-        return self._text.rstrip("\n")
+        return str(self._content)
 
     def __repr__(self) -> str:
-        return f"Diagram({self._text!r})"
+        return f"Diagram({self.text!r})"
 
     def __eq__(self, other: object) -> bool:
-        return isinstance(other, Diagram) and self._text == other._text
+        return isinstance(other, Diagram) and self.text == other.text
 
     def __hash__(self) -> int:
-        return hash(self._text)
+        return hash(self.text)
 
     def project(self) -> "Diagram":
         """The diagram of the observed vertices: a hidden common cause becomes a bidirected edge (the latent projection).
@@ -279,7 +256,7 @@ class Diagram:
         (('X', 'Y'),)
         """
         projected = Diagram.__new__(Diagram)
-        projected._read(as_bytes(self._ask("graph", "--project")[1]))
+        projected._read(as_bytes(self._ask(reading.read_graph, "graph", "--project").text))
         return projected
 
     def to_networkx(self, mixed: bool = False) -> "networkx.DiGraph":
@@ -339,7 +316,7 @@ class Diagram:
         not separated: {A} from {C} given {B}
         open: A -> B <- C
         """
-        return answers.read_separation(self._ask("separate", *options(x=x, y=y, given=given))[1])
+        return self._ask(reading.read_separation, "separate", *options(x=x, y=y, given=given))
 
     def is_separated(self, x: Names, y: Names, given: Names = ()) -> bool:
         """Whether x and y are separated given a set: `separated` without the path, for many questions about one diagram.
@@ -363,15 +340,26 @@ class Diagram:
         return self._kept
 
     def _ask(
-        self, command: str, *words: Text, second: Optional[bytes] = None, levels: Any = None, formula: Optional[Formula] = None
-    ) -> Tuple[int, str]:
+        self,
+        read: Callable[[Told], Answer],
+        command: str,
+        *words: Text,
+        second: Optional[bytes] = None,
+        level_of: Optional[Callable[[str, str], Level]] = None,
+        formula: Optional[Formula] = None,
+    ) -> Answer:
         """Asks the diagram that is kept: see `ask`."""
-        return ask(command, self.source, *words, second=second, levels=levels, formula=formula, kept=self._keep())
+        return ask(read, command, self.source, *words, second=second, level_of=level_of, formula=formula, kept=self._keep())
 
-    def _explain(self, word: str, *words: Text) -> Optional[str]:
-        """What the library explains by this word: see `explain`. None where it doesn't."""
-        reply = explain([word, "diagram", *words], {"diagram": self.source})
-        return None if reply is None or reply.status > 1 else reply.out.decode("utf-8", "surrogateescape").rstrip("\n")
+    def _ask_effect(self, read: Callable[[Told, Question], Answer], command: str, words: Sequence[Text], *form: Text) -> Answer:
+        """Asks for an effect, in an answer of some form. The answer has the question, for what it leaves out."""
+
+        def answer(told: Told) -> Answer:
+            rest = dict(told)
+            certificate = rest.pop("certificate", None)
+            return read(rest, Question(self, command, tuple(words), None if certificate is None else text_in(certificate)))
+
+        return self._ask(answer, command, *words, *form)
 
     def rule(self, number: int, y: Names, z: Names, do: Names = (), given: Names = ()) -> answers.RuleAnswer:
         """Whether a rule of do-calculus applies: the answer counts as true where it does, and else has an open path.
@@ -383,17 +371,24 @@ class Diagram:
         rule 2 holds: P(M|do(X)) = P(M|X)
         """
         words = ["--rule", str(number), *options(y=y, z=z, do=do, given=given)]
-        return answers.read_rule(self._ask("rule", *words)[1])
+        return self._ask(lambda told: reading.read_rule(told, self.vertices), "rule", *words)
 
     def identify(
-        self, x: Optional[Names] = None, y: Optional[Names] = None, given: Optional[Names] = None, short: bool = False
+        self,
+        x: Optional[Names] = None,
+        y: Optional[Names] = None,
+        given: Optional[Names] = None,
+        short: bool = False,
+        certificate: bool = False,
     ) -> Union[Formula, Hedge]:
         """A formula for the effect of x on y, or a hedge, which counts as false.
 
         It is proved that the formula is the effect in every positive finite model that fits the diagram, or that the hedge's two
         models agree on all observations and differ on the effect. With `given` the effect among those with the same values of
         these variables is asked for, `P(y | do(x), given)`; a hedge is then one of a joint effect (`Hedge.conditional`). With `short`
-        the formula is the shortest that was found: it is proved that it is no longer than the one without.
+        the formula is the shortest that was found: it is proved that it is no longer than the one without. With `certificate` the
+        answer comes with its certificate, which on a large diagram takes much longer than the answer; without it the property
+        `certificate` asks for that.
 
         >>> from causal import Diagram
         >>> napkin = Diagram("dag { W -> Z -> X -> Y W <-> X W <-> Y }").identify("X", "Y")
@@ -407,9 +402,7 @@ class Diagram:
         P(Y|do(X),Z) = P(Y|Z,X)
         """
         words = [*options(x=x, y=y, given=given), *(["--short"] if short else [])]
-        status, text = self._ask("identify", *words)
-        form = OtherForm(self, tuple(words))
-        return formula.read_hedge(text, form) if status == 1 else formula.read_formula(text, form)
+        return self._ask_effect(reading.read_effect, "identify", words, *(["--certificate"] if certificate else []))
 
     def surrogate(
         self,
@@ -417,13 +410,15 @@ class Diagram:
         y: Optional[Names] = None,
         experiments: Union[str, Iterable[Names]] = (),
         models: bool = False,
+        certificate: bool = False,
     ) -> Union[Formula, Stopped, StoppedHedge]:
         """A formula for the effect of x on y that may use experiments, or why none was found, which counts as false.
 
         Each experiment is one name or several: variables that were set in a trial, under which all others were observed. It is
         proved that a formula, whose terms are observed or under one of the experiments, is the effect in every positive finite
         model that fits the diagram. With `models` a hedge is given, where there is one, whose two models agree on all
-        observations and under each experiment and differ on the effect: then no formula over them exists.
+        observations and under each experiment and differ on the effect: then no formula over them exists. With `certificate` the
+        answer is that with `models`, and comes with its certificate where it has one.
 
         >>> from causal import Diagram
         >>> diagram = Diagram("dag { Z -> X -> Y Z <-> X Z <-> Y }")
@@ -434,8 +429,8 @@ class Diagram:
         free {Z}
         """
         words = [*options(x=x, y=y), "--experiments", experiments_word(experiments)]
-        text = self._ask("surrogate", *words, *(["--models"] if models else []))[1]
-        return read_surrogate(text, OtherForm(self, tuple(words), "surrogate"))
+        form = ["--certificate"] if certificate else ["--models"] if models else []
+        return self._ask_effect(reading.read_surrogate, "surrogate", words, *form)
 
     def check(
         self, certificate: Union[Text, Formula, Hedge], experiments: Union[str, Iterable[Names]] = ()
@@ -456,7 +451,7 @@ class Diagram:
             raise RequestError("this answer has no certificate: only those of identify and surrogate have one")
         word = experiments_word(experiments)
         words = ["--experiments", word] if word else []
-        return answers.read_check(self._ask("check", *words, second=as_bytes(text))[1])
+        return self._ask(lambda told: reading.read_check(told, bool(word)), "check", *words, second=as_bytes(text))
 
     def adjustment_sets(
         self, x: Optional[Names] = None, y: Optional[Names] = None, most: Optional[int] = None
@@ -468,7 +463,7 @@ class Diagram:
         [('Z',)]
         """
         limit = [] if most is None else ["--most", str(most)]
-        return answers.read_sets(self._ask("adjust", *options(x=x, y=y), *limit)[1])
+        return self._ask(reading.read_sets, "adjust", *options(x=x, y=y), *limit)
 
     def adjusts(
         self, members: Names, x: Optional[Names] = None, y: Optional[Names] = None, back_door: bool = False
@@ -481,7 +476,7 @@ class Diagram:
         P(Y|do(X)) = sum{Z} P(Z) * P(Y|Z,X)
         """
         words = [*options(x=x, y=y, set=members), *(["--back-door"] if back_door else [])]
-        return answers.read_adjustment(self._ask("adjust", *words)[1])
+        return self._ask(reading.read_adjustment, "adjust", *words)
 
     def equivalent(
         self, other: "Diagram", x: Optional[Names] = None, y: Optional[Names] = None, given: Optional[Names] = None
@@ -500,7 +495,7 @@ class Diagram:
         open in the first: A -> B -> C
         open in the second: A <- B -> C
         """
-        return answers.read_equivalence(self._ask("equivalent", *options(x=x, y=y, given=given), second=other.source)[1])
+        return self._ask(reading.read_equivalence, "equivalent", *options(x=x, y=y, given=given), second=other.source)
 
     def implications(self, data: Optional[Data] = None, count: Optional[str] = None, *, missing: str = "error") -> Implications:
         """The testable independences: each pair of variables that some set separates, with one such set.

@@ -60,9 +60,9 @@ def is_of_signs(name: str) -> bool:
 def doubts_of(source: bytes, content: GraphText) -> List[str]:
     """A sentence for each doubt: statements that were dropped, but those that DAGitty writes, and vertices that look like an edge.
 
-    >>> from causal.answers import read_graph
+    >>> from causal.answers import GraphText
     >>> from causal.doubts import doubts_of
-    >>> doubts_of(b"dag { X + Y }", read_graph("dag {\\nX\\n+\\nY\\n}\\n"))
+    >>> doubts_of(b"dag { X + Y }", GraphText(("X", "+", "Y"), {}, (), ()))
     ['the vertex + has no edge, and its name is made of signs; an edge is written ->, <- or <->']
     """
     text = source.decode("utf-8", "replace")

@@ -3,23 +3,23 @@ from __future__ import annotations
 
 import math
 import numbers
-import re
 from dataclasses import dataclass, field
 from decimal import Decimal
 from fractions import Fraction
 from typing import TYPE_CHECKING, Any, Callable, Dict, Hashable, Iterator, List, Mapping, Optional, Sequence, Tuple, Union, overload
 
 from causal.display import html_table
-from causal.errors import RequestError, UnreadableAnswer
-from causal.formula import Formula, Term
+from causal.errors import RequestError
+from causal.formula import Formula
 from causal.framed import Framed
 from causal.names import printed_name
+from causal.objects import Told, name_in
 
 if TYPE_CHECKING:
     import pandas
 
 Level = Hashable
-# Finds the level of a variable for what is printed for it.
+# Finds the level of a variable for what is told for it.
 LevelOf = Callable[[str, str], Level]
 
 
@@ -87,7 +87,6 @@ class Value:
         Value(lower=Fraction(1, 1), upper=Fraction(3, 1))
         """
         return Value(self.lower / other.upper, self.upper / other.lower) if other.lower > 0 else None
-
 
     def odds(self) -> Optional["Value"]:
         """The odds, or None where the value may be 1.
@@ -484,66 +483,24 @@ class Contrast(Framed):
         return ("measure", "estimate", "from", "to"), [[name, None if value is None else float(value), *end] for name, end, value in ends]
 
 
-_EXACT = r" = ([0-9]+)/([0-9]+)"
-_BOUNDS = r" from ([0-9]+\.[0-9]+) to ([0-9]+\.[0-9]+)"
+def _value(told: Told) -> Value:
+    """The value of a cell: an exact fraction, or two bounds."""
+    lower, upper = (told["value"],) * 2 if "value" in told else (told["from"], told["to"])
+    return Value(Fraction(lower), Fraction(upper))
 
 
-def _levels_pattern(names: Sequence[str], level: str) -> str:
-    return ",".join(f"{re.escape(printed_name(name))}={level}" for name in names)
-
-
-def split_levels(text: str, *parts: Union[str, Sequence[str]]) -> Optional[Tuple[str, ...]]:
-    """The levels that stand in a printed text for names, or None where it can be split in several ways or in none. Its parts are lists
-    of names and patterns, whose groups follow in turn.
-
-    >>> from causal.effects import split_levels
-    >>> split_levels("S=large,T=B", ["S", "T"])
-    ('large', 'B')
-    >>> split_levels("S=a,T=b,T=c", ["S", "T"]) is None
-    True
-    """
-    found = []
-    for level in ("(.*?)", "(.*)"):
-        pattern = "".join(part if isinstance(part, str) else _levels_pattern(part, level) for part in parts)
-        found.append(re.fullmatch(pattern, text))
-    if not found[0] or not found[1] or found[0].groups() != found[1].groups():
-        return None
-    return found[0].groups()
-
-
-def _read_effect(line: str, target: Term, level_of: LevelOf) -> Effect:
-    is_exact = re.search(r" = [0-9]+/[0-9]+\Z", line) is not None
-    doing = [r"\|do\(", target.x, r"\)"] if target.x else []
-    given = ["," if target.x else r"\|", target.given] if target.given else []
-    split = split_levels(line, r"P\(", target.y, *doing, *given, r"\)" + (_EXACT if is_exact else _BOUNDS))
-    if split is None:
-        raise UnreadableAnswer(f"a level holds marks of the answer: {line!r}; give a DataFrame instead of a path")
-    *levels, first, second = split
-    lower, upper = (Fraction(int(first), int(second)),) * 2 if is_exact else (Fraction(first), Fraction(second))
-    y, x, among = ({name: level_of(name, levels.pop(0)) for name in names} for names in (target.y, target.x, target.given))
-    return Effect(y, x, Value(lower, upper), among)
-
-
-def read_effects(text: str, formula: Formula, level_of: LevelOf = lambda name, level: level, dropped: int = 0) -> Effects:
+def read_effects(told: Told, formula: Formula, level_of: LevelOf = lambda name, level: level, dropped: int = 0) -> Effects:
     """Reads the answer of `evaluate` for a formula.
 
     >>> from causal.effects import read_effects
-    >>> from causal.formula import read_formula
-    >>> effects = read_effects("P(Y=b|do(X=a)) = 1/3\\n", read_formula("P(Y|do(X)) = P(Y|X)"))
-    >>> effects[0].y, effects[0].x, effects[0].value.exact
-    ({'Y': 'b'}, {'X': 'a'}, Fraction(1, 3))
-    >>> read_effects("P(Y=b|do(X=a),Z=c) = 1/3\\n", read_formula("P(Y|do(X),Z) = P(Y|X,Z)"))[0].given
-    {'Z': 'c'}
+    >>> from causal.formula import Formula, Term
+    >>> cell = {"y": [["Y", "b"]], "x": [["X", "a"]], "given": [], "value": "1/3"}
+    >>> read_effects({"exact": True, "pinned": [], "cells": [cell]}, Formula(Term(("Y",), ("X",)), "P(Y|X)"))[0]
+    Effect(y={'Y': 'b'}, x={'X': 'a'}, value=Value(lower=Fraction(1, 3), upper=Fraction(1, 3)), given={})
     """
-    lines = text[:-1].split("\n")
-    pinned: Dict[str, Level] = {}
-    for name in formula.free:
-        head = f"pinned {printed_name(name)}="
-        if not lines[0].startswith(head):
-            raise UnreadableAnswer(f"the library answered what this package doesn't read: {lines[0]!r}")
-        pinned[name] = level_of(name, lines.pop(0)[len(head) :])
-    effects = tuple(_read_effect(line, formula.target, level_of) for line in lines)
-    found = Effects(formula, effects, pinned, all(re.search(r" = [0-9]+/[0-9]+\Z", line) for line in lines), dropped)
-    if math.prod(map(len, found.levels.values())) != len(effects):
-        raise UnreadableAnswer("a level holds a line feed, so the answer can't be told apart; give a DataFrame instead of a path")
-    return found
+
+    def levels(pairs: Sequence[Tuple[str, Any]]) -> Dict[str, Level]:
+        return {name: level_of(name, name_in(level)) for name, level in pairs}
+
+    effects = [Effect(levels(cell["y"]), levels(cell["x"]), _value(cell), levels(cell["given"])) for cell in told["cells"]]
+    return Effects(formula, tuple(effects), levels(told["pinned"]), told["exact"], dropped)

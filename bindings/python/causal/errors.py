@@ -7,7 +7,7 @@ from typing import Any, Dict, NamedTuple, Optional, Tuple
 class CausalError(Exception):
     """A refusal.
 
-    `number` is the fault's number, or None; `sentence` says it in plain words; `place` is where it is, of a kind that each
+    `number` is the fault's number, or None; `sentence` says it in words; `place` is where it is, of a kind that each
     subclass tells; `excerpt` is the line of the text with a caret, or empty; `printed` is the line that the library wrote.
 
     >>> from causal import CausalError, Diagram
@@ -15,7 +15,7 @@ class CausalError(Exception):
     ...     Diagram("dag { a ->")
     ... except CausalError as error:
     ...     print(error)
-    graph fault 3 at line 1, column 11: something else is expected here
+    graph fault 3 at line 1, column 11: what stands here does not fit the grammar, or the text ends too early
     dag { a ->
               ^
     """
@@ -83,7 +83,7 @@ class TargetError(CausalError):
     ...     Diagram("dag { X -> Y }").identify("X", "Q")
     ... except TargetError as error:
     ...     print(error)
-    target fault 1: no vertex is named Q
+    target fault 1: the name is not in the graph: Q
     """
 
     stage = "target"
@@ -97,7 +97,7 @@ class CertificateError(CausalError):
     ...     Diagram("dag { X -> Y }").check("{}")
     ... except CertificateError as error:
     ...     print(error)
-    certificate fault 2: the value at the key version is missing, or hasn't its form
+    certificate fault 2: the value of this key is missing or has another form: version
     """
 
     stage = "certificate"
@@ -171,7 +171,7 @@ class RequestError(CausalError, ValueError):
 
 
 class UnreadableAnswer(CausalError):
-    """An answer that this package doesn't read: a library of another version, or levels that hold the answer's own marks."""
+    """An answer that this package doesn't read: that of a library of another version."""
 
 
 class LibraryMissing(CausalError, ImportError):

@@ -9,10 +9,11 @@ from causal._library import Text
 from causal.bootstrap import Bootstrap, Progress, drawn
 from causal.columns import Data, may_have_blanks, path_of, read_bytes
 from causal.diagram import options
-from causal.effects import Effects, Level, LevelOf, Spread, read_effects, split_levels
+from causal.effects import Effects, Level, LevelOf, Spread, read_effects
 from causal.errors import EvaluationError, NotIdentifiable, RequestError
 from causal.formula import Formula, Hedge
 from causal.names import Names
+from causal.objects import Told
 from causal.tables import Cell, Table, check_request, table_of, table_of_file
 
 if TYPE_CHECKING:
@@ -174,12 +175,10 @@ class Evaluation:
     def over_text(self, text: bytes, words: Sequence[Text], level_of: LevelOf, dropped: int = 0) -> Effects:
         """The effects over a text of counts."""
 
-        def cell(told: str) -> Optional[Dict[str, object]]:
-            split = split_levels(told, self.used)
-            return {name: level_of(name, level) for name, level in zip(self.used, split)} if split else None
+        def read(told: Told) -> Effects:
+            return read_effects(told, self.formula, level_of, dropped)
 
-        answer = self.diagram._ask("evaluate", *self.words, *words, second=text, levels=cell, formula=self.formula)[1]
-        return read_effects(answer, self.formula, level_of, dropped)
+        return self.diagram._ask(read, "evaluate", *self.words, *words, second=text, level_of=level_of, formula=self.formula)
 
     def over_counts(self, table: Table, counts: Mapping[Cell, int]) -> Optional[Tuple[float, ...]]:
         """The effects over other counts of a table, or None where some cell has no value."""

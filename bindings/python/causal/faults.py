@@ -1,8 +1,8 @@
-"""Reads the line that the library writes where it refuses, and says it in plain words."""
+"""Reads the object in which the library says why it refuses."""
 from __future__ import annotations
 
 import re
-from typing import Any, Callable, Dict, NamedTuple, NoReturn, Optional, Sequence, Tuple
+from typing import Any, Callable, Dict, NamedTuple, NoReturn, Optional, Sequence, Type
 
 from causal.errors import (
     CausalError,
@@ -14,88 +14,26 @@ from causal.errors import (
     RequestError,
     TargetError,
     TextPlace,
-    UnreadableAnswer,
     caret_under,
 )
 from causal.formula import Formula
-from causal.names import Cursor
+from causal.objects import Told, name_in, read_line
 
-_STAGES = rb"second graph|second target|graph|target|certificate|counts|evaluation"
-_LINE = re.compile(rb"causal: (" + _STAGES + rb") fault ([0-9]+)(?:: (.*))?\n", re.DOTALL)
-
-GRAPH = {
-    1: "the text isn't UTF-8",
-    2: "no token begins here: a quote that isn't closed, a comment, an arrow that there is not, or a value that may be an edge",
-    3: "something else is expected here",
-    4: 'the text doesn\'t begin with the word "dag"',
-    5: "only ->, <- and <-> are edges",
-    6: "this flag isn't known, or not allowed here; a vertex may be exposure, outcome, adjusted or latent",
-    7: "{0} is selected: selection isn't supported",
-    8: "an edge joins {0} to itself",
-    9: "the diagram has more than 64 names",
-    10: "{0} has two different flags",
-    11: "the directed edges have a cycle through {0}",
-    12: "the text is over 1048576 bytes",
+ERRORS: Dict[str, Type[CausalError]] = {
+    kind.stage: kind for kind in (DiagramError, TargetError, CertificateError, CountsError, EvaluationError)
 }
-TARGET = {
-    1: "no vertex is named {0}",
-    2: "{0} is latent",
-    3: "{0} is named twice, or stands in two of the sets",
-    4: "the set of outcomes is empty",
-    5: "the set of exposures is empty (in a rule, the set z)",
-    6: "the back-door criterion is about one exposure",
-    7: "{0} and {1} have a hidden common cause; diagrams are compared that have none",
-    8: "{0} is in one diagram alone",
-}
-CERTIFICATE = {
-    1: "the text is no JSON",
-    2: "the value at the key {0} is missing, or hasn't its form",
-    3: "the version {0} isn't known",
-    4: "steps are nested more than 60 deep",
-    5: "no vertex is named {0}",
-    6: "the text is over 67108864 bytes",
-}
-CERTIFICATE_EXTRA = "there is a further key"
-COUNTS = {
-    1: "record {0} has another number of fields than the header",
-    2: "there is no column {0}",
-    3: "the column {0} is there twice",
-    4: "the count of record {0} isn't a whole number from 0 to 10^15",
-    5: "the used columns have more than 2^20 combinations of levels",
-    6: "the counts sum to more than 10^15",
-    7: "the counts sum to 0",
-    8: "the text is over 67108864 bytes",
-}
-EVALUATION = {
-    1: "no record has what is given in a term of the formula",
-    2: "the value needs numbers over 2^127; bounds (exact=False) need less wide ones",
-    3: "the value is too small to divide by in bounds of 18 digits; ask for exact fractions (exact=True)",
-}
-
-
-# Other kinds of texts, by the word with which they begin.
+# What is said of texts of other kinds, by the word with which they begin, and of a comment.
 KINDS = {
-    "pdag": "the text is a pdag, which stands for several diagrams; give one of them, as a dag",
-    "mag": "the text is a mag, whose edges say less than those of a dag; a dag is read",
-    "pag": "the text is a pag, which stands for several diagrams; a dag is read",
-    "graph": "the text is a graph without directions; a dag is read",
-    "digraph": "the text is DOT, as Graphviz has it: Diagram.from_dot reads it",
+    "pdag": "it is a pdag, which stands for several diagrams; give one of them, as a dag",
+    "mag": "it is a mag, whose edges say less than those of a dag",
+    "pag": "it is a pag, which stands for several diagrams",
+    "graph": "it is a graph without directions",
+    "digraph": "it is DOT, as Graphviz has it, which Diagram.from_dot reads",
 }
-COMMENT = "a comment stands here, and comments aren't read"
+COMMENT = "it is a comment, which isn't read"
+# What helps where a number is too wide, and where a divisor is too fine.
+OTHERWISE = {2: "; bounds (exact=False) need less wide numbers", 3: "; exact fractions (exact=True) have no least divisor"}
 _WORD = re.compile(rb"(?:strict\s+)?([a-z]+)", re.IGNORECASE)
-
-
-def graph_sentence(number: int, text: bytes, place: Any) -> str:
-    """What a fault of a diagram's text says. A comment, and a text of another kind, are named.
-
-    >>> from causal.faults import graph_sentence
-    >>> graph_sentence(4, b"pdag { A -- B }", None)
-    'the text is a pdag, which stands for several diagrams; give one of them, as a dag'
-    """
-    if number == 2 and isinstance(place, TextPlace) and text[place.byte :].startswith((b"//", b"/*", b"#")):
-        return COMMENT
-    word = _WORD.match(text.strip()) if number == 4 else None
-    return KINDS.get(word.group(1).decode().lower(), GRAPH[4]) if word else GRAPH[number]
 
 
 class Sources(NamedTuple):
@@ -103,109 +41,61 @@ class Sources(NamedTuple):
 
     text: bytes = b""
     second: bytes = b""
-    levels: Optional[Callable[[str], Optional[Dict[str, object]]]] = None
+    level_of: Callable[[str, str], Any] = lambda name, level: level
     formula: Optional[Formula] = None
 
 
-class Fault(NamedTuple):
-    """A refusal as its line tells it.
+def hint_in(fault: Told, text: bytes) -> str:
+    """What the package adds to the sentence on a diagram's text: that it is of another kind, or that a comment stands there.
 
-    >>> from causal.faults import read_fault
-    >>> read_fault(b"causal: target fault 1: Q\\n")
-    Fault(stage='target', number=1, detail='Q')
+    >>> from causal.faults import hint_in
+    >>> hint_in({"stage": "graph", "number": 4}, b"pdag { A -- B }")
+    'it is a pdag, which stands for several diagrams; give one of them, as a dag'
     """
-
-    stage: str
-    number: int
-    detail: str
-
-
-def read_fault(line: bytes) -> Fault:
-    """The stage, the number and what follows them, of a line."""
-    found = _LINE.fullmatch(line)
-    if not found:
-        raise UnreadableAnswer(f"the library wrote a line that this package doesn't read: {line!r}")
-    stage, number, detail = found.groups()
-    return Fault(stage.decode(), int(number), (detail or b"").decode("utf-8", "surrogateescape"))
+    if not fault["stage"].endswith("graph"):
+        return ""
+    if fault["number"] == 2 and text[fault["byte"] :].startswith((b"//", b"/*", b"#")):
+        return COMMENT
+    word = _WORD.match(text.strip()) if fault["number"] == 4 else None
+    return KINDS.get(word.group(1).decode().lower(), "") if word else ""
 
 
-def unquoted(text: str) -> str:
-    """A single printed name, whatever characters it holds.
+def place_in(fault: Told, named: Sequence[str]) -> Any:
+    """The place of a fault, as its kind of exception has it."""
+    if "byte" in fault:
+        return TextPlace(fault["byte"], fault["line"], fault["column"])
+    if "version" in fault:
+        return int(fault["version"])
+    if fault["stage"].endswith("target"):
+        return tuple(named)
+    if fault["stage"].endswith("graph"):
+        return tuple(named) or None
+    return named[0] if named else fault.get("row")
 
-    >>> from causal.faults import unquoted
-    >>> unquoted('"a"b"'), unquoted("c")
-    ('a"b', 'c')
+
+def error_of(fault: Told, sources: Sources) -> CausalError:
+    """The exception for a fault.
+
+    >>> from causal.faults import Sources, error_of
+    >>> print(error_of({"stage": "counts", "number": 4, "message": "the count is no whole number", "row": 7}, Sources()))
+    counts fault 4: the count is no whole number: record 7
     """
-    return text[1:-1] if len(text) >= 2 and text.startswith('"') and text.endswith('"') else text
-
-
-def _graph_error(fault: Fault, sources: Sources) -> CausalError:
-    second = fault.stage.startswith("second")
-    number, detail = fault.number, fault.detail
-    place: Any = None
-    excerpt = ""
-    names: Tuple[str, ...] = ()
-    if number == 11:
-        cursor = Cursor(detail)
-        cursor.take("cycle ")
-        place = _spaced(cursor)
-        names = (" -> ".join(place),)
-    elif number in (7, 8, 10):
-        place = names = (unquoted(detail),)
-    text = sources.second if second else sources.text
-    if place is None and detail.startswith("byte "):
-        place, excerpt = caret_under(text, int(detail[5:]))
-    error = DiagramError(graph_sentence(number, text, place).format(*names), number, place, excerpt)
-    error.stage = fault.stage
+    stage = fault["stage"]
+    if stage == "evaluation":
+        return _evaluation_error(fault, sources)
+    text = sources.second if stage.startswith("second") else sources.text
+    named = [name_in(name) for name in fault.get("names", [fault[key] for key in ("name", "key", "version") if key in fault])]
+    detail = f"record {fault['row']}" if "row" in fault else ", ".join(named) or hint_in(fault, text)
+    sentence = f"{fault['message']}: {detail}" if detail else fault["message"]
+    excerpt = caret_under(text, fault["byte"])[1] if "byte" in fault else ""
+    error = ERRORS[stage.split()[-1]](sentence, fault["number"], place_in(fault, named), excerpt)
+    error.stage = stage
     return error
 
 
-def _spaced(cursor: Cursor) -> Tuple[str, ...]:
-    names = [cursor.name()]
-    while cursor.accept(" "):
-        names.append(cursor.name())
-    cursor.end()
-    return tuple(names)
-
-
-def _target_error(fault: Fault, sources: Sources) -> CausalError:
-    names: Tuple[str, ...] = ()
-    if fault.number == 7:
-        names = _spaced(Cursor(fault.detail))
-    elif fault.detail:
-        names = (unquoted(fault.detail),)
-    error = TargetError(TARGET[fault.number].format(*names), fault.number, names)
-    error.stage = fault.stage
-    return error
-
-
-def _certificate_error(fault: Fault, sources: Sources) -> CausalError:
-    number, detail = fault.number, fault.detail
-    place: object = {2: detail, 5: unquoted(detail)}.get(number)
-    if number == 3:
-        place = int(detail)
-    sentence = CERTIFICATE_EXTRA if number == 2 and detail == "extra" else CERTIFICATE[number].format(place)
-    return CertificateError(sentence, number, place)
-
-
-def _counts_error(fault: Fault, sources: Sources) -> CausalError:
-    number, detail = fault.number, fault.detail
-    place: object = None
-    if detail.startswith("row "):
-        place = int(detail[4:])
-    elif number in (2, 3):
-        place = unquoted(detail)
-    return CountsError(COUNTS[number].format(place), number, place)
-
-
-def _evaluation_error(fault: Fault, sources: Sources) -> CausalError:
-    found = re.match(r"(?:main|q([0-9]+)) node ([0-9]+)(?: at (.*))?", fault.detail, re.DOTALL)
-    if not found:
-        raise UnreadableAnswer(f"the library wrote a place that this package doesn't read: {fault.detail!r}")
-    definition = None if found.group(1) is None else int(found.group(1))
-    told = found.group(3)
-    node = int(found.group(2))
-    cell = sources.levels(told) if sources.levels and told is not None else None
+def _evaluation_error(fault: Told, sources: Sources) -> CausalError:
+    definition, node = fault["definition"], fault["node"]
+    cell = {name: sources.level_of(name, name_in(level)) for name, level in fault.get("cell", ())} or None
     where = f"node {node} of {'the formula' if definition is None else f'q{definition}'}"
     divisor = sources.formula.divisor_at(definition, node) if sources.formula and cell else None
     if divisor and cell:
@@ -213,43 +103,31 @@ def _evaluation_error(fault: Fault, sources: Sources) -> CausalError:
         sentence = f"no record has {at}, which {divisor.term} is given" if divisor.term else f"a divisor is 0 at {at}"
         sentence += f" ({where})"
     else:
-        sentence = f"{EVALUATION[fault.number]} ({where})"
-        sentence += "" if told is None else f", at {told if cell is None else _told(cell)}"
-    return EvaluationError(sentence, fault.number, EvaluationPlace(definition, node, cell))
+        sentence = f"{fault['message']} ({where})" + (f", at {_told(cell)}" if cell else OTHERWISE.get(fault["number"], ""))
+    return EvaluationError(sentence, fault["number"], EvaluationPlace(definition, node, cell))
 
 
-def _told(cell: Dict[str, object]) -> str:
+def _told(cell: Dict[str, Any]) -> str:
     return ", ".join(f"{name}={level}" for name, level in cell.items())
 
 
-_ERRORS: Dict[str, Callable[[Fault, Sources], CausalError]] = {
-    "graph": _graph_error,
-    "second graph": _graph_error,
-    "target": _target_error,
-    "second target": _target_error,
-    "certificate": _certificate_error,
-    "counts": _counts_error,
-    "evaluation": _evaluation_error,
-}
+def raise_refusal(status: int, out: bytes, err: bytes, words: Sequence[object], sources: Sources) -> NoReturn:
+    """Raises the exception for a run with a status of 2 or more, of which the object is told where it is 3 to 5, and the line.
 
-
-def raise_refusal(status: int, line: bytes, words: Sequence[object], sources: Sources) -> NoReturn:
-    """Raises the exception for a run with a status of 2 or more.
-
-    >>> from causal.errors import CountsError
+    >>> from causal.errors import TargetError
     >>> from causal.faults import Sources, raise_refusal
+    >>> told = b'{"fault":{"stage":"target","number":1,"message":"the name is not in the graph","name":"Q"}}\\n'
     >>> try:
-    ...     raise_refusal(4, b"causal: counts fault 4: row 2\\n", [], Sources())
-    ... except CountsError as error:
+    ...     raise_refusal(3, told, b"causal: target fault 1: Q\\n", [], Sources())
+    ... except TargetError as error:
     ...     print(error)
-    counts fault 4: the count of record 2 isn't a whole number from 0 to 10^15
+    target fault 1: the name is not in the graph: Q
     """
-    printed = line.decode("utf-8", "surrogateescape").rstrip("\n")
+    printed = err.decode("utf-8", "surrogateescape").rstrip("\n")
     if status == 2:
         raise RequestError(f"what was asked isn't understood: {list(words)}", printed=printed)
     if status not in (3, 4, 5):
         raise CausalError(f"the library ended with status {status}: {printed}", printed=printed)
-    fault = read_fault(line)
-    error = _ERRORS[fault.stage](fault, sources)
+    error = read_line(lambda told: error_of(told["fault"], sources), out)
     error.printed = printed
     raise error

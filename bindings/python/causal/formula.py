@@ -1,19 +1,19 @@
-"""Formulas and hedges, as `identify` prints them."""
+"""Formulas and hedges, as `identify` gives them."""
 from __future__ import annotations
 
 from dataclasses import dataclass, field
-from typing import TYPE_CHECKING, Any, Callable, FrozenSet, List, NamedTuple, Optional, Sequence, Set, Tuple, Union
+from itertools import chain
+from typing import TYPE_CHECKING, Any, FrozenSet, Iterator, List, NamedTuple, Optional, Sequence, Set, Tuple, Union
 
+from causal.errors import RequestError
 from causal.framed import Framed
-from causal.names import Cursor, printed_name, printed_set
+from causal.names import printed_name, printed_set
+from causal.objects import Told
 
 if TYPE_CHECKING:
     from fractions import Fraction
 
-# Asks the program for another form of the same answer: "--latex" or "--certificate", or of which kind it is: `SETTLED`. None where its
-# command has no such form.
-AskForm = Callable[[str], Optional[str]]
-SETTLED = "settled"
+    from causal.question import Question
 
 
 @dataclass(frozen=True)
@@ -35,117 +35,47 @@ class Term:
         return f"P({','.join(map(printed_name, self.y))}{'|' if conditions else ''}{','.join(conditions)})"
 
 
-def read_term(cursor: Cursor) -> Term:
-    """The term that stands next.
-
-    >>> from causal.formula import read_term
-    >>> from causal.names import Cursor
-    >>> read_term(Cursor("P(M|do(X),W) * P(W)"))
-    Term(y=('M',), x=('X',), given=('W',))
-    """
-    cursor.take("P(")
-    y = cursor.names()
-    x: Tuple[str, ...] = ()
-    given: Tuple[str, ...] = ()
-    if cursor.accept("|"):
-        if cursor.accept("do("):
-            x = cursor.names()
-            cursor.take(")")
-            given = cursor.names() if cursor.accept(",") else ()
-        else:
-            given = cursor.names()
-    cursor.take(")")
-    return Term(y, x, given)
-
-
-def parts_of(text: str) -> Tuple[List[Term], Set[str]]:
-    """The terms of a formula's text, and the names over which it sums.
-
-    >>> from causal.formula import parts_of
-    >>> terms, summed = parts_of("sum{W} P(W) * P(Y|do(Z),X)")
-    >>> [str(term) for term in terms], summed
-    (['P(W)', 'P(Y|do(Z),X)'], {'W'})
-    """
-    cursor = Cursor(text)
-    terms: List[Term] = []
-    summed: Set[str] = set()
-    while not cursor.is_done():
-        if text.startswith("P(", cursor.at):
-            terms.append(read_term(cursor))
-        elif cursor.accept("sum"):
-            summed.update(cursor.set())
-        else:
-            cursor.at += 1
-    return terms, summed
-
-
 class Divisor(NamedTuple):
-    """What is divided by at a node of a formula: the share of a term's condition, or without a term the divisor of a quotient; and the
-    names on whose levels it depends."""
+    """What is divided by at a node of a formula: the share of a term's condition, or without a term the divisor of a quotient;
+    and the names on whose levels it depends."""
 
     term: Optional[Term]
     names: FrozenSet[str]
 
 
-def divisors_of(texts: Sequence[str]) -> List[List[Optional[Divisor]]]:
-    """The nodes of each text, of which one may cite those before it as q0, q1 and so on: what is divided by there, or None. Nodes are in
-    the order in which they are numbered, a parent before its parts.
+def parts_of(tree: Told) -> Sequence[Told]:
+    """The trees right below that of an expression: a term, a sum, a product, a quotient, or a definition by its number.
 
-    >>> from causal.formula import divisors_of
-    >>> nodes = divisors_of(["sum{W} P(W) * P(X|W,Z)", "q0 / (sum{X} q0)"])
-    >>> [str(node.term) for node in nodes[0] if node], [sorted(node.names) for node in nodes[1] if node]
-    (['P(W)', 'P(X|W,Z)'], [['Z']])
+    >>> from causal.formula import parts_of
+    >>> parts_of({"sum": ["Y"], "of": {"definition": 0}})
+    [{'definition': 0}]
     """
-    nodes: List[List[Optional[Divisor]]] = []
-    names: List[FrozenSet[str]] = []
-    for text in texts:
-        cursor = Cursor(text)
-        found = _nodes(cursor, names)
-        cursor.end()
-        nodes.append(found[0])
-        names.append(found[1])
-    return nodes
+    return [tree["of"]] if "of" in tree else tree.get("product", tree.get("quotient", ()))
 
 
-Nodes = Tuple[List[Optional[Divisor]], FrozenSet[str]]
+def nodes_of(tree: Told) -> Iterator[Told]:
+    """The nodes of a tree as they are numbered, a parent before its parts.
 
-
-def _nodes(cursor: Cursor, behind: Sequence[FrozenSet[str]]) -> Nodes:
-    """The nodes of the expression that stands next, and the names on which it depends; those of definitions are told."""
-    if cursor.accept("sum"):
-        summed = cursor.set()
-        cursor.take(" ")
-        nodes, names = _nodes(cursor, behind)
-        return [None, *nodes], names.difference(summed)
-    nodes, names = _operand(cursor, behind)
-    head: List[Optional[Divisor]] = []
-    while (divides := cursor.accept(" / ")) or cursor.accept(" * "):
-        more, read = _operand(cursor, behind)
-        head = [Divisor(None, read) if divides else None]
-        nodes, names = nodes + more, names | read
-    return head + nodes, names
-
-
-def _operand(cursor: Cursor, behind: Sequence[FrozenSet[str]]) -> Nodes:
-    if cursor.accept("("):
-        inner = _nodes(cursor, behind)
-        cursor.take(")")
-        return inner
-    if cursor.accept("q"):
-        return [None], behind[cursor.number()]
-    term = read_term(cursor)
-    return [Divisor(term, frozenset(term.given))], frozenset({*term.y, *term.x, *term.given})
-
-
-def variables_of(text: str) -> Set[str]:
-    """The names in the terms and sums of a formula's text.
-
-    >>> from causal.formula import variables_of
-    >>> sorted(variables_of('sum{"a b"} P("a b") * P(Y|X,"a b") / q0'))
-    ['X', 'Y', 'a b']
+    >>> from causal.formula import nodes_of
+    >>> [list(node) for node in nodes_of({"sum": ["Y"], "of": {"quotient": [{"definition": 0}, {"definition": 1}]}})]
+    [['sum', 'of'], ['quotient'], ['definition'], ['definition']]
     """
-    terms, summed = parts_of(text)
-    return summed.union(*((*term.y, *term.x, *term.given) for term in terms))
+    yield tree
+    for part in parts_of(tree):
+        yield from nodes_of(part)
+
+
+def names_read(tree: Told, definitions: Sequence[FrozenSet[str]]) -> FrozenSet[str]:
+    """The names on which the value of a tree depends; those of definitions are told.
+
+    >>> from causal.formula import names_read
+    >>> sorted(names_read({"sum": ["X"], "of": {"term": ["X"], "do": [], "given": ["W", "Z"]}}, []))
+    ['W', 'Z']
+    """
+    if "definition" in tree:
+        return definitions[tree["definition"]]
+    names = {*tree.get("term", ()), *tree.get("do", ()), *tree.get("given", ())}
+    return frozenset(names.union(*(names_read(part, definitions) for part in parts_of(tree))).difference(tree.get("sum", ())))
 
 
 @dataclass(frozen=True)
@@ -171,7 +101,10 @@ class Formula(Framed):
     expression: str
     definitions: Tuple[str, ...] = ()
     free: Tuple[str, ...] = ()
-    _ask: Optional[AskForm] = field(default=None, repr=False, compare=False)
+    # In LaTeX, and as trees: those of the definitions, and that of the expression.
+    _latex: Optional[str] = field(default=None, repr=False, compare=False)
+    _trees: Tuple[Told, ...] = field(default=(), repr=False, compare=False)
+    _question: Optional[Question] = field(default=None, repr=False, compare=False)
 
     identifiable = True
 
@@ -198,8 +131,19 @@ class Formula(Framed):
         >>> sorted(Diagram("dag{ Z -> X Z -> Y X -> Y }").identify("X", "Y").variables)
         ['X', 'Y', 'Z']
         """
-        target = {*self.target.y, *self.target.x, *self.target.given}
-        return target.union(*map(variables_of, (self.expression, *self.definitions)))
+        kinds = ("term", "do", "given", "sum")
+        inside = {name for node in self._nodes() for kind in kinds for name in node.get(kind, ())}
+        return inside.union(self.target.y, self.target.x, self.target.given)
+
+    def _known(self) -> Tuple[Told, ...]:
+        """The trees, where a diagram gave the formula."""
+        if not self._trees:
+            raise RequestError(f"no diagram gave the formula {self.expression}, so its parts aren't known")
+        return self._trees
+
+    def _nodes(self) -> Iterator[Told]:
+        """The nodes of the definitions, and then those of the expression."""
+        return chain.from_iterable(map(nodes_of, self._known()))
 
     def divisor_at(self, definition: Optional[int], node: int) -> Optional[Divisor]:
         """What is divided by at a node of the formula, or of one of its definitions; None where nothing is.
@@ -209,7 +153,16 @@ class Formula(Framed):
         >>> str(formula.divisor_at(None, 3).term), formula.divisor_at(None, 1)
         ('P(Y|Z,X)', None)
         """
-        return divisors_of([*self.definitions, self.expression])[-1 if definition is None else definition][node]
+        trees = self._known()
+        found = list(nodes_of(trees[-1 if definition is None else definition]))[node]
+        if "term" in found:
+            return Divisor(Term(tuple(found["term"]), tuple(found["do"]), tuple(found["given"])), frozenset(found["given"]))
+        if "quotient" not in found:
+            return None
+        names: List[FrozenSet[str]] = []
+        for tree in trees[:-1]:
+            names.append(names_read(tree, names))
+        return Divisor(None, names_read(found["quotient"][1], names))
 
     @property
     def experiments(self) -> Set[Tuple[str, ...]]:
@@ -219,57 +172,29 @@ class Formula(Framed):
         >>> Diagram("dag { X -> Z -> Y X <-> Z Z <-> Y }").surrogate("Z", "Y", experiments="Z").experiments
         {('Z',)}
         """
-        texts = (self.expression, *self.definitions)
-        return {term.x for text in texts for term in parts_of(text)[0] if term.x}
+        return {tuple(node["do"]) for node in self._nodes() if node.get("do")}
 
     @property
     def latex(self) -> Optional[str]:
-        """The answer in LaTeX, where `identify` gave it, and else None."""
-        return self._ask("--latex") if self._ask else None
+        """The answer in LaTeX, where a diagram gave it, and else None."""
+        return f"{self._latex}\nfree {printed_set(self.free)}" if self._latex and self.free else self._latex
 
     @property
     def certificate(self) -> Optional[str]:
-        """The certificate (JSON) with the derivation, where `identify` or `surrogate` gave the formula, and else None.
+        """The certificate (JSON) with the derivation, where `identify` or `surrogate` gave the formula, and else None. Where it
+        didn't come with the answer, it is asked for when it is wanted first.
 
         >>> from causal import Diagram
         >>> diagram = Diagram("dag{ Z -> X Z -> Y X -> Y }")
         >>> diagram.check(diagram.identify("X", "Y").certificate).accepted
         True
         """
-        return self._ask("--certificate") if self._ask else None
+        return self._question.certificate if self._question else None
 
     def _repr_latex_(self) -> Optional[str]:
         """What notebooks show: the formula and its definitions, without the free variables."""
-        latex = self.latex
-        if latex is None:
-            return None
-        lines = [line for line in latex.split("\n") if not line.startswith("free {")]
-        return "$$\\begin{gathered} " + " \\\\ ".join(lines) + " \\end{gathered}$$"
-
-
-def read_formula(text: str, ask: Optional[AskForm] = None) -> Formula:
-    """Reads the printed answer of a formula.
-
-    >>> from causal.formula import read_formula
-    >>> read_formula("P(Y|do(X)) = q0 / (sum{Y} q0)\\nq0 = sum{W} P(W) * P(X|W,Z) * P(Y|X,W,Z)\\nfree {Z}\\n").free
-    ('Z',)
-    """
-    lines = text.rstrip("\n").split("\n")
-    cursor = Cursor(lines[0])
-    target = read_term(cursor)
-    cursor.take(" = ")
-    free: Tuple[str, ...] = ()
-    rest = lines[1:]
-    if rest and rest[-1].startswith("free {"):
-        last = Cursor(rest.pop(), len("free "))
-        free = last.set()
-        last.end()
-    definitions = []
-    for number, line in enumerate(rest):
-        definition = Cursor(line)
-        definition.take(f"q{number} = ")
-        definitions.append(definition.rest())
-    return Formula(target, cursor.rest(), tuple(definitions), free, ask)
+        latex = self._latex
+        return "$$\\begin{gathered} " + latex.replace("\n", " \\\\ ") + " \\end{gathered}$$" if latex else None
 
 
 @dataclass(frozen=True)
@@ -360,7 +285,7 @@ class Hedge(HedgeSets):
     event: Tuple[str, ...] = ()
     noise: int = 0
     conditional: Optional[Term] = None
-    _ask: Optional[AskForm] = field(default=None, repr=False, compare=False)
+    _question: Optional[Question] = field(default=None, repr=False, compare=False)
 
     @property
     def probabilities(self) -> Tuple[Fraction, Fraction]:
@@ -402,41 +327,13 @@ class Hedge(HedgeSets):
         >>> Diagram("dag{ X -> Y X <-> Y }").identify("X", "Y").settled is None
         True
         """
-        return None if self.conditional is None else is_settled(self._ask)
+        return self._question.settled if self._question and self.conditional else None
 
     @property
     def certificate(self) -> Optional[str]:
-        """The certificate (JSON) of the hedge, where `identify` or `surrogate` gave it, and else None."""
-        return self._ask("--certificate") if self._ask else None
-
-
-def is_settled(ask: Optional[AskForm]) -> Optional[bool]:
-    """What the library tells of `Hedge.settled`; None where it doesn't.
-
-    >>> from causal.formula import is_settled
-    >>> is_settled(lambda form: "unsettled"), is_settled(None) is None
-    (False, True)
-    """
-    kind = ask(SETTLED) if ask else None
-    return kind == SETTLED if kind in (SETTLED, "unsettled") else None
-
-
-def read_hedge_line(line: str) -> Tuple[Tuple[str, ...], Tuple[str, ...], Tuple[str, ...]]:
-    """Reads the line of a hedge's sets.
-
-    >>> from causal.formula import read_hedge_line
-    >>> read_hedge_line("hedge {X,Y} over {Y} with roots {Y}")
-    (('X', 'Y'), ('Y',), ('Y',))
-    """
-    cursor = Cursor(line)
-    cursor.take("hedge ")
-    big = cursor.set()
-    cursor.take(" over ")
-    small = cursor.set()
-    cursor.take(" with roots ")
-    roots = cursor.set()
-    cursor.end()
-    return big, small, roots
+        """The certificate (JSON) of the hedge, where `identify` or `surrogate` gave it, and else None. Where it didn't come with
+        the answer, it is asked for when it is wanted first."""
+        return self._question.certificate if self._question else None
 
 
 @dataclass(frozen=True)
@@ -452,120 +349,3 @@ class ExperimentHedgeSets(HedgeSets):
     """
 
     over_experiments = True
-
-
-def read_hedge_sets(text: str) -> HedgeSets:
-    """Reads the first two lines of a hedge.
-
-    >>> from causal.formula import read_hedge_sets
-    >>> read_hedge_sets("P(Y|do(X)) is not identifiable\\nhedge {X,Y} over {Y} with roots {Y}\\n").roots
-    ('Y',)
-    """
-    head, sets = text.rstrip("\n").split("\n")
-    cursor = Cursor(head)
-    target = read_term(cursor)
-    cursor.take(" is not identifiable")
-    kind = ExperimentHedgeSets if cursor.accept(" from these experiments") else HedgeSets
-    cursor.end()
-    return kind(target, *read_hedge_line(sets))
-
-
-def _read_pair(line: str, head: str, mark: str) -> Tuple[str, str]:
-    cursor = Cursor(line)
-    cursor.take(head)
-    first = cursor.name()
-    cursor.take(mark)
-    second = cursor.name()
-    cursor.end()
-    return first, second
-
-
-def _read_cause(line: str) -> Cause:
-    cursor = Cursor(line)
-    cursor.take("cause ")
-    number = cursor.number()
-    cursor.take(" on ")
-    on = cursor.set()
-    cursor.take(" with weights ")
-    first = cursor.number()
-    cursor.take(" ")
-    second = cursor.number()
-    cursor.end()
-    return Cause(number, on, (first, second))
-
-
-def _read_named_bit(cursor: Cursor) -> Tuple[str, str]:
-    kind = "h" if cursor.accept("h(") else "k"
-    if kind == "k":
-        cursor.take("k(")
-    name = cursor.name()
-    cursor.take(")")
-    return kind, name
-
-
-def _read_bit(line: str, head: str) -> Bit:
-    cursor = Cursor(line)
-    cursor.take(head)
-    kind, vertex = _read_named_bit(cursor)
-    cursor.take(" = ")
-    terms: List[Tuple[str, Union[str, int]]] = []
-    while not cursor.is_done():
-        if terms:
-            cursor.take(" + ")
-        if cursor.accept("c"):
-            terms.append(("c", cursor.number()))
-        else:
-            terms.append(_read_named_bit(cursor))
-    return Bit(kind, vertex, tuple(terms))
-
-
-def _read_event(line: str) -> Tuple[Tuple[str, ...], int]:
-    cursor = Cursor(line)
-    event: List[str] = []
-    cursor.take("event ")
-    while not cursor.accept(" even: 1/2 in the first, 1/2 + 1/2^"):
-        if event:
-            cursor.take(" + ")
-        cursor.take("k(")
-        event.append(cursor.name())
-        cursor.take(")")
-    noise = cursor.number()
-    cursor.take(" in the second")
-    cursor.end()
-    return tuple(event), noise
-
-
-def read_hedge(text: str, ask: Optional[AskForm] = None) -> Hedge:
-    """Reads the printed answer of a hedge.
-
-    >>> from causal.formula import read_hedge
-    >>> text = "P(Y|do(X),Z) not identified; P(Y,Z|do(X)) is not identifiable\\nhedge {X,Y} over {Y} with roots {Y}\\n"
-    >>> hedge = read_hedge(text + "event k(Y) even: 1/2 in the first, 1/2 + 1/2^3 in the second\\n")
-    >>> str(hedge.conditional), str(hedge.target)
-    ('P(Y|do(X),Z)', 'P(Y,Z|do(X))')
-    """
-    lines = text.rstrip("\n").split("\n")
-    cursor = Cursor(lines[0])
-    asked = read_term(cursor)
-    conditional = asked if cursor.accept(" not identified; ") else None
-    sets = read_hedge_sets("\n".join([lines[0] if conditional is None else cursor.rest(), lines[1]]))
-
-    def having(head: str) -> List[str]:
-        return [line for line in lines[2:-1] if line.startswith(head)]
-
-    event, noise = _read_event(lines[-1])
-    return Hedge(
-        sets.target,
-        sets.big,
-        sets.small,
-        sets.roots,
-        tuple(_read_pair(line, "choice ", " -> ") for line in having("choice ")),
-        tuple(_read_pair(line, "link ", " <-> ") for line in having("link ")),
-        tuple(map(_read_cause, having("cause "))),
-        tuple(_read_bit(line, "first ") for line in having("first ")),
-        tuple(_read_bit(line, "second ") for line in having("second ")),
-        event,
-        noise,
-        conditional,
-        ask,
-    )

@@ -8,9 +8,8 @@ from dataclasses import dataclass
 from typing import Any, Callable, Dict, List, Optional, Sequence, Tuple
 
 from causal.columns import Column, column_of
-from causal.databases import MOST_ROWS, count_name
+from causal.databases import MOST_ROWS, TOO_MANY, count_name
 from causal.errors import CountsError
-from causal.faults import COUNTS
 
 # Columns of levels, then that of the sums of counts and that of the numbers of records.
 Columns = List[Any]
@@ -33,7 +32,7 @@ class Frame:
                 raise CountsError(sentence, 3 if name in self.names else 2, name)
         *columns, records = self.count_columns(self.frame, list(names), count)
         if len(records) > MOST_ROWS:
-            raise CountsError(COUNTS[5], 5)
+            raise CountsError(TOO_MANY, 5)
         heads = [*names, count_name(names) if count is None else count]
         return {name: column_of(name, values) for name, values in zip(heads, columns)}, [int(number) for number in records]
 

@@ -2,14 +2,13 @@
 from __future__ import annotations
 
 from dataclasses import dataclass
-from typing import TYPE_CHECKING, Dict, Iterator, List, Optional, Sequence, Tuple, Union, overload
+from typing import TYPE_CHECKING, Dict, Iterator, Optional, Sequence, Tuple, Union, overload
 
-from causal._library import Text
 from causal.columns import Data, may_have_blanks, path_of, read_bytes
 from causal.display import html_table
-from causal.effects import Level, LevelOf, split_levels
-from causal.errors import UnreadableAnswer
-from causal.names import Cursor, printed_name, printed_set
+from causal.effects import Level, LevelOf
+from causal.names import printed_name, printed_set
+from causal.objects import Told, name_in
 from causal.tables import Table, check_request, table_of, table_of_file
 
 if TYPE_CHECKING:
@@ -106,8 +105,8 @@ class Implications(Sequence[Implication]):
     def variables(self) -> Tuple[str, ...]:
         """The names in the pairs and in their sets, each once.
 
-        >>> from causal.implications import read_implications
-        >>> read_implications("A from C given {B}\\nB from D given {C}\\n").variables
+        >>> from causal import Diagram
+        >>> Diagram("dag { A -> B -> C -> D }").implications().variables
         ('A', 'C', 'B', 'D')
         """
         return tuple(dict.fromkeys(name for it in self.implications for name in (it.a, it.b, *it.given)))
@@ -116,10 +115,10 @@ class Implications(Sequence[Implication]):
         """A DataFrame with a row for each pair (it needs pandas): `a`, `b` and `given`, and with data `difference` and `cell`.
 
         >>> import pandas
-        >>> from causal.implications import read_implications
-        >>> print(read_implications("A from C given {B}\\nlargest difference -5 at A=0,C=0,B=1\\n").frame())
-           a  b given  difference                            cell
-        0  A  C  (B,)          -5  {'A': '0', 'C': '0', 'B': '1'}
+        >>> from causal import Difference, Implication, Implications
+        >>> print(Implications((Implication("A", "C", ("B",), Difference(-5, {"A": 0, "C": 0, "B": 1})),)).frame())
+           a  b given  difference                      cell
+        0  A  C  (B,)          -5  {'A': 0, 'C': 0, 'B': 1}
         """
         import pandas
 
@@ -135,51 +134,20 @@ class Implications(Sequence[Implication]):
         return html_table(["a", "b", "given", *(["largest difference", "at"] if has_data else [])], rows)
 
 
-def _read_pair(line: str) -> Implication:
-    cursor = Cursor(line)
-    a = cursor.name()
-    cursor.take(" from ")
-    b = cursor.name()
-    cursor.take(" given ")
-    given = cursor.set()
-    cursor.end()
-    return Implication(a, b, given)
-
-
-def _read_difference(line: str, pair: Implication, level_of: LevelOf) -> Difference:
-    cursor = Cursor(line)
-    cursor.take("largest difference ")
-    sign = -1 if cursor.accept("-") else 1
-    value = sign * cursor.number()
-    cursor.take(" at ")
-    names = (pair.a, pair.b, *pair.given)
-    split = split_levels(cursor.rest(), names)
-    if split is None:
-        raise UnreadableAnswer(f"a level holds marks of the answer: {line!r}; give a DataFrame instead of a path")
-    return Difference(value, {name: level_of(name, level) for name, level in zip(names, split)})
-
-
-def read_implications(text: str, level_of: LevelOf = lambda name, level: level, dropped: int = 0) -> Implications:
+def read_implications(told: Told, level_of: LevelOf = lambda name, level: level, dropped: int = 0) -> Implications:
     """Reads the answer of `implications`.
 
     >>> from causal.implications import read_implications
-    >>> read_implications('A from "b c" given {}\\n')[0]
-    Implication(a='A', b='b c', given=(), difference=None)
-    >>> len(read_implications("none\\n"))
-    0
+    >>> print(read_implications({"pairs": [{"x": "A", "y": "b c", "given": []}]}))
+    A from "b c" given {}
     """
-    lines = text[:-1].split("\n")
-    if lines == ["none"]:
-        return Implications(())
-    found: List[Implication] = []
-    for line in lines:
-        if found and found[-1].difference is None and line.startswith("largest difference "):
-            pair = found.pop()
-            found.append(Implication(pair.a, pair.b, pair.given, _read_difference(line, pair, level_of)))
-        else:
-            found.append(_read_pair(line))
-    if len({it.difference is None for it in found}) != 1:
-        raise UnreadableAnswer(f"the library answered what this package doesn't read: {text!r}")
+
+    def difference(pair: Told) -> Optional[Difference]:
+        if "difference" not in pair:
+            return None
+        return Difference(int(pair["difference"]), {name: level_of(name, name_in(level)) for name, level in pair["cell"]})
+
+    found = [Implication(pair["x"], pair["y"], tuple(pair["given"]), difference(pair)) for pair in told["pairs"]]
     return Implications(tuple(found), dropped)
 
 
@@ -194,12 +162,16 @@ class _Counts:
     def over_text(self, text: bytes) -> Implications:
         """The pairs with their differences over the text of a CSV file, which is sent as it is."""
         words = [] if self.count is None else [f"--count={self.count}"]
-        return _with_counts(self.diagram, self.pairs, text, words, lambda name, level: level, 0)
+        return self.diagram._ask(read_implications, "implications", *words, second=text)
 
     def over_table(self, table: Table) -> Implications:
         """The pairs with their differences over a table."""
         words = [f"--count={table.count_column}"]
-        return _with_counts(self.diagram, self.pairs, table.text(), words, table.level, table.dropped)
+
+        def read(told: Told) -> Implications:
+            return read_implications(told, table.level, table.dropped)
+
+        return self.diagram._ask(read, "implications", *words, second=table.text())
 
     def table(self, data: Data) -> Table:
         """The table of the data."""
@@ -211,7 +183,7 @@ class _Counts:
 
 def implications_of(diagram: "Diagram", data: Optional[Data], count: Optional[str], missing: str) -> Implications:
     """The implications of a diagram, with their differences where there is data: see `Diagram.implications`."""
-    pairs = read_implications(diagram._ask("implications")[1])
+    pairs = diagram._ask(read_implications, "implications")
     if data is None or not pairs:
         return pairs
     counts = _Counts(diagram, pairs, count, missing)
@@ -226,13 +198,3 @@ def implications_of(diagram: "Diagram", data: Optional[Data], count: Optional[st
 def table_for(diagram: "Diagram", pairs: Implications, data: Data, count: Optional[str], missing: str) -> Table:
     """The table of the variables of the pairs."""
     return _Counts(diagram, pairs, count, missing).table(data)
-
-
-def _with_counts(
-    diagram: "Diagram", pairs: Implications, text: bytes, words: Sequence[Text], level_of: LevelOf, dropped: int
-) -> Implications:
-    found = read_implications(diagram._ask("implications", *words, second=text)[1], level_of, dropped)
-    # (a level of a file may hold a line feed)
-    if [(it.a, it.b, it.given) for it in found] != [(it.a, it.b, it.given) for it in pairs]:
-        raise UnreadableAnswer("a level holds a line feed, so the answer can't be told apart; give a DataFrame instead of a path")
-    return found

@@ -397,7 +397,7 @@ def tests_of(
         raise RequestError(f"the method is {', '.join(METHODS[:-1])} or {METHODS[-1]}, and not {method!r}")
     if permutations < 1:
         raise RequestError("permutations is at least 1")
-    pairs = read_implications(diagram._ask("implications")[1])
+    pairs = diagram._ask(read_implications, "implications")
     if not pairs:
         return IndependenceTests((), permutations, seed)
     table = table_for(diagram, pairs, data, count, missing)

@@ -22,9 +22,9 @@ LARGEST = 40.0
 def marked_edges(path: Optional[Path], hedge: Optional[HedgeSets]) -> Set[Tuple[str, str, str]]:
     """The edges of a path, and of a hedge's forest and links: as a vertex, a mark (`->` or `<->`) and a vertex.
 
-    >>> from causal.answers import read_path
+    >>> from causal import Path
     >>> from causal.plotting import marked_edges
-    >>> sorted(marked_edges(read_path("open: A <- B <-> C"), None))
+    >>> sorted(marked_edges(Path(("A", "B", "C"), ("<-", "<->")), None))
     [('B', '->', 'A'), ('B', '<->', 'C'), ('C', '<->', 'B')]
     """
     marked: Set[Tuple[str, str, str]] = set()

@@ -23,17 +23,17 @@ usage: causal COMMAND ..
 
 Answers questions about causal diagrams with hidden confounders, by a proved program.
 
-    graph FILE [--project]
-    separate FILE [--x L] [--y L] [--given L]
-    rule FILE --rule N --y L --z L [--do L] [--given L]
-    identify FILE [--x L] [--y L] [--given L] [--certificate] [--latex] [--short]
-    check FILE CERTIFICATE [--experiments E]
-    adjust FILE [--x L] [--y L] [--set L [--back-door] | --most N]
-    evaluate FILE COUNTS [--x L] [--y L] [--given L | --set L [--back-door]] [--count NAME] [--exact] [--zero] [--short]
-    equivalent FILE FILE2 [--x L] [--y L] [--given L]
-    survey N
-    implications FILE [COUNTS] [--count NAME]
-    surrogate FILE [--x L] [--y L] --experiments E [--models] [--certificate]
+    graph FILE [--project] [--json]
+    separate FILE [--x L] [--y L] [--given L] [--json]
+    rule FILE --rule N --y L --z L [--do L] [--given L] [--json]
+    identify FILE [--x L] [--y L] [--given L] [--certificate] [--latex] [--short] [--json]
+    check FILE CERTIFICATE [--experiments E] [--json]
+    adjust FILE [--x L] [--y L] [--set L [--back-door] | --most N] [--json]
+    evaluate FILE COUNTS [--x L] [--y L] [--given L | --set L [--back-door]] [--count NAME] [--exact] [--zero] [--short] [--json]
+    equivalent FILE FILE2 [--x L] [--y L] [--given L] [--json]
+    survey N [--json]
+    implications FILE [COUNTS] [--count NAME] [--json]
+    surrogate FILE [--x L] [--y L] --experiments E [--models] [--certificate] [--json]
 
 FILE is a graph text, in the form of DAGitty; - is standard input. A list L is names joined by
 commas, {} for none. Where x and y aren't listed, they are the vertices marked exposure and
@@ -115,15 +115,15 @@ def answer(words: Sequence[bytes], files: Files) -> Reply:
     return run(words, files.contents)
 
 
-def explanation(reply: Reply, files: Files) -> str:
+def explanation(words: Sequence[bytes], reply: Reply, files: Files) -> str:
     """A sentence on a refusal, and the line of the file with a caret under the place.
 
     >>> from causal._library import run
     >>> from causal.program import Files, explanation
     >>> files = Files()
     >>> files.contents[b"g"] = b"dag {\\n  a -- b\\n}"
-    >>> print(explanation(run(["graph", "g"], {"g": files.contents[b"g"]}), files))
-    only ->, <- and <-> are edges (line 2, column 5):
+    >>> print(explanation([b"graph", b"g"], run(["graph", "g"], files.contents), files))
+    this edge has no direction (line 2, column 5):
       a -- b
         ^
     """
@@ -133,7 +133,9 @@ def explanation(reply: Reply, files: Files) -> str:
         return files.failed
     if not WORDS < reply.status < NO_INPUT:
         return ""
-    return told_of(refusal_of(reply, [*files.contents.values(), b"", b""]))
+    # the refusal as an object, for which a command that answers in text is asked again
+    told = reply if reply.out else run([*(word for word in words if word != b"--latex"), b"--json"], files.contents)
+    return told_of(refusal_of(told, [*files.contents.values(), b"", b""])) if told.status == reply.status else ""
 
 
 def refusal_of(reply: Reply, texts: List[bytes]) -> CausalError:
@@ -141,7 +143,7 @@ def refusal_of(reply: Reply, texts: List[bytes]) -> CausalError:
     from causal.faults import Sources, raise_refusal
 
     try:
-        raise_refusal(reply.status, reply.err, [], Sources(texts[0], texts[1]))
+        raise_refusal(*reply, [], Sources(texts[0], texts[1]))
     except CausalError as error:
         return error
 
@@ -168,14 +170,14 @@ def write(stream: Optional[TextIO], content: bytes) -> bool:
         return False
 
 
-def write_answer(reply: Reply, files: Files) -> int:
+def write_answer(words: Sequence[bytes], reply: Reply, files: Files) -> int:
     """Writes an answer, or a refusal with its explanation, and gives the status."""
     if not write(sys.stdout, reply.out):
         write(sys.stderr, b"causal: write failed\n")
         # what Python still holds isn't written again when it ends
         sys.stdout = None  # type: ignore[assignment]
         return WRITE_FAILED
-    explained = explanation(reply, files)
+    explained = explanation(words, reply, files)
     write(sys.stderr, reply.err + (f"{explained}\n".encode("utf-8", "surrogateescape") if explained else b""))
     return reply.status
 
@@ -211,7 +213,7 @@ def main(words: Optional[Sequence[str]] = None) -> int:
     except ValueError:
         # a word isn't UTF-8
         return WORDS
-    return write_answer(reply, files)
+    return write_answer(asked, reply, files)
 
 
 if __name__ == "__main__":

@@ -1,14 +1,11 @@
-"""Effects from experiments on other variables, as `surrogate` prints them."""
+"""Effects from experiments on other variables, as `surrogate` gives them."""
 from __future__ import annotations
 
-from dataclasses import dataclass, fields
-from typing import Iterable, Optional, Tuple, Union
+from dataclasses import dataclass
+from typing import Iterable, Tuple
 
-from causal.formula import AskForm, Formula, Hedge, HedgeSets, read_formula, read_hedge, read_hedge_line, read_term
-from causal.names import Cursor, Names, list_word, printed_set
-
-_FROM = " from these experiments"
-_NONE = f" is not identifiable{_FROM}"
+from causal.formula import Hedge, HedgeSets
+from causal.names import Names, list_word, printed_set
 
 
 @dataclass(frozen=True)
@@ -65,37 +62,3 @@ def experiments_word(experiments: Iterable[Names]) -> str:
     ('"Z"', '"Z";"A","B;C"')
     """
     return ";".join(map(list_word, [experiments] if isinstance(experiments, str) else experiments))
-
-
-def _read_district(line: str) -> Tuple[str, ...]:
-    cursor = Cursor(line)
-    cursor.take("district ")
-    members = cursor.set()
-    cursor.end()
-    return members
-
-
-def _read_stopped_hedge(text: str, ask: Optional[AskForm]) -> StoppedHedge:
-    head, district, rest = text.split("\n", 2)
-    hedge = read_hedge(f"{head[: -len(_FROM)]}\n{rest}", ask)
-    parts = {part.name: getattr(hedge, part.name) for part in fields(Hedge)}
-    return StoppedHedge(**parts, district=_read_district(district))
-
-
-def read_surrogate(text: str, ask: Optional[AskForm] = None) -> Union[Formula, Stopped, StoppedHedge]:
-    """Reads the answer of `surrogate`.
-
-    >>> from causal.surrogates import read_surrogate
-    >>> read_surrogate("P(Y|do(X)) = P(Y|do(Z),X)\\nfree {Z}\\n").free
-    ('Z',)
-    """
-    lines = text.rstrip("\n").split("\n")
-    cursor = Cursor(lines[0])
-    target = read_term(cursor)
-    if cursor.accept(_NONE):
-        cursor.end()
-        return _read_stopped_hedge(text, ask)
-    if not cursor.accept(" has no formula found from these experiments"):
-        return read_formula(text, ask)
-    cursor.end()
-    return Stopped(target, *read_hedge_line(lines[2]), _read_district(lines[1]))

@@ -1,251 +1,370 @@
-"""The reader of printed answers: what it reads prints as it was printed, for each form."""
+"""The reader of objects: what it reads prints as the program prints it, for each form."""
+import json
 import unittest
 
-from worked import all_cases
+from worked import cases_in_text
 
-from causal import Diagram, answers, effects, errors, faults, formula, implications, surrogates
-from causal.names import Cursor
+import causal
+from causal import Diagram, effects, errors, faults, formula, reading
+from causal.evaluation import Evaluation
+from causal.formula import Formula, Term
+from causal.implications import read_implications
+from causal.objects import read_line, text_in
+
+TERM = {"term": ["Y"], "do": [], "given": []}
+FORMS = {"latex": "P(Y)", "tree": TERM, "definition_trees": []}
+PATH = {"vertices": ["a -> b", "{}", "größe", "x,y"], "marks": ["<-", "<->", "->"]}
+PRINTED_PATH = '"a -> b" <- "{}" <-> größe -> "x,y"'
 
 
-def read(words, text):
+def asked(words, inputs):
+    """The object in which the program answers these words."""
+    return json.loads(causal.run([*words, "--json"], inputs).out)
+
+
+def read(words, told, inputs):
     """The answer of the words' command."""
     command = words[0]
-    if command == "identify":
-        return formula.read_hedge(text) if "not identifiable" in text.split("\n")[0] else formula.read_formula(text)
+    if command == "rule":
+        return reading.read_rule(told, Diagram(inputs[words[1]]).vertices)
+    if command == "check":
+        return reading.read_check(told, any(word.startswith("--experiments") for word in words))
     if command == "adjust":
-        return answers.read_adjustment(text) if "--set" in words else answers.read_sets(text)
+        return reading.read_adjustment(told) if "--set" in words else reading.read_sets(told)
     readers = {
-        "graph": answers.read_graph,
-        "separate": answers.read_separation,
-        "rule": answers.read_rule,
-        "check": answers.read_check,
-        "equivalent": answers.read_equivalence,
-        "implications": implications.read_implications,
-        "surrogate": surrogates.read_surrogate,
+        "graph": reading.read_graph,
+        "identify": reading.read_effect,
+        "separate": reading.read_separation,
+        "equivalent": reading.read_equivalence,
+        "implications": read_implications,
+        "surrogate": reading.read_surrogate,
     }
-    return readers[command](text)
+    return readers[command](told)
 
 
 class PrintedAgain(unittest.TestCase):
     """Each answer among the worked cases."""
 
+    def shown(self, words, inputs):
+        """What these words print, as it is made of the object of the answer."""
+        told = asked([word for word in words if word != "--latex"], inputs)
+        if "certificate" in told:
+            return text_in(told["certificate"])
+        answer = read(words, told, inputs)
+        return answer.latex if "--latex" in words and answer else str(answer)
+
     def test_answers(self):
         forms = set()
-        for case in all_cases():
-            is_read = case.status < 2 and case.words[0] not in ("evaluate", "implications", "survey")
-            if is_read and "--latex" not in case.words and "--certificate" not in case.words:
+        for case in cases_in_text():
+            if case.status < 2 and case.words[0] not in ("evaluate", "implications", "survey"):
                 with self.subTest(case.name):
-                    self.assertEqual(str(read(case.words, case.printed)) + "\n", case.printed)
-                    forms.add((case.words[0], case.status))
-        self.assertGreaterEqual(len(forms), 13)
+                    self.assertEqual(self.shown(case.words, case.inputs) + "\n", case.printed)
+                    forms.add((case.words[0], case.status, *({"--latex", "--certificate"} & {*case.words})))
+        self.assertGreaterEqual(len(forms), 17)
 
-    def test_lines(self):
+    def test_refusals(self):
         stages = set()
-        for case in all_cases():
+        for case in cases_in_text():
             if case.status in (3, 4, 5):
                 with self.subTest(case.name):
-                    fault = faults.read_fault(case.printed.encode())
-                    stages.add(fault.stage)
+                    reply = causal.run([word for word in [*case.words, "--json"] if word != "--latex"], case.inputs)
+                    self.assertEqual((reply.status, reply.err.decode()), (case.status, case.err))
                     with self.assertRaises(errors.CausalError) as caught:
-                        sources = faults.Sources(case.inputs[case.words[1]])
-                        faults.raise_refusal(case.status, case.printed.encode(), case.words, sources)
-                    self.assertEqual(caught.exception.number, fault.number)
+                        faults.raise_refusal(*reply, case.words, faults.Sources(case.inputs[case.words[1]]))
+                    fault = json.loads(reply.out)["fault"]
+                    stages.add(fault["stage"])
+                    self.assertEqual((caught.exception.number, caught.exception.stage), (fault["number"], fault["stage"]))
+                    self.assertTrue(caught.exception.printed.startswith(f"causal: {fault['stage']} fault {fault['number']}"))
                     self.assertEqual(caught.exception.printed + "\n", case.printed)
-                    self.assertEqual("{" in caught.exception.sentence, "{" in case.printed)
         self.assertEqual(len(stages), 7)
 
     def test_effects(self):
-        for case in all_cases():
+        for case in cases_in_text():
             if case.status == 0 and case.words[0] == "evaluate":
                 with self.subTest(case.name):
-                    line = next(line for line in case.printed.split("\n") if line.startswith("P("))
-                    names = formula.read_formula(f"{self.target_of(line)} = P(A)")
-                    free = tuple(line[7:].split("=")[0] for line in case.printed.split("\n") if line.startswith("pinned "))
-                    found = effects.read_effects(case.printed, formula.Formula(names.target, "", (), free))
+                    told = asked(case.words, case.inputs)
+                    sets = (tuple(told[key]) for key in ("y", "x", "given"))
+                    found = effects.read_effects(told, Formula(Term(*sets), ""))
                     printed = case.printed.replace("from 0.000000000000000000 to 0.000000000000000000", "= 0/1")
-                    self.assertEqual(found.text + "\n", printed)
-
-    def target_of(self, line):
-        """The target of a printed cell, whose levels hold no mark."""
-        cell = line.split(") ")[0] + ")"
-        return "".join(part.split("=")[0] + rest for part, rest in self.parts_of(cell))
-
-    def parts_of(self, cell):
-        start = 0
-        for at, character in enumerate(cell):
-            if character in ",|)":
-                yield cell[start:at], character
-                start = at + 1
+                    self.assertEqual((found.text + "\n", found.exact), (printed, "--exact" in case.words))
 
 
 class OddNames(unittest.TestCase):
-    """Names in quotes, in each form."""
+    """Names that are printed in quotes, in each form."""
 
     def test_path(self):
-        line = 'open: "a -> b" <- "{}" <-> größe -> "x,y"'
-        path = answers.read_path(line)
-        self.assertEqual(path.vertices, ("a -> b", "{}", "größe", "x,y"))
-        self.assertEqual(f"open: {path}", line)
+        told = {"answer": "not separated", "x": ["a -> b"], "y": ["x,y"], "given": [], "open": PATH}
+        separation = reading.read_separation(told)
+        self.assertEqual((separation.path.vertices, separation.path.marks), (tuple(PATH["vertices"]), tuple(PATH["marks"])))
+        self.assertEqual(str(separation), f'not separated: {{"a -> b"}} from {{"x,y"}} given {{}}\nopen: {PRINTED_PATH}')
+
+    def ask_about(self, name):
+        """Asks a diagram that has a vertex of this name, through the library."""
+        diagram = Diagram.from_edges([(name, "Y"), ("Z", name), ("Z", "Y")])
+        self.assertEqual(diagram.vertices, (name, "Y", "Z"))
+        self.assertEqual(diagram.separated(name, "Z").path.vertices, (name, "Z"))
+        found = diagram.identify(name, "Y", certificate=True)
+        self.assertEqual((found.target.x, found.variables), ((name,), {name, "Y", "Z"}))
+        self.assertEqual(json.loads(found.certificate)["x"], [name])
+        self.assertEqual(diagram.check(found).formula, found)
+        reply = causal.run(["identify", "g", "--x", f'"{name}"', "--y", "Y"], {"g": diagram.source})
+        self.assertEqual(reply.out.decode(), f"{found}\n")
+        with self.assertRaises(errors.TargetError) as caught:
+            diagram.identify(name + "?", "Y")
+        self.assertEqual(caught.exception.place, (name + "?",))
+
+    def test_characters_that_are_escaped(self):
+        self.ask_about("".join(chr(code) for code in range(160) if chr(code) not in '"\r\n') + "\\u0041\U0001f600")
+
+    def test_a_long_name(self):
+        self.ask_about("n" * (1 << 16))
+
+    def test_an_answer_of_megabytes(self):
+        names = [f"{number}".zfill(1 << 16) for number in range(12)]
+        found = Diagram.from_edges([], vertices=names).implications()
+        pairs = [(it.a, it.b, it.given) for it in found]
+        self.assertEqual(pairs, [(a, b, ()) for place, a in enumerate(names) for b in names[place + 1 :]])
 
     def test_breaks_that_end_no_line(self):
         text = "dag {\na\x0bb\nc\x85d\ne\u2028f [latent]\na\x0bb -> c\x85d\n}\n"
-        graph = answers.read_graph(text)
+        graph = reading.read_graph(asked(["graph", "g"], {"g": text}))
         self.assertEqual(graph.vertices, ("a\x0bb", "c\x85d", "e\u2028f"))
         self.assertEqual(str(graph) + "\n", text)
 
     def test_rule(self):
-        text = 'rule 2 holds: P("a = b"|do("do(X)"),"c|d") = P("a = b"|"do(X)","c|d")\n'
-        answer = answers.read_rule(text)
-        self.assertEqual((answer.left.y, answer.left.x, answer.left.given), (("a = b",), ("do(X)",), ("c|d",)))
-        self.assertEqual(str(answer) + "\n", text)
+        sides = ('P("a = b"|do(do,"do(X)"),"c|d")', 'P("a = b"|do(do),"c|d","do(X)")')
+        told = {"answer": "does not hold", "rule": 2, "y": ["a = b"], "do": ["do"], "z": ["do(X)"], "given": ["c|d"]}
+        told.update(left=sides[0], right=sides[1], open=PATH)
+        answer = reading.read_rule(told, ["c|d", "do", "do(X)", "a = b"])
+        self.assertEqual(str(answer), f"rule 2 does not hold: {sides[0]} = {sides[1]}\nopen: {PRINTED_PATH}")
+        self.assertEqual((answer.left.y, answer.left.x, answer.left.given), (("a = b",), ("do", "do(X)"), ("c|d",)))
 
-    def test_a_vertex_named_do(self):
-        self.assertEqual(formula.read_term(Cursor("P(Y|do)")).given, ("do",))
-        self.assertEqual(formula.read_term(Cursor("P(Y|do(do),sum)")), formula.Term(("Y",), ("do",), ("sum",)))
+    def test_each_rule(self):
+        sides = {1: "P(Y|do(X),Z,W) = P(Y|do(X),W)", 2: "P(Y|do(X,Z),W) = P(Y|do(X),Z,W)", 3: "P(Y|do(X,Z),W) = P(Y|do(X),W)"}
+        diagram = Diagram("dag { X Z W Y }")
+        for number, told in sides.items():
+            self.assertEqual(str(diagram.rule(number, "Y", "Z", "X", "W")), f"rule {number} holds: {told}")
 
     def test_variables(self):
-        names = formula.variables_of('sum{sum,"q0)"} P(sum|"P(") * q0 / (sum{Y} P(Y|do,"a * b"))')
-        self.assertEqual(names, {"sum", "q0)", "P(", "Y", "do", "a * b"})
+        term = {"term": ["Y"], "do": ["do"], "given": ["a * b"]}
+        quotient = {"quotient": [term, {"term": ["P("], "do": [], "given": []}]}
+        tree = {"sum": ["sum", "q0)"], "of": {"product": [{"definition": 0}, quotient]}}
+        told = {"y": ["Y"], "x": [], "given": [], "formula": "..", "definitions": [".."], "free": [], "latex": "..", "tree": tree}
+        found = reading.read_formula({**told, "definition_trees": [{"term": ["W"], "do": [], "given": []}]})
+        self.assertEqual(found.variables, {"sum", "q0)", "P(", "Y", "do", "a * b", "W"})
+        self.assertEqual((found.experiments, found.certificate), ({("do",)}, None))
+        self.assertEqual(found.divisor_at(None, 3), formula.Divisor(None, frozenset(["P("])))
+        self.assertEqual(found.divisor_at(None, 4), formula.Divisor(Term(("Y",), ("do",), ("a * b",)), frozenset(["a * b"])))
+        self.assertEqual([found.divisor_at(None, node) for node in range(3)], [None] * 3)
+        with self.assertRaisesRegex(errors.RequestError, "no diagram gave the formula P"):
+            Formula(Term(("Y",)), "P(Y)").variables
 
     def test_hedge(self):
+        bit, carried = {"bit": "h", "vertex": "x y"}, {"bit": "k", "vertex": "y = 1"}
+        models = {
+            "causes": [
+                {"acts_on": ["x y", "y = 1"], "weights": ["1", "1"]},
+                {"acts_on": ["y = 1"], "weights": ["73786976294838206463", "1"]},
+            ],
+            "first": [{**bit, "sum": [{"cause": 0}]}, {**carried, "sum": [{"bit": "h", "vertex": "y = 1"}, {"cause": 1}]}],
+            "second": [{**bit, "sum": []}],
+            "event": {"sum": [carried], "first": "1/2", "second": "1/2 + 1/2^67"},
+        }
+        sets = {"larger": ["x y", "y = 1"], "smaller": ["y = 1"], "roots": ["y = 1"]}
+        links = {"choices": [{"vertex": "x y", "child": "y = 1"}], "links": [["x y", "y = 1"]]}
+        told = {"answer": "hedge", "y": ["y = 1"], "x": ["x y"], "given": [], "hedge": {**sets, **links}, "models": models}
+        hedge = reading.read_effect({**told, "joint": {"y": ["y = 1"], "x": ["x y"]}})
+        self.assertEqual((hedge.second[0].terms, hedge.conditional, hedge.noise), ((), None, 67))
         text = (
             'P("y = 1"|do("x y")) is not identifiable\nhedge {"x y","y = 1"} over {"y = 1"} with roots {"y = 1"}\n'
             'choice "x y" -> "y = 1"\nlink "x y" <-> "y = 1"\ncause 0 on {"x y","y = 1"} with weights 1 1\n'
-            'first h("x y") = c0\nfirst k("y = 1") = h("y = 1") + c2\nsecond h("x y") = \n'
-            'event k("y = 1") even: 1/2 in the first, 1/2 + 1/2^3 in the second\n'
+            'cause 1 on {"y = 1"} with weights 73786976294838206463 1\n'
+            'first h("x y") = c0\nfirst k("y = 1") = h("y = 1") + c1\nsecond h("x y") = \n'
+            'event k("y = 1") even: 1/2 in the first, 1/2 + 1/2^67 in the second'
         )
-        hedge = formula.read_hedge(text)
-        self.assertEqual(hedge.second[0].terms, ())
-        self.assertEqual(str(hedge) + "\n", text)
+        self.assertEqual(str(hedge), text)
+        conditional = reading.read_effect({**told, "given": ["x y"], "joint": {"y": ["x y", "y = 1"], "x": []}})
+        self.assertEqual(str(conditional.conditional), 'P("y = 1"|do("x y"),"x y")')
+        self.assertEqual(str(conditional.target), 'P("x y","y = 1")')
 
     def test_definitions(self):
-        text = "P(q1) = q0 / (sum{q1} q0)\nq0 = sum{W} P(W)\nq1 = q0 * P(q1|free)\nfree {free}"
-        found = formula.read_formula(text)
-        self.assertEqual((found.definitions[1], found.free), ("q0 * P(q1|free)", ("free",)))
-        self.assertEqual(found.text, text)
+        told = {"y": ["q1"], "x": [], "given": [], **FORMS, "latex": "P = \\frac{a}{b}\nq_{0} = c"}
+        told.update(formula="q0 / (sum{q1} q0)", definitions=["P(W)", "q0 * P(q1|free)"], free=["free"])
+        found = reading.read_formula(told)
+        self.assertEqual(found.text, "P(q1) = q0 / (sum{q1} q0)\nq0 = P(W)\nq1 = q0 * P(q1|free)\nfree {free}")
+        self.assertEqual(found.latex, "P = \\frac{a}{b}\nq_{0} = c\nfree {free}")
+        self.assertEqual(found._repr_latex_(), "$$\\begin{gathered} P = \\frac{a}{b} \\\\ q_{0} = c \\end{gathered}$$")
 
     def test_refusals(self):
-        for text in (
-            'refused: hedge fault 5 at "a b"\n',
-            "refused: hedge fault 5 at -\n",
-            'refused: hedge fault 4 at "-"\n',
-            "refused: lemma 2 step 7 fault 3\nopen: A <-> B\n",
-            "refused: lemma 0 step 1 fault 4\n",
-            "refused: fault 9 at main\n",
-            "refused: fault 9 at lemma 3\n",
-            "refused: fault 10\n",
+        hedge, steps = {"answer": "refused", "of": "hedge"}, {"answer": "refused", "of": "formula"}
+        for told, text in (
+            ({**hedge, "number": 5, "message": "..", "vertex": "a b"}, 'refused: hedge fault 5 at "a b"'),
+            ({**hedge, "number": 5, "message": "..", "vertex": None}, "refused: hedge fault 5 at -"),
+            ({**hedge, "number": 4, "message": "..", "vertex": "-"}, 'refused: hedge fault 4 at "-"'),
+            ({**hedge, "number": 1, "message": ".."}, "refused: hedge fault 1"),
+            (
+                {**steps, "at": {"lemma": 2, "step": 7}, "number": 3, "message": "..", "open": PATH},
+                f"refused: lemma 2 step 7 fault 3\nopen: {PRINTED_PATH}",
+            ),
+            ({**steps, "at": {"lemma": None, "step": 1}, "number": 4, "message": ".."}, "refused: main step 1 fault 4"),
+            ({**steps, "at": {"lemma": None, "step": None}, "number": 9, "message": ".."}, "refused: fault 9 at main"),
+            ({**steps, "at": {"lemma": 3, "step": None}, "number": 9, "message": ".."}, "refused: fault 9 at lemma 3"),
+            ({**steps, "at": None, "number": 10, "message": ".."}, "refused: fault 10"),
         ):
             with self.subTest(text):
-                check = answers.read_check(text)
+                check = reading.read_check(told, False)
                 self.assertFalse(check)
-                self.assertEqual(str(check) + "\n", text)
-                self.assertTrue(check.refusal.sentence)
+                self.assertEqual((str(check), check.refusal.sentence), (text, ".."))
 
     def test_differences(self):
-        for text in (
-            'not equivalent: edge "a,b",c in the second\nseparated in the first alone: {"a,b"} from {c} given {d,e}\n',
-            "not equivalent: collider a,m,b in the first\nseparated in the second alone: {a} from {b} given {}\n",
-            "equivalent\n",
-            'equivalent\nseparated in both: {"a,b"} from {c} given {d,e}\n',
-            'equivalent\nopen in the first: a -> "b c" <- d\nopen in the second: a <- "b c" -> d\n',
+        edge = {"kind": "edge", "vertices": ["a,b", "c"], "in": "second"}
+        collider = {"kind": "collider", "vertices": ["a", "m", "b"], "in": "first"}
+        asked = {"x": ["a,b"], "y": ["c"], "given": ["d", "e"]}
+        short = {"vertices": ["a", "d"], "marks": ["->"]}
+        for told, text in (
+            (
+                {"answer": "not equivalent", "difference": edge, "separated_in": "first", "separation": asked},
+                'not equivalent: edge "a,b",c in the second\nseparated in the first alone: {"a,b"} from {c} given {d,e}',
+            ),
+            (
+                {"answer": "not equivalent", "difference": collider, "separated_in": "second", "separation": asked},
+                'not equivalent: collider a,m,b in the first\nseparated in the second alone: {"a,b"} from {c} given {d,e}',
+            ),
+            ({"answer": "equivalent"}, "equivalent"),
+            ({"answer": "equivalent", **asked, "separated": True}, 'equivalent\nseparated in both: {"a,b"} from {c} given {d,e}'),
+            (
+                {"answer": "equivalent", **asked, "separated": False, "first": PATH, "second": short},
+                f"equivalent\nopen in the first: {PRINTED_PATH}\nopen in the second: a -> d",
+            ),
         ):
             with self.subTest(text):
-                self.assertEqual(str(answers.read_equivalence(text)) + "\n", text)
+                self.assertEqual(str(reading.read_equivalence(told)), text)
 
     def test_sets(self):
-        text = '{}\n{A,"b, c"}\nmore\n'
-        sets = answers.read_sets(text)
+        sets = reading.read_sets({"answer": "sets", "sets": [[], ["A", "b, c"]], "more": True})
         self.assertEqual((list(sets), sets.more), ([(), ("A", "b, c")], True))
-        self.assertEqual(str(sets) + "\n", text)
+        self.assertEqual(str(sets), '{}\n{A,"b, c"}\nmore')
 
     def test_what_is_no_answer(self):
-        for reader, text in (
-            (answers.read_separation, "separated: {A} from {C}\n"),
-            (answers.read_graph, "dag {\nA --> B\n}\n"),
-            (answers.read_rule, "rule 2 holds: P(Y) = P(Y) * P(X)\n"),
-            (answers.read_path, "open: A -> "),
-            (answers.read_sets, "{A,}\n"),
-            (formula.read_hedge_sets, "P(Y) is not identifiable\nhedge {A} over {B}\n"),
-            (lambda line: faults.read_fault(line.encode()), "something else\n"),
+        sets = {"x": ["A"], "y": ["B"], "given": []}
+        formula = {"formula": "P(B)", "definitions": [], "free": []}
+        rule = {"answer": "holds", "rule": 2, "y": ["A"], "do": [], "z": ["B"], "given": []}
+        rule.update(left="P(A|do(B))", right="P(A|B)")
+        for reader, told in (
+            (reading.read_separation, {"answer": "separated", "x": ["A"], "y": ["B"]}),
+            (reading.read_separation, {"answer": "not separated", **sets}),
+            (reading.read_separation, sets),
+            (reading.read_equivalence, {"answer": "equivalent", **sets, "separated": False, "first": PATH}),
+            (reading.read_equivalence, {"answer": "another"}),
+            (reading.read_adjustment, {"answer": "not admissible", **sets, "set": []}),
+            (reading.read_adjustment, {"answer": "admissible", **sets, "set": [], **formula}),
+            (reading.read_effect, {"answer": "another", **sets, **formula, **FORMS}),
+            (lambda told: reading.read_check(told, False), {"answer": "another", "of": "hedge", **sets}),
+            (lambda told: reading.read_rule(told, "AB"), {**rule, "right": "P(A|do(B))"}),
+            (lambda told: reading.read_rule(told, "AB"), {**rule, "answer": "does not hold"}),
+            (reading.read_graph, {"vertices": [{"name": "A", "role": None}], "directed": [["A"]], "bidirected": []}),
+            (reading.read_sets, {"sets": 3, "more": False}),
+            (reading.read_effect, {"answer": "formula", "y": [], "x": []}),
+            (reading.read_surrogate, {"answer": "another"}),
+            (lambda told: reading.read_check(told, False), {"answer": "refused"}),
+            (lambda told: reading.read_rule(told, "AC"), rule),
+            (lambda told: faults.error_of(told, faults.Sources()), {"stage": "counts", "number": 3}),
+            (read_implications, {"pairs": [{"x": "A", "y": "B", "given": [], "difference": "-"}]}),
         ):
-            with self.subTest(text), self.assertRaises(errors.UnreadableAnswer):
-                reader(text)
+            with self.subTest(told), self.assertRaises(errors.UnreadableAnswer):
+                read_line(reader, json.dumps(told).encode())
+        for line in (b"", b"dag {\n}\n", b"[]\n", b"\xff"):
+            with self.subTest(line), self.assertRaises(errors.UnreadableAnswer):
+                read_line(reading.read_sets, line)
 
 
 class Levels(unittest.TestCase):
     """Levels as their bytes stand."""
 
-    FORMULA = formula.read_formula('P(Y,Z|do("x y")) = P(Y)')
+    FORMULA = Formula(Term(("Y", "Z"), ("x y",)), "P(Y)")
+
+    def effect(self, y, z, x, **value):
+        cell = {"y": [["Y", y], ["Z", z]], "x": [["x y", x]], "given": [], **value}
+        return effects.read_effects({"exact": "value" in value, "pinned": [], "cells": [cell]}, self.FORMULA)[0]
 
     def test_marks_in_levels(self):
-        text = 'P(Y=a,b,Z=1|do("x y"=c)) = 1/2\n'
-        effect = effects.read_effects(text, self.FORMULA)[0]
-        self.assertEqual((effect.y, effect.x), ({"Y": "a,b", "Z": "1"}, {"x y": "c"}))
+        for level in ("a,b", "a,Z=b", "a\nP(Y=b", "1)) = 1/3", ""):
+            effect = self.effect(level, "1", "c", value="1/2")
+            self.assertEqual((effect.y, effect.x), ({"Y": level, "Z": "1"}, {"x y": "c"}))
 
-    def test_levels_that_cannot_be_told_apart(self):
-        with self.assertRaises(errors.UnreadableAnswer):
-            effects.read_effects('P(Y=a,Z=b,Z=1|do("x y"=c)) = 1/2\n', self.FORMULA)
-
-    def test_a_line_feed_in_a_level(self):
-        with self.assertRaises(errors.UnreadableAnswer):
-            effects.read_effects('P(Y=a\nP(Y=b,Z=1|do("x y"=c)) = 1/2\n', self.FORMULA)
-
-    def test_a_level_like_an_answer(self):
-        text = 'P(Y=a,Z=1)) = 1/3|do("x y"=c)) from 0.250000000000000000 to 0.250000000000000001\n'
-        effect = effects.read_effects(text, self.FORMULA)[0]
-        self.assertEqual(effect.y["Z"], "1)) = 1/3")
+    def test_bytes_that_are_no_text(self):
+        effect = self.effect([99, 97, 102, 233], "1", "c", **{"from": "0.250000000000000000", "to": "0.250000000000000001"})
+        self.assertEqual(effect.y["Y"], "caf\udce9")
+        self.assertEqual(str(effect.value), "from 0.250000000000000000 to 0.250000000000000001")
         self.assertFalse(effect.value.is_exact)
 
+    def test_a_file_in_latin_1(self):
+        evaluation = Evaluation(Diagram("dag { X -> Y }"), "X", "Y")
+        found = evaluation.over_file(b"X,Y\na,caf\xe9\na,b\n", exact=True)
+        self.assertEqual([effect.y["Y"] for effect in found], ["caf\udce9", "b"])
 
-class Lines(unittest.TestCase):
-    """Lines of refusals."""
 
-    def error(self, line, status=3, text=b"", second=b""):
+class Refusals(unittest.TestCase):
+    """Objects of refusals."""
+
+    def error(self, told, text=b"", second=b""):
+        told = {"number": 1, "message": "a sentence", **told}
+        line = json.dumps({"fault": told}).encode()
         with self.assertRaises(errors.CausalError) as caught:
-            faults.raise_refusal(status, line, [], faults.Sources(text, second))
+            faults.raise_refusal(3, line, b"causal: ..\n", [], faults.Sources(text, second))
+        self.assertEqual((caught.exception.stage, caught.exception.number), (told["stage"], told["number"]))
         return caught.exception
 
     def test_caret(self):
-        error = self.error(b"causal: graph fault 5: byte 10\n", text="dag{\r\n\tå -- b\r\n}".encode())
-        self.assertEqual((error.place.line, error.place.column), (2, 4))
+        told = {"stage": "graph", "number": 5, "byte": 10, "line": 2, "column": 4}
+        error = self.error(told, text="dag{\r\n\tå -- b\r\n}".encode())
+        self.assertEqual(error.place, errors.TextPlace(10, 2, 4))
         self.assertEqual(error.excerpt, "\tå -- b\n\t  ^")
-        self.assertIn("graph fault 5 at line 2, column 4: only", str(error))
-
-    def test_caret_at_the_end(self):
-        error = self.error(b"causal: graph fault 3: byte 10\n", text=b"dag { a ->")
-        self.assertEqual(error.excerpt, "dag { a ->\n" + " " * 10 + "^")
-
-    def test_caret_in_bytes_that_are_no_text(self):
-        self.assertEqual(self.error(b"causal: graph fault 1: byte 4\n", text=b"dag{\xff}").excerpt, "dag{\ufffd}\n    ^")
+        self.assertIn("graph fault 5 at line 2, column 4: a sentence", str(error))
+        self.assertEqual(self.error({**told, "byte": 4}, text=b"dag{\xff}").excerpt, "dag{\ufffd}\n    ^")
+        self.assertEqual(self.error(told, text=b"dag { a ->").excerpt, "dag { a ->\n" + " " * 10 + "^")
 
     def test_second(self):
-        error = self.error(b"causal: second graph fault 5: byte 6\n", 4, b"dag{}", b"dag{a -- b}")
-        self.assertEqual(error.excerpt, "dag{a -- b}\n      ^")
-        self.assertIn("second graph fault 5", str(error))
+        told = {"stage": "second graph", "number": 5, "byte": 6, "line": 1, "column": 7}
+        self.assertEqual(self.error(told, b"dag{}", b"dag{a -- b}").excerpt, "dag{a -- b}\n      ^")
 
-    def test_names(self):
-        self.assertEqual(self.error(b'causal: target fault 1: "a b"\n').place, ("a b",))
-        self.assertEqual(self.error(b'causal: target fault 7: "a b" c\n').place, ("a b", "c"))
-        self.assertEqual(self.error(b"causal: target fault 1: a\nb\n").place, ("a\nb",))
-        self.assertEqual(self.error(b'causal: graph fault 11: cycle "a b" c\n').place, ("a b", "c"))
-        self.assertEqual(self.error(b'causal: certificate fault 5: "a"b"\n', 4).place, 'a"b')
-        self.assertEqual(self.error(b'causal: certificate fault 5: ""\n', 4).place, "")
-
-    def test_each_sentence(self):
-        for stage, sentences in (("graph", faults.GRAPH), ("target", faults.TARGET), ("counts", faults.COUNTS)):
-            details = {"graph": ": byte 0", "counts": ": row 1", "target": ": a b"}
-            for number in sentences:
-                named = {7: ": a", 8: ": a", 10: ": a", 11: ": cycle a b"}
-                detail = named.get(number, details[stage]) if stage == "graph" else details[stage]
-                with self.subTest(stage=stage, number=number):
-                    self.assertNotIn("{", self.error(f"causal: {stage} fault {number}{detail}\n".encode()).sentence)
+    def test_places(self):
+        for told, place, sentence in (
+            ({"stage": "target", "name": "a b"}, ("a b",), "a sentence: a b"),
+            ({"stage": "second target", "number": 7, "names": ["a b", "c"]}, ("a b", "c"), "a sentence: a b, c"),
+            ({"stage": "target", "number": 4}, (), "a sentence"),
+            ({"stage": "graph", "number": 11, "names": ["a", "b"]}, ("a", "b"), "a sentence: a, b"),
+            ({"stage": "graph", "number": 7, "name": "a"}, ("a",), "a sentence: a"),
+            ({"stage": "graph", "number": 9}, None, "a sentence"),
+            ({"stage": "certificate", "number": 5, "name": 'a"b'}, 'a"b', 'a sentence: a"b'),
+            ({"stage": "certificate", "number": 5, "name": ""}, "", "a sentence"),
+            ({"stage": "certificate", "number": 2, "key": "lemmas"}, "lemmas", "a sentence: lemmas"),
+            ({"stage": "certificate", "number": 3, "version": "18446744073709551616"}, 2**64, f"a sentence: {2**64}"),
+            ({"stage": "certificate", "number": 4}, None, "a sentence"),
+            ({"stage": "counts", "number": 4, "row": 7}, 7, "a sentence: record 7"),
+            ({"stage": "counts", "number": 2, "name": [99, 233]}, "c\udce9", "a sentence: c\udce9"),
+            ({"stage": "counts", "number": 7}, None, "a sentence"),
+        ):
+            with self.subTest(told):
+                error = self.error(told)
+                self.assertEqual((error.place, error.sentence, error.printed), (place, sentence, "causal: .."))
 
     def test_evaluation(self):
-        error = self.error(b"causal: evaluation fault 2: q3 node 4\n", 5)
+        told = {"stage": "evaluation", "number": 2, "definition": 3, "node": 4}
+        error = self.error(told)
         self.assertEqual(error.place, errors.EvaluationPlace(3, 4, None))
+        self.assertIn("a sentence (node 4 of q3); bounds", error.sentence)
+        error = self.error({**told, "number": 1, "definition": None, "cell": [["S", "a,b"], ["T", [233]]]})
+        self.assertEqual(error.place.cell, {"S": "a,b", "T": "\udce9"})
+        self.assertEqual(error.sentence, "a sentence (node 4 of the formula), at S=a,b, T=\udce9")
 
-    def test_words(self):
-        self.assertIsInstance(self.error(b"causal: words not understood; ..\n", 2), errors.RequestError)
+    def test_other_statuses(self):
+        with self.assertRaises(errors.RequestError):
+            faults.raise_refusal(2, b"", b"causal: words not understood; ..\n", [], faults.Sources())
+        with self.assertRaisesRegex(errors.CausalError, "ended with status 6: causal: read failed"):
+            faults.raise_refusal(6, b"", b"causal: read failed\n", [], faults.Sources())
+        with self.assertRaises(errors.UnreadableAnswer):
+            faults.raise_refusal(3, b"", b"causal: graph fault 4\n", [], faults.Sources())
 
 
 class Frames(unittest.TestCase):

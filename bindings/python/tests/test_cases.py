@@ -5,11 +5,10 @@ import tempfile
 import threading
 import unittest
 
-from worked import all_cases
+from worked import all_cases, cases_in_text
 
 import causal
 from causal.evaluation import Evaluation
-from causal.names import Cursor
 
 LISTS = ("x", "y", "z", "do", "given", "set")
 
@@ -20,11 +19,7 @@ def names_of(word):
         return []
     if word.startswith("{") and word.endswith("}"):
         word = word[1:-1]
-    cursor, names = Cursor(word), []
-    while not names or cursor.accept(","):
-        names.append(cursor.name() if cursor.text[cursor.at] == '"' else word[cursor.at :].split(",")[0])
-        cursor.at += 0 if word[cursor.at - 1] == '"' else len(names[-1])
-    return names
+    return [quoted or bare for quoted, bare in re.findall(r'(?:^|,)(?:"([^"]*)"|([^,]*))', word)]
 
 
 def experiments_of(word):
@@ -58,7 +53,7 @@ class Words(unittest.TestCase):
 
     def test_cases(self):
         number = 0
-        for case in all_cases():
+        for case in all_cases(objects=True):
             if not case.fails:
                 number += 1
                 with self.subTest(case.name):
@@ -66,7 +61,7 @@ class Words(unittest.TestCase):
         self.assertGreater(number, 180)
 
     def test_six_threads_at_once(self):
-        cases = [case for case in all_cases() if not case.fails and sum(map(len, case.inputs.values())) < 1 << 20]
+        cases = [case for case in all_cases(objects=True) if not case.fails and sum(map(len, case.inputs.values())) < 1 << 20]
         wrong = []
 
         def ask(start):
@@ -146,8 +141,8 @@ class Questions(unittest.TestCase):
     def test_questions(self):
         number = 0
         with tempfile.TemporaryDirectory() as folder:
-            for case in all_cases():
-                if case.words[:1] == ["survey"] or case.fails or case.status in (2, 6) or self.is_refused_before(case):
+            for case in cases_in_text():
+                if case.words[:1] == ["survey"] or case.status in (2, 6) or self.is_refused_before(case):
                     continue
                 number += 1
                 with self.subTest(case.name):

@@ -1,6 +1,7 @@
 """Diagrams: where they come from, what they are, and questions with odd names."""
 import copy
 import functools
+import json
 import os
 import pickle
 import subprocess
@@ -156,7 +157,10 @@ class Kept(unittest.TestCase):
                 ["adjust", "g", "--x", a, "--y", b, "--set", "{}", "--back-door"],
                 ["separate", "g", "--x", a, "--y", b],
                 ["implications", "g"],
+                ["implications", "g", "--json"],
+                ["identify", "g", "--x", a, "--y", b, "--json"],
                 ["identify", "g", "--x", "no such name", "--y", b],
+                ["identify", "g", "--x", "no such name", "--y", b, "--json"],
                 ["identify"],
                 ["identify", "g", "--depth", "3"],
                 ["check", "g", "c"],
@@ -168,6 +172,7 @@ class Kept(unittest.TestCase):
 
     def test_odd_names(self):
         diagram = Diagram.from_edges(list(zip(ODD, ODD[1:])), vertices=ODD)
+        self.assertEqual(json.loads(diagram._keep().run(["graph", "g", "--json"]).out)["text"], diagram.text)
         self.assertEqual(diagram._keep().run(["graph", "g"]).out.decode(), diagram.text)
 
     def test_other_names_are_refused(self):

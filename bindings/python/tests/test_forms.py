@@ -86,7 +86,7 @@ class Dot(unittest.TestCase):
             ("pag { a @-> b }", "is a pag"),
             (" mag { a -> b }", "is a mag"),
             ("graph { a -- b }", "without directions"),
-            ("tree { a }", 'begin with the word "dag"'),
+            ("tree { a }", "does not begin with dag"),
             ("// a comment\ndag { a }", "a comment"),
             ("dag { a /* here */ }", "a comment"),
             ("dag { a # here\n }", "a comment"),

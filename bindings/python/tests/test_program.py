@@ -1,6 +1,7 @@
 """The program `causal` in this process: what it writes, which files it reads, and how it explains a refusal."""
 import contextlib
 import io
+import json
 import os
 import re
 import subprocess
@@ -100,7 +101,7 @@ class Refusals(InAFolder):
 
     def test_a_place_in_the_graph(self):
         status, lines = self.refused("graph", "wrong.dag")
-        sentence = "only ->, <- and <-> are edges (line 2, column 8):"
+        sentence = "this edge has no direction (line 2, column 8):"
         self.assertEqual((status, lines), (3, ["causal: graph fault 5: byte 15", sentence, "\tgröße -- B", "\t      ^"]))
         self.assertEqual(self.refused("graph", "-", given=b"dag { a")[1][-1], "       ^")
 
@@ -110,16 +111,23 @@ class Refusals(InAFolder):
         self.assertEqual((status, lines[0], lines[2]), (4, "causal: second graph fault 5: byte 15", "\tgröße -- B"))
 
     def test_a_name(self):
-        self.assertEqual(self.refused("identify", "bow.dag", "--x", "Q"), (3, ["causal: target fault 1: Q", "no vertex is named Q"]))
+        told = (3, ["causal: target fault 1: Q", "the name is not in the graph: Q"])
+        self.assertEqual(self.refused("identify", "bow.dag", "--x", "Q"), told)
+        self.assertEqual(self.refused("identify", "bow.dag", "--x", "Q", "--latex"), told)
+
+    def test_an_object(self):
+        status, out, err = ran(["identify", "bow.dag", "--x", "Q", "--json"])
+        self.assertEqual((status, json.loads(out)["fault"]["name"]), (3, "Q"))
+        self.assertEqual(err.splitlines(), ["causal: target fault 1: Q", "the name is not in the graph: Q"])
 
     def test_counts(self):
         self.put("kidney.dag", read_example("kidney_stones.dag"))
         self.put("few.csv", b"S,T,R\na,b,c\na,B,c\nA,b,c\n")
         status, lines = self.refused("evaluate", "kidney.dag", "few.csv")
         self.assertEqual((status, lines[0].startswith("causal: evaluation fault 1: ")), (5, True))
-        self.assertIn("no record has what is given", lines[1])
+        self.assertIn("a divisor is 0 over these counts", lines[1])
         self.put("few.csv", b"S,T,R\na,b\n")
-        sentence = "record 1 has another number of fields than the header"
+        sentence = "this record has another number of fields than the header: record 1"
         self.assertEqual(self.refused("evaluate", "kidney.dag", "few.csv"), (4, ["causal: counts fault 1: row 1", sentence]))
 
     def test_words(self):

@@ -55,13 +55,18 @@ def _expected(names: List[str]) -> Iterator[Tuple[int, str, str]]:
         yield int(head.group(1)), out, err
 
 
-def all_cases() -> List[Case]:
-    """All cases in order, but those that are left out."""
+def all_cases(objects: bool = False) -> List[Case]:
+    """The cases that ask for text, and with `objects` those with `--json` too, in order, but those that are left out."""
     with open(os.path.join(CASES, "data", "cases.json"), encoding="utf-8") as file:
         told = json.load(file)
     expected = _expected([case["case"] for case in told])
     return [
         Case(case["case"], case["words"], _inputs_of(case), "fails" in case or "room" in case, *ending)
         for case, ending in zip(told, expected)
-        if not LEFT_OUT & set(case)
+        if not LEFT_OUT & set(case) and (objects or not any(word.startswith("--jso") for word in case["words"]))
     ]
+
+
+def cases_in_text() -> List[Case]:
+    """The cases that ask for a text, of a library that isn't made to fail. The package asks for objects, and shows the texts."""
+    return [case for case in all_cases() if "--json" not in case.words and not case.fails]

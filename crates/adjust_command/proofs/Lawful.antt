@@ -28,8 +28,9 @@ one_request uses q r a b = λ i. record {
   x = one_listed (value_of uses (codes "x")) q.x r.x a.x b.x i;
   y = one_listed (value_of uses (codes "y")) q.y r.y a.y b.y i;
   query = one_adjusting uses q r a b i;
+  format = (b.format ∙ sym a.format) i;
 }
 
 -- what holds of each command holds of it
 pub adjust_lawful : IsLawful adjust_command
-adjust_lawful = lawful_on_file one_request (λ q d. adjust_answered d q.x q.y q.query) (λ q bytes. adjust_once bytes q.x q.y q.query)
+adjust_lawful = lawful_on_file one_request (λ q d. adjust_answered q.format d q.x q.y q.query) (λ q bytes. adjust_once q.format bytes q.x q.y q.query)

@@ -1,13 +1,13 @@
 -- From what a criterion says of a set to the answer.
-use Rattle.std.proofs.Common.{◌≡◌, ℕ, Bool, true, false, List, Result, Ok, Err, IfOk, sym, subst}
+use Rattle.std.proofs.Common.{◌≡◌, ℕ, Bool, true, false, Result, Ok, Err, IfOk, sym, subst}
 use Rattle.mixed_graph.specs.Bits.{has}
 use Rattle.mixed_graph.specs.Graphs.{MixedGraph, IsMixedGraph}
 use Rattle.mixed_graph.specs.Sets.{Within}
-use Rattle.answer_text.specs.Lines.{line_of}
 use Rattle.targets.specs.declared.fault.TargetFault.TheVariants.{NotOneX}
-use Rattle.targets.specs.FaultTexts.{target_fault_text}
 use Rattle.adjustment.specs.declared.criteria.AdjFault.{AdjFault}
 use Rattle.replies.specs.declared.outcome.Reply.{Reply}
+use Rattle.replies.specs.Refusals.{target_told}
+use Rattle.replies.specs.Told.{Told, told_of, answer_of}
 use Rattle.replies.specs.declared.outcome.Outcome.TheVariants.{Yes, No, Graph}
 use Rattle.adjust_command.specs.declared.criteria.Verdict.TheVariants.{Meets, Breaks, NotOne}
 use Rattle.adjust_command.specs.Answers.{SetTexts, BackDoorAnswer, CriterionAnswer}
@@ -15,27 +15,28 @@ use Rattle.adjust_command.specs.Faults.{IsPrintable}
 use Rattle.adjust_command.specs.Verdicts.{IsVerdict}
 use Rattle.adjust_command.proofs.Paths.{adjustment_printable, back_door_printable}
 
--- a set that meets a criterion is answered by its text
-pub shown : (back_door : Bool) (q : MixedGraph) (texts : SetTexts) (x y z : ℕ) (text : List ℕ) → IsVerdict back_door q x y z Meets → text ≡ texts.meets x y z
-    → CriterionAnswer back_door q texts x y z Yes text
-shown false q texts x y z text h prints = record { admissible = h.0; effect = h.1; prints = prints }
-shown true q texts x y z text (v, exposure, meets, effect) prints = record { v = v; exposure = exposure; meets = meets; effect = effect; prints = prints }
+-- a set that meets a criterion is answered by its text or object
+pub shown : (back_door : Bool) (q : MixedGraph) (texts : SetTexts) (x y z : ℕ) (told : Told) → IsVerdict back_door q x y z Meets
+    → told ≡ answer_of (texts.meets x y z)
+    → CriterionAnswer back_door q texts x y z Yes told
+shown false q texts x y z told h prints = record { admissible = h.0; effect = h.1; prints = prints }
+shown true q texts x y z told (v, exposure, meets, effect) prints = record { v = v; exposure = exposure; meets = meets; effect = effect; prints = prints }
 
 -- one that this keeps from meeting it, by the text of that
-pub broken : (back_door : Bool) (q : MixedGraph) (texts : SetTexts) (x y z : ℕ) (fault : AdjFault) (text : List ℕ)
-    → IsVerdict back_door q x y z (Breaks fault) → text ≡ texts.breaks z fault
-    → CriterionAnswer back_door q texts x y z No text
-broken false q texts x y z fault text h prints = record { fault = fault; breaks = h.0; fails = h.1; prints = prints }
-broken true q texts x y z fault text (v, exposure, breaks) prints = record { v = v; exposure = exposure; fault = fault; breaks = breaks; prints = prints }
+pub broken : (back_door : Bool) (q : MixedGraph) (texts : SetTexts) (x y z : ℕ) (fault : AdjFault) (told : Told)
+    → IsVerdict back_door q x y z (Breaks fault) → told ≡ answer_of (texts.breaks x y z fault)
+    → CriterionAnswer back_door q texts x y z No told
+broken false q texts x y z fault told h prints = record { fault = fault; breaks = h.0; fails = h.1; prints = prints }
+broken true q texts x y z fault told (v, exposure, breaks) prints = record { v = v; exposure = exposure; fault = fault; breaks = breaks; prints = prints }
 
 -- exposures that aren't one vertex, by their refusal
 pub refused : {E : Type 0} (back_door : Bool) (q : MixedGraph) (texts : SetTexts) (x y z : ℕ) (r : Result Reply E) → IsVerdict back_door q x y z NotOne
     → IfOk r (λ (p : Reply). p.outcome ≡ Graph)
-    → IfOk r (λ (p : Reply). p.text.items ≡ line_of (target_fault_text NotOneX))
-    → IfOk r (λ (p : Reply). CriterionAnswer back_door q texts x y z p.outcome p.text.items)
+    → IfOk r (λ (p : Reply). told_of p ≡ target_told NotOneX)
+    → IfOk r (λ (p : Reply). CriterionAnswer back_door q texts x y z p.outcome (told_of p))
 refused false q texts x y z r h o l = absurd h
 refused true q texts x y z (Err e) h o l = tt
-refused true q texts x y z (Ok p) h o l = subst (λ u. BackDoorAnswer q texts x y z u p.text.items) (sym o) (record { not_one = h; prints = l })
+refused true q texts x y z (Ok p) h o l = subst (λ u. BackDoorAnswer q texts x y z u (told_of p)) (sym o) (record { not_one = h; prints = l })
 
 -- what breaks a criterion can be printed
 pub fault_printable : (back_door : Bool) (q : MixedGraph) → IsMixedGraph q → (x y z : ℕ) → Within q.vertices (has z) → (fault : AdjFault)

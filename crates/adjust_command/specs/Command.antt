@@ -5,4 +5,4 @@ use Rattle.adjust_command.specs.Requests.{Request, IsRequest}
 
 -- its request and its answers
 abbrev pub adjust_command : CommandForm
-adjust_command = on_file Request IsRequest (λ q. q.file) (λ q d. AdjustAnswer d q.x q.y q.query)
+adjust_command = on_file Request IsRequest (λ q. q.format) (λ q. q.file) (λ q d. AdjustAnswer q.format d q.x q.y q.query)

@@ -4,10 +4,12 @@ use Rattle.command_words.specs.Form.{Text, Row, Use, word_of, value_of, has_flag
 use Rattle.command_words.specs.Values as values
 use Rattle.diagram.specs.Sets.{Names}
 use Rattle.command_words.specs.ListViews.{names_in}
+use Rattle.replies.specs.declared.format.Format.{Format}
+use Rattle.replies.specs.Told.{format_of}
 use Rattle.adjust_command.specs.Queries.{Query, query_of, query_for}
 use Rattle.adjust_command.specs.declared.request.Request.{Request as CodeRequest}
 
--- `adjust FILE [--x L] [--y L] [--set L [--back-door] | --most N]`
+-- `adjust FILE [--x L] [--y L] [--set L [--back-door] | --most N] [--json]`
 abbrev pub adjust_row : Row
 adjust_row = record {
   name = codes "adjust";
@@ -15,7 +17,7 @@ adjust_row = record {
   optional = [];
   required = [];
   options = codes "x" ∷ codes "y" ∷ codes "set" ∷ codes "most" ∷ [];
-  flags = codes "back-door" ∷ [];
+  flags = codes "back-door" ∷ codes "json" ∷ [];
 }
 
 -- a request
@@ -24,10 +26,11 @@ pub record Request : Type 0 where
   pub x : Names
   pub y : Names
   pub query : Query
+  pub format : Format
 
 -- the request
 abbrev pub request_of : CodeRequest → Request
-request_of r = record { file = r.file.now; x = option_map names_in r.x; y = option_map names_in r.y; query = query_of r.query }
+request_of r = record { file = r.file.now; x = option_map names_in r.x; y = option_map names_in r.y; query = query_of r.query; format = r.format }
 
 -- the uses ask for this
 pub record IsRequest (uses : List Use) (r : Request) : Type 0 where
@@ -39,3 +42,4 @@ pub record IsRequest (uses : List Use) (r : Request) : Type 0 where
   pub most : ℕ
   pub is_most : values.IsNumberOr 100 (value_of uses (codes "most")) 1 10000 most
   pub is_query : query_for set (has_flag uses (codes "back-door")) (is_some (value_of uses (codes "most"))) most ≡ Some r.query
+  pub format : r.format ≡ format_of (has_flag uses (codes "json"))

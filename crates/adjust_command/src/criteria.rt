@@ -4,14 +4,15 @@ ghost use Rattle.std.specs.Prelude.{◌<◌, true, IfOk};
 ghost use Rattle.mixed_graph.specs.Bits.{has};
 ghost use Rattle.mixed_graph.specs.Shown.{graph_of};
 ghost use Rattle.do_rules.specs.Rules.{AreThreeSets};
+ghost use Rattle.replies.specs.Told.{told_of};
 ghost use Rattle.adjust_command.specs.Answers.{texts_of, CriterionAnswer};
 ghost use Rattle.adjust_command.specs.Verdicts.{IsVerdict};
 
-use crate::texts::{admissible_text, not_admissible_text};
+use crate::formats::{admissible, not_admissible};
 use adjustment::{AdjFault, adjusts, back_door};
 use dag_reader::ReadGraph;
 use mixed_graph::{Graph, VSet};
-use replies::{Outcome, Reply, refuse};
+use replies::{Format, Outcome, Reply, refuse};
 use std::alloc::{AllocError, Global};
 use targets::{Sets, TargetFault};
 
@@ -63,21 +64,22 @@ pub fn by_criterion(
     seen: &ReadGraph,
     sets: Sets,
     by_back_door: bool,
+    format: Format,
 ) -> Result<Reply, AllocError>
     requires sets { AreThreeSets seen.now.graph.n (has sets.x.bits) (has sets.y.bits) (has sets.given.bits) }
     requires some_x { 0 < sets.x.bits }
     requires some_y { 0 < sets.y.bits }
-    ensures { IfOk result (λ r. CriterionAnswer by_back_door (graph_of seen.now.graph) (texts_of seen.now.names) sets.x.bits sets.y.bits sets.given.bits r.outcome r.text.items) }
+    ensures { IfOk result (λ r. CriterionAnswer by_back_door (graph_of seen.now.graph) (texts_of format seen.now.names) sets.x.bits sets.y.bits sets.given.bits r.outcome (told_of r)) }
 {
     match judge(&seen.graph, sets, by_back_door) {
-        Verdict::Meets => Ok(Reply {
-            outcome: Outcome::Yes,
-            text: admissible_text(alloc, &seen.names, sets)?,
-        }),
-        Verdict::Breaks(fault) => Ok(Reply {
-            outcome: Outcome::No,
-            text: not_admissible_text(alloc, &seen.names, sets.given, &fault)?,
-        }),
+        Verdict::Meets => {
+            let text = admissible(alloc, format, &seen.names, sets)?;
+            Ok(Reply::answer(alloc, Outcome::Yes, text))
+        }
+        Verdict::Breaks(fault) => {
+            let text = not_admissible(alloc, format, &seen.names, sets, &fault)?;
+            Ok(Reply::answer(alloc, Outcome::No, text))
+        }
         Verdict::NotOne => refuse(alloc, &TargetFault::NotOneX),
     }
 }

@@ -3,7 +3,9 @@
 
 mod choosing;
 mod criteria;
+mod formats;
 mod listing;
+mod objects;
 mod query;
 mod reply;
 mod request;
@@ -11,7 +13,7 @@ mod set_lines;
 mod texts;
 
 pub use criteria::{Verdict, judge};
+pub use formats::not_admissible;
 pub use query::Query;
 pub use reply::adjust_reply;
 pub use request::{ROW, Request};
-pub use texts::not_admissible_text;

@@ -5,6 +5,7 @@ ghost use Rattle.mixed_graph.specs.Bits.{has};
 ghost use Rattle.mixed_graph.specs.Names.{texts};
 ghost use Rattle.mixed_graph.specs.Shown.{graph_of};
 ghost use Rattle.do_rules.specs.Rules.{AreThreeSets};
+ghost use Rattle.replies.specs.Told.{told_of};
 ghost use Rattle.adjust_command.specs.Queries.{query_of, IsInRange};
 ghost use Rattle.adjust_command.specs.Answers.{set_of, SetsAnswer, AdjustAnswer};
 ghost use Rattle.adjust_command.specs.Requests.{request_of};
@@ -15,7 +16,7 @@ use crate::query::Query;
 use crate::request::Request;
 use dag_reader::ReadGraph;
 use diagram::{Diagram, asked_query};
-use replies::{Reply, refuse};
+use replies::{Format, Reply, refuse};
 use std::alloc::{AllocError, Global};
 use targets::Sets;
 
@@ -29,12 +30,12 @@ pub fn adjust_reply(
     diagram: &Diagram,
     asked: &Request<'_>,
 ) -> Result<Reply, AllocError>
-    ensures { let q = request_of asked.now in IfOk result (λ r. AdjustAnswer diagram.now q.x q.y q.query r.outcome r.text.items) }
+    ensures { let q = request_of asked.now in IfOk result (λ r. AdjustAnswer q.format diagram.now q.x q.y q.query r.outcome (told_of r)) }
 {
     let (x, y) = (asked.x.as_deref(), asked.y.as_deref());
     let set = set_of(&asked.query);
     match asked_query(alloc, diagram, x, y, Some(set)) {
-        Ok(sets) => decide(alloc, &diagram.observed, sets, &asked.query),
+        Ok(sets) => decide(alloc, &diagram.observed, sets, &asked.query, asked.format),
         Err(fault) => refuse(alloc, &fault),
     }
 }
@@ -51,16 +52,22 @@ fn set_of(query: &Query) -> &[Vec<u8>]
 }
 
 /// The answer for sets of the observed graph.
-fn decide(alloc: Global, seen: &ReadGraph, sets: Sets, query: &Query) -> Result<Reply, AllocError>
+fn decide(
+    alloc: Global,
+    seen: &ReadGraph,
+    sets: Sets,
+    query: &Query,
+    format: Format,
+) -> Result<Reply, AllocError>
     requires sets { AreThreeSets seen.now.graph.n (has sets.x.bits) (has sets.y.bits) (has sets.given.bits) }
     requires some_x { 0 < sets.x.bits }
     requires some_y { 0 < sets.y.bits }
     requires most { IsInRange (query_of query.now) }
-    ensures { IfOk result (λ r. SetsAnswer (query_of query.now) (graph_of seen.now.graph) seen.now.names sets.x.bits sets.y.bits sets.given.bits r.outcome r.text.items) }
+    ensures { IfOk result (λ r. SetsAnswer format (query_of query.now) (graph_of seen.now.graph) seen.now.names sets.x.bits sets.y.bits sets.given.bits r.outcome (told_of r)) }
 {
     match query {
-        Query::Set(_) => by_criterion(alloc, seen, sets, false),
-        Query::BackDoor(_) => by_criterion(alloc, seen, sets, true),
-        Query::List(most) => list_sets(alloc, seen, sets, *most),
+        Query::Set(_) => by_criterion(alloc, seen, sets, false, format),
+        Query::BackDoor(_) => by_criterion(alloc, seen, sets, true, format),
+        Query::List(most) => list_sets(alloc, seen, sets, *most, format),
     }
 }

@@ -10,16 +10,17 @@ use crate::query::Query;
 use command_words::forms::Entry;
 use command_words::typed::{RequestFault, Subject, listed_names, number_or};
 use command_words::values::Values;
+use replies::Format;
 use std::alloc::Global;
 
-/// `adjust FILE [--x L] [--y L] [--set L [--back-door] | --most N]`
+/// `adjust FILE [--x L] [--y L] [--set L [--back-door] | --most N] [--json]`
 pub const ROW: Entry = Entry {
     name: "adjust",
     positionals: &["file"],
     optional: &[],
     required: &[],
     options: &["x", "y", "set", "most"],
-    flags: &["back-door"],
+    flags: &["back-door", "json"],
 };
 
 /// What is asked for.
@@ -29,6 +30,7 @@ pub struct Request<'a> {
     pub x: Option<Vec<Vec<u8>>>,
     pub y: Option<Vec<Vec<u8>>>,
     pub query: Query,
+    pub format: Format,
     pub ghost range: { HasRange (query_of query) },
 }
 
@@ -50,6 +52,14 @@ impl<'a> Request<'a> {
         let Some(query) = query_from(set, back_door, counted, most as u32) else {
             return Err(RequestFault::NotUnderstood);
         };
-        Ok(Request { file, x, y, query })
+        let json = values.flag("json");
+        let format = Format::of(json);
+        Ok(Request {
+            file,
+            x,
+            y,
+            query,
+            format,
+        })
     }
 }

@@ -2,8 +2,9 @@
 //! names as lines.
 //!
 //! `KeptDiagram::read(alloc, text)` reads a graph text. `kept.observed.separation(x, y, given)` says whether two sets are separated,
-//! and `kept.graph(alloc, lines)` gives the graph that was read, with its names.
+//! and `kept.diagram(alloc, lines)` gives the diagram with its names.
 mod asking;
+mod drawing;
 mod kept;
 mod naming;
 mod reading;

@@ -4,6 +4,7 @@ use Rattle.std.proofs.lemmas.Option.{same_Some, none-some}
 use Rattle.std.specs.Prelude.{IfSome}
 use Rattle.std.specs.Io.KnownBytes.{Appends}
 use Rattle.command_words.specs.Form.{Text, Use, IsCall, row_named}
+use Rattle.replies.specs.Told.{Told}
 use Rattle.replies.specs.declared.outcome.Outcome.{Outcome}
 use Rattle.replies.specs.declared.outcome.Outcome.TheVariants.{Yes, No}
 use Rattle.replies.specs.Outcomes.{code_of}
@@ -19,7 +20,7 @@ use Rattle.causal_cli.specs.declared.commands.Command.{Command}
 use Rattle.causal_cli.specs.declared.commands.Command.TheVariants as command
 
 -- the answer to the request of a command that these uses ask for: by the words alone, on the bytes of its file, or on those of both inputs
-pub data CallAnswer (r : Call) (c : Command) (uses : List Use) (o : Outcome) (text : List ℕ) : Type 0 where
+pub data CallAnswer (r : Call) (c : Command) (uses : List Use) (o : Outcome) (text : Told) : Type 0 where
   on_words : (q : (form_of c).Request) → IsRequest commands uses (of c q) → WordsAnswer commands (of c q) o text → CallAnswer r c uses o text
   on_file : (q : (form_of c).Request) → IsRequest commands uses (of c q) → (file : Text) → file_of commands (of c q) ≡ Some file
       → IfSome (r.held file) (λ bytes. Defined commands (of c q) bytes o text) → CallAnswer r c uses o text
@@ -28,9 +29,9 @@ pub data CallAnswer (r : Call) (c : Command) (uses : List Use) (o : Outcome) (te
       → IfSome (r.held file) (λ bytes. IfSome (r.held_second second) (λ other. DefinedWith commands (of c q) bytes other o text)) → CallAnswer r c uses o text
 
 -- what a call gave: the answer of the command whose call the words are, written whole
-pub record Gave (r : Call) (o : Outcome) (text : List ℕ) : Type 0 where
+pub record Gave (r : Call) (o : Outcome) (text : Told) : Type 0 where
   pub answers : (c : Command) (uses : List Use) → IsCallOf (row_for c) r.words uses → CallAnswer r c uses o text
-  pub whole : Appends r.before r.after text
+  pub whole : Appends r.before r.after text.text
 
 -- the table finds the row of a command by its name, computed for each
 in_table : (c : Command) → row_named table (row_for c).name ≡ Some (row_for c)
@@ -50,7 +51,7 @@ module _ (r : Call) (c : Command) (uses : List Use) (call : IsCallOf (row_for c)
   by_them w a = subst (λ us. IsRequest commands us w) (words_ask_once commands lawful r.words (row_for c) (row_for (command_of commands w))
       uses a.uses by_table a.call).1 a.asks
 
-module _ (r : Call) (c : Command) (uses : List Use) (o : Outcome) (text : List ℕ) where
+module _ (r : Call) (c : Command) (uses : List Use) (o : Outcome) (text : Told) where
   pub for_words : (w : Request commands) → command_of commands w ≡ c → IsRequest commands uses w → WordsAnswer commands w o text → CallAnswer r c uses o text
   for_words (of d q) e is answer = subst (λ (k : Command). CallAnswer r k uses o text) e (on_words q is answer)
 
@@ -66,7 +67,7 @@ module _ (r : Call) (c : Command) (uses : List Use) (o : Outcome) (text : List �
 
 -- ---- runs
 
-call_answer : (r : Run) (o : Outcome) (text : List ℕ) → Answers commands r o text → (c : Command) (uses : List Use) → IsCallOf (row_for c) r.words uses
+call_answer : (r : Run) (o : Outcome) (text : Told) → Answers commands r o text → (c : Command) (uses : List Use) → IsCallOf (row_for c) r.words uses
     → CallAnswer (call_of r) c uses o text
 call_answer r o text (by_words a) c uses call =
     for_words (call_of r) c uses o text a.request (is_of (call_of r) c uses call a.request a.asks) (by_them (call_of r) c uses call a.request a.asks) a.answer
@@ -78,7 +79,7 @@ call_answer r o text (by_both a) c uses call =
     a.file a.second a.names_it a.names_second a.defined
 
 -- a run that ends with yes or no gave its answer
-pub gave : (r : Run) (code : ℕ) (o : Outcome) (text : List ℕ) → code ≡ code_of o → Ends commands r o text → code ≤ 1 → Gave (call_of r) o text
+pub gave : (r : Run) (code : ℕ) (o : Outcome) (text : Told) → code ≡ code_of o → Ends commands r o text → code ≤ 1 → Gave (call_of r) o text
 gave r code Yes text c h small = record { answers = call_answer r Yes text h.answers; whole = h.whole }
 gave r code No text c h small = record { answers = call_answer r No text h.answers; whole = h.whole }
 gave r code o text c h small = absurd (omega (arith, c, small))
@@ -100,18 +101,18 @@ under_names held also name file other second P Q f e g h =
     (λ bytes k. under_name also other second (λ more. P bytes more) (λ more. Q bytes more) (f bytes) g k) e h
 
 -- what is answered to a call of a command that has a file alone, and was written, was written for the request
-module _ (r : Call) (c : Command) (uses : List Use) (o : Outcome) (text : List ℕ) (file : (form_of c).Request → Text)
-    (shows : (form_of c).Request → (bytes text : List ℕ) → Type 0)
+module _ (r : Call) (c : Command) (uses : List Use) (o : Outcome) (text : Told) (file : (form_of c).Request → Text)
+    (shows : (form_of c).Request → (bytes : List ℕ) (text : Told) → Type 0)
     (wordless : (q : (form_of c).Request) → WordsAnswer commands (of c q) o text → ⊥)
     (names : (q : (form_of c).Request) → file_of commands (of c q) ≡ Some (file q))
     (single : (q : (form_of c).Request) → second_of commands (of c q) ≡ None)
     (shown : (q : (form_of c).Request) → IsRequest commands uses (of c q) → (bytes : List ℕ) → Defined commands (of c q) bytes o text
     → shows q bytes text) where
-  pub written_for : Appends r.before r.after text → CallAnswer r c uses o text → WrittenFor (λ us q. IsRequest commands us (of c q)) file shows r uses
+  pub written_for : Appends r.before r.after text.text → CallAnswer r c uses o text → WrittenFor (λ us q. IsRequest commands us (of c q)) file shows r uses
   written_for whole (on_words q is h) = absurd (wordless q h)
   written_for whole (on_file q is name named h) = record {
     request = q;
-    text = text;
+    told = text;
     asks = is;
     right = under_name r.held (file q) name (λ bytes. Defined commands (of c q) bytes o text) (λ bytes. shows q bytes text) (shown q is)
         (sym (names q) ∙ named) h;

@@ -1,5 +1,5 @@
 -- What the counts cover in the diagram as drawn.
-use Rattle.std.proofs.Common.{◌≡◌, ℕ, ◌<◌, Bool, true, false, List, ◌||◌, refl, ap₂, subst}
+use Rattle.std.proofs.Common.{◌≡◌, ℕ, ◌<◌, Bool, true, false, ◌||◌, refl, ap₂, subst}
 use Rattle.std.proofs.lemmas.List.Elements.{All-weaker}
 use Rattle.mixed_graph.specs.Bits.{has}
 use Rattle.mixed_graph.specs.Graphs.{MixedGraph, IsMixedGraph}
@@ -23,6 +23,8 @@ use Rattle.quantity.specs.Laws.Interval.{bounds_lawful}
 use Rattle.count_rows.specs.Rows.{Table}
 use Rattle.count_table.specs.Cells as cells
 use Rattle.count_eval.specs.Programs.{weights_in, is_used, cell_of}
+use Rattle.replies.specs.declared.format.Format.{Format}
+use Rattle.replies.specs.Told.{Told}
 use Rattle.replies.specs.declared.outcome.Outcome.TheVariants.{Yes}
 use Rattle.diagram.specs.Observed.{IsObservedGraph}
 use Rattle.evaluate_command.specs.Answers.{CoversEffect, QuantityAnswer}
@@ -58,11 +60,12 @@ covers_as_drawn kind covers lawful g e is ok t v h m fit observed matched s hs a
     (folded_keeps_effects (graph_of g.graph) g.graph.valid l e.graph is m f.folded fit f.fits f.folds observed (target_of e) s hs))
 
 -- each value of the answer is so, in either kind of quantity
-pub each_covers : (is_exact zero : Bool) (g : ReadGraph) (e : PlainEffect) (t : Table) (text : List ℕ) → IsObservedGraph g e.graph → IsMixedGraph e.graph
-    → (shows : QuantityAnswer is_exact zero e t Yes text) → EachCoversAsDrawn is_exact zero g e t text shows
-each_covers true zero g e t text is ok h =
+pub each_covers : (format : Format) (is_exact zero : Bool) (g : ReadGraph) (e : PlainEffect) (t : Table) (text : Told)
+    → IsObservedGraph g e.graph → IsMixedGraph e.graph
+    → (shows : QuantityAnswer format is_exact zero e t Yes text) → EachCoversAsDrawn format is_exact zero g e t text shows
+each_covers format true zero g e t text is ok h =
     All-weaker (CoversEffect Equals e t) (CoversAsDrawn Equals g e t) (λ v c.
     covers_as_drawn exact Equals exact_lawful g e is ok t v c) h.values.values h.values.effects
-each_covers false zero g e t text is ok h =
+each_covers format false zero g e t text is ok h =
     All-weaker (CoversEffect Covers e t) (CoversAsDrawn Covers g e t) (λ v c.
     covers_as_drawn bounds Covers bounds_lawful g e is ok t v c) h.values.values h.values.effects

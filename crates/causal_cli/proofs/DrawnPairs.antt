@@ -20,13 +20,15 @@ use Rattle.implications.specs.Separable.{only}
 use Rattle.implications.specs.declared.pairs.Implication.{Implication}
 use Rattle.implied_differences.specs.Laws.{IsZeroIfMatched}
 use Rattle.implied_differences.specs.declared.largest.Difference.{Difference}
+use Rattle.replies.specs.declared.format.Format.{Format}
+use Rattle.replies.specs.Told.{Told}
 use Rattle.replies.specs.declared.outcome.Outcome.TheVariants.{Yes}
 use Rattle.diagram.specs.Observed.{IsObservedGraph, observed_names}
 use Rattle.diagram.specs.declared.diagram.Diagram.{Diagram}
 use Rattle.diagram.proofs.ObservedParts.{as_read}
 use Rattle.replies.specs.Observed.{HoldsDiagram}
 use Rattle.implications_command.specs.Answers.{ShowsPairs, FirstAnswer, DifferencesAnswer}
-use Rattle.implications_command.specs.Lines.{Measured}
+use Rattle.implications_command.specs.declared.differences.Measured.{Measured}
 use Rattle.implications_command.specs.Pairs.{ArePairs, pairs_of}
 use Rattle.command_run.specs.Answers.{HoldsAnswer, DefinedWith}
 use Rattle.command_run.specs.Commands.{of}
@@ -57,17 +59,18 @@ zero_as_drawn g q observed t d zero m fit matched =
 -- ---- the answer without counts, and with them
 
 -- a diagram of the bytes, with its answer alone
-abbrev HoldsFirst : Option Text → List ℕ → List ℕ → Type 0
-HoldsFirst second bytes text = (d : Diagram) × HoldsDiagram bytes d × FirstAnswer second (graph_of d.observed.graph) d.observed.names Yes text
+abbrev HoldsFirst : Format → Option Text → List ℕ → Told → Type 0
+HoldsFirst format second bytes text = (d : Diagram) × HoldsDiagram bytes d × FirstAnswer format second (graph_of d.observed.graph) d.observed.names Yes text
 
 -- and with its answer over counts
-abbrev HoldsSecond : Option Text → List ℕ → List ℕ → List ℕ → Type 0
-HoldsSecond count bytes other text = (d : Diagram) × HoldsDiagram bytes d × DifferencesAnswer (graph_of d.observed.graph) d.observed.names count other Yes text
+abbrev HoldsSecond : Format → Option Text → List ℕ → List ℕ → Told → Type 0
+HoldsSecond format count bytes other text =
+    (d : Diagram) × HoldsDiagram bytes d × DifferencesAnswer format (graph_of d.observed.graph) d.observed.names count other Yes text
 
-module _ (r : Call) (file : Text) (count : Option Text) (text : List ℕ) where
-  pairs_as_drawn : (bytes : List ℕ) → HoldsFirst None bytes text → ArePairsAsDrawn bytes text
+module _ (r : Call) (format : Format) (file : Text) (count : Option Text) (text : Told) where
+  pairs_as_drawn : (bytes : List ℕ) → HoldsFirst format None bytes text → ArePairsAsDrawn format bytes text
   pairs_as_drawn bytes (d, holds, h) =
-      let k = as_read d (λ q names. ShowsPairs q names text) h in
+      let k = as_read d (λ q names. ShowsPairs format q names text) h in
       record {
         graph = d.read;
         holds = holds;
@@ -78,14 +81,15 @@ module _ (r : Call) (file : Text) (count : Option Text) (text : List ℕ) where
       }
 
   -- no answer on the graph alone is a yes where counts are given
-  first_as_drawn : (second : Option Text) → IfSome (r.held file) (λ bytes. HoldsFirst second bytes text) → AreImpliedAsDrawn r file second count text
-  first_as_drawn None h = mapped (r.held file) (λ bytes. HoldsFirst None bytes text) (λ bytes. ArePairsAsDrawn bytes text) pairs_as_drawn h
-  first_as_drawn (Some name) h = mapped (r.held file) (λ bytes. HoldsFirst (Some name) bytes text)
-      (λ bytes. IfSome (r.held_second name) (λ other. AreDifferencesAsDrawn count bytes other text)) (λ bytes a. absurd a.2) h
+  first_as_drawn : (second : Option Text) → IfSome (r.held file) (λ bytes. HoldsFirst format second bytes text)
+      → AreImpliedAsDrawn r format file second count text
+  first_as_drawn None h = mapped (r.held file) (λ bytes. HoldsFirst format None bytes text) (λ bytes. ArePairsAsDrawn format bytes text) pairs_as_drawn h
+  first_as_drawn (Some name) h = mapped (r.held file) (λ bytes. HoldsFirst format (Some name) bytes text)
+      (λ bytes. IfSome (r.held_second name) (λ other. AreDifferencesAsDrawn format count bytes other text)) (λ bytes a. absurd a.2) h
 
-  differences_as_drawn : (bytes other : List ℕ) → HoldsSecond count bytes other text → AreDifferencesAsDrawn count bytes other text
+  differences_as_drawn : (bytes other : List ℕ) → HoldsSecond format count bytes other text → AreDifferencesAsDrawn format count bytes other text
   differences_as_drawn bytes other (d, holds, h) =
-      let k = as_read d (λ q names. DifferencesAnswer q names count other Yes text) h in
+      let k = as_read d (λ q names. DifferencesAnswer format q names count other Yes text) h in
       let t = k.2.2.0 in
       let shows = k.2.2.2 in
       record {
@@ -100,37 +104,38 @@ module _ (r : Call) (file : Text) (count : Option Text) (text : List ℕ) where
         read = k.2.2.1;
         shows = shows;
         zero = All-weaker (λ (m : Measured). IsZeroIfMatched k.0 t m.difference) (λ (m : Measured). IsZeroAsDrawn d.read k.0 t m.difference)
-            (λ m h. zero_as_drawn d.read k.0 k.1 t m.difference h) shows.measured shows.matched;
+            (λ m h. zero_as_drawn d.read k.0 k.1 t m.difference h) shows.measured shows.are.matched;
       }
 
   both_as_drawn : (second : Option Text) (name : Text) → second ≡ Some name
-      → IfSome (r.held file) (λ bytes. IfSome (r.held_second name) (λ other. HoldsSecond count bytes other text)) → AreImpliedAsDrawn r file second count text
+      → IfSome (r.held file) (λ bytes. IfSome (r.held_second name) (λ other. HoldsSecond format count bytes other text))
+      → AreImpliedAsDrawn r format file second count text
   both_as_drawn None name e h = absurd (none-some name e)
   both_as_drawn (Some own) name e h =
-      under_names r.held r.held_second file file own name (λ bytes other. HoldsSecond count bytes other text)
-      (λ bytes other. AreDifferencesAsDrawn count bytes other text) differences_as_drawn refl e h
+      under_names r.held r.held_second file file own name (λ bytes other. HoldsSecond format count bytes other text)
+      (λ bytes other. AreDifferencesAsDrawn format count bytes other text) differences_as_drawn refl e h
 
 -- ---- a call of `implications`
 
-pub implied : (r : Call) (uses : List Use) (text : List ℕ) → Appends r.before r.after text → CallAnswer r Implications uses Yes text → ImpliedAsDrawn r uses
+pub implied : (r : Call) (uses : List Use) (text : Told) → Appends r.before r.after text.text → CallAnswer r Implications uses Yes text → ImpliedAsDrawn r uses
 implied r uses text whole (on_words q is h) = absurd h
 implied r uses text whole (on_file q is name names h) = record {
   request = q;
-  text = text;
+  told = text;
   asks = is;
-  right = first_as_drawn r q.file q.count text q.counts
-      (under_name r.held q.file name (λ bytes. HoldsAnswer commands (of Implications q) bytes Yes text) (λ bytes. HoldsFirst q.counts bytes text)
+  right = first_as_drawn r q.format q.file q.count text q.counts
+      (under_name r.held q.file name (λ bytes. HoldsAnswer commands (of Implications q) bytes Yes text) (λ bytes. HoldsFirst q.format q.counts bytes text)
       (λ bytes a. (a.diagram, a.holds, a.answer)) names h);
   whole = whole;
 }
 implied r uses text whole (on_both q is name second names names_second h) = record {
   request = q;
-  text = text;
+  told = text;
   asks = is;
-  right = both_as_drawn r q.file q.count text q.counts second names_second
+  right = both_as_drawn r q.format q.file q.count text q.counts second names_second
       (under_name r.held q.file name (λ bytes. IfSome (r.held_second second) (λ other. DefinedWith commands (of Implications q) bytes other Yes text))
-      (λ bytes. IfSome (r.held_second second) (λ other. HoldsSecond q.count bytes other text))
+      (λ bytes. IfSome (r.held_second second) (λ other. HoldsSecond q.format q.count bytes other text))
       (λ bytes. mapped (r.held_second second) (λ other. DefinedWith commands (of Implications q) bytes other Yes text)
-      (λ other. HoldsSecond q.count bytes other text) (λ other d. (d.0, d.1, d.3))) names h);
+      (λ other. HoldsSecond q.format q.count bytes other text) (λ other d. (d.0, d.1, d.3))) names h);
   whole = whole;
 }

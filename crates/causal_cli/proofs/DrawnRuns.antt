@@ -18,13 +18,15 @@ use Rattle.certificate.specs.declared.fault.CertFault.{CertFault}
 use Rattle.do_rules.specs.Rules.{left_of, right_of}
 use Rattle.hidden_models.proofs.Statements.{independence_is_drawn, equation_is_drawn}
 use Rattle.adjustment.specs.Formulas.{adjustment_formula}
+use Rattle.replies.specs.declared.format.Format.{Format}
+use Rattle.replies.specs.Told.{Told}
 use Rattle.replies.specs.declared.outcome.Outcome.{Outcome}
 use Rattle.replies.specs.declared.outcome.Outcome.TheVariants.{Yes}
 use Rattle.diagram.specs.Observed.{IsObservedGraph, observed_names}
 use Rattle.diagram.specs.Sets.{Names, effect_lists, query_lists, rule_lists}
 use Rattle.diagram.specs.declared.diagram.Diagram.{Diagram}
 use Rattle.diagram.proofs.ObservedParts.{part_of, as_read}
-use Rattle.replies.specs.Observed.{HoldsGraph, HoldsDiagram}
+use Rattle.replies.specs.Observed.{HoldsDiagram}
 use Rattle.replies.specs.Outcomes.{code_of}
 use Rattle.identify_command.specs.declared.form.Form.{Form}
 use Rattle.identify_command.specs.Answers.{EffectAnswer, IdentifyAnswer}
@@ -69,7 +71,7 @@ use Rattle.causal_cli.proofs.Headlines.{drawn}
 
 -- ---- identify
 
-module _ (form : Form) (bytes : List ℕ) (d : Diagram) (holds : HoldsDiagram bytes d) (x y : Names) (text : List ℕ) where
+module _ (form : Form) (bytes : List ℕ) (d : Diagram) (holds : HoldsDiagram bytes d) (x y : Names) (text : Told) where
   -- the formula of the answer without a condition is right in the diagram as drawn
   bare_as_drawn : IdentifyAnswer form d x y Yes text → IsFormulaAsDrawn form bytes x y text
   bare_as_drawn a =
@@ -106,7 +108,7 @@ module _ (form : Form) (bytes : List ℕ) (d : Diagram) (holds : HoldsDiagram by
         right = drawn d.read k.0 k.1 h.target h.answer.formula h.answer.right.effect;
       }
 
-identified : (r : Call) (uses : List Use) (text : List ℕ) → Appends r.before r.after text → CallAnswer r Identify uses Yes text → IdentifiedAsDrawn r uses
+identified : (r : Call) (uses : List Use) (text : Told) → Appends r.before r.after text.text → CallAnswer r Identify uses Yes text → IdentifiedAsDrawn r uses
 identified r uses text = written_for r Identify uses Yes text (λ q. q.file) (λ q bytes line. IsTextAsDrawn q.form bytes q.x q.y q.given line) (λ q h. h)
     (λ q. refl) (λ q. refl)
     (λ q is bytes a. text_as_drawn q.form bytes a.diagram a.holds q.x q.y text q.given a.answer)
@@ -129,33 +131,33 @@ pub same_read : (r : Result PlainCertificate CertFault) (a b : PlainCertificate)
 same_read r a b p q = let e : Ok a ≡ Ok b = sym p ∙ q in cc
 
 -- an accepted certificate of a formula is right in the diagram as drawn
-certificate_as_drawn : (g : ReadGraph) (q : MixedGraph) → IsObservedGraph g q → (zs other text : List ℕ)
-    → CertificateAnswer q (observed_names g) zs other Yes text
+certificate_as_drawn : (format : Format) (g : ReadGraph) (q : MixedGraph) → IsObservedGraph g q → (zs other : List ℕ) (text : Told)
+    → CertificateAnswer format q (observed_names g) zs other Yes text
     → (t : PlainTarget) (f : PlainFormula) (d : PlainDerivation) → HoldsCertificate (observed_names g) other (certificates.formula t f d) → IsRightAsDrawn g t f
-certificate_as_drawn g q observed zs other text (of_formula u h e read answer) t f d is =
+certificate_as_drawn format g q observed zs other text (of_formula u h e read answer) t f d is =
     let same = same_read _ (certificates.formula u h e) (certificates.formula t f d) read.reads is.reads in
     let right = drawn g q observed u h answer.effect in
     subst (λ x. IsRightAsDrawn g x f) (same_target u t h f e d same) (subst (λ x. IsRightAsDrawn g u x) (same_formula u t h f e d same) right)
-certificate_as_drawn g q observed zs other text (of_hedge u h entries read answer) t f d is =
+certificate_as_drawn format g q observed zs other text (of_hedge u h entries read answer) t f d is =
     let same = same_read _ (certificates.hedge u (certificates.hedge_view h)) (certificates.formula t f d) read.reads is.reads in absurd (cc same)
 
 checked : (r : Call) (uses : List Use) → Checked r uses → CheckedAsDrawn r uses
 checked r uses h = record {
   request = h.request;
-  text = h.text;
+  told = h.told;
   asks = h.asks;
   right = mapped (r.held h.request.file) (λ bytes. IfSome (r.held_second h.request.certificate)
-      (λ other. IsRightCertificate h.request.experiments bytes other h.text))
-      (λ bytes. IfSome (r.held_second h.request.certificate) (λ other. IsCertificateAsDrawn h.request.experiments bytes other h.text))
-      (λ bytes a. mapped (r.held_second h.request.certificate) (λ other. IsRightCertificate h.request.experiments bytes other h.text)
-      (λ other. IsCertificateAsDrawn h.request.experiments bytes other h.text)
+      (λ other. IsRightCertificate h.request.format h.request.experiments bytes other h.told))
+      (λ bytes. IfSome (r.held_second h.request.certificate) (λ other. IsCertificateAsDrawn h.request.format h.request.experiments bytes other h.told))
+      (λ bytes a. mapped (r.held_second h.request.certificate) (λ other. IsRightCertificate h.request.format h.request.experiments bytes other h.told)
+      (λ other. IsCertificateAsDrawn h.request.format h.request.experiments bytes other h.told)
       (λ other b. record {
         graph = b.graph;
         holds = b.holds;
         seen = b.seen;
         observed = b.observed;
         accepted = b.accepted;
-        right = certificate_as_drawn b.graph b.seen b.observed b.accepted.sets other h.text b.accepted.answer;
+        right = certificate_as_drawn h.request.format b.graph b.seen b.observed b.accepted.sets other h.told b.accepted.answer;
       }) a) h.right;
   whole = h.whole;
 }
@@ -163,18 +165,18 @@ checked r uses h = record {
 -- ---- adjust
 
 -- the adjustment formulas of the answer to a query are right in the diagram as drawn
-each_adjusts : (query : Query) (g : ReadGraph) (q : MixedGraph) → IsObservedGraph g q
-    → (x y z : ℕ) (text : List ℕ) (shows : SetsAnswer query q (observed_names g) x y z Yes text) → EachAdjustsAsDrawn query g q x y z text shows
-each_adjusts (by_set set) g q observed x y z text h = drawn g q observed (effect_on x y) (adjustment_formula x y z) h.effect
-each_adjusts (by_back_door set) g q observed x y z text h = drawn g q observed (effect_on x y) (adjustment_formula x y z) h.effect
-each_adjusts (listing most) g q observed x y z text h =
+each_adjusts : (format : Format) (query : Query) (g : ReadGraph) (q : MixedGraph) → IsObservedGraph g q
+    → (x y z : ℕ) (text : Told) (shows : SetsAnswer format query q (observed_names g) x y z Yes text) → EachAdjustsAsDrawn format query g q x y z text shows
+each_adjusts format (by_set set) g q observed x y z text h = drawn g q observed (effect_on x y) (adjustment_formula x y z) h.effect
+each_adjusts format (by_back_door set) g q observed x y z text h = drawn g q observed (effect_on x y) (adjustment_formula x y z) h.effect
+each_adjusts format (listing most) g q observed x y z text h =
     All-weaker (λ (s : VSet). EqualsEffect q (effect_on x y) (adjustment_formula x y s.bits)) (λ (s : VSet). AdjustsAsDrawn g x y s.bits)
     (λ s e. drawn g q observed (effect_on x y) (adjustment_formula x y s.bits) e) h.sets h.effect
 
-adjusted_on : (q : AdjustRequest) (bytes text : List ℕ) (d : Diagram) → HoldsDiagram bytes d → AdjustAnswer d q.x q.y q.query Yes text
+adjusted_on : (q : AdjustRequest) (bytes : List ℕ) (text : Told) (d : Diagram) → HoldsDiagram bytes d → AdjustAnswer q.format d q.x q.y q.query Yes text
     → IsAdjustmentAsDrawn q bytes text
 adjusted_on q bytes text d holds a =
-    let k = as_read d (λ p ns. adjustments.ListsAnswer q.query p (adjust_lists d.read ns q.x q.y q.query) Yes text) a in
+    let k = as_read d (λ p ns. adjustments.ListsAnswer q.format q.query p (adjust_lists d.read ns q.x q.y q.query) Yes text) a in
     let g = d.read in
     let h = k.2 in
     record {
@@ -187,17 +189,17 @@ adjusted_on q bytes text d holds a =
       z = h.z;
       sets = h.sets;
       shows = h.answer;
-      right = each_adjusts q.query g k.0 k.1 h.x h.y h.z text h.answer;
+      right = each_adjusts q.format q.query g k.0 k.1 h.x h.y h.z text h.answer;
     }
 
-adjusted : (r : Call) (uses : List Use) (text : List ℕ) → Appends r.before r.after text → CallAnswer r Adjust uses Yes text → AdjustedAsDrawn r uses
+adjusted : (r : Call) (uses : List Use) (text : Told) → Appends r.before r.after text.text → CallAnswer r Adjust uses Yes text → AdjustedAsDrawn r uses
 adjusted r uses text = written_for r Adjust uses Yes text (λ q. q.file) IsAdjustmentAsDrawn (λ q h. h) (λ q. refl) (λ q. refl)
     (λ q is bytes a. adjusted_on q bytes text a.diagram a.holds a.answer)
 
 -- ---- surrogate
 
-surrogated_on : (q : SurrogateRequest) (bytes text : List ℕ) (d : Diagram) → HoldsDiagram bytes d → SurrogateAnswer q.form d q.x q.y q.experiments Yes text
-    → IsSurrogateAsDrawn q bytes text
+surrogated_on : (q : SurrogateRequest) (bytes : List ℕ) (text : Told) (d : Diagram) → HoldsDiagram bytes d
+    → SurrogateAnswer q.form d q.x q.y q.experiments Yes text → IsSurrogateAsDrawn q bytes text
 surrogated_on q bytes text d holds a =
     let k = as_read d (λ p ns. surrogates.ListsAnswer q.form p (surrogate_lists d.read ns q.x q.y q.experiments) Yes text) a in
     let h = k.2 in
@@ -214,13 +216,13 @@ surrogated_on q bytes text d holds a =
       right = drawn d.read k.0 k.1 (effect_on h.x h.y) h.answer.formula h.answer.right.effect;
     }
 
-surrogated : (r : Call) (uses : List Use) (text : List ℕ) → Appends r.before r.after text → CallAnswer r Surrogate uses Yes text → SurrogatedAsDrawn r uses
+surrogated : (r : Call) (uses : List Use) (text : Told) → Appends r.before r.after text.text → CallAnswer r Surrogate uses Yes text → SurrogatedAsDrawn r uses
 surrogated r uses text = written_for r Surrogate uses Yes text (λ q. q.file) IsSurrogateAsDrawn (λ q h. h) (λ q. refl) (λ q. refl)
     (λ q is bytes a. surrogated_on q bytes text a.diagram a.holds a.answer)
 
 -- ---- evaluate
 
-evaluated_on : (q : EvaluateRequest) (bytes other text : List ℕ) → DefinedWith commands (of Evaluate q) bytes other Yes text
+evaluated_on : (q : EvaluateRequest) (bytes other : List ℕ) (text : Told) → DefinedWith commands (of Evaluate q) bytes other Yes text
     → IsEvaluationAsDrawn q bytes other text
 evaluated_on q bytes other text (d, holds, needs, (e, identifies, (t, read, shows))) =
     let part = part_of d in
@@ -237,29 +239,29 @@ evaluated_on q bytes other text (d, holds, needs, (e, identifies, (t, read, show
       counted = t;
       read = read;
       shows = shows;
-      right = each_covers q.exact q.zero d.read e t text observed identifies.identified.graph shows;
+      right = each_covers q.format q.exact q.zero d.read e t text observed identifies.identified.graph shows;
     }
 
 -- the answer on the file alone is no yes: where there is a formula, the counts are read
-no_yes_alone : (way : Way) (d : Diagram) (x y : Names) (text : List ℕ) → EvaluateFirst way d x y Yes text → ⊥
-no_yes_alone (by_procedure short) d x y text h = h
-no_yes_alone (by_adjusting back_door set) d x y text h = h.0 refl
-no_yes_alone (by_condition short given) d x y text h = h.0 refl
+no_yes_alone : (format : Format) (way : Way) (d : Diagram) (x y : Names) (text : Told) → EvaluateFirst format way d x y Yes text → ⊥
+no_yes_alone format (by_procedure short) d x y text h = h
+no_yes_alone format (by_adjusting back_door set) d x y text h = h.0 refl
+no_yes_alone format (by_condition short given) d x y text h = h.0 refl
 
-evaluated : (r : Call) (uses : List Use) (text : List ℕ) → Appends r.before r.after text → CallAnswer r Evaluate uses Yes text → EvaluatedAsDrawn r uses
+evaluated : (r : Call) (uses : List Use) (text : Told) → Appends r.before r.after text.text → CallAnswer r Evaluate uses Yes text → EvaluatedAsDrawn r uses
 evaluated r uses text whole (on_words q is h) = absurd h
 evaluated r uses text whole (on_file q is file names h) = record {
   request = q;
-  text = text;
+  told = text;
   asks = is;
   right = under_name r.held q.file file (λ bytes. HoldsAnswer commands (of Evaluate q) bytes Yes text)
       (λ bytes. IfSome (r.held_second q.counts) (λ other. IsEvaluationAsDrawn q bytes other text))
-      (λ bytes a. absurd (no_yes_alone q.way a.diagram q.x q.y text a.answer)) names h;
+      (λ bytes a. absurd (no_yes_alone q.format q.way a.diagram q.x q.y text a.answer)) names h;
   whole = whole;
 }
 evaluated r uses text whole (on_both q is file second names names_second h) = record {
   request = q;
-  text = text;
+  told = text;
   asks = is;
   right = under_names r.held r.held_second q.file file q.counts second (λ bytes other. DefinedWith commands (of Evaluate q) bytes other Yes text)
       (λ bytes other. IsEvaluationAsDrawn q bytes other text)
@@ -269,10 +271,10 @@ evaluated r uses text whole (on_both q is file second names names_second h) = re
 
 -- ---- separate and rule
 
-separated_on : (q : SeparateRequest) (bytes text : List ℕ) (d : Diagram) → HoldsDiagram bytes d → SeparateAnswer d q.x q.y q.given Yes text
+separated_on : (q : SeparateRequest) (bytes : List ℕ) (text : Told) (d : Diagram) → HoldsDiagram bytes d → SeparateAnswer q.format d q.x q.y q.given Yes text
     → IsSeparationAsDrawn q bytes text
 separated_on q bytes text d holds a =
-    let k = as_read d (λ p ns. separations.ListsAnswer p (query_lists d.read ns q.x q.y q.given) Yes text) a in
+    let k = as_read d (λ p ns. separations.ListsAnswer q.format p (query_lists d.read ns q.x q.y q.given) Yes text) a in
     let g = d.read in
     let h = k.2 in
     record {
@@ -288,15 +290,15 @@ separated_on q bytes text d holds a =
       independent = independence_is_drawn (graph_of g.graph) g.graph.valid (has g.latent.bits) k.0 k.1 (has h.x) (has h.y) (has h.w) h.answer.independent;
     }
 
-separated : (r : Call) (uses : List Use) (text : List ℕ) → Appends r.before r.after text → CallAnswer r Separate uses Yes text
+separated : (r : Call) (uses : List Use) (text : Told) → Appends r.before r.after text.text → CallAnswer r Separate uses Yes text
     → WrittenFor separate_requests.IsRequest (λ q. q.file) IsSeparationAsDrawn r uses
 separated r uses text = written_for r Separate uses Yes text (λ q. q.file) IsSeparationAsDrawn (λ q h. h) (λ q. refl) (λ q. refl)
     (λ q is bytes a. separated_on q bytes text a.diagram a.holds a.answer)
 
-ruled_on : (q : RuleRequest) (bytes text : List ℕ) (d : Diagram) → HoldsDiagram bytes d → RuleAnswer q.rule d q.y q.x q.z q.given Yes text
+ruled_on : (q : RuleRequest) (bytes : List ℕ) (text : Told) (d : Diagram) → HoldsDiagram bytes d → RuleAnswer q.format q.rule d q.y q.x q.z q.given Yes text
     → IsEquationAsDrawn q bytes text
 ruled_on q bytes text d holds a =
-    let k = as_read d (λ p ns. rules.ListsAnswer q.rule p (rule_lists d.read ns q.y q.x q.z q.given) Yes text) a in
+    let k = as_read d (λ p ns. rules.ListsAnswer q.format q.rule p (rule_lists d.read ns q.y q.x q.z q.given) Yes text) a in
     let g = d.read in
     let h = k.2 in
     record {
@@ -314,7 +316,7 @@ ruled_on q bytes text d holds a =
           (right_of q.rule (has h.x) (has h.y) (has h.z) (has h.given)) h.answer.equation;
     }
 
-ruled : (r : Call) (uses : List Use) (text : List ℕ) → Appends r.before r.after text → CallAnswer r Rule uses Yes text
+ruled : (r : Call) (uses : List Use) (text : Told) → Appends r.before r.after text.text → CallAnswer r Rule uses Yes text
     → WrittenFor rule_requests.IsRequest (λ q. q.file) IsEquationAsDrawn r uses
 ruled r uses text = written_for r Rule uses Yes text (λ q. q.file) IsEquationAsDrawn (λ q h. h) (λ q. refl) (λ q. refl)
     (λ q is bytes a. ruled_on q bytes text a.diagram a.holds a.answer)
@@ -322,7 +324,7 @@ ruled r uses text = written_for r Rule uses Yes text (λ q. q.file) IsEquationAs
 -- ---- a run
 
 -- status 0 is that of a yes
-pub right_as_drawn_of : (r : Call) (code : ℕ) (o : Outcome) (text : List ℕ) → code ≡ code_of o → (code ≤ 1 → Gave r o text) → HeadlineOfCheck r code
+pub right_as_drawn_of : (r : Call) (code : ℕ) (o : Outcome) (text : Told) → code ≡ code_of o → (code ≤ 1 → Gave r o text) → HeadlineOfCheck r code
     → RightAsDrawn r code
 right_as_drawn_of r code Yes text c g accepted = let h = g (omega (arith, c)) in record {
   identified = λ uses call zero. identified r uses text h.whole (h.answers Identify uses call);

@@ -10,6 +10,7 @@ use Rattle.prob_expr.specs.Tree.{PlainFormula, PlainTarget, effect_on}
 use Rattle.prob_expr.specs.Values.{EqualsEffect}
 use Rattle.dag_reader.specs.declared.graph.ReadGraph.{ReadGraph}
 use Rattle.hidden_models.proofs.Drawn.{right_as_drawn}
+use Rattle.replies.specs.Told.{Told}
 use Rattle.replies.specs.declared.outcome.Outcome.{Outcome}
 use Rattle.replies.specs.declared.outcome.Outcome.TheVariants.{Yes, No}
 use Rattle.replies.specs.Outcomes.{code_of}
@@ -32,13 +33,13 @@ pub drawn : (g : ReadGraph) (q : MixedGraph) → IsObservedGraph g q → (t : Pl
 drawn g q observed t f right = right_as_drawn (graph_of g.graph) g.graph.valid (has g.latent.bits) q observed t f right
 
 -- where nothing is given, the answer is that for an effect
-bare : (form : Form) (d : Diagram) (x y given : Names) (o : Outcome) (text : List ℕ) → unwrap_or given [] ≡ [] → IdentifyAnswerGiven form d x y given o text
+bare : (form : Form) (d : Diagram) (x y given : Names) (o : Outcome) (text : Told) → unwrap_or given [] ≡ [] → IdentifyAnswerGiven form d x y given o text
     → IdentifyAnswer form d x y o text
 bare form d x y None o text none h = h
 bare form d x y (Some []) o text none h = h
 bare form d x y (Some (n ∷ ns)) o text none h = absurd (cc none)
 
-shown_formula : (q : Asked) (bytes text : List ℕ) (d : Diagram) → HoldsDiagram bytes d → IdentifyAnswer q.form d q.x q.y Yes text
+shown_formula : (q : Asked) (bytes : List ℕ) (text : Told) (d : Diagram) → HoldsDiagram bytes d → IdentifyAnswer q.form d q.x q.y Yes text
     → IsShown ShowsRightFormula q bytes text
 shown_formula q bytes text d holds a =
     let k = as_read d (λ p ns. EffectAnswer q.form p (effect_lists d.read ns q.x q.y) Yes text) a in
@@ -62,7 +63,7 @@ shown_formula q bytes text d holds a =
       };
     }
 
-shown_hedge : (q : Asked) (bytes text : List ℕ) (d : Diagram) → HoldsDiagram bytes d → IdentifyAnswer q.form d q.x q.y No text
+shown_hedge : (q : Asked) (bytes : List ℕ) (text : Told) (d : Diagram) → HoldsDiagram bytes d → IdentifyAnswer q.form d q.x q.y No text
     → IsShown ShowsRightHedge q bytes text
 shown_hedge q bytes text d holds a =
     let k = as_read d (λ p ns. EffectAnswer q.form p (effect_lists d.read ns q.x q.y) No text) a in
@@ -81,14 +82,14 @@ shown_hedge q bytes text d holds a =
     }
 
 -- a yes to a request of `identify`, on its file, shows a right formula
-formula_written : (r : Call) (uses : List Use) (text : List ℕ) → Appends r.before r.after text → CallAnswer r Identify uses Yes text
+formula_written : (r : Call) (uses : List Use) (text : Told) → Appends r.before r.after text.text → CallAnswer r Identify uses Yes text
     → Identified ShowsRightFormula r uses
 formula_written r uses text = written_for r Identify uses Yes text (λ q. q.file)
     (λ q bytes line. unwrap_or q.given [] ≡ [] → IsShown ShowsRightFormula q bytes line) (λ q h. h) (λ q. refl) (λ q. refl)
     (λ q is bytes a none. shown_formula q bytes text a.diagram a.holds (bare q.form a.diagram q.x q.y q.given Yes text none a.answer))
 
 -- and a no a right hedge
-hedge_written : (r : Call) (uses : List Use) (text : List ℕ) → Appends r.before r.after text → CallAnswer r Identify uses No text
+hedge_written : (r : Call) (uses : List Use) (text : Told) → Appends r.before r.after text.text → CallAnswer r Identify uses No text
     → Identified ShowsRightHedge r uses
 hedge_written r uses text = written_for r Identify uses No text (λ q. q.file)
     (λ q bytes line. unwrap_or q.given [] ≡ [] → IsShown ShowsRightHedge q bytes line) (λ q h. h) (λ q. refl) (λ q. refl)
@@ -101,7 +102,7 @@ other_status r code high = record {
   hedge = λ uses call e. absurd (omega (arith, high, e));
 }
 
-pub headline : (r : Call) (code : ℕ) (o : Outcome) (text : List ℕ) → code ≡ code_of o → (code ≤ 1 → Gave r o text) → Headline r code
+pub headline : (r : Call) (code : ℕ) (o : Outcome) (text : Told) → code ≡ code_of o → (code ≤ 1 → Gave r o text) → Headline r code
 headline r code Yes text c g = let h = g (omega (arith, c)) in record {
   formula = λ uses call zero. formula_written r uses text h.whole (h.answers Identify uses call);
   hedge = λ uses call one. absurd (omega (arith, c, one));

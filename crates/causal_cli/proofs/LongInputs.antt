@@ -2,13 +2,14 @@
 use Rattle.std.proofs.Common.{◌≤◌, ◌<◌, inl, inr, ℕ, Bool, List, Option, length, arith}
 use Rattle.mixed_graph.specs.Graphs.{MixedGraph}
 use Rattle.mixed_graph.specs.Shown.{graph_of}
-use Rattle.dag_reader.specs.declared.graph.ReadGraph.{ReadGraph}
 use Rattle.diagram.specs.declared.diagram.Diagram.{Diagram}
+use Rattle.replies.specs.declared.format.Format.{Format}
+use Rattle.replies.specs.Told.{Told}
 use Rattle.replies.specs.declared.outcome.Outcome.{Outcome}
 use Rattle.replies.specs.declared.outcome.Outcome.TheVariants.{Yes, No, Second, Evaluation}
 use Rattle.targets.specs.declared.query.Sets.{Sets}
 use Rattle.count_rows.specs.Records.{Field}
-use Rattle.count_answers.specs.Reads.{AreRefusedCounts, too_long, faulty}
+use Rattle.count_json.specs.Refusals.{AreRefusedCounts, too_long, faulty}
 use Rattle.experiment_lists.specs.Words.{Lists}
 use Rattle.check_command.specs.Answers as check
 use Rattle.evaluate_command.specs.Answers as evaluate
@@ -23,68 +24,71 @@ no_more n a long short = absurd (omega (arith, long, short))
 
 -- ---- counts
 
-refused_counts : (names : List (List ℕ)) (used : ℕ) (count : Option Field) (a b line : List ℕ) → 67108864 < length a → 67108864 < length b
-    → AreRefusedCounts names used count a line → AreRefusedCounts names used count b line
-refused_counts names used count a b line la lb (too_long l e) = too_long lb e
-refused_counts names used count a b line la lb (faulty fault short p q e) = no_more 67108864 a la short
+refused_counts : (names : List (List ℕ)) (used : ℕ) (count : Option Field) (a b line object : List ℕ) → 67108864 < length a → 67108864 < length b
+    → AreRefusedCounts names used count a line object → AreRefusedCounts names used count b line object
+refused_counts names used count a b line object la lb (too_long l e o) = too_long lb e o
+refused_counts names used count a b line object la lb (faulty fault short p q e o) = no_more 67108864 a la short
 
 -- ---- check
 
-certificate_short : (q : MixedGraph) (names : List (List ℕ)) (zs bytes : List ℕ) (o : Outcome) (text : List ℕ)
-    → check.CertificateAnswer q names zs bytes o text → length bytes ≤ 67108864
-certificate_short q names zs bytes o text (check.of_formula t f d read answer) = read.small
-certificate_short q names zs bytes o text (check.of_hedge t h entries read answer) = read.small
+certificate_short : (format : Format) (q : MixedGraph) (names : List (List ℕ)) (zs bytes : List ℕ) (o : Outcome) (text : Told)
+    → check.CertificateAnswer format q names zs bytes o text → length bytes ≤ 67108864
+certificate_short format q names zs bytes o text (check.of_formula t f d read answer) = read.small
+certificate_short format q names zs bytes o text (check.of_hedge t h entries read answer) = read.small
 
-refused_certificate : (names : List (List ℕ)) (a b line : List ℕ) → 67108864 < length a → 67108864 < length b
+refused_certificate : (names : List (List ℕ)) (a b : List ℕ) (line : Told) → 67108864 < length a → 67108864 < length b
     → check.IsCertificateRefusal names a line → check.IsCertificateRefusal names b line
 refused_certificate names a b line la lb (check.too_long l e) = check.too_long lb e
 refused_certificate names a b line la lb (check.faulty fault short p q e) = no_more 67108864 a la short
 
-over_long : (q : MixedGraph) (names : List (List ℕ)) (zs a b : List ℕ) → 67108864 < length a → 67108864 < length b → (o : Outcome) (text : List ℕ)
-    → check.AnswerOver q names zs a o text → check.AnswerOver q names zs b o text
-over_long q names zs a b la lb Yes text h = no_more 67108864 a la (certificate_short q names zs a Yes text h)
-over_long q names zs a b la lb No text h = no_more 67108864 a la (certificate_short q names zs a No text h)
-over_long q names zs a b la lb Second text h = refused_certificate names a b text la lb h
-over_long q names zs a b la lb o text h = absurd h
+over_long : (format : Format) (q : MixedGraph) (names : List (List ℕ)) (zs a b : List ℕ) → 67108864 < length a → 67108864 < length b
+    → (o : Outcome) (text : Told)
+    → check.AnswerOver format q names zs a o text → check.AnswerOver format q names zs b o text
+over_long format q names zs a b la lb Yes text h = no_more 67108864 a la (certificate_short format q names zs a Yes text h)
+over_long format q names zs a b la lb No text h = no_more 67108864 a la (certificate_short format q names zs a No text h)
+over_long format q names zs a b la lb Second text h = refused_certificate names a b text la lb h
+over_long format q names zs a b la lb o text h = absurd h
 
-pub check_long : (d : Diagram) (experiments : Lists) (a b : List ℕ) → 67108864 < length a → 67108864 < length b → (o : Outcome) (text : List ℕ)
-    → check.CheckAnswer d experiments a o text → check.CheckAnswer d experiments b o text
-check_long d experiments a b la lb o text h = record {
+pub check_long : (format : Format) (d : Diagram) (experiments : Lists) (a b : List ℕ) → 67108864 < length a → 67108864 < length b → (o : Outcome) (text : Told)
+    → check.CheckAnswer format d experiments a o text → check.CheckAnswer format d experiments b o text
+check_long format d experiments a b la lb o text h = record {
   sets = h.sets;
   are = h.are;
-  answer = over_long (graph_of d.observed.graph) d.observed.names h.sets a b la lb o text h.answer;
+  answer = over_long format (graph_of d.observed.graph) d.observed.names h.sets a b la lb o text h.answer;
 }
 
 -- ---- evaluate
 
-values_long : (is_exact zero : Bool) (e : PlainEffect) (count : Option Field) (a b : List ℕ) → 67108864 < length a → 67108864 < length b
-    → (o : Outcome) (text : List ℕ)
-    → evaluate.CountsAnswer is_exact zero e count a o text → evaluate.CountsAnswer is_exact zero e count b o text
-values_long is_exact zero e count a b la lb Yes text h = no_more 67108864 a la h.1.small
-values_long is_exact zero e count a b la lb Second text h = refused_counts _ _ count a b text la lb h
-values_long is_exact zero e count a b la lb Evaluation text h = no_more 67108864 a la h.1.small
-values_long is_exact zero e count a b la lb o text h = absurd h
+values_long : (format : Format) (is_exact zero : Bool) (e : PlainEffect) (count : Option Field) (a b : List ℕ) → 67108864 < length a → 67108864 < length b
+    → (o : Outcome) (text : Told)
+    → evaluate.CountsAnswer format is_exact zero e count a o text → evaluate.CountsAnswer format is_exact zero e count b o text
+values_long format is_exact zero e count a b la lb Yes text h = no_more 67108864 a la h.1.small
+values_long format is_exact zero e count a b la lb Second text h = refused_counts _ _ count a b text.text text.object la lb h
+values_long format is_exact zero e count a b la lb Evaluation text h = no_more 67108864 a la h.1.small
+values_long format is_exact zero e count a b la lb o text h = absurd h
 
 -- ---- implications
 
-differences_long : (p : PlainPairs) (count : Option Field) (a b : List ℕ) → 67108864 < length a → 67108864 < length b → (o : Outcome) (text : List ℕ)
-    → implications.CountsAnswer p count a o text → implications.CountsAnswer p count b o text
-differences_long p count a b la lb Yes text h = no_more 67108864 a la h.1.small
-differences_long p count a b la lb Second text h = refused_counts _ _ count a b text la lb h
-differences_long p count a b la lb o text h = absurd h
+differences_long : (format : Format) (p : PlainPairs) (count : Option Field) (a b : List ℕ) → 67108864 < length a → 67108864 < length b
+    → (o : Outcome) (text : Told)
+    → implications.CountsAnswer format p count a o text → implications.CountsAnswer format p count b o text
+differences_long format p count a b la lb Yes text h = no_more 67108864 a la h.1.small
+differences_long format p count a b la lb Second text h = refused_counts _ _ count a b text.text text.object la lb h
+differences_long format p count a b la lb o text h = absurd h
 
 -- ---- equivalent
 
-refused_second : (a b line : List ℕ) → 1048576 < length a → 1048576 < length b → equivalent.IsSecondRefusal a line → equivalent.IsSecondRefusal b line
+refused_second : (a b : List ℕ) (line : Told) → 1048576 < length a → 1048576 < length b → equivalent.IsSecondRefusal a line
+    → equivalent.IsSecondRefusal b line
 refused_second a b line la lb (equivalent.too_long l e) = equivalent.too_long lb e
 refused_second a b line la lb (equivalent.faulty fault short p q e) = no_more 1048576 a la short
 
-held_short : {A : Type 0} (d : Diagram) (s : Option Sets) (a : List ℕ) (o : Outcome) (text : List ℕ) → 1048576 < length a
-    → equivalent.HoldsAnswer d s a o text → A
-held_short d s a o text la h = no_more 1048576 a la h.1.small
+held_short : {A : Type 0} (format : Format) (d : Diagram) (s : Option Sets) (a : List ℕ) (o : Outcome) (text : Told) → 1048576 < length a
+    → equivalent.HoldsAnswer format d s a o text → A
+held_short format d s a o text la h = no_more 1048576 a la h.1.small
 
-pub second_long : (d : Diagram) (s : Option Sets) (a b : List ℕ) → 1048576 < length a → 1048576 < length b → (o : Outcome) (text : List ℕ)
-    → equivalent.SecondAnswer d s a o text → equivalent.SecondAnswer d s b o text
-second_long d s a b la lb Second text (inl h) = inl (refused_second a b text la lb h)
-second_long d s a b la lb Second text (inr h) = held_short d s a Second text la h
-second_long d s a b la lb o text h = held_short d s a o text la h
+pub second_long : (format : Format) (d : Diagram) (s : Option Sets) (a b : List ℕ) → 1048576 < length a → 1048576 < length b → (o : Outcome) (text : Told)
+    → equivalent.SecondAnswer format d s a o text → equivalent.SecondAnswer format d s b o text
+second_long format d s a b la lb Second text (inl h) = inl (refused_second a b text la lb h)
+second_long format d s a b la lb Second text (inr h) = held_short format d s a Second text la h
+second_long format d s a b la lb o text h = held_short format d s a o text la h

@@ -1,12 +1,12 @@
 -- Lists that are refused have one fault, and so one line.
 use Rattle.std.proofs.Common.{◌≡◌, ℕ, List, [], Option, Some, None, refl, sym, ap, ◌∙◌}
 use Rattle.std.proofs.lemmas.Option.{none-some, same_Some}
-use Rattle.answer_text.specs.Lines.{line_of}
 use Rattle.targets.specs.declared.fault.TargetFault.{TargetFault}
 use Rattle.targets.specs.declared.fault.TargetFault.TheVariants.{Unknown, Latent, Twice, EmptyY, EmptyX}
-use Rattle.targets.specs.FaultTexts.{target_fault_text}
 use Rattle.targets.specs.Targets.{NameFault, unknown, latent, twice, IsFaultOfTarget, Lists, fault_in, IsListFault, RuleLists, rule_fault, EffectLists}
 use Rattle.targets.specs.Targets.{effect_fault, IsEffectFault}
+use Rattle.replies.specs.Refusals.{target_told}
+use Rattle.replies.specs.Told.{Told}
 use Rattle.replies.specs.Observed.{IsTargetRefusal}
 use Rattle.effect_answers.specs.Effects.{IsEffectRefusal}
 use Rattle.identify_command.specs.Conditions.{IsListRefusal}
@@ -51,9 +51,9 @@ one_fault : (first : Option NameFault) (y x : List (List ℕ)) (f k : TargetFaul
 one_fault first y x f k a b = one_kind first y x f k (kind_of first y x f a) (kind_of first y x k b)
 
 -- and one line
-one_line : (first : Option NameFault) (y x : List (List ℕ)) (f k : TargetFault) (text line : List ℕ) → IsFaultOfTarget first y x f
-    → IsFaultOfTarget first y x k → text ≡ line_of (target_fault_text f) → line ≡ line_of (target_fault_text k) → line ≡ text
-one_line first y x f k text line a b p q = q ∙ ap (λ (e : TargetFault). line_of (target_fault_text e)) (one_fault first y x f k a b) ∙ sym p
+one_line : (first : Option NameFault) (y x : List (List ℕ)) (f k : TargetFault) (text line : Told) → IsFaultOfTarget first y x f
+    → IsFaultOfTarget first y x k → text ≡ target_told f → line ≡ target_told k → line ≡ text
+one_line first y x f k text line a b p q = q ∙ ap (λ (e : TargetFault). target_told e) (one_fault first y x f k a b) ∙ sym p
 
 pub one_target_refusal : (l : Lists) → IsOneText (IsTargetRefusal l)
 one_target_refusal l text line a b = one_line (fault_in l) l.y l.x a.fault b.fault text line a.is_fault b.is_fault a.prints b.prints

@@ -24,13 +24,15 @@ use Rattle.adjustment.specs.Formulas.{adjustment_formula}
 use Rattle.adjustment.proofs.Exceeding.{Exceeds, exceeds_fails}
 use Rattle.adjustment.proofs.FaultWalks.{forbidden_exceeds, unblocked_exceeds}
 use Rattle.diagram.proofs.OneObserved.{observed_is_mixed}
+use Rattle.replies.specs.declared.format.Format.{Format}
+use Rattle.replies.specs.Told.{Told}
 use Rattle.replies.specs.declared.outcome.Outcome.{Outcome}
 use Rattle.replies.specs.declared.outcome.Outcome.TheVariants.{Yes, No}
 use Rattle.diagram.specs.Observed.{IsObservedGraph, observed_names}
 use Rattle.diagram.specs.Sets.{Names, effect_lists, query_lists, rule_lists}
 use Rattle.diagram.specs.declared.diagram.Diagram.{Diagram}
 use Rattle.diagram.proofs.ObservedParts.{as_read}
-use Rattle.replies.specs.Observed.{HoldsGraph, HoldsDiagram}
+use Rattle.replies.specs.Observed.{HoldsDiagram}
 use Rattle.replies.specs.Outcomes.{code_of}
 use Rattle.effect_answers.specs.Hedges as hedges
 use Rattle.identify_command.specs.declared.form.Form.{Form}
@@ -113,17 +115,17 @@ admissible_as_drawn g q observed x y z sets right =
       blocked = λ v r p not_causal o. breaks (unblocked_exceeds q ok (has x) (has y) (has z) sets v r p not_causal o);
     }
 
-refutes_adjustment : (g : ReadGraph) (q : MixedGraph) → IsObservedGraph g q → (query : Query) (x y z : ℕ) (text : List ℕ)
-    → SetsAnswer query q (observed_names g) x y z No text → RefutesAdjustment query g q x y z
-refutes_adjustment g q observed (by_set set) x y z text h =
+refutes_adjustment : (format : Format) (g : ReadGraph) (q : MixedGraph) → IsObservedGraph g q → (query : Query) (x y z : ℕ) (text : Told)
+    → SetsAnswer format query q (observed_names g) x y z No text → RefutesAdjustment query g q x y z
+refutes_adjustment format g q observed (by_set set) x y z text h =
     formula_failure_is_drawn (graph_of g.graph) g.graph.valid (has g.latent.bits) q observed (effect_on x y) (adjustment_formula x y z) h.fails
-refutes_adjustment g q observed (by_back_door set) x y z text h = tt
-refutes_adjustment g q observed (listing most) x y z text h = λ w sets right. h.none (has w) sets (admissible_as_drawn g q observed x y w sets right)
+refutes_adjustment format g q observed (by_back_door set) x y z text h = tt
+refutes_adjustment format g q observed (listing most) x y z text h = λ w sets right. h.none (has w) sets (admissible_as_drawn g q observed x y w sets right)
 
-adjusted_on : (x y : Names) (query : Query) (bytes text : List ℕ) (d : Diagram) → HoldsDiagram bytes d → AdjustAnswer d x y query No text
-    → IsNoAdjustmentFor x y query bytes text
-adjusted_on x y query bytes text d holds a =
-    let k = as_read d (λ p ns. adjustments.ListsAnswer query p (adjust_lists d.read ns x y query) No text) a in
+adjusted_on : (format : Format) (x y : Names) (query : Query) (bytes : List ℕ) (text : Told) (d : Diagram) → HoldsDiagram bytes d
+    → AdjustAnswer format d x y query No text → IsNoAdjustmentFor format x y query bytes text
+adjusted_on format x y query bytes text d holds a =
+    let k = as_read d (λ p ns. adjustments.ListsAnswer format query p (adjust_lists d.read ns x y query) No text) a in
     let g = d.read in
     let h = k.2 in
     record {
@@ -136,17 +138,17 @@ adjusted_on x y query bytes text d holds a =
       z = h.z;
       sets = h.sets;
       shows = h.answer;
-      refutes = refutes_adjustment g k.0 k.1 query h.x h.y h.z text h.answer;
+      refutes = refutes_adjustment format g k.0 k.1 query h.x h.y h.z text h.answer;
     }
 
-adjusted : (r : Call) (uses : List Use) (text : List ℕ) → Appends r.before r.after text → CallAnswer r Adjust uses No text
+adjusted : (r : Call) (uses : List Use) (text : Told) → Appends r.before r.after text.text → CallAnswer r Adjust uses No text
     → WrittenFor adjust_requests.IsRequest (λ q. q.file) IsNoAdjustmentAsDrawn r uses
 adjusted r uses text = written_for r Adjust uses No text (λ q. q.file) IsNoAdjustmentAsDrawn (λ q h. h) (λ q. refl) (λ q. refl)
-    (λ q is bytes a. adjusted_on q.x q.y q.query bytes text a.diagram a.holds a.answer)
+    (λ q is bytes a. adjusted_on q.format q.x q.y q.query bytes text a.diagram a.holds a.answer)
 
 -- ---- identify and evaluate
 
-bare_refuted : (form : Form) (bytes : List ℕ) (x y : Names) (text : List ℕ) (d : Diagram) → HoldsDiagram bytes d → IdentifyAnswer form d x y No text
+bare_refuted : (form : Form) (bytes : List ℕ) (x y : Names) (text : Told) (d : Diagram) → HoldsDiagram bytes d → IdentifyAnswer form d x y No text
     → IsHedgeAsDrawn (ShowsHedge form) bytes x y text
 bare_refuted form bytes x y text d holds a =
     let k = as_read d (λ p ns. EffectAnswer form p (effect_lists d.read ns x y) No text) a in
@@ -164,7 +166,7 @@ bare_refuted form bytes x y text d holds a =
       };
     }
 
-joint_refuted : (form : Form) (bytes : List ℕ) (x y : Names) (given : List (List ℕ)) (text : List ℕ) (d : Diagram) → HoldsDiagram bytes d
+joint_refuted : (form : Form) (bytes : List ℕ) (x y : Names) (given : List (List ℕ)) (text : Told) (d : Diagram) → HoldsDiagram bytes d
     → ConditionalAnswer form d x y given No text
     → IsJointAsDrawn form bytes x y given text
 joint_refuted form bytes x y given text d holds b =
@@ -190,23 +192,24 @@ joint_refuted form bytes x y given text d holds b =
       differs = λ settled. not_identifiable g q observed a.x a.y a.pair a.found.right.counter h.target (a.differs settled);
     }
 
-given_refuted : (form : Form) (bytes : List ℕ) (x y given : Names) (text : List ℕ) (d : Diagram) → HoldsDiagram bytes d
+given_refuted : (form : Form) (bytes : List ℕ) (x y given : Names) (text : Told) (d : Diagram) → HoldsDiagram bytes d
     → IdentifyAnswerGiven form d x y given No text
     → IsUnidentifiedAsDrawn form bytes x y given text
 given_refuted form bytes x y None text d holds h = bare_refuted form bytes x y text d holds h
 given_refuted form bytes x y (Some []) text d holds h = bare_refuted form bytes x y text d holds h
 given_refuted form bytes x y (Some (n ∷ ns)) text d holds h = joint_refuted form bytes x y (n ∷ ns) text d holds h
 
-identified : (r : Call) (uses : List Use) (text : List ℕ) → Appends r.before r.after text → CallAnswer r Identify uses No text
+identified : (r : Call) (uses : List Use) (text : Told) → Appends r.before r.after text.text → CallAnswer r Identify uses No text
     → WrittenFor IsRequest (λ q. q.file) (λ q bytes line. IsUnidentifiedAsDrawn q.form bytes q.x q.y q.given line) r uses
 identified r uses text = written_for r Identify uses No text (λ q. q.file) (λ q bytes line. IsUnidentifiedAsDrawn q.form bytes q.x q.y q.given line)
     (λ q h. h) (λ q. refl) (λ q. refl)
     (λ q is bytes a. given_refuted q.form bytes q.x q.y q.given text a.diagram a.holds a.answer)
 
-hedge_on : (bytes : List ℕ) (x y : Names) (text : List ℕ) (d : Diagram) → HoldsDiagram bytes d
-    → ProcedureFirst (graph_of d.observed.graph) (effect_lists d.read d.observed.names x y) No text → IsHedgeAsDrawn hedges.ShowsHedge bytes x y text
-hedge_on bytes x y text d holds a =
-    let k = as_read d (λ p ns. ProcedureFirst p (effect_lists d.read ns x y) No text) a in
+hedge_on : (format : Format) (bytes : List ℕ) (x y : Names) (text : Told) (d : Diagram) → HoldsDiagram bytes d
+    → ProcedureFirst format (graph_of d.observed.graph) (effect_lists d.read d.observed.names x y) No text
+    → IsHedgeAsDrawn (hedges.ShowsHedge format) bytes x y text
+hedge_on format bytes x y text d holds a =
+    let k = as_read d (λ p ns. ProcedureFirst format p (effect_lists d.read ns x y) No text) a in
     let h = k.2 in
     record {
       graph = d.read;
@@ -221,89 +224,90 @@ hedge_on bytes x y text d holds a =
       };
     }
 
-evaluated_on : (way : Way) (bytes : List ℕ) (x y : Names) (text : List ℕ) (d : Diagram) → HoldsDiagram bytes d → EvaluateFirst way d x y No text
-    → IsUnevaluatedAsDrawn way bytes x y text
-evaluated_on (by_procedure short) bytes x y text d holds h = hedge_on bytes x y text d holds h
-evaluated_on (by_adjusting back_door set) bytes x y text d holds h = adjusted_on x y (criterion_query back_door set) bytes text d holds h.1
-evaluated_on (by_condition short given) bytes x y text d holds h = joint_refuted plain_form bytes x y given text d holds h.1
+evaluated_on : (format : Format) (way : Way) (bytes : List ℕ) (x y : Names) (text : Told) (d : Diagram) → HoldsDiagram bytes d
+    → EvaluateFirst format way d x y No text → IsUnevaluatedAsDrawn format way bytes x y text
+evaluated_on format (by_procedure short) bytes x y text d holds h = hedge_on format bytes x y text d holds h
+evaluated_on format (by_adjusting back_door set) bytes x y text d holds h = adjusted_on format x y (criterion_query back_door set) bytes text d holds h.1
+evaluated_on format (by_condition short given) bytes x y text d holds h = joint_refuted (plain_form format) bytes x y given text d holds h.1
 
 if_told : (told : Option (List ℕ)) (P : Type 0) → P → IfSome told (λ other. P)
 if_told (Some other) P p = p
 if_told None P p = tt
 
 -- a no is given on the file alone: where there is a formula, the counts have values or stop
-evaluated : (r : Call) (uses : List Use) (text : List ℕ) → Appends r.before r.after text → CallAnswer r Evaluate uses No text → UnevaluatedAsDrawn r uses
+evaluated : (r : Call) (uses : List Use) (text : Told) → Appends r.before r.after text.text → CallAnswer r Evaluate uses No text → UnevaluatedAsDrawn r uses
 evaluated r uses text whole (on_words q is h) = absurd h
 evaluated r uses text whole (on_file q is file names h) = record {
   request = q;
-  text = text;
+  told = text;
   asks = is;
   right = under_name r.held q.file file (λ bytes. HoldsAnswer commands (of Evaluate q) bytes No text)
-      (λ bytes. IfSome (r.held_second q.counts) (λ other. IsUnevaluatedAsDrawn q.way bytes q.x q.y text))
-      (λ bytes a. if_told (r.held_second q.counts) (IsUnevaluatedAsDrawn q.way bytes q.x q.y text)
-      (evaluated_on q.way bytes q.x q.y text a.diagram a.holds a.answer)) names h;
+      (λ bytes. IfSome (r.held_second q.counts) (λ other. IsUnevaluatedAsDrawn q.format q.way bytes q.x q.y text))
+      (λ bytes a. if_told (r.held_second q.counts) (IsUnevaluatedAsDrawn q.format q.way bytes q.x q.y text)
+      (evaluated_on q.format q.way bytes q.x q.y text a.diagram a.holds a.answer)) names h;
   whole = whole;
 }
 evaluated r uses text whole (on_both q is file second names names_second h) = record {
   request = q;
-  text = text;
+  told = text;
   asks = is;
   right = under_names r.held r.held_second q.file file q.counts second (λ bytes other. DefinedWith commands (of Evaluate q) bytes other No text)
-      (λ bytes other. IsUnevaluatedAsDrawn q.way bytes q.x q.y text) (λ bytes other d. absurd d.3.2) names names_second h;
+      (λ bytes other. IsUnevaluatedAsDrawn q.format q.way bytes q.x q.y text) (λ bytes other d. absurd d.3.2) names names_second h;
   whole = whole;
 }
 
 -- ---- check
 
 -- an accepted certificate of a hedge says so of its effect
-hedge_as_drawn : (g : ReadGraph) (q : MixedGraph) → IsObservedGraph g q → (zs other text : List ℕ) → CertificateAnswer q (observed_names g) zs other Yes text
+hedge_as_drawn : (format : Format) (g : ReadGraph) (q : MixedGraph) → IsObservedGraph g q → (zs other : List ℕ) (text : Told)
+    → CertificateAnswer format q (observed_names g) zs other Yes text
     → (t : PlainTarget) (h : certificates.PlainHedge) → HoldsCertificate (observed_names g) other (certificates.hedge t h)
     → IsNotIdentifiable g (effect_on t.x t.y)
-hedge_as_drawn g q observed zs other text (of_formula u f d read answer) t h is =
+hedge_as_drawn format g q observed zs other text (of_formula u f d read answer) t h is =
     let same = same_read _ (certificates.formula u f d) (certificates.hedge t h) read.reads is.reads in absurd (cc same)
-hedge_as_drawn g q observed zs other text (of_hedge u k entries read answer) t h is =
+hedge_as_drawn format g q observed zs other text (of_hedge u k entries read answer) t h is =
     let same = same_read _ (certificates.hedge u (certificates.hedge_view k)) (certificates.hedge t h) read.reads is.reads in
     subst (λ x. IsNotIdentifiable g (effect_on x.x x.y)) (same_hedge_target u t (certificates.hedge_view k) h same)
     (effect_lost g q observed u.x u.y answer.pair answer.models)
 
 -- and of the experiments with which it was accepted
-hedge_over_as_drawn : (g : ReadGraph) (q : MixedGraph) → IsObservedGraph g q → (zs other text : List ℕ)
-    → CertificateAnswer q (observed_names g) zs other Yes text
+hedge_over_as_drawn : (format : Format) (g : ReadGraph) (q : MixedGraph) → IsObservedGraph g q → (zs other : List ℕ) (text : Told)
+    → CertificateAnswer format q (observed_names g) zs other Yes text
     → (t : PlainTarget) (h : certificates.PlainHedge) → HoldsCertificate (observed_names g) other (certificates.hedge t h)
     → IsNotIdentifiableOver g zs (effect_on t.x t.y)
-hedge_over_as_drawn g q observed zs other text (of_formula u f d read answer) t h is =
+hedge_over_as_drawn format g q observed zs other text (of_formula u f d read answer) t h is =
     let same = same_read _ (certificates.formula u f d) (certificates.hedge t h) read.reads is.reads in absurd (cc same)
-hedge_over_as_drawn g q observed zs other text (of_hedge u k entries read answer) t h is =
+hedge_over_as_drawn format g q observed zs other text (of_hedge u k entries read answer) t h is =
     let same = same_read _ (certificates.hedge u (certificates.hedge_view k)) (certificates.hedge t h) read.reads is.reads in
     subst (λ x. IsNotIdentifiableOver g zs (effect_on x.x x.y)) (same_hedge_target u t (certificates.hedge_view k) h same)
     (effect_lost_over g q observed u.x u.y answer.pair answer.models zs answer.under)
 
-certificate_refutes : (experiments : Lists) (bytes other text : List ℕ) → IsRightCertificate experiments bytes other text
-    → IsHedgeCertificateAsDrawn experiments bytes other text
-certificate_refutes experiments bytes other text b =
+certificate_refutes : (format : Format) (experiments : Lists) (bytes other : List ℕ) (text : Told) → IsRightCertificate format experiments bytes other text
+    → IsHedgeCertificateAsDrawn format experiments bytes other text
+certificate_refutes format experiments bytes other text b =
     let a = b.accepted in record {
       graph = b.graph;
       holds = b.holds;
       seen = b.seen;
       observed = b.observed;
       accepted = a;
-      not_identifiable = hedge_as_drawn b.graph b.seen b.observed a.sets other text a.answer;
+      not_identifiable = hedge_as_drawn format b.graph b.seen b.observed a.sets other text a.answer;
       not_identifiable_over = λ t h is zs are. subst (λ (ws : List ℕ). IsNotIdentifiableOver b.graph ws (effect_on t.x t.y))
           (sym (one_by_one (observed_names b.graph) experiments a.sets zs a.are.sets are.sets))
-          (hedge_over_as_drawn b.graph b.seen b.observed a.sets other text a.answer t h is);
+          (hedge_over_as_drawn format b.graph b.seen b.observed a.sets other text a.answer t h is);
     }
 
 checked : (r : Call) (uses : List Use) → Checked r uses → CheckedHedgeAsDrawn r uses
 checked r uses h = record {
   request = h.request;
-  text = h.text;
+  told = h.told;
   asks = h.asks;
   right = mapped (r.held h.request.file) (λ bytes. IfSome (r.held_second h.request.certificate)
-      (λ other. IsRightCertificate h.request.experiments bytes other h.text))
-      (λ bytes. IfSome (r.held_second h.request.certificate) (λ other. IsHedgeCertificateAsDrawn h.request.experiments bytes other h.text))
-      (λ bytes a. mapped (r.held_second h.request.certificate) (λ other. IsRightCertificate h.request.experiments bytes other h.text)
-      (λ other. IsHedgeCertificateAsDrawn h.request.experiments bytes other h.text)
-      (λ other b. certificate_refutes h.request.experiments bytes other h.text b) a) h.right;
+      (λ other. IsRightCertificate h.request.format h.request.experiments bytes other h.told))
+      (λ bytes. IfSome (r.held_second h.request.certificate) (λ other. IsHedgeCertificateAsDrawn h.request.format h.request.experiments bytes other h.told))
+      (λ bytes a. mapped (r.held_second h.request.certificate) (λ other. IsRightCertificate h.request.format h.request.experiments bytes other h.told)
+      (λ other. IsHedgeCertificateAsDrawn h.request.format h.request.experiments bytes other h.told)
+      (λ other b. certificate_refutes h.request.format h.request.experiments bytes other h.told b) a) h.right;
   whole = h.whole;
 }
 
@@ -314,8 +318,8 @@ common_lost : (g : ReadGraph) (q : MixedGraph) → IsObservedGraph g q → (zs :
 common_lost g q observed zs x y None right some = absurd (cc some)
 common_lost g q observed zs x y (Some k) right some = effect_lost_over g q observed x y k.pair right.hedge.counter zs right.under
 
-surrogated_on : (q : SurrogateRequest) (bytes text : List ℕ) (d : Diagram) → HoldsDiagram bytes d → SurrogateAnswer q.form d q.x q.y q.experiments No text
-    → IsStopAsDrawn q bytes text
+surrogated_on : (q : SurrogateRequest) (bytes : List ℕ) (text : Told) (d : Diagram) → HoldsDiagram bytes d
+    → SurrogateAnswer q.form d q.x q.y q.experiments No text → IsStopAsDrawn q bytes text
 surrogated_on q bytes text d holds a =
     let k = as_read d (λ p ns. surrogates.ListsAnswer q.form p (surrogate_lists d.read ns q.x q.y q.experiments) No text) a in
     let h = k.2 in
@@ -333,17 +337,17 @@ surrogated_on q bytes text d holds a =
       not_identifiable_over = common_lost d.read k.0 k.1 h.experiments h.x h.y h.answer.common h.answer.blocked;
     }
 
-surrogated : (r : Call) (uses : List Use) (text : List ℕ) → Appends r.before r.after text → CallAnswer r Surrogate uses No text
+surrogated : (r : Call) (uses : List Use) (text : Told) → Appends r.before r.after text.text → CallAnswer r Surrogate uses No text
     → WrittenFor surrogate_requests.IsRequest (λ q. q.file) IsStopAsDrawn r uses
 surrogated r uses text = written_for r Surrogate uses No text (λ q. q.file) IsStopAsDrawn (λ q h. h) (λ q. refl) (λ q. refl)
     (λ q is bytes a. surrogated_on q bytes text a.diagram a.holds a.answer)
 
 -- ---- separate and rule
 
-separated_on : (q : SeparateRequest) (bytes text : List ℕ) (d : Diagram) → HoldsDiagram bytes d → SeparateAnswer d q.x q.y q.given No text
+separated_on : (q : SeparateRequest) (bytes : List ℕ) (text : Told) (d : Diagram) → HoldsDiagram bytes d → SeparateAnswer q.format d q.x q.y q.given No text
     → IsDependenceAsDrawn q bytes text
 separated_on q bytes text d holds a =
-    let k = as_read d (λ p ns. separations.ListsAnswer p (query_lists d.read ns q.x q.y q.given) No text) a in
+    let k = as_read d (λ p ns. separations.ListsAnswer q.format p (query_lists d.read ns q.x q.y q.given) No text) a in
     let g = d.read in
     let h = k.2 in
     record {
@@ -359,15 +363,15 @@ separated_on q bytes text d holds a =
       dependent = dependence_is_drawn (graph_of g.graph) g.graph.valid (has g.latent.bits) k.0 k.1 (has h.x) (has h.y) (has h.w) h.answer.dependent;
     }
 
-separated : (r : Call) (uses : List Use) (text : List ℕ) → Appends r.before r.after text → CallAnswer r Separate uses No text
+separated : (r : Call) (uses : List Use) (text : Told) → Appends r.before r.after text.text → CallAnswer r Separate uses No text
     → WrittenFor separate_requests.IsRequest (λ q. q.file) IsDependenceAsDrawn r uses
 separated r uses text = written_for r Separate uses No text (λ q. q.file) IsDependenceAsDrawn (λ q h. h) (λ q. refl) (λ q. refl)
     (λ q is bytes a. separated_on q bytes text a.diagram a.holds a.answer)
 
-ruled_on : (q : RuleRequest) (bytes text : List ℕ) (d : Diagram) → HoldsDiagram bytes d → RuleAnswer q.rule d q.y q.x q.z q.given No text
+ruled_on : (q : RuleRequest) (bytes : List ℕ) (text : Told) (d : Diagram) → HoldsDiagram bytes d → RuleAnswer q.format q.rule d q.y q.x q.z q.given No text
     → IsFailureAsDrawn q bytes text
 ruled_on q bytes text d holds a =
-    let k = as_read d (λ p ns. rules.ListsAnswer q.rule p (rule_lists d.read ns q.y q.x q.z q.given) No text) a in
+    let k = as_read d (λ p ns. rules.ListsAnswer q.format q.rule p (rule_lists d.read ns q.y q.x q.z q.given) No text) a in
     let g = d.read in
     let h = k.2 in
     record {
@@ -385,14 +389,14 @@ ruled_on q bytes text d holds a =
           (right_of q.rule (has h.x) (has h.y) (has h.z) (has h.given)) h.answer.fails;
     }
 
-ruled : (r : Call) (uses : List Use) (text : List ℕ) → Appends r.before r.after text → CallAnswer r Rule uses No text
+ruled : (r : Call) (uses : List Use) (text : Told) → Appends r.before r.after text.text → CallAnswer r Rule uses No text
     → WrittenFor rule_requests.IsRequest (λ q. q.file) IsFailureAsDrawn r uses
 ruled r uses text = written_for r Rule uses No text (λ q. q.file) IsFailureAsDrawn (λ q h. h) (λ q. refl) (λ q. refl)
     (λ q is bytes a. ruled_on q bytes text a.diagram a.holds a.answer)
 
 -- ---- a run
 
-pub refuted_as_drawn_of : (r : Call) (code : ℕ) (o : Outcome) (text : List ℕ) → code ≡ code_of o → (code ≤ 1 → Gave r o text) → HeadlineOfCheck r code
+pub refuted_as_drawn_of : (r : Call) (code : ℕ) (o : Outcome) (text : Told) → code ≡ code_of o → (code ≤ 1 → Gave r o text) → HeadlineOfCheck r code
     → RefutedAsDrawn r code
 refuted_as_drawn_of r code No text c g accepted = let h = g (omega (arith, c)) in record {
   identified = λ uses call one. identified r uses text h.whole (h.answers Identify uses call);

@@ -3,6 +3,7 @@ use Rattle.std.specs.Prelude.{ℕ, List, [], ◌∷◌, Option, IfSome}
 use Rattle.std.specs.Option.{option_or}
 use Rattle.std.specs.Io.KnownBytes.{Appends}
 use Rattle.command_words.specs.Form.{Text, Row, Use, IsCall}
+use Rattle.replies.specs.Told.{Told}
 use Rattle.command_run.specs.Run.{Run}
 
 -- the words; what is held under a name where it is that of a file, and where it is that of a second input; and what the output had before and after,
@@ -33,19 +34,19 @@ abbrev pub IsCallOf : Row → List Text → List Use → Type 0
 IsCallOf row words uses = IsCall (row ∷ []) words row uses
 
 -- a text was written for a request that these uses ask for, and on the bytes of the request's file it is one that shows what it is to
-pub record WrittenFor {Asked : Type 0} (asks_for : List Use → Asked → Type 0) (file : Asked → Text) (shows : Asked → (bytes text : List ℕ) → Type 0)
+pub record WrittenFor {Asked : Type 0} (asks_for : List Use → Asked → Type 0) (file : Asked → Text) (shows : Asked → (bytes : List ℕ) (told : Told) → Type 0)
     (r : Call) (uses : List Use) : Type 0 where
   pub request : Asked
-  pub text : List ℕ
+  pub told : Told
   pub asks : asks_for uses request
-  pub right : IfSome (r.held (file request)) (λ bytes. shows request bytes text)
-  pub whole : Appends r.before r.after text
+  pub right : IfSome (r.held (file request)) (λ bytes. shows request bytes told)
+  pub whole : Appends r.before r.after told.text
 
 -- the same of a request with a second input, on the bytes of both
 pub record WrittenForBoth {Asked : Type 0} (asks_for : List Use → Asked → Type 0) (file second : Asked → Text)
-    (shows : Asked → (bytes other text : List ℕ) → Type 0) (r : Call) (uses : List Use) : Type 0 where
+    (shows : Asked → (bytes other : List ℕ) (told : Told) → Type 0) (r : Call) (uses : List Use) : Type 0 where
   pub request : Asked
-  pub text : List ℕ
+  pub told : Told
   pub asks : asks_for uses request
-  pub right : IfSome (r.held (file request)) (λ bytes. IfSome (r.held_second (second request)) (λ other. shows request bytes other text))
-  pub whole : Appends r.before r.after text
+  pub right : IfSome (r.held (file request)) (λ bytes. IfSome (r.held_second (second request)) (λ other. shows request bytes other told))
+  pub whole : Appends r.before r.after told.text

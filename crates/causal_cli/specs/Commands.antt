@@ -96,7 +96,8 @@ request_of (request.Surrogate q) = of command.Surrogate (of_surrogate.request_of
 
 -- what is left to answer on a diagram
 abbrev pub left_of : Diagram → SecondInput → Remainder
-left_of d (input.Check experiments certificate) = check_left d (masks_of experiments.items) certificate.now
-left_of d (input.Evaluate found counts count exact zero) = evaluate_left (effect_in d.observed found) counts.now (option_map (λ s. s.now) count) exact zero
-left_of d (input.Equivalent sets second) = equivalent_left d sets second.now
-left_of d (input.Implications pairs counts count) = implications_left d pairs.items counts.now (option_map (λ s. s.now) count)
+left_of d (input.Check experiments certificate format) = check_left format d (masks_of experiments.items) certificate.now
+left_of d (input.Evaluate found counts count exact zero format) =
+    evaluate_left format (effect_in d.observed found) counts.now (option_map (λ s. s.now) count) exact zero
+left_of d (input.Equivalent sets second format) = equivalent_left format d sets second.now
+left_of d (input.Implications pairs counts count format) = implications_left format d pairs.items counts.now (option_map (λ s. s.now) count)

@@ -28,6 +28,8 @@ use Rattle.count_answers.specs.Reads as counts
 use Rattle.implications.specs.Separable.{only}
 use Rattle.implications.specs.declared.pairs.Implication.{Implication}
 use Rattle.implied_differences.specs.declared.largest.Difference.{Difference}
+use Rattle.replies.specs.declared.format.Format.{Format}
+use Rattle.replies.specs.Told.{Told}
 use Rattle.replies.specs.declared.outcome.Outcome.TheVariants.{Yes}
 use Rattle.diagram.specs.Observed.{IsObservedGraph, observed_names}
 use Rattle.diagram.specs.Sets.{Names, effect_lists, query_lists, rule_lists}
@@ -72,51 +74,51 @@ use Rattle.causal_cli.specs.Headline.{IsRightAsDrawn}
 -- ---- identify
 
 -- the bytes hold a graph, the lists name two sets, and the formula of the answer for them equals their effect in the diagram as drawn
-pub record IsFormulaAsDrawn (form : Form) (bytes : List ℕ) (x y : Names) (text : List ℕ) : Type 0 where
+pub record IsFormulaAsDrawn (form : Form) (bytes : List ℕ) (x y : Names) (told : Told) : Type 0 where
   pub graph : ReadGraph
   pub holds : HoldsGraph bytes graph
   pub seen : MixedGraph
   pub observed : IsObservedGraph graph seen
-  pub sets : IsOfSets (effect_lists graph (observed_names graph) x y) (λ on of. (shows : ShowsFormula form seen (observed_names graph) on of text)
+  pub sets : IsOfSets (effect_lists graph (observed_names graph) x y) (λ on of. (shows : ShowsFormula form seen (observed_names graph) on of told)
       × IsRightAsDrawn graph (effect_on on of) shows.formula)
 
 -- the same of the answer for a target with a condition
-pub record IsConditionalAsDrawn (form : Form) (bytes : List ℕ) (x y : Names) (given : List (List ℕ)) (text : List ℕ) : Type 0 where
+pub record IsConditionalAsDrawn (form : Form) (bytes : List ℕ) (x y : Names) (given : List (List ℕ)) (told : Told) : Type 0 where
   pub graph : ReadGraph
   pub holds : HoldsGraph bytes graph
   pub seen : MixedGraph
   pub observed : IsObservedGraph graph seen
   pub target : PlainTarget
   pub sets : AreTargetSets (query_lists graph (observed_names graph) x y (Some given)) target
-  pub shows : ShowsConditional form seen (observed_names graph) target text
+  pub shows : ShowsConditional form seen (observed_names graph) target told
   pub right : IsRightAsDrawn graph target shows.formula
 
 -- the one or the other, by whether something is given
-abbrev pub IsTextAsDrawn : Form → (bytes : List ℕ) → (x y given : Names) → (text : List ℕ) → Type 0
-IsTextAsDrawn form bytes x y None text = IsFormulaAsDrawn form bytes x y text
-IsTextAsDrawn form bytes x y (Some []) text = IsFormulaAsDrawn form bytes x y text
-IsTextAsDrawn form bytes x y (Some (n ∷ ns)) text = IsConditionalAsDrawn form bytes x y (n ∷ ns) text
+abbrev pub IsTextAsDrawn : Form → (bytes : List ℕ) → (x y given : Names) → (told : Told) → Type 0
+IsTextAsDrawn form bytes x y None told = IsFormulaAsDrawn form bytes x y told
+IsTextAsDrawn form bytes x y (Some []) told = IsFormulaAsDrawn form bytes x y told
+IsTextAsDrawn form bytes x y (Some (n ∷ ns)) told = IsConditionalAsDrawn form bytes x y (n ∷ ns) told
 
 -- such a text was written for the bytes of the file, and for the lists and the form, that these uses ask for
 abbrev pub IdentifiedAsDrawn : Call → List Use → Type 0
-IdentifiedAsDrawn = WrittenFor IsRequest (λ q. q.file) (λ q bytes text. IsTextAsDrawn q.form bytes q.x q.y q.given text)
+IdentifiedAsDrawn = WrittenFor IsRequest (λ q. q.file) (λ q bytes told. IsTextAsDrawn q.form bytes q.x q.y q.given told)
 
 -- ---- check
 
 -- the bytes of the file hold a graph; those of the certificate are accepted in it; and where they are the certificate of a formula, that equals the
 -- effect of its target in the diagram as drawn
-pub record IsCertificateAsDrawn (experiments : Lists) (bytes other text : List ℕ) : Type 0 where
+pub record IsCertificateAsDrawn (format : Format) (experiments : Lists) (bytes other : List ℕ) (told : Told) : Type 0 where
   pub graph : ReadGraph
   pub holds : HoldsGraph bytes graph
   pub seen : MixedGraph
   pub observed : IsObservedGraph graph seen
-  pub accepted : check.ListsAnswer seen graph.names (observed_names graph) experiments other Yes text
+  pub accepted : check.ListsAnswer format seen graph.names (observed_names graph) experiments other Yes told
   pub right : (t : PlainTarget) (f : PlainFormula) (d : PlainDerivation) → HoldsCertificate (observed_names graph) other (certificates.formula t f d)
       → IsRightAsDrawn graph t f
 
 -- such a text was written for the bytes of the file and of the certificate, and for the experiments, that these uses ask for
 abbrev pub CheckedAsDrawn : Call → List Use → Type 0
-CheckedAsDrawn = WrittenForBoth check_requests.IsRequest (λ q. q.file) (λ q. q.certificate) (λ q. IsCertificateAsDrawn q.experiments)
+CheckedAsDrawn = WrittenForBoth check_requests.IsRequest (λ q. q.file) (λ q. q.certificate) (λ q. IsCertificateAsDrawn q.format q.experiments)
 
 -- ---- adjust
 
@@ -125,13 +127,13 @@ abbrev pub AdjustsAsDrawn : ReadGraph → (x y z : ℕ) → Type 0
 AdjustsAsDrawn g x y z = IsRightAsDrawn g (effect_on x y) (adjustment_formula x y z)
 
 -- so does the formula of each set of the answer: of z, or of the minimal sets that it lists
-abbrev pub EachAdjustsAsDrawn : (query : Query) (g : ReadGraph) (q : MixedGraph) (x y z : ℕ) (text : List ℕ)
-    → SetsAnswer query q (observed_names g) x y z Yes text → Type 0
-EachAdjustsAsDrawn (listing most) g q x y z text shows = All (λ s. AdjustsAsDrawn g x y s.bits) shows.sets
-EachAdjustsAsDrawn query g q x y z text shows = AdjustsAsDrawn g x y z
+abbrev pub EachAdjustsAsDrawn : (format : Format) (query : Query) (g : ReadGraph) (q : MixedGraph) (x y z : ℕ) (told : Told)
+    → SetsAnswer format query q (observed_names g) x y z Yes told → Type 0
+EachAdjustsAsDrawn format (listing most) g q x y z told shows = All (λ s. AdjustsAsDrawn g x y s.bits) shows.sets
+EachAdjustsAsDrawn format query g q x y z told shows = AdjustsAsDrawn g x y z
 
 -- the bytes hold a graph, the lists name these sets, and the answer for them is so
-pub record IsAdjustmentAsDrawn (q : adjust_requests.Request) (bytes text : List ℕ) : Type 0 where
+pub record IsAdjustmentAsDrawn (q : adjust_requests.Request) (bytes : List ℕ) (told : Told) : Type 0 where
   pub graph : ReadGraph
   pub holds : HoldsGraph bytes graph
   pub seen : MixedGraph
@@ -140,8 +142,8 @@ pub record IsAdjustmentAsDrawn (q : adjust_requests.Request) (bytes text : List 
   pub y : ℕ
   pub z : ℕ
   pub sets : AreSets (adjust_lists graph (observed_names graph) q.x q.y q.query) x y z
-  pub shows : SetsAnswer q.query seen (observed_names graph) x y z Yes text
-  pub right : EachAdjustsAsDrawn q.query graph seen x y z text shows
+  pub shows : SetsAnswer q.format q.query seen (observed_names graph) x y z Yes told
+  pub right : EachAdjustsAsDrawn q.format q.query graph seen x y z told shows
 
 -- such a text was written for the bytes of the file that these uses ask for
 abbrev pub AdjustedAsDrawn : Call → List Use → Type 0
@@ -150,7 +152,7 @@ AdjustedAsDrawn = WrittenFor adjust_requests.IsRequest (λ q. q.file) IsAdjustme
 -- ---- surrogate
 
 -- the bytes hold a graph, the lists name these sets and experiments, and the formula of the answer for them equals the effect in the diagram as drawn
-pub record IsSurrogateAsDrawn (q : surrogate_requests.Request) (bytes text : List ℕ) : Type 0 where
+pub record IsSurrogateAsDrawn (q : surrogate_requests.Request) (bytes : List ℕ) (told : Told) : Type 0 where
   pub graph : ReadGraph
   pub holds : HoldsGraph bytes graph
   pub seen : MixedGraph
@@ -159,7 +161,7 @@ pub record IsSurrogateAsDrawn (q : surrogate_requests.Request) (bytes text : Lis
   pub y : ℕ
   pub experiments : List ℕ
   pub sets : AreSurrogateSets (surrogate_lists graph (observed_names graph) q.x q.y q.experiments) x y experiments
-  pub shows : surrogates.ShowsFormula q.form seen (observed_names graph) experiments x y text
+  pub shows : surrogates.ShowsFormula q.form seen (observed_names graph) experiments x y told
   pub right : IsRightAsDrawn graph (effect_on x y) shows.formula
 
 -- such a text was written for the bytes of the file that these uses ask for
@@ -178,14 +180,14 @@ CoversAsDrawn covers g e t v = (m : FiniteModel) → Fits (graph_of g.graph) m �
     → covers v.quantity (drawn_effect (has g.latent.bits) m (target_of e) s)
 
 -- so does each value of the answer, in exact fractions or else in bounds
-abbrev pub EachCoversAsDrawn : (is_exact zero : Bool) (g : ReadGraph) (e : PlainEffect) (t : Table) (text : List ℕ) → QuantityAnswer is_exact zero e t Yes text
-    → Type 0
-EachCoversAsDrawn true zero g e t text shows = All (CoversAsDrawn Equals g e t) shows.values.values
-EachCoversAsDrawn false zero g e t text shows = All (CoversAsDrawn Covers g e t) shows.values.values
+abbrev pub EachCoversAsDrawn : (format : Format) (is_exact zero : Bool) (g : ReadGraph) (e : PlainEffect) (t : Table) (told : Told)
+    → QuantityAnswer format is_exact zero e t Yes told → Type 0
+EachCoversAsDrawn format true zero g e t told shows = All (CoversAsDrawn Equals g e t) shows.values.values
+EachCoversAsDrawn format false zero g e t told shows = All (CoversAsDrawn Covers g e t) shows.values.values
 
 -- the bytes hold a graph, the lists name an effect in its observed graph that has a formula, found in the way that is asked for, which equals it in
 -- the diagram as drawn, the other bytes hold a table of its counts, and the values of the answer over it are so
-pub record IsEvaluationAsDrawn (q : evaluate_requests.Request) (bytes other text : List ℕ) : Type 0 where
+pub record IsEvaluationAsDrawn (q : evaluate_requests.Request) (bytes other : List ℕ) (told : Told) : Type 0 where
   pub graph : ReadGraph
   pub holds : HoldsGraph bytes graph
   pub effect : PlainEffect
@@ -196,8 +198,8 @@ pub record IsEvaluationAsDrawn (q : evaluate_requests.Request) (bytes other text
   pub formula : IsRightAsDrawn graph (target_of effect) effect.formula
   pub counted : Table
   pub read : counts.HoldsCounts effect.names (used_in effect) q.count other counted
-  pub shows : QuantityAnswer q.exact q.zero effect counted Yes text
-  pub right : EachCoversAsDrawn q.exact q.zero graph effect counted text shows
+  pub shows : QuantityAnswer q.format q.exact q.zero effect counted Yes told
+  pub right : EachCoversAsDrawn q.format q.exact q.zero graph effect counted told shows
 
 -- such a text was written for the bytes of the file and of the counts that these uses ask for
 abbrev pub EvaluatedAsDrawn : Call → List Use → Type 0
@@ -206,7 +208,7 @@ EvaluatedAsDrawn = WrittenForBoth evaluate_requests.IsRequest (λ q. q.file) (λ
 -- ---- separate and rule
 
 -- the bytes hold a graph, the lists name these sets, which are separated, and x and y are independent given w in every model of the diagram as drawn
-pub record IsSeparationAsDrawn (q : separate_requests.Request) (bytes text : List ℕ) : Type 0 where
+pub record IsSeparationAsDrawn (q : separate_requests.Request) (bytes : List ℕ) (told : Told) : Type 0 where
   pub graph : ReadGraph
   pub holds : HoldsGraph bytes graph
   pub seen : MixedGraph
@@ -215,12 +217,12 @@ pub record IsSeparationAsDrawn (q : separate_requests.Request) (bytes text : Lis
   pub y : ℕ
   pub w : ℕ
   pub sets : AreSets (query_lists graph (observed_names graph) q.x q.y q.given) x y w
-  pub shows : ShowsSeparation seen (observed_names graph) x y w text
+  pub shows : ShowsSeparation q.format seen (observed_names graph) x y w told
   pub independent : AreIndependentAsDrawn (graph_of graph.graph) (has graph.latent.bits) (has x) (has y) (has w)
 
 -- the bytes hold a graph, the lists name these sets, for which the rule holds, and its equation holds in every model of the diagram as drawn that is
 -- positive on the observed vertices
-pub record IsEquationAsDrawn (q : rule_requests.Request) (bytes text : List ℕ) : Type 0 where
+pub record IsEquationAsDrawn (q : rule_requests.Request) (bytes : List ℕ) (told : Told) : Type 0 where
   pub graph : ReadGraph
   pub holds : HoldsGraph bytes graph
   pub seen : MixedGraph
@@ -230,7 +232,7 @@ pub record IsEquationAsDrawn (q : rule_requests.Request) (bytes text : List ℕ)
   pub z : ℕ
   pub given : ℕ
   pub sets : AreRuleSets (rule_lists graph (observed_names graph) q.y q.x q.z q.given) y doing z given
-  pub shows : ShowsEquation q.rule seen (observed_names graph) y doing z given text
+  pub shows : ShowsEquation q.format q.rule seen (observed_names graph) y doing z given told
   pub equation : AreEqualSidesAsDrawn (graph_of graph.graph) (has graph.latent.bits) (left_of q.rule (has doing) (has y) (has z) (has given))
       (right_of q.rule (has doing) (has y) (has z) (has given))
 
@@ -241,12 +243,12 @@ abbrev pub IsIndependentAsDrawn : ReadGraph → Implication → Type 0
 IsIndependentAsDrawn g i = AreIndependentAsDrawn (graph_of g.graph) (has g.latent.bits) (only i.a) (only i.b) (has i.given.bits)
 
 -- the bytes hold a graph, and each pair of the answer is so
-pub record ArePairsAsDrawn (bytes text : List ℕ) : Type 0 where
+pub record ArePairsAsDrawn (format : Format) (bytes : List ℕ) (told : Told) : Type 0 where
   pub graph : ReadGraph
   pub holds : HoldsGraph bytes graph
   pub seen : MixedGraph
   pub observed : IsObservedGraph graph seen
-  pub shows : ShowsPairs seen (observed_names graph) text
+  pub shows : ShowsPairs format seen (observed_names graph) told
   pub independent : All (IsIndependentAsDrawn graph) shows.list
 
 -- the difference is 0 wherever a model of the diagram as drawn, positive or not, has the counts of the observed vertices: its observed weights are
@@ -256,7 +258,7 @@ IsZeroAsDrawn g q t d = (m : FiniteModel) → Fits (graph_of g.graph) m → IsMa
     (total t.rows) m → d.value ≡ pos 0
 
 -- the bytes hold a graph with these pairs, the other bytes hold a table of their counts, each pair is so, and so is its largest difference
-pub record AreDifferencesAsDrawn (count : Option Text) (bytes other text : List ℕ) : Type 0 where
+pub record AreDifferencesAsDrawn (format : Format) (count : Option Text) (bytes other : List ℕ) (told : Told) : Type 0 where
   pub graph : ReadGraph
   pub holds : HoldsGraph bytes graph
   pub seen : MixedGraph
@@ -266,22 +268,22 @@ pub record AreDifferencesAsDrawn (count : Option Text) (bytes other text : List 
   pub independent : All (IsIndependentAsDrawn graph) list
   pub counted : Table
   pub read : counts.HoldsCounts (observed_names graph) (pair_columns.used_in list) count other counted
-  pub shows : ShowsDifferences (pairs_of seen (observed_names graph) list) counted text
+  pub shows : ShowsDifferences format (pairs_of seen (observed_names graph) list) counted told
   pub zero : All (λ m. IsZeroAsDrawn graph seen counted m.difference) shows.measured
 
 -- the one or the other, by whether counts are given
-abbrev pub AreImpliedAsDrawn : Call → (file : Text) (second count : Option Text) → List ℕ → Type 0
-AreImpliedAsDrawn r file None count text = IfSome (r.held file) (λ bytes. ArePairsAsDrawn bytes text)
-AreImpliedAsDrawn r file (Some second) count text = IfSome (r.held file)
-    (λ bytes. IfSome (r.held_second second) (λ other. AreDifferencesAsDrawn count bytes other text))
+abbrev pub AreImpliedAsDrawn : Call → Format → (file : Text) (second count : Option Text) → Told → Type 0
+AreImpliedAsDrawn r format file None count told = IfSome (r.held file) (λ bytes. ArePairsAsDrawn format bytes told)
+AreImpliedAsDrawn r format file (Some second) count told = IfSome (r.held file)
+    (λ bytes. IfSome (r.held_second second) (λ other. AreDifferencesAsDrawn format count bytes other told))
 
 -- such a text was written for the bytes of the file, and of the counts where there are some, that these uses ask for
 pub record ImpliedAsDrawn (r : Call) (uses : List Use) : Type 0 where
   pub request : implications_requests.Request
-  pub text : List ℕ
+  pub told : Told
   pub asks : implications_requests.IsRequest uses request
-  pub right : AreImpliedAsDrawn r request.file request.counts request.count text
-  pub whole : Appends r.before r.after text
+  pub right : AreImpliedAsDrawn r request.format request.file request.counts request.count told
+  pub whole : Appends r.before r.after told.text
 
 -- ---- a run
 

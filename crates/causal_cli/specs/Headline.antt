@@ -11,13 +11,15 @@ use Rattle.hedge.specs.declared.hedge.Hedge.{Hedge}
 use Rattle.counter_models.specs.declared.counter_pair.CounterPair.{CounterPair}
 use Rattle.hidden_models.specs.FoldingLaws.{EqualsAsDrawn}
 use Rattle.identify.specs.Answers.{IsRightFormula, IsRightHedge}
+use Rattle.replies.specs.declared.format.Format.{Format}
+use Rattle.replies.specs.Told.{Told, answer_of}
 use Rattle.replies.specs.declared.outcome.Outcome.TheVariants.{Yes}
 use Rattle.diagram.specs.Observed.{IsObservedGraph, observed_names}
 use Rattle.diagram.specs.Sets.{effect_lists}
 use Rattle.replies.specs.Observed.{HoldsGraph}
 use Rattle.effect_answers.specs.Effects.{IsOfSets}
 use Rattle.identify_command.specs.declared.form.Form.{Form}
-use Rattle.identify_command.specs.Answers.{formula_text, hedge_text}
+use Rattle.identify_command.specs.Answers.{formula_shown, hedge_shown}
 use Rattle.identify_command.specs.Requests.{Request, IsRequest, identify_row}
 use Rattle.check_command.specs.Answers as check
 use Rattle.check_command.specs.Requests.{check_row}
@@ -30,34 +32,34 @@ use Rattle.causal_cli.specs.Calls.{Call, IsCallOf, WrittenFor, WrittenForBoth}
 abbrev pub IsRightAsDrawn : ReadGraph → PlainTarget → PlainFormula → Type 0
 IsRightAsDrawn g t f = EqualsAsDrawn (graph_of g.graph) (has g.latent.bits) t f
 
--- The text shows a formula for P(y | do(x)). It has no intervention, and a derivation that the checker accepts; it equals the effect at each
+-- What is told shows a formula for P(y | do(x)). It has no intervention, and a derivation that the checker accepts; it equals the effect at each
 -- assignment in each positive finite model that fits the observed graph q, and in the diagram as drawn.
-pub record ShowsRightFormula (form : Form) (g : ReadGraph) (q : MixedGraph) (x y : ℕ) (text : List ℕ) : Type 0 where
+pub record ShowsRightFormula (form : Form) (g : ReadGraph) (q : MixedGraph) (x y : ℕ) (told : Told) : Type 0 where
   pub formula : PlainFormula
   pub derivation : PlainDerivation
   pub right : IsRightFormula q x y formula derivation
   pub drawn : IsRightAsDrawn g (effect_on x y) formula
-  pub prints : text ≡ formula_text form.writing (observed_names g) (effect_on x y) formula derivation
+  pub prints : told ≡ answer_of (formula_shown form (observed_names g) (effect_on x y) formula derivation)
 
--- The text shows a hedge for P(y | do(x)), whose two positive finite models fit the observed graph q, agree on all observations, and differ on the
+-- What is told shows a hedge for P(y | do(x)), whose two positive finite models fit the observed graph q, agree on all observations, and differ on the
 -- effect under every value of x.
-pub record ShowsRightHedge (form : Form) (g : ReadGraph) (q : MixedGraph) (x y : ℕ) (text : List ℕ) : Type 0 where
+pub record ShowsRightHedge (form : Form) (g : ReadGraph) (q : MixedGraph) (x y : ℕ) (told : Told) : Type 0 where
   pub hedge : Hedge
   pub models : CounterPair
   pub right : IsRightHedge q x y hedge models
-  pub prints : text ≡ hedge_text form.writing (observed_names g) x y hedge models
+  pub prints : told ≡ answer_of (hedge_shown form (observed_names g) x y hedge models)
 
 -- the bytes hold a graph, in whose observed graph the lists of the request name two sets, for which the text is such a one; where nothing is given
-pub record IsShown (shows : Form → ReadGraph → MixedGraph → (x y : ℕ) → List ℕ → Type 0) (q : Request) (bytes text : List ℕ) : Type 0 where
+pub record IsShown (shows : Form → ReadGraph → MixedGraph → (x y : ℕ) → Told → Type 0) (q : Request) (bytes : List ℕ) (told : Told) : Type 0 where
   pub graph : ReadGraph
   pub holds : HoldsGraph bytes graph
   pub seen : MixedGraph
   pub observed : IsObservedGraph graph seen
-  pub sets : IsOfSets (effect_lists graph (observed_names graph) q.x q.y) (λ x y. shows q.form graph seen x y text)
+  pub sets : IsOfSets (effect_lists graph (observed_names graph) q.x q.y) (λ x y. shows q.form graph seen x y told)
 
 -- such a text was written for the bytes of the file that these uses ask for; nothing is said where they give a condition
-abbrev pub Identified : (Form → ReadGraph → MixedGraph → (x y : ℕ) → List ℕ → Type 0) → Call → List Use → Type 0
-Identified shows = WrittenFor IsRequest (λ q. q.file) (λ q bytes text. unwrap_or q.given [] ≡ [] → IsShown shows q bytes text)
+abbrev pub Identified : (Form → ReadGraph → MixedGraph → (x y : ℕ) → Told → Type 0) → Call → List Use → Type 0
+Identified shows = WrittenFor IsRequest (λ q. q.file) (λ q bytes told. unwrap_or q.given [] ≡ [] → IsShown shows q bytes told)
 
 -- where the words ask for `identify` without a condition, status 0 says that a right formula was written, and status 1 that a right hedge was
 pub record Headline (r : Call) (code : ℕ) : Type 0 where
@@ -67,16 +69,16 @@ pub record Headline (r : Call) (code : ℕ) : Type 0 where
 -- The bytes of the file hold a graph, and those of the certificate are accepted in its observed graph `seen`, as the text says:
 -- each term of its formula is observed or under one of the experiments, and it equals its effect at each assignment in each positive finite model that fits,
 -- or its hedge has two positive finite models that fit, agree on all observations and under each of the experiments, and differ on the effect.
-pub record IsRightCertificate (experiments : Lists) (bytes other : List ℕ) (text : List ℕ) : Type 0 where
+pub record IsRightCertificate (format : Format) (experiments : Lists) (bytes other : List ℕ) (told : Told) : Type 0 where
   pub graph : ReadGraph
   pub holds : HoldsGraph bytes graph
   pub seen : MixedGraph
   pub observed : IsObservedGraph graph seen
-  pub accepted : check.ListsAnswer seen graph.names (observed_names graph) experiments other Yes text
+  pub accepted : check.ListsAnswer format seen graph.names (observed_names graph) experiments other Yes told
 
 -- a certificate that these uses ask about was accepted for the file and the experiments that they ask for, of which there may be none, and the text was written
 abbrev pub Checked : Call → List Use → Type 0
-Checked = WrittenForBoth check_requests.IsRequest (λ q. q.file) (λ q. q.certificate) (λ q. IsRightCertificate q.experiments)
+Checked = WrittenForBoth check_requests.IsRequest (λ q. q.file) (λ q. q.certificate) (λ q. IsRightCertificate q.format q.experiments)
 
 -- where the words ask for `check`, status 0 says that the certificate is right
 abbrev pub HeadlineOfCheck : Call → ℕ → Type 0

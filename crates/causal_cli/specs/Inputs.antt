@@ -2,6 +2,7 @@
 use Rattle.std.specs.Prelude.{ℕ, ◌≡◌, ◌<◌, List, length, option_map}
 use Rattle.command_words.specs.Form.{Text}
 use Rattle.diagram.specs.declared.diagram.Diagram.{Diagram}
+use Rattle.replies.specs.Told.{Told}
 use Rattle.replies.specs.declared.outcome.Outcome.{Outcome}
 use Rattle.command_run.specs.Commands.{Request, Asks, file_of, second_of}
 use Rattle.command_run.specs.Answers.{SecondAnswer}
@@ -10,8 +11,8 @@ use Rattle.causal_cli.specs.declared.inputs.Inputs.{Inputs}
 
 -- of a second input with more bytes than this no answer tells which they are
 abbrev pub IsEnough : Request commands → ℕ → Type 0
-IsEnough q most = (d : Diagram) (a b : List ℕ) → most < length a → most < length b → (o : Outcome) (text : List ℕ) → SecondAnswer commands q d a o text
-    → SecondAnswer commands q d b o text
+IsEnough q most = (d : Diagram) (a b : List ℕ) → most < length a → most < length b → (o : Outcome) (told : Told) → SecondAnswer commands q d a o told
+    → SecondAnswer commands q d b o told
 
 -- the names of the file and of the second input of a request, and the most bytes of that which an answer reads
 pub record AreInputsOf (q : Request commands) (i : Inputs) : Type 0 where

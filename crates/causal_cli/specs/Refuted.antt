@@ -15,6 +15,8 @@ use Rattle.hidden_models.specs.FoldingLaws.{EqualsAsDrawn}
 use Rattle.hidden_models.specs.Statements.{AreDependentAsDrawn, DifferSomewhereAsDrawn}
 use Rattle.hidden_models.specs.Unfolding.{NotIdentifiableAsDrawn, NotIdentifiableOverAsDrawn, FailsSomewhereAsDrawn}
 use Rattle.adjustment.specs.Formulas.{adjustment_formula}
+use Rattle.replies.specs.declared.format.Format.{Format}
+use Rattle.replies.specs.Told.{Told}
 use Rattle.replies.specs.declared.outcome.Outcome.TheVariants.{Yes, No}
 use Rattle.diagram.specs.Observed.{IsObservedGraph, observed_names}
 use Rattle.diagram.specs.Sets.{Names, effect_lists, query_lists, rule_lists}
@@ -77,7 +79,7 @@ RefutesAdjustment (listing most) g q x y z = (w : ℕ) → AreThreeSets q.vertic
 
 -- the bytes hold a graph, the lists name these sets, the text is the answer to the query that nothing may be adjusted for, or not z, and this is said of
 -- models
-pub record IsNoAdjustmentFor (x y : Names) (query : Query) (bytes text : List ℕ) : Type 0 where
+pub record IsNoAdjustmentFor (format : Format) (x y : Names) (query : Query) (bytes : List ℕ) (told : Told) : Type 0 where
   pub graph : ReadGraph
   pub holds : HoldsGraph bytes graph
   pub seen : MixedGraph
@@ -86,66 +88,66 @@ pub record IsNoAdjustmentFor (x y : Names) (query : Query) (bytes text : List �
   pub ys : ℕ
   pub z : ℕ
   pub sets : AreSets (adjust_lists graph (observed_names graph) x y query) xs ys z
-  pub shows : SetsAnswer query seen (observed_names graph) xs ys z No text
+  pub shows : SetsAnswer format query seen (observed_names graph) xs ys z No told
   pub refutes : RefutesAdjustment query graph seen xs ys z
 
 -- so it is for the query that is asked
-abbrev pub IsNoAdjustmentAsDrawn : adjust_requests.Request → (bytes text : List ℕ) → Type 0
-IsNoAdjustmentAsDrawn q bytes text = IsNoAdjustmentFor q.x q.y q.query bytes text
+abbrev pub IsNoAdjustmentAsDrawn : adjust_requests.Request → (bytes : List ℕ) (told : Told) → Type 0
+IsNoAdjustmentAsDrawn q bytes told = IsNoAdjustmentFor q.format q.x q.y q.query bytes told
 
 -- ---- identify and evaluate
 
 -- the bytes hold a graph, the lists name two sets, and the text shows, in the words of its command, a hedge for an effect that isn't identifiable in
 -- the diagram as drawn
-pub record IsHedgeAsDrawn (shows : MixedGraph → List (List ℕ) → (x y : ℕ) → List ℕ → Type 0) (bytes : List ℕ) (x y : Names) (text : List ℕ) : Type 0 where
+pub record IsHedgeAsDrawn (shows : MixedGraph → List (List ℕ) → (x y : ℕ) → Told → Type 0) (bytes : List ℕ) (x y : Names) (told : Told) : Type 0 where
   pub graph : ReadGraph
   pub holds : HoldsGraph bytes graph
   pub seen : MixedGraph
   pub observed : IsObservedGraph graph seen
-  pub sets : IsOfSets (effect_lists graph (observed_names graph) x y) (λ on of. shows seen (observed_names graph) on of text
+  pub sets : IsOfSets (effect_lists graph (observed_names graph) x y) (λ on of. shows seen (observed_names graph) on of told
       × IsNotIdentifiable graph (effect_on on of))
 
 -- The bytes hold a graph, the lists name a target, and the text shows a joint effect that isn't identifiable in the diagram as drawn.
 -- The target itself has no formula there; and where its observations settle it, it isn't identifiable by the same two models.
-pub record IsJointAsDrawn (form : Form) (bytes : List ℕ) (x y : Names) (given : List (List ℕ)) (text : List ℕ) : Type 0 where
+pub record IsJointAsDrawn (form : Form) (bytes : List ℕ) (x y : Names) (given : List (List ℕ)) (told : Told) : Type 0 where
   pub graph : ReadGraph
   pub holds : HoldsGraph bytes graph
   pub seen : MixedGraph
   pub observed : IsObservedGraph graph seen
   pub target : PlainTarget
   pub sets : AreTargetSets (query_lists graph (observed_names graph) x y (Some given)) target
-  pub shows : ShowsJoint form seen (observed_names graph) target text
+  pub shows : ShowsJoint form seen (observed_names graph) target told
   pub joint : IsNotIdentifiable graph (effect_on shows.x shows.y)
   pub no_formula : HasNoFormulaAsDrawn graph target
   pub differs : IsTrue shows.settled → IsNotIdentifiable graph target
 
 -- the one or the other, by whether something is given
-abbrev pub IsUnidentifiedAsDrawn : Form → (bytes : List ℕ) → (x y given : Names) → (text : List ℕ) → Type 0
-IsUnidentifiedAsDrawn form bytes x y None text = IsHedgeAsDrawn (ShowsHedge form) bytes x y text
-IsUnidentifiedAsDrawn form bytes x y (Some []) text = IsHedgeAsDrawn (ShowsHedge form) bytes x y text
-IsUnidentifiedAsDrawn form bytes x y (Some (n ∷ ns)) text = IsJointAsDrawn form bytes x y (n ∷ ns) text
+abbrev pub IsUnidentifiedAsDrawn : Form → (bytes : List ℕ) → (x y given : Names) → (told : Told) → Type 0
+IsUnidentifiedAsDrawn form bytes x y None told = IsHedgeAsDrawn (ShowsHedge form) bytes x y told
+IsUnidentifiedAsDrawn form bytes x y (Some []) told = IsHedgeAsDrawn (ShowsHedge form) bytes x y told
+IsUnidentifiedAsDrawn form bytes x y (Some (n ∷ ns)) told = IsJointAsDrawn form bytes x y (n ∷ ns) told
 
 -- what is shown in place of values, by the way in which a formula is looked for: where a set is to be adjusted for, what `adjust` shows of it
-abbrev pub IsUnevaluatedAsDrawn : Way → (bytes : List ℕ) → (x y : Names) → (text : List ℕ) → Type 0
-IsUnevaluatedAsDrawn (by_procedure short) bytes x y text = IsHedgeAsDrawn hedges.ShowsHedge bytes x y text
-IsUnevaluatedAsDrawn (by_adjusting back_door set) bytes x y text = IsNoAdjustmentFor x y (criterion_query back_door set) bytes text
-IsUnevaluatedAsDrawn (by_condition short given) bytes x y text = IsJointAsDrawn plain_form bytes x y given text
+abbrev pub IsUnevaluatedAsDrawn : Format → Way → (bytes : List ℕ) → (x y : Names) → (told : Told) → Type 0
+IsUnevaluatedAsDrawn format (by_procedure short) bytes x y told = IsHedgeAsDrawn (hedges.ShowsHedge format) bytes x y told
+IsUnevaluatedAsDrawn format (by_adjusting back_door set) bytes x y told = IsNoAdjustmentFor format x y (criterion_query back_door set) bytes told
+IsUnevaluatedAsDrawn format (by_condition short given) bytes x y told = IsJointAsDrawn (plain_form format) bytes x y given told
 
 -- such a text was written for the bytes of the file that these uses ask for, where they and those of the counts are told
 abbrev pub UnevaluatedAsDrawn : Call → List Use → Type 0
 UnevaluatedAsDrawn = WrittenForBoth evaluate_requests.IsRequest (λ q. q.file) (λ q. q.counts)
-    (λ q bytes other text. IsUnevaluatedAsDrawn q.way bytes q.x q.y text)
+    (λ q bytes other told. IsUnevaluatedAsDrawn q.format q.way bytes q.x q.y told)
 
 -- ---- check
 
 -- the bytes of the file hold a graph; those of the certificate are accepted in it; and where they are the certificate of a hedge, its effect isn't
 -- identifiable in the diagram as drawn, nor by the experiments that the lists name
-pub record IsHedgeCertificateAsDrawn (experiments : Lists) (bytes other text : List ℕ) : Type 0 where
+pub record IsHedgeCertificateAsDrawn (format : Format) (experiments : Lists) (bytes other : List ℕ) (told : Told) : Type 0 where
   pub graph : ReadGraph
   pub holds : HoldsGraph bytes graph
   pub seen : MixedGraph
   pub observed : IsObservedGraph graph seen
-  pub accepted : check.ListsAnswer seen graph.names (observed_names graph) experiments other Yes text
+  pub accepted : check.ListsAnswer format seen graph.names (observed_names graph) experiments other Yes told
   pub not_identifiable : (t : PlainTarget) (h : certificates.PlainHedge) → HoldsCertificate (observed_names graph) other (certificates.hedge t h)
       → IsNotIdentifiable graph (effect_on t.x t.y)
   pub not_identifiable_over : (t : PlainTarget) (h : certificates.PlainHedge) → HoldsCertificate (observed_names graph) other (certificates.hedge t h)
@@ -153,14 +155,14 @@ pub record IsHedgeCertificateAsDrawn (experiments : Lists) (bytes other text : L
 
 -- such a text was written for the bytes of the file and of the certificate, and for the experiments, that these uses ask for
 abbrev pub CheckedHedgeAsDrawn : Call → List Use → Type 0
-CheckedHedgeAsDrawn = WrittenForBoth check_requests.IsRequest (λ q. q.file) (λ q. q.certificate) (λ q. IsHedgeCertificateAsDrawn q.experiments)
+CheckedHedgeAsDrawn = WrittenForBoth check_requests.IsRequest (λ q. q.file) (λ q. q.certificate) (λ q. IsHedgeCertificateAsDrawn q.format q.experiments)
 
 -- ---- surrogate
 
 -- The bytes hold a graph, the lists name these sets and experiments, the text shows where the procedure stops, and the effect isn't identifiable in
 -- the diagram as drawn.
 -- Where there is a common hedge, it isn't by the experiments either.
-pub record IsStopAsDrawn (q : surrogate_requests.Request) (bytes text : List ℕ) : Type 0 where
+pub record IsStopAsDrawn (q : surrogate_requests.Request) (bytes : List ℕ) (told : Told) : Type 0 where
   pub graph : ReadGraph
   pub holds : HoldsGraph bytes graph
   pub seen : MixedGraph
@@ -169,14 +171,14 @@ pub record IsStopAsDrawn (q : surrogate_requests.Request) (bytes text : List ℕ
   pub y : ℕ
   pub experiments : List ℕ
   pub sets : AreSurrogateSets (surrogate_lists graph (observed_names graph) q.x q.y q.experiments) x y experiments
-  pub shows : ShowsStop q.form seen (observed_names graph) experiments x y text
+  pub shows : ShowsStop q.form seen (observed_names graph) experiments x y told
   pub not_identifiable : IsNotIdentifiable graph (effect_on x y)
   pub not_identifiable_over : IsSome shows.common → IsNotIdentifiableOver graph experiments (effect_on x y)
 
 -- ---- separate and rule
 
 -- the bytes hold a graph, the lists name these sets, the text shows an open path, and the sets are dependent in some model of the diagram as drawn
-pub record IsDependenceAsDrawn (q : separate_requests.Request) (bytes text : List ℕ) : Type 0 where
+pub record IsDependenceAsDrawn (q : separate_requests.Request) (bytes : List ℕ) (told : Told) : Type 0 where
   pub graph : ReadGraph
   pub holds : HoldsGraph bytes graph
   pub seen : MixedGraph
@@ -185,11 +187,11 @@ pub record IsDependenceAsDrawn (q : separate_requests.Request) (bytes text : Lis
   pub y : ℕ
   pub w : ℕ
   pub sets : AreSets (query_lists graph (observed_names graph) q.x q.y q.given) x y w
-  pub shows : separations.ShowsOpenPath seen (observed_names graph) x y w text
+  pub shows : separations.ShowsOpenPath q.format seen (observed_names graph) x y w told
   pub dependent : AreDependentAsDrawn (graph_of graph.graph) (has graph.latent.bits) (has x) (has y) (has w)
 
 -- the bytes hold a graph, the lists name these sets, the text shows an open path, and the rule's equation fails in some model of the diagram as drawn
-pub record IsFailureAsDrawn (q : rule_requests.Request) (bytes text : List ℕ) : Type 0 where
+pub record IsFailureAsDrawn (q : rule_requests.Request) (bytes : List ℕ) (told : Told) : Type 0 where
   pub graph : ReadGraph
   pub holds : HoldsGraph bytes graph
   pub seen : MixedGraph
@@ -199,7 +201,7 @@ pub record IsFailureAsDrawn (q : rule_requests.Request) (bytes text : List ℕ) 
   pub z : ℕ
   pub given : ℕ
   pub sets : AreRuleSets (rule_lists graph (observed_names graph) q.y q.x q.z q.given) y doing z given
-  pub shows : rules.ShowsOpenPath q.rule seen (observed_names graph) y doing z given text
+  pub shows : rules.ShowsOpenPath q.format q.rule seen (observed_names graph) y doing z given told
   pub fails : DifferSomewhereAsDrawn (graph_of graph.graph) (has graph.latent.bits) (left_of q.rule (has doing) (has y) (has z) (has given))
       (right_of q.rule (has doing) (has y) (has z) (has given))
 
@@ -209,7 +211,7 @@ pub record IsFailureAsDrawn (q : rule_requests.Request) (bytes text : List ℕ) 
 -- diagram as drawn; and status 0 of `check` says so of a hedge
 pub record RefutedAsDrawn (r : Call) (code : ℕ) : Type 0 where
   pub identified : (uses : List Use) → IsCallOf identify_row r.words uses → code ≡ 1
-      → WrittenFor IsRequest (λ q. q.file) (λ q bytes text. IsUnidentifiedAsDrawn q.form bytes q.x q.y q.given text) r uses
+      → WrittenFor IsRequest (λ q. q.file) (λ q bytes told. IsUnidentifiedAsDrawn q.form bytes q.x q.y q.given told) r uses
   pub evaluated : (uses : List Use) → IsCallOf evaluate_row r.words uses → code ≡ 1 → UnevaluatedAsDrawn r uses
   pub checked : (uses : List Use) → IsCallOf check_row r.words uses → code ≡ 0 → CheckedHedgeAsDrawn r uses
   pub surrogated : (uses : List Use) → IsCallOf surrogate_row r.words uses → code ≡ 1

@@ -1,5 +1,6 @@
 -- That the text of an answer is fixed by what is asked for and by the bytes of the inputs.
 use Rattle.std.specs.Prelude.{ℕ, ◌≡◌, ◌≢◌, Bool, true, false, List}
+use Rattle.replies.specs.Told.{Told}
 use Rattle.replies.specs.declared.outcome.Outcome.{Outcome}
 use Rattle.replies.specs.declared.outcome.Outcome.TheVariants.{Yes, No}
 use Rattle.replies.specs.Command.{CommandForm}
@@ -15,8 +16,8 @@ use Rattle.survey_command.specs.Command.{survey_command}
 use Rattle.surrogate_command.specs.Command.{surrogate_command}
 
 -- any two texts that are so are one
-abbrev pub IsOneText : (List ℕ → Type 0) → Type 0
-IsOneText is_so = (text line : List ℕ) → is_so text → is_so line → line ≡ text
+abbrev pub IsOneText : (Told → Type 0) → Type 0
+IsOneText is_so = (told other : Told) → is_so told → is_so other → other ≡ told
 
 -- on the bytes of one file, answers to the request with this outcome have one text
 abbrev pub HaveOneText : (c : CommandForm) → c.Request → Outcome → Type 0

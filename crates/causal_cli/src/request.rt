@@ -6,6 +6,7 @@ ghost use Rattle.command_words.specs.Views.{row_of};
 ghost use Rattle.command_words.specs.Gives.{HoldsCall};
 ghost use Rattle.command_words.specs.Readable.{AreReadable};
 ghost use Rattle.diagram.specs.declared.diagram.Diagram.{Diagram as Drawn};
+ghost use Rattle.replies.specs.Told.{told_of};
 ghost use Rattle.command_run.specs.Lines.{words_line};
 ghost use Rattle.command_run.specs.Commands as asked;
 ghost use Rattle.command_run.specs.Commands.{command_of, file_of, IsRequest, AsksNothing};
@@ -25,7 +26,7 @@ use equivalent_command::accept_first;
 use evaluate_command::identify_first;
 use identify_command::identify_reply;
 use implications_command::{counted_pairs, pairs_reply};
-use replies::Reply;
+use replies::{Format, Reply};
 use separation_commands::graph::graph_reply;
 use separation_commands::rule::rule_reply;
 use separation_commands::separate::separate_reply;
@@ -81,6 +82,22 @@ impl<'a> command_run::Request<'a> for Request<'a> {
 
     fn read(alloc: Global, it: Command, values: &Values<'a>) -> Result<Self, RequestFault> {
         read_values(alloc, it, values)
+    }
+
+    fn format(&self) -> Format {
+        match self {
+            Request::Graph(asked) => asked.format,
+            Request::Separate(asked) => asked.format,
+            Request::Rule(asked) => asked.format,
+            Request::Identify(asked) => asked.form.format,
+            Request::Check(asked) => asked.format,
+            Request::Adjust(asked) => asked.format,
+            Request::Evaluate(asked) => asked.format,
+            Request::Equivalent(asked) => asked.format,
+            Request::Implications(asked) => asked.format,
+            Request::Surrogate(asked) => asked.form.format,
+            Request::Survey(asked) => asked.format,
+        }
     }
 
     fn after_words(&self, alloc: Global) -> Result<AfterWords<'a>, AllocError> {
@@ -153,7 +170,7 @@ fn reply_on<'a>(
     ensures { IfOk result (GivesOn (left_of diagram.now) commands (request_of request.entry) diagram.now) }
 {
     match request {
-        Request::Graph(asked) => replied(graph_reply(alloc, diagram, asked.project)),
+        Request::Graph(asked) => replied(graph_reply(alloc, diagram, &asked)),
         Request::Separate(asked) => replied(separate_reply(alloc, diagram, &asked)),
         Request::Rule(asked) => replied(rule_reply(alloc, diagram, &asked)),
         Request::Identify(asked) => replied(identify_reply(alloc, diagram, &asked)),
@@ -171,7 +188,7 @@ fn reply_on<'a>(
 fn survey<'a>(alloc: Global, asked: &survey_command::Request) -> Result<AfterWords<'a>, AllocError>
     ensures { IfOk result (GivesOnWords commands (request_of (Request.Survey asked.now))) }
 {
-    match survey_reply(alloc, asked.seed) {
+    match survey_reply(alloc, asked.seed, asked.format) {
         Ok(reply) => Ok(AfterWords::Replied(reply)),
         Err(refused) => Err(refused),
     }
@@ -194,6 +211,7 @@ fn evaluate_over<'a>(
                 count: asked.count,
                 exact: asked.exact,
                 zero: asked.zero,
+                format: asked.format,
             },
         )),
     }
@@ -201,7 +219,7 @@ fn evaluate_over<'a>(
 
 /// A reply on the file alone.
 fn replied<'a>(made: Result<Reply, AllocError>) -> Result<AfterFile<SecondInput<'a>>, AllocError>
-    ensures { (w : asked.Request commands) (d : Drawn) → IfOk made (λ reply. DiagramAnswer commands w d reply.outcome reply.text.items) → IfOk result (GivesOn (left_of d) commands w d) }
+    ensures { (w : asked.Request commands) (d : Drawn) → IfOk made (λ reply. DiagramAnswer commands w d reply.outcome (told_of reply)) → IfOk result (GivesOn (left_of d) commands w d) }
 {
     match made {
         Ok(reply) => Ok(AfterFile::Replied(reply)),
@@ -223,6 +241,7 @@ fn check_over<'a>(
             SecondInput::Check {
                 experiments,
                 certificate: asked.certificate,
+                format: asked.format,
             },
         )),
     }
@@ -242,6 +261,7 @@ fn compare_with<'a>(
             SecondInput::Equivalent {
                 sets,
                 second: asked.second,
+                format: asked.format,
             },
         )),
     }
@@ -256,15 +276,16 @@ fn list_implications<'a>(
     ensures { IfOk result (GivesOn (left_of diagram.now) commands (request_of (Request.Implications asked.entry)) diagram.now) }
 {
     let Some(counts) = asked.counts else {
-        return replied(pairs_reply(alloc, diagram));
+        return replied(pairs_reply(alloc, diagram, asked.format));
     };
-    match counted_pairs(alloc, diagram)? {
+    match counted_pairs(alloc, diagram, asked.format)? {
         implications_command::PairsOrReply::Replied(reply) => Ok(AfterFile::Replied(reply)),
         implications_command::PairsOrReply::Pairs(pairs) => Ok(AfterFile::Continues(
             SecondInput::Implications {
                 pairs,
                 counts,
                 count: asked.count,
+                format: asked.format,
             },
         )),
     }

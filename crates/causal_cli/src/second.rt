@@ -10,7 +10,7 @@ use evaluate_command::{Identified, evaluate_reply, long_counts};
 use implications::Implication;
 use implications_command::differences_reply;
 use mixed_graph::VSet;
-use replies::Reply;
+use replies::{Format, Reply};
 use std::alloc::{AllocError, Global};
 use targets::Sets;
 
@@ -21,6 +21,7 @@ pub enum SecondInput<'a> {
     Check {
         experiments: Vec<VSet>,
         certificate: &'a str,
+        format: Format,
     },
     /// The values of an effect over counts, whose column may have a name, in exact fractions or in bounds, and by which rule for products.
     Evaluate {
@@ -29,17 +30,20 @@ pub enum SecondInput<'a> {
         count: Option<&'a [u8]>,
         exact: bool,
         zero: bool,
+        format: Format,
     },
     /// Whether a second graph is equivalent, and what both say of sets that are asked about.
     Equivalent {
         sets: Option<Sets>,
         second: &'a str,
+        format: Format,
     },
     /// How far counts, whose column may have a name, are from each of these pairs.
     Implications {
         pairs: Vec<Implication>,
         counts: &'a str,
         count: Option<&'a [u8]>,
+        format: Format,
     },
 }
 
@@ -66,23 +70,28 @@ impl<'a> command_run::SecondInput for SecondInput<'a> {
 
     fn reply(&self, alloc: Global, diagram: &Diagram, other: &[u8]) -> Result<Reply, AllocError> {
         match self {
-            SecondInput::Check { experiments, .. } => check_reply(
-                alloc,
-                diagram,
+            SecondInput::Check {
                 experiments,
-                other,
-            ),
+                format,
+                ..
+            } => check_reply(alloc, diagram, experiments, other, *format),
             SecondInput::Evaluate {
                 found,
                 count,
                 exact,
                 zero,
+                format,
                 ..
-            } => evaluate_reply(alloc, diagram, found, *count, *exact, *zero, other),
-            SecondInput::Equivalent { sets, .. } => equivalent_reply(alloc, diagram, *sets, other),
-            SecondInput::Implications { pairs, count, .. } => differences_reply(
-                alloc, diagram, pairs, *count, other,
+            } => evaluate_reply(alloc, diagram, found, *count, *exact, *zero, other, *format),
+            SecondInput::Equivalent { sets, format, .. } => equivalent_reply(
+                alloc, diagram, *sets, other, *format,
             ),
+            SecondInput::Implications {
+                pairs,
+                count,
+                format,
+                ..
+            } => differences_reply(alloc, diagram, pairs, *count, other, *format),
         }
     }
 

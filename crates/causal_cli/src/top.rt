@@ -4,7 +4,7 @@ ghost use Rattle.std.specs.Prelude.{◌≡◌, List, ℕ, Option, option_map};
 ghost use Rattle.command_words.specs.Views.{texts_of};
 ghost use Rattle.command_run.specs.Run.{Stream, Ended, run_on, run_with, stream_of, reads_of, ReadsAsAsked};
 ghost use Rattle.command_run.specs.Complete.{Complete};
-ghost use Rattle.command_run.specs.Ends.{RepliesWith, IsTextOf, Stays};
+ghost use Rattle.command_run.specs.Ends.{RepliesWith, IsInFormat, IsTextOf, Stays};
 ghost use Rattle.causal_cli.specs.Calls.{call_on};
 ghost use Rattle.causal_cli.specs.Commands.{commands};
 ghost use Rattle.causal_cli.specs.Headline.{Headline, HeadlineOfCheck};
@@ -13,13 +13,13 @@ ghost use Rattle.causal_cli.specs.Refuted.{RefutedAsDrawn};
 
 use crate::request::Request;
 use causal_io::{Shelf, Sink};
-use command_run::Status;
+use command_run::{Ready, Status};
 use diagram::Diagram;
-use replies::Reply;
 use std::alloc::Global;
 
 /// Runs the command that the words name: reads its inputs from the shelf and writes its answer to `out`,
-/// or a line to `err` where the words, the graph, the target or the second input are refused or a device fails.
+/// or a line to `err` where the words, the graph, the target or the second input are refused or a device fails;
+/// where JSON is asked for, the object of such a refusal goes to `out` as well.
 pub fn run<S: Shelf, O: Sink, E: Sink>(
     alloc: Global,
     words: &[String],
@@ -49,9 +49,10 @@ pub fn reply_to<S: Shelf>(
     words: &[String],
     given: Option<&Diagram>,
     shelf: &mut S,
-) -> Reply
+) -> Ready
     ensures replies { (kept : Option (List ℕ)) → IsTextOf kept (option_map (λ d. d.now) given.entry) → (out : Stream)
-        → RepliesWith commands (run_with kept (texts_of words.now) (S.held shelf.old) (S.lacks shelf.old) (S.faults shelf.old) (S.faults shelf.new) out) result }
+        → RepliesWith commands (run_with kept (texts_of words.now) (S.held shelf.old) (S.lacks shelf.old) (S.faults shelf.old) (S.faults shelf.new) out) result.reply }
+    ensures format { IsInFormat commands (texts_of words.now) result }
     ensures reads { (kept : Option (List ℕ)) → IsTextOf kept (option_map (λ d. d.now) given.entry) → (out : Stream)
         → ReadsAsAsked commands (run_with kept (texts_of words.now) (S.held shelf.old) (S.lacks shelf.old) (S.faults shelf.old) (S.faults shelf.new) out)
         (reads_of (S.reads shelf.old) (S.reads shelf.new) (S.given shelf.old) (S.given shelf.new)) }

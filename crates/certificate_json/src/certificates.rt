@@ -51,8 +51,8 @@ fn push_target(object: &mut Object, names: &Names, target: &Target) -> Result<()
     Ok(())
 }
 
-/// The certificate of a formula.
-fn push_formula_certificate(
+/// The certificate of a formula as a value.
+pub fn push_formula_certificate(
     object: &mut Object,
     names: &Names,
     target: &Target,
@@ -74,8 +74,8 @@ fn push_formula_certificate(
     Ok(())
 }
 
-/// The certificate of a hedge.
-fn push_hedge_certificate(
+/// The certificate of a hedge as a value.
+pub fn push_hedge_certificate(
     object: &mut Object,
     names: &Names,
     target: &Target,

@@ -21,7 +21,7 @@ use prob_expr::{Expr, Formula};
 use std::alloc::AllocError;
 
 /// The text of an expression.
-fn push_expr(object: &mut Object, names: &Names, e: &Expr) -> Result<(), AllocError>
+pub fn push_expr(object: &mut Object, names: &Names, e: &Expr) -> Result<(), AllocError>
     requires { is_sound (length names.now) (view e.now) ≡ true }
     ensures { OnOk result (object.new ≡ with_value (expr_json names.now (view e.now)) object.old) }
 {
@@ -40,13 +40,18 @@ fn push_exprs(object: &mut Object, names: &Names, list: &Vec<Expr>) -> Result<()
     Ok(())
 }
 
-/// The member of the definitions.
+/// A member whose value is a list of expressions, each as its text.
 #[tactic(auto, using(answer_json::proofs::Arrays::array_written))]
-fn push_defs_at(object: &mut Object, names: &Names, list: &Vec<Expr>) -> Result<(), AllocError>
+pub fn push_exprs_at(
+    object: &mut Object,
+    names: &Names,
+    name: &str,
+    list: &Vec<Expr>,
+) -> Result<(), AllocError>
     requires { all_sound (length names.now) (map view list.now.items) ≡ true }
-    ensures { OnOk result (object.new ≡ with_member (codes "defs") (array_of (map (expr_json names.now) (map view list.now.items))) object.old) }
+    ensures { OnOk result (object.new ≡ with_member name.now (array_of (map (expr_json names.now) (map view list.now.items))) object.old) }
 {
-    object.key("defs")?;
+    object.key(name)?;
     object.begin_array()?;
     push_exprs(object, names, list)?;
     object.end_array()?;
@@ -58,7 +63,7 @@ pub fn push_formula(object: &mut Object, names: &Names, f: &Formula) -> Result<(
     requires { fault_in (length names.now) (formula_view f.now) ≡ None }
     ensures { OnOk result (object.new ≡ with_members (formula_members names.now (formula_view f.now)) object.old) }
 {
-    push_defs_at(object, names, &f.defs)?;
+    push_exprs_at(object, names, "defs", &f.defs)?;
     object.key("formula")?;
     push_expr(object, names, &f.main)?;
     Ok(())

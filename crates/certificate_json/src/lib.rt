@@ -8,4 +8,5 @@ mod formulas;
 mod hedges;
 mod steps;
 
-pub use certificates::push_certificate;
+pub use certificates::{push_certificate, push_formula_certificate, push_hedge_certificate};
+pub use formulas::{push_expr, push_exprs_at};

@@ -19,22 +19,23 @@ one_request uses q r a b = λ i. record {
   file = same_Some r.file q.file (sym b.file ∙ a.file) i;
   certificate = same_Some r.certificate q.certificate (sym b.certificate ∙ a.certificate) i;
   experiments = one_optional (value_of uses (codes "experiments")) q.experiments r.experiments a.experiments b.experiments i;
+  format = (b.format ∙ sym a.format) i;
 }
 
 -- what holds of each command holds of it
 pub check_lawful : IsLawful check_command
 check_lawful = lawful_on_two_inputs one_request
     (λ q d. first_answered d q.experiments)
-    (λ q d other. check_answered d q.experiments other)
+    (λ q d other. check_answered q.format d q.experiments other)
     (λ q bytes. first_once bytes q.experiments)
-    (λ q bytes other. check_once bytes other q.experiments)
-    (λ q name d e same names o text a n. first_alone d e same q.experiments n.0 o text a n.1)
+    (λ q bytes other. check_once q.format bytes other q.experiments)
+    (λ q name d e same names o told a n. first_alone d e same q.experiments n.0 o told a n.1)
 
 pub check_is_left : (q : Request) (d : Diagram) (zs : List ℕ) → AreExperimentsOn d.read.names d.observed.names q.experiments zs
-    → IsLeft check_command q d (check_left d zs q.certificate)
+    → IsLeft check_command q d (check_left q.format d zs q.certificate)
 check_is_left q d zs are = record {
   named = refl;
   continues = (zs, are);
   known = (q.experiments, are);
-  answers = λ other o text a. record { sets = zs; are = are; answer = a };
+  answers = λ other o told a. record { sets = zs; are = are; answer = a };
 }

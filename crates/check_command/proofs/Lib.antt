@@ -1,10 +1,10 @@
-pub mod Answering
 pub mod Harmless
 pub mod Headings
 pub mod LowPaths
 pub mod ReadFormulas
 pub mod ReadTargets
 pub mod Using
+pub mod Answering
 pub mod Outcomes
 mod OneHedge
 pub mod Exclusive

@@ -4,7 +4,6 @@ use Rattle.std.specs.Prelude.{not, eqb, ltb, leb, get_or, ◌||◌, ◌&&◌}
 use Rattle.mixed_graph.specs.Bits.{has}
 use Rattle.mixed_graph.specs.Graphs.{MixedGraph, IsMixedGraph}
 use Rattle.m_separation.specs.declared.paths.OpenPath.{OpenPath}
-use Rattle.replies.specs.Lines.{IsPrintablePath}
 use Rattle.replies.proofs.PathsBelow.{path_printable}
 use Rattle.do_rules.specs.Rules.{IsOpenFor}
 use Rattle.do_rules.specs.declared.rules.Rule.{Rule}
@@ -21,24 +20,26 @@ use Rattle.do_derivation.specs.Accepts.{AcceptsNot, DefinesNot, EndsNot, start_o
 use Rattle.do_derivation.specs.declared.faults.StepFault.{StepFault}
 use Rattle.do_derivation.specs.declared.faults.StepFault.TheVariants.{Sets, BadOrder, Grouping, NoLemma, NoPlace, Shape}
 use Rattle.do_derivation.specs.declared.faults.CheckFault.{CheckFault}
-use Rattle.check_command.specs.Replies.{HasLowPath, IsLowFault}
+use Rattle.answer_json.specs.Values.{IsNamedPath}
+use Rattle.check_json.specs.Refusals.{HasNamedPath, IsNamedFault}
 
-open_low : (g : MixedGraph) → IsMixedGraph g → (r : Rule) (x y z w : ℕ → Bool) (p : OpenPath) → IsOpenFor r g x y z w p → IsPrintablePath g.vertices p
+open_low : (g : MixedGraph) → IsMixedGraph g → (r : Rule) (x y z w : ℕ → Bool) (p : OpenPath) → IsOpenFor r g x y z w p → IsNamedPath g.vertices p
 open_low g valid r x y z w p h =
     let cut = cut_graph r g valid x z w h.graph h.is_graph in
-    subst (λ n. IsPrintablePath n p) cut.1 (path_printable h.graph cut.0 y z (λ v. x v || w v) p h.path)
+    let printable = path_printable h.graph cut.0 y z (λ v. x v || w v) p h.path in
+    subst (λ n. IsNamedPath n p) cut.1 (record { some = printable.some; few = printable.few; below = printable.below })
 
 -- a row that refuses at once has no path, or one below n
 abbrev IsLowRow : ℕ → Row → Type 0
-IsLowRow n (Row.Refuse f) = HasLowPath n f
+IsLowRow n (Row.Refuse f) = HasNamedPath n f
 IsLowRow n (Row.Make e) = Unit {0}
 IsLowRow n (Row.Ask r x y z w e) = Unit {0}
 
-low_if : (n : ℕ) (b : Bool) (r : Row) (f : StepFault) → IsLowRow n r → HasLowPath n f → IsLowRow n (if_so b r f)
+low_if : (n : ℕ) (b : Bool) (r : Row) (f : StepFault) → IsLowRow n r → HasNamedPath n f → IsLowRow n (if_so b r f)
 low_if n true r f h k = h
 low_if n false r f h k = k
 
-low_made : (n : ℕ) (o : Option Tree) (f : StepFault) → HasLowPath n f → IsLowRow n (if_made o f)
+low_made : (n : ℕ) (o : Option Tree) (f : StepFault) → HasNamedPath n f → IsLowRow n (if_made o f)
 low_made n (Some t) f h = tt
 low_made n None f h = h
 
@@ -78,18 +79,18 @@ low_row n lemmas (Move.Cite k) e =
 low_row n lemmas Move.Unwrap e = low_made n (unwrapped e) Shape tt
 
 module _ (g : MixedGraph) (valid : IsMixedGraph g) where
-  row_low : (r : Row) (f : StepFault) → IsLowRow g.vertices r → RowRefuses g r f → HasLowPath g.vertices f
-  row_low (Row.Refuse x) f h e = subst (HasLowPath g.vertices) (sym e) h
+  row_low : (r : Row) (f : StepFault) → IsLowRow g.vertices r → RowRefuses g r f → HasNamedPath g.vertices f
+  row_low (Row.Refuse x) f h e = subst (HasNamedPath g.vertices) (sym e) h
   row_low (Row.Make x) f h e = absurd e
-  row_low (Row.Ask r x y z w made) f h e = subst (HasLowPath g.vertices) (sym e.2) (open_low g valid r (has x) (has y) (has z) (has w) e.0 e.1)
+  row_low (Row.Ask r x y z w made) f h e = subst (HasNamedPath g.vertices) (sym e.2) (open_low g valid r (has x) (has y) (has z) (has w) e.0 e.1)
 
-  at_low : (lemmas : List ℕ) (i k number : ℕ) (f : StepFault) (o : Option Tree) (Q : Tree → Type 0) → ((c : Tree) → Q c → HasLowPath g.vertices f)
-      → MatchOption o ((number ≡ k) × (f ≡ NoPlace i)) (λ c. Q c) → HasLowPath g.vertices f
-  at_low lemmas i k number f None Q h e = subst (HasLowPath g.vertices) (sym e.1) tt
+  at_low : (lemmas : List ℕ) (i k number : ℕ) (f : StepFault) (o : Option Tree) (Q : Tree → Type 0) → ((c : Tree) → Q c → HasNamedPath g.vertices f)
+      → MatchOption o ((number ≡ k) × (f ≡ NoPlace i)) (λ c. Q c) → HasNamedPath g.vertices f
+  at_low lemmas i k number f None Q h e = subst (HasNamedPath g.vertices) (sym e.1) tt
   at_low lemmas i k number f (Some c) Q h e = h c e
 
   mutual
-    step_low : (lemmas : List ℕ) (p : Plan) (e : Tree) (before number : ℕ) (f : StepFault) → Refuses g lemmas p e before number f → HasLowPath g.vertices f
+    step_low : (lemmas : List ℕ) (p : Plan) (e : Tree) (before number : ℕ) (f : StepFault) → Refuses g lemmas p e before number f → HasNamedPath g.vertices f
     step_low lemmas (Plan.Make m) e before number f h = row_low (row g.vertices lemmas m e) f (low_row g.vertices lemmas m e) h.1
     step_low lemmas (Plan.At i p) e before number f h =
         at_low lemmas i (cap (before + 1)) number f (child e i) (λ c. Refuses g lemmas p c (before + 1) number f)
@@ -97,29 +98,29 @@ module _ (g : MixedGraph) (valid : IsMixedGraph g) where
     step_low lemmas (Plan.Then ps) e before number f h = steps_low lemmas ps e before number f h
 
     steps_low : (lemmas : List ℕ) (ps : Plans) (e : Tree) (before number : ℕ) (f : StepFault) → RefusesAny g lemmas ps e before number f
-        → HasLowPath g.vertices f
+        → HasNamedPath g.vertices f
     steps_low lemmas no_plans e before number f h = absurd h
     steps_low lemmas (plan p ps) e before number f (inl r) = step_low lemmas p e before number f r
     steps_low lemmas (plan p ps) e before number f (inr r) = steps_low lemmas ps r.0 (before + numbered p) number f r.2
 
   lemmas_low : (before : List ℕ) (k : ℕ) (ls : List PlainLemma) (ds : List Tree) (fault : CheckFault) → DefinesNot g before k ls ds fault
-      → IsLowFault g.vertices fault
+      → IsNamedFault g.vertices fault
   lemmas_low before k [] [] fault h = absurd h
-  lemmas_low before k [] (d ∷ ds) fault h = subst (IsLowFault g.vertices) (sym h) tt
-  lemmas_low before k (l ∷ ls) [] fault h = subst (IsLowFault g.vertices) (sym h) tt
+  lemmas_low before k [] (d ∷ ds) fault h = subst (IsNamedFault g.vertices) (sym h) tt
+  lemmas_low before k (l ∷ ls) [] fault h = subst (IsNamedFault g.vertices) (sym h) tt
   lemmas_low before k (l ∷ ls) (d ∷ ds) fault (inl h) =
-      subst (IsLowFault g.vertices) (sym h.3) (step_low before l.plan (start_of g.vertices l.set) 0 h.0 h.1 h.2)
-  lemmas_low before k (l ∷ ls) (d ∷ ds) fault (inr (inl h)) = subst (IsLowFault g.vertices) (sym h.3) tt
+      subst (IsNamedFault g.vertices) (sym h.3) (step_low before l.plan (start_of g.vertices l.set) 0 h.0 h.1 h.2)
+  lemmas_low before k (l ∷ ls) (d ∷ ds) fault (inr (inl h)) = subst (IsNamedFault g.vertices) (sym h.3) tt
   lemmas_low before k (l ∷ ls) (d ∷ ds) fault (inr (inr h)) = lemmas_low (before ++ (l.set ∷ [])) (k + 1) ls ds fault h.1
 
   main_low : (allowed : List ℕ) (t : PlainTarget) (f : PlainFormula) (d : PlainDerivation) (fault : CheckFault) → EndsNot g allowed t f d fault
-      → IsLowFault g.vertices fault
-  main_low allowed t f d fault (inl h) = subst (IsLowFault g.vertices) (sym h.3) (step_low (sets_of d.lemmas) d.main (term_of t) 0 h.0 h.1 h.2)
-  main_low allowed t f d fault (inr (inl h)) = subst (IsLowFault g.vertices) (sym h.3) tt
-  main_low allowed t f d fault (inr (inr h)) = subst (IsLowFault g.vertices) (sym h.2) tt
+      → IsNamedFault g.vertices fault
+  main_low allowed t f d fault (inl h) = subst (IsNamedFault g.vertices) (sym h.3) (step_low (sets_of d.lemmas) d.main (term_of t) 0 h.0 h.1 h.2)
+  main_low allowed t f d fault (inr (inl h)) = subst (IsNamedFault g.vertices) (sym h.3) tt
+  main_low allowed t f d fault (inr (inr h)) = subst (IsNamedFault g.vertices) (sym h.2) tt
 
   -- the path of a derivation's first fault, where it has one, lies in the graph
   pub fault_low : (allowed : List ℕ) (t : PlainTarget) (f : PlainFormula) (d : PlainDerivation) (fault : CheckFault) → AcceptsNot g allowed t f d fault
-      → IsLowFault g.vertices fault
+      → IsNamedFault g.vertices fault
   fault_low allowed t f d fault (inl h) = lemmas_low [] 0 d.lemmas f.defs fault h
   fault_low allowed t f d fault (inr h) = main_low allowed t f d fault h.1

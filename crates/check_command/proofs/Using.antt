@@ -16,7 +16,8 @@ use Rattle.do_derivation.specs.declared.faults.CheckFault.TheVariants as checks
 use Rattle.certificate.specs.Faults.{Fails}
 use Rattle.certificate.specs.declared.fault.CertFault.{CertFault}
 use Rattle.certificate.specs.declared.fault.CertFault.TheVariants.{NotJson, Member, Version, TooDeep, Name, NoMemory}
-use Rattle.check_command.specs.Replies.{IsSoundTarget, IsLowFault}
+use Rattle.check_command.specs.Replies.{IsSoundTarget}
+use Rattle.check_json.specs.Refusals.{IsNamedFault}
 use Rattle.check_command.proofs.LowPaths.{fault_low}
 
 pub x_within : (n : ℕ) (t : PlainTarget) → IsSoundTarget n t → Within n (has t.x)
@@ -44,7 +45,7 @@ sets_apart n t h v e = go (has t.y v) refl
 -- the path of the fault of a check lies in the graph
 pub low_unless : (g : MixedGraph) → IsMixedGraph g → (zs : List ℕ) (t : PlainTarget) (f : PlainFormula) (d : PlainDerivation) (fault : CheckFault)
     → UnlessNoMemory fault (AcceptsNot g zs t f d fault)
-    → IsLowFault g.vertices fault
+    → IsNamedFault g.vertices fault
 low_unless g valid zs t f d (checks.Step place why) h = fault_low g valid zs t f d (checks.Step place why) h
 low_unless g valid zs t f d (checks.EndDiffers k) h = tt
 low_unless g valid zs t f d checks.DoLeft h = tt

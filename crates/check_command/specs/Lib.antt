@@ -1,5 +1,6 @@
 pub mod Answers
 pub mod Lines
+pub mod Objects
 pub mod Replies
 pub mod Requests
 pub mod Command

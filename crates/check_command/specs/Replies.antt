@@ -8,13 +8,10 @@ use Rattle.prob_expr.specs.Terms.{is_term}
 use Rattle.prob_expr.specs.Tree.{PlainFormula, PlainTarget}
 use Rattle.do_derivation.specs.Accepts.{are_sets, sets_of}
 use Rattle.do_derivation.specs.Plans.{PlainDerivation}
-use Rattle.do_derivation.specs.declared.faults.StepFault.{StepFault}
-use Rattle.do_derivation.specs.declared.faults.StepFault.TheVariants.{NotATerm, Sets, Unblocked, BadOrder, Grouping, NoLemma, NoPlace, Shape}
-use Rattle.do_derivation.specs.declared.faults.CheckFault.{CheckFault}
-use Rattle.do_derivation.specs.declared.faults.CheckFault.TheVariants.{Step, EndDiffers, DoLeft, NoMemory}
 use Rattle.hedge.specs.declared.hedge.Hedge.{Hedge}
+use Rattle.replies.specs.declared.format.Format.{Format}
 use Rattle.replies.specs.declared.outcome.Reply.{Reply}
-use Rattle.replies.specs.Lines.{IsPrintablePath}
+use Rattle.replies.specs.Told.{told_of}
 use Rattle.diagram.specs.declared.diagram.Diagram.{Diagram}
 use Rattle.experiment_lists.specs.Words.{Lists}
 use Rattle.check_command.specs.declared.accepting.Acceptance.{Acceptance}
@@ -33,31 +30,13 @@ IsSoundFormula n f = fault_in n f ≡ None
 abbrev pub IsSoundDerivation : ℕ → PlainDerivation → Type 0
 IsSoundDerivation n d = are_sets n (sets_of d.lemmas) ≡ true
 
--- the path of a step's fault, where it has one, lies below n
-abbrev pub HasLowPath : ℕ → StepFault → Type 0
-HasLowPath n NotATerm = Unit {0}
-HasLowPath n Sets = Unit {0}
-HasLowPath n (Unblocked p) = IsPrintablePath n p
-HasLowPath n BadOrder = Unit {0}
-HasLowPath n Grouping = Unit {0}
-HasLowPath n (NoLemma k) = Unit {0}
-HasLowPath n (NoPlace i) = Unit {0}
-HasLowPath n Shape = Unit {0}
-
--- the path of a derivation's fault, where it has one, lies below n
-abbrev pub IsLowFault : ℕ → CheckFault → Type 0
-IsLowFault n (Step place fault) = HasLowPath n fault
-IsLowFault n (EndDiffers k) = Unit {0}
-IsLowFault n DoLeft = Unit {0}
-IsLowFault n NoMemory = Unit {0}
-
 -- the reply is the answer for a formula with its derivation
-abbrev pub AnswersFormula : MixedGraph → List (List ℕ) → List ℕ → PlainTarget → PlainFormula → PlainDerivation → Reply → Type 0
-AnswersFormula q names zs t f d reply = FormulaAnswer q names zs t f d reply.outcome reply.text.items
+abbrev pub AnswersFormula : Format → MixedGraph → List (List ℕ) → List ℕ → PlainTarget → PlainFormula → PlainDerivation → Reply → Type 0
+AnswersFormula format q names zs t f d reply = FormulaAnswer format q names zs t f d reply.outcome (told_of reply)
 
 -- the reply is the answer for a hedge
-abbrev pub AnswersHedge : MixedGraph → List (List ℕ) → List ℕ → PlainTarget → Hedge → Reply → Type 0
-AnswersHedge q names zs t h reply = HedgeAnswer q names zs t h reply.outcome reply.text.items
+abbrev pub AnswersHedge : Format → MixedGraph → List (List ℕ) → List ℕ → PlainTarget → Hedge → Reply → Type 0
+AnswersHedge format q names zs t h reply = HedgeAnswer format q names zs t h reply.outcome (told_of reply)
 
 -- the experiment leaves the larger set alone, or sets a member of the smaller one
 abbrev pub is_harmless : Hedge → ℕ → Bool
@@ -65,5 +44,5 @@ is_harmless h z = is_apart h.big.bits z || not (is_apart h.small.bits z)
 
 -- the reply that refuses the lists, or the sets that they name
 abbrev pub IsAcceptance : Diagram → Lists → Acceptance → Type 0
-IsAcceptance d experiments (acceptance.Refused reply) = CheckFirst d experiments reply.outcome reply.text.items
+IsAcceptance d experiments (acceptance.Refused reply) = CheckFirst d experiments reply.outcome (told_of reply)
 IsAcceptance d experiments (acceptance.Accepted sets) = AreExperimentsOn d.read.names d.observed.names experiments (masks_of sets.items)

@@ -1,12 +1,14 @@
 -- What `check` is asked for.
 use Rattle.std.specs.Prelude.{◌≡◌, List, Some, [], ◌∷◌, codes}
-use Rattle.command_words.specs.Form.{Text, Row, Use, word_of, value_of}
+use Rattle.command_words.specs.Form.{Text, Row, Use, word_of, value_of, has_flag}
 use Rattle.command_words.specs.Values as values
+use Rattle.replies.specs.declared.format.Format.{Format}
+use Rattle.replies.specs.Told.{format_of}
 use Rattle.experiment_lists.specs.Views.{lists_in}
 use Rattle.experiment_lists.specs.Words.{Lists, AreOptionalExperiments}
 use Rattle.check_command.specs.declared.request.Request.{Request as CodeRequest}
 
--- `check FILE CERTIFICATE [--experiments E]`
+-- `check FILE CERTIFICATE [--experiments E] [--json]`
 abbrev pub check_row : Row
 check_row = record {
   name = codes "check";
@@ -14,7 +16,7 @@ check_row = record {
   optional = [];
   required = [];
   options = codes "experiments" ∷ [];
-  flags = [];
+  flags = codes "json" ∷ [];
 }
 
 -- a request
@@ -22,10 +24,11 @@ pub record Request : Type 0 where
   pub file : Text
   pub certificate : Text
   pub experiments : Lists
+  pub format : Format
 
 -- the request
 abbrev pub request_of : CodeRequest → Request
-request_of r = record { file = r.file.now; certificate = r.certificate.now; experiments = lists_in r.experiments }
+request_of r = record { file = r.file.now; certificate = r.certificate.now; experiments = lists_in r.experiments; format = r.format }
 
 -- the uses ask for this
 pub record IsRequest (uses : List Use) (r : Request) : Type 0 where
@@ -33,3 +36,4 @@ pub record IsRequest (uses : List Use) (r : Request) : Type 0 where
   pub certificate : word_of check_row uses (codes "certificate") ≡ Some r.certificate
   pub inputs : values.AreTwoInputs r.file r.certificate
   pub experiments : AreOptionalExperiments (value_of uses (codes "experiments")) r.experiments
+  pub format : r.format ≡ format_of (has_flag uses (codes "json"))

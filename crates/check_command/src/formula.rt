@@ -7,14 +7,12 @@ ghost use Rattle.prob_expr.specs.View.{formula_view, target_view};
 ghost use Rattle.do_derivation.specs.View.{derivation_view};
 ghost use Rattle.check_command.specs.Replies.{IsSoundTarget, IsSoundFormula, IsSoundDerivation, AnswersFormula};
 
-use crate::lines::{accepted_text, derivation_text};
-use answer_text::Notation;
+use crate::formats::{accepted_formula, refused_formula};
 use dag_reader::ReadGraph;
 use do_derivation::{Derivation, check_with};
-use identify_text::answer_in;
 use mixed_graph::VSet;
 use prob_expr::{Formula, Target};
-use replies::{Outcome, Reply};
+use replies::{Format, Outcome, Reply};
 use std::alloc::{AllocError, Global};
 
 /// The answer for a formula with its derivation, where terms may stand under the experiments.
@@ -25,23 +23,22 @@ pub fn check_formula(
     target: &Target,
     formula: &Formula,
     derivation: &Derivation,
+    format: Format,
 ) -> Result<Reply, AllocError>
     requires target { IsSoundTarget (length seen.now.names) (target_view target.now) }
     requires formula { IsSoundFormula (length seen.now.names) (formula_view formula.now) }
     requires derivation { IsSoundDerivation (length seen.now.names) (derivation_view derivation.now) }
-    ensures { IfOk result (AnswersFormula (graph_of seen.now.graph) seen.now.names (masks_of experiments.now) (target_view target.now) (formula_view formula.now) (derivation_view derivation.now)) }
+    ensures { IfOk result (AnswersFormula format (graph_of seen.now.graph) seen.now.names (masks_of experiments.now) (target_view target.now) (formula_view formula.now) (derivation_view derivation.now)) }
 {
     match check_with(alloc, &seen.graph, target, experiments, formula, derivation) {
         Ok(()) => {
-            let answer = answer_in(alloc, Notation::Plain, formula, target, &seen.names)?;
-            Ok(Reply {
-                outcome: Outcome::Yes,
-                text: accepted_text(alloc, &answer)?,
-            })
+            let text = accepted_formula(alloc, format, &seen.names, target, formula)?;
+            Ok(Reply::answer(alloc, Outcome::Yes, text))
         }
-        Err(fault) => Ok(Reply {
-            outcome: Outcome::No,
-            text: derivation_text(alloc, &seen.names, derivation.lemmas.len(), &fault)?,
-        }),
+        Err(fault) => {
+            let lemmas = derivation.lemmas.len();
+            let text = refused_formula(alloc, format, &seen.names, lemmas, &fault)?;
+            Ok(Reply::answer(alloc, Outcome::No, text))
+        }
     }
 }

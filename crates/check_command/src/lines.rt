@@ -1,13 +1,19 @@
 //! The lines of `check`: what is accepted, and the first fault.
 
 ghost use Rattle.std.specs.Prelude.{◌≡◌, ◌++◌, OnOk, IfOk, length};
-ghost use Rattle.check_command.specs.Lines.{accepted_text, place_text, fault_digit, path_line, step_text, end_place, derivation_text, name_or_dash, hedge_digit, at_vertex, hedge_text};
-ghost use Rattle.check_command.specs.Replies.{HasLowPath, IsLowFault};
+ghost use Rattle.mixed_graph.specs.Bits.{has};
+ghost use Rattle.mixed_graph.specs.Sets.{Within};
+ghost use Rattle.prob_expr.specs.Listed.{masks_of};
+ghost use Rattle.check_command.specs.Lines.{accepted_text, place_text, fault_digit, path_line, step_text, end_place, derivation_text, name_or_dash, hedge_digit, at_vertex, hedge_text, heading_over};
+ghost use Rattle.check_json.specs.Refusals.{HasNamedPath, IsNamedFault};
 
 use answer_text::push_vertex;
 use do_derivation::{CheckFault, StepFault, StepPlace};
-use hedge::HedgeFault;
-use mixed_graph::Names;
+use experiment_lists::unidentifiable_text;
+use hedge::{Hedge, HedgeFault};
+use identify_text::{hedge_heading, push_hedge_sets};
+use mixed_graph::{Names, VSet};
+use prob_expr::Target;
 use replies::push_open;
 use std::alloc::{AllocError, Global};
 
@@ -51,7 +57,7 @@ fn fault_digit(fault: &StepFault) -> &'static [u8]
 
 /// Appends the line of the open path, where that is the fault.
 fn push_path_line(out: &mut Vec<u8>, names: &Names, fault: &StepFault) -> Result<(), AllocError>
-    requires { HasLowPath (length names.now) fault.now }
+    requires { HasNamedPath (length names.now) fault.now }
     ensures { OnOk result (out.new.items ≡ out.old.items ++ path_line names.now fault.now) }
 {
     match fault {
@@ -73,7 +79,7 @@ fn step_text(
     place: &StepPlace,
     fault: &StepFault,
 ) -> Result<Vec<u8>, AllocError>
-    requires { HasLowPath (length names.now) fault.now }
+    requires { HasNamedPath (length names.now) fault.now }
     ensures { IfOk result (λ v. v.items ≡ step_text names.now place.now fault.now) }
 {
     let mut text = Vec::from_slice(alloc, b"refused: ")?;
@@ -102,7 +108,7 @@ pub fn derivation_text(
     lemmas: usize,
     fault: &CheckFault,
 ) -> Result<Vec<u8>, AllocError>
-    requires { IsLowFault (length names.now) fault.now }
+    requires { IsNamedFault (length names.now) fault.now }
     ensures text { IfOk result (λ v. v.items ≡ derivation_text names.now lemmas fault.now) }
     ensures memory { OnOk result (fault.now ≡ CheckFault.NoMemory → ⊥) }
 {
@@ -165,5 +171,28 @@ pub fn hedge_text(alloc: Global, names: &Names, fault: HedgeFault) -> Result<Vec
     text.extend_from_slice(hedge_digit(fault))?;
     push_at_vertex(&mut text, names, fault)?;
     text.push(b'\n')?;
+    Ok(text)
+}
+
+/// The heading of a hedge, which speaks of the experiments where there are some.
+pub fn heading_over(
+    alloc: Global,
+    names: &Names,
+    experiments: &[VSet],
+    target: &Target,
+    hedge: &Hedge,
+) -> Result<Vec<u8>, AllocError>
+    requires x { Within (length names.now) (has target.now.x.bits) }
+    requires y { Within (length names.now) (has target.now.y.bits) }
+    requires big { Within (length names.now) (has hedge.now.big.bits) }
+    requires small { Within (length names.now) (has hedge.now.small.bits) }
+    requires roots { Within (length names.now) (has hedge.now.roots.bits) }
+    ensures { IfOk result (λ v. v.items ≡ heading_over names.now (masks_of experiments.now) target.now.x.bits target.now.y.bits hedge.now) }
+{
+    if experiments.is_empty() {
+        return hedge_heading(alloc, target.x, target.y, hedge, names);
+    }
+    let mut text = unidentifiable_text(alloc, names, target.x, target.y)?;
+    push_hedge_sets(&mut text, names, hedge)?;
     Ok(text)
 }

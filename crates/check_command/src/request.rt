@@ -10,16 +10,17 @@ use command_words::forms::Entry;
 use command_words::typed::{RequestFault, required_word, second_input};
 use command_words::values::Values;
 use experiment_lists::read_experiments;
+use replies::Format;
 use std::alloc::Global;
 
-/// `check FILE CERTIFICATE [--experiments E]`
+/// `check FILE CERTIFICATE [--experiments E] [--json]`
 pub const ROW: Entry = Entry {
     name: "check",
     positionals: &["file", "certificate"],
     optional: &[],
     required: &[],
     options: &["experiments"],
-    flags: &[],
+    flags: &["json"],
 };
 
 /// What is asked for.
@@ -28,6 +29,7 @@ pub struct Request<'a> {
     pub file: &'a str,
     pub certificate: &'a str,
     pub experiments: Vec<Vec<Vec<u8>>>,
+    pub format: Format,
 }
 
 impl<'a> Request<'a> {
@@ -43,10 +45,12 @@ impl<'a> Request<'a> {
         let file = required_word(values, "file")?;
         let certificate = second_input(values, file, "certificate")?;
         let experiments = optional_experiments(alloc, values, "experiments")?;
+        let format = Format::of(values.flag("json"));
         Ok(Request {
             file,
             certificate,
             experiments,
+            format,
         })
     }
 }

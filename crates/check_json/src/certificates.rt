@@ -5,7 +5,7 @@ ghost use Rattle.std.specs.Str.{IsUtf8};
 ghost use Rattle.answer_json.specs.Progress.{json_line};
 ghost use Rattle.answer_json.specs.Faults.{text_fault_json};
 ghost use Rattle.certificate.specs.FaultTexts.{key_text};
-ghost use Rattle.check_json.specs.CertificateFaults.{stage, certificate_fault_json, certificate_size_json};
+ghost use Rattle.check_json.specs.CertificateFaults.{stage, key_message, certificate_fault_json, certificate_size_json};
 
 use answer_json::{bare_fault, text_fault};
 use certificate::{CertFault, Key};
@@ -31,6 +31,30 @@ fn key_text(key: Key) -> &'static str
         Key::Choice => "choice",
         Key::Links => "links",
         Key::Extra => "extra",
+    }
+}
+
+/// What is wrong with a key, in words.
+#[tactic(auto, unfolding(crate::specs::CertificateFaults::key_message))]
+fn key_message(key: Key) -> &'static str
+    ensures { result.now ≡ key_message key }
+{
+    match key {
+        Key::Extra => "there is a further key",
+        Key::Answer
+        | Key::Version
+        | Key::X
+        | Key::Y
+        | Key::Given
+        | Key::Formula
+        | Key::Defs
+        | Key::Lemmas
+        | Key::Main
+        | Key::Big
+        | Key::Small
+        | Key::Roots
+        | Key::Choice
+        | Key::Links => "the value of this key is missing or has another form",
     }
 }
 
@@ -67,7 +91,7 @@ pub fn certificate_fault(alloc: Global, fault: &CertFault) -> Result<Vec<u8>, Al
             alloc,
             "certificate",
             2,
-            "the value of this key is missing or has another form",
+            key_message(*key),
             "key",
             key_text(*key).as_bytes(),
         ),

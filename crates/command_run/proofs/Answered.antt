@@ -4,6 +4,7 @@ use Rattle.std.specs.Prelude.{suc, replicate}
 use Rattle.std.proofs.lemmas.List.{length-replicate}
 use Rattle.diagram.specs.declared.diagram.Diagram.{Diagram}
 use Rattle.replies.specs.declared.outcome.Outcome.{Outcome}
+use Rattle.replies.specs.Told.{Told, told_of}
 use Rattle.replies.specs.declared.outcome.Reply.{Reply}
 use Rattle.replies.specs.Outcomes.{IsAnswered}
 use Rattle.replies.specs.Command.{Remainder}
@@ -17,13 +18,13 @@ pub long_answered : (l : Remainder) (reply : Reply) → IsAnsweredWith l → ((o
 long_answered l reply only gives =
     let long : List ℕ = replicate (suc l.limit) 0 in
     let e : length long ≡ suc l.limit = length-replicate (suc l.limit) 0 in
-    only long reply.outcome reply.text.items (gives long (omega (arith, e)))
+    only long reply.outcome (told_of reply) (gives long (omega (arith, e)))
 
 module _ (s : CommandSet) where
   -- the answer on the bytes of the second input
   pub second_answer : (w : Request s) (d : Diagram) (l : Remainder) (other : List ℕ) (reply : Reply) → IsLeft s w d l → GivesSecond l other reply
-      → SecondAnswer s w d other reply.outcome reply.text.items
-  second_answer (of c q) d l other reply is gives = is.answers other reply.outcome reply.text.items gives
+      → SecondAnswer s w d other reply.outcome (told_of reply)
+  second_answer (of c q) d l other reply is gives = is.answers other reply.outcome (told_of reply) gives
 
   -- the diagram is accepted, and a second input read
   pub needs : (w : Request s) (d : Diagram) (l : Remainder) → IsLeft s w d l → NeedsSecond s w d
@@ -39,11 +40,11 @@ module _ (s : CommandSet) where
 
 module _ (s : CommandSet) (laws : AreLawful s) where
   -- what the words alone decide has an outcome that commands answer
-  pub words_answered : (w : Request s) (o : Outcome) (text : List ℕ) → WordsAnswer s w o text → IsAnswered o
+  pub words_answered : (w : Request s) (o : Outcome) (text : Told) → WordsAnswer s w o text → IsAnswered o
   words_answered (of c q) o text h = (laws.each c).words_answered q o text h
 
   -- and so has what the file alone decides
-  pub diagram_answered : (w : Request s) (d : Diagram) (o : Outcome) (text : List ℕ) → DiagramAnswer s w d o text → IsAnswered o
+  pub diagram_answered : (w : Request s) (d : Diagram) (o : Outcome) (text : Told) → DiagramAnswer s w d o text → IsAnswered o
   diagram_answered (of c q) d o text h = (laws.each c).diagram_answered q d o text h
 
   -- its outcomes are those that a command answers

@@ -1,9 +1,10 @@
 -- From what was read to the reply, and from a reply that was delivered to the end of the run.
-use Rattle.std.proofs.Common.{◌≡◌, ℕ, ◌<◌, ◌≤◌, arith, Bool, true, false, List, Option, Some, None, IfSome, IfOk, Result, Ok, Err, length, inl, ◌∙◌}
-use Rattle.std.proofs.Common.{refl, sym, subst}
+use Rattle.std.proofs.Common.{◌≡◌, ℕ, ◌<◌, ◌≤◌, arith, Bool, true, false, List, [], Option, Some, None, IfSome, IfOk, Result, Ok, Err, length, inl, ◌∙◌}
+use Rattle.std.proofs.Common.{refl, sym, ap, subst}
 use Rattle.std.specs.Prelude.{IfErr, OnOk, OnErr, take}
 use Rattle.std.specs.Option.{option_or}
 use Rattle.std.proofs.Math.Seq.{take-length}
+use Rattle.std.proofs.KnownBytes.{Appends-nil}
 use Rattle.std.proofs.lemmas.Bool.{false≢true}
 use Rattle.std.proofs.lemmas.Option.{none-some}
 use Rattle.std.specs.Global.{Vec}
@@ -14,20 +15,23 @@ use Rattle.causal_io.specs.declared.ReadError.{ReadError}
 use Rattle.causal_io.specs.declared.ReadError.TheVariants.{Fault, TooLong, NoMemory}
 use Rattle.std.specs.Io.KnownBytes.{Appends}
 use Rattle.replies.specs.declared.outcome.Outcome.{Outcome}
-use Rattle.replies.specs.declared.outcome.Outcome.TheVariants.{Yes, No, Words, Graph, Read, Write, Memory}
-use Rattle.replies.specs.Outcomes.{code_of, IsAnswered}
+use Rattle.replies.specs.declared.format.Format.{Format}
+use Rattle.replies.specs.Told.{Told, told_of}
+use Rattle.replies.specs.declared.outcome.Outcome.TheVariants.{Yes, No, Words, Graph, Second, Evaluation, Read, Write, Memory}
+use Rattle.replies.specs.Outcomes.{IsAnswered}
 use Rattle.replies.specs.declared.outcome.Reply.{Reply}
-use Rattle.command_run.specs.Commands.{CommandSet, Request, Asks, file_of}
+use Rattle.command_run.specs.Commands.{CommandSet, Request, Asks, HasFormat, file_of}
 use Rattle.command_run.specs.Laws.{AreLawful}
 use Rattle.replies.specs.Command.{Remainder}
 use Rattle.replies.specs.Refusals.{too_long}
 use Rattle.diagram.specs.declared.diagram.Diagram.{Diagram}
 use Rattle.replies.specs.Observed.{HoldsDiagram}
-use Rattle.command_run.specs.Answers.{WordsAnswer, DiagramAnswer, RefusesLine, RefusesBytes, Defined, Continues, DefinedWith, GivesSecond}
+use Rattle.command_run.specs.Answers.{WordsAnswer, DiagramAnswer, RefusesAs, RefusesBytes, Defined, Continues, DefinedWith, GivesSecond}
 use Rattle.command_run.specs.Answers.{IsAnsweredWith, IsLeft}
-use Rattle.command_run.specs.Run.{Stream, Run, Answers, Received, ReceivedLine, by_words, by_file, by_both, file as reads_file, second, Ends}
+use Rattle.command_run.specs.Run.{Stream, Run, Answers, Received, ReceivedLine, by_words, by_file, by_both, file as reads_file, second, Refused, Ends}
+use Rattle.command_run.specs.Shown.{object_in, shown}
 use Rattle.command_run.specs.Ends.{FailedRead, Replied, RepliesWith, IsTextOf, IsOfFile, WereRead, IsReadOf, TellsUnread, IsMade, GivesOnRead, written_for}
-use Rattle.command_run.specs.Ends.{EndsWith, Delivers, written, unwritten, refused, IsTooLongLine, Proceeds, replied, unread, no_memory}
+use Rattle.command_run.specs.Ends.{EndsWith, Delivers, written, unwritten, silent, IsTooLongAs, Proceeds, replied, unread, no_memory}
 use Rattle.command_run.proofs.Answered.{words_answered, diagram_answered, long_answered, names_left, needs, second_answer}
 use Rattle.command_run.proofs.Definitions.{defined_on}
 
@@ -92,7 +96,7 @@ rose_since before middle after h r = omega (arith, h, r)
 
 module _ (s : CommandSet) (laws : AreLawful s) where
   -- the defined answer is a reply
-  an_answer : (r : Run) (o : Outcome) (text : List ℕ) → IsAnswered o → Answers s r o text → Replied s r o text
+  an_answer : (r : Run) (o : Outcome) (text : Told) → IsAnswered o → Answers s r o text → Replied s r o text
   an_answer r Words text only a = absurd only
   an_answer r Read text only a = absurd only
   an_answer r Write text only a = absurd only
@@ -101,30 +105,30 @@ module _ (s : CommandSet) (laws : AreLawful s) where
 
   -- the words ask for nothing
   pub not_understood : (r : Run) (reply : Reply) → reply.outcome ≡ Words → ((w : Request s) → Asks s r.words w → ⊥) → RepliesWith s r reply
-  not_understood r reply is none = subst (λ o. Replied s r o reply.text.items) (sym is) none
+  not_understood r reply is none = subst (λ o. Replied s r o (told_of reply)) (sym is) none
 
   -- memory was refused
   pub no_room : (r : Run) (reply : Reply) → reply.outcome ≡ Memory → RepliesWith s r reply
-  no_room r reply is = subst (λ o. Replied s r o reply.text.items) (sym is) tt
+  no_room r reply is = subst (λ o. Replied s r o (told_of reply)) (sym is) tt
 
   -- the reply on the words alone
-  pub replied_words : (r : Run) (w : Request s) (reply : Reply) → Asks s r.words w → WordsAnswer s w reply.outcome reply.text.items → RepliesWith s r reply
-  replied_words r w reply asks a = an_answer r reply.outcome reply.text.items (words_answered s laws w reply.outcome reply.text.items a)
+  pub replied_words : (r : Run) (w : Request s) (reply : Reply) → Asks s r.words w → WordsAnswer s w reply.outcome (told_of reply) → RepliesWith s r reply
+  replied_words r w reply asks a = an_answer r reply.outcome (told_of reply) (words_answered s laws w reply.outcome (told_of reply) a)
       (by_words (record { request = w; asks = asks; answer = a }))
 
   -- on the diagram of the file of a request that the words ask for
   module _ (r : Run) (w : Request s) (file : Text) (d : Diagram) (reply : Reply) (asks : Asks s r.words w) (names : file_of s w ≡ Some file)
       (stands : IsOfFile r.kept r.held r.lacks file d) where
     -- the reply on the file alone
-    pub replied_file : DiagramAnswer s w d reply.outcome reply.text.items → RepliesWith s r reply
-    replied_file a = an_answer r reply.outcome reply.text.items (diagram_answered s laws w d reply.outcome reply.text.items a) (by_file (record {
+    pub replied_file : DiagramAnswer s w d reply.outcome (told_of reply) → RepliesWith s r reply
+    replied_file a = an_answer r reply.outcome (told_of reply) (diagram_answered s laws w d reply.outcome (told_of reply) a) (by_file (record {
       request = w;
       asks = asks;
       file = file;
       names_it = names;
       there = stands.there;
-      defined = mapped (option_or r.kept (r.held file)) (λ all. HoldsDiagram all d) (λ all. Defined s w all reply.outcome reply.text.items)
-          (λ all holds. defined_on s w all d reply.outcome reply.text.items holds a) stands.holds;
+      defined = mapped (option_or r.kept (r.held file)) (λ all. HoldsDiagram all d) (λ all. Defined s w all reply.outcome (told_of reply))
+          (λ all holds. defined_on s w all d reply.outcome (told_of reply) holds a) stands.holds;
     }))
 
     -- the second input was read, over the shelf as the first read left it
@@ -135,11 +139,11 @@ module _ (s : CommandSet) (laws : AreLawful s) where
           (λ all holds. (d, holds, needs s w d l is)) stands.holds
 
       -- the answer on the bytes of both
-      answer_with : (all other : List ℕ) → HoldsDiagram all d → GivesSecond l other reply → DefinedWith s w all other reply.outcome reply.text.items
+      answer_with : (all other : List ℕ) → HoldsDiagram all d → GivesSecond l other reply → DefinedWith s w all other reply.outcome (told_of reply)
       answer_with all other holds gives = (d, holds, needs s w d l is, second_answer s w d l other reply is gives)
 
       pub proceeded : Proceeds held lacks faults r.read_faults_after l reply → RepliesWith s r reply
-      proceeded (replied only second_there gives) = an_answer r reply.outcome reply.text.items only (by_both (record {
+      proceeded (replied only second_there gives) = an_answer r reply.outcome (told_of reply) only (by_both (record {
         request = w;
         asks = asks;
         file = file;
@@ -150,8 +154,8 @@ module _ (s : CommandSet) (laws : AreLawful s) where
         second_there = subst (λ f. f l.second ≡ false) same_lacks second_there;
         accepted = accepted_file;
         defined = mapped (option_or r.kept (r.held file)) (λ all. HoldsDiagram all d)
-            (λ all. IfSome (r.held l.second) (λ other. DefinedWith s w all other reply.outcome reply.text.items))
-            (λ all holds. mapped (r.held l.second) (λ other. GivesSecond l other reply) (λ other. DefinedWith s w all other reply.outcome reply.text.items)
+            (λ all. IfSome (r.held l.second) (λ other. DefinedWith s w all other reply.outcome (told_of reply)))
+            (λ all holds. mapped (r.held l.second) (λ other. GivesSecond l other reply) (λ other. DefinedWith s w all other reply.outcome (told_of reply))
             (λ other g. answer_with all other holds g) (subst (λ h. IfSome (h l.second) (λ other. GivesSecond l other reply)) same_held gives)) stands.holds;
       }))
       proceeded (unread same rose) =
@@ -162,14 +166,14 @@ module _ (s : CommandSet) (laws : AreLawful s) where
             is_read = second file names (names_left s w d l is) stands.there accepted_file;
             rose = rose_since (r.read_faults l.second) (faults l.second) (r.read_faults_after l.second) (grown l.second) rose;
           } in
-          subst (λ o. Replied s r o reply.text.items) (sym same) failed
+          subst (λ o. Replied s r o (told_of reply)) (sym same) failed
       proceeded (no_memory same) = no_room r reply same
 
   -- where no text is kept, and the file isn't lacked
   module _ (r : Run) (w : Request s) (file : Text) (asks : Asks s r.words w) (names : file_of s w ≡ Some file) (none : r.kept ≡ None)
       (there : r.lacks file ≡ false) where
     -- the answer on what is held
-    by_held : (o : Outcome) (text : List ℕ) → IfSome (r.held file) (λ all. Defined s w all o text) → Answers s r o text
+    by_held : (o : Outcome) (text : Told) → IfSome (r.held file) (λ all. Defined s w all o text) → Answers s r o text
     by_held o text h = by_file (record {
       request = w;
       asks = asks;
@@ -180,21 +184,21 @@ module _ (s : CommandSet) (laws : AreLawful s) where
     })
 
     -- the reply to a text that is too long
-    long_file : IfSome (r.held file) (λ all. 1048576 < length all) → (o : Outcome) (text : List ℕ) → IsTooLongLine o text → Replied s r o text
+    long_file : IfSome (r.held file) (λ all. 1048576 < length all) → (o : Outcome) (text : Told) → IsTooLongAs o text → Replied s r o text
     long_file held Graph line long = by_held Graph line
         (mapped (r.held file) (λ all. 1048576 < length all) (λ all. Defined s w all Graph line) (λ all h. inl (too_long h long)) held)
     long_file held Memory line long = tt
     long_file held o line long = absurd long
 
     -- the reply to bytes that hold no diagram
-    refused_bytes : (bytes : List ℕ) → IfSome (r.held file) (λ all. bytes ≡ all) → (o : Outcome) (text : List ℕ) → RefusesLine bytes o text
+    refused_bytes : (bytes : List ℕ) → IfSome (r.held file) (λ all. bytes ≡ all) → (o : Outcome) (text : Told) → RefusesAs bytes o text
         → Replied s r o text
     refused_bytes bytes held Graph line h = by_held Graph line (told (r.held file) bytes (λ all. Defined s w all Graph line) held (inl h))
     refused_bytes bytes held Memory line h = tt
     refused_bytes bytes held o line h = absurd h
 
     pub refused_file : (bytes : List ℕ) (reply : Reply) → IfSome (r.held file) (λ all. bytes ≡ all) → RefusesBytes bytes reply → RepliesWith s r reply
-    refused_file bytes reply held h = refused_bytes bytes held reply.outcome reply.text.items h
+    refused_file bytes reply held h = refused_bytes bytes held reply.outcome (told_of reply) h
 
   -- the file couldn't be read whole
   pub unread_file : (r : Run) (w : Request s) (name : Text) (f : ReadError) (reply : Reply) → Asks s r.words w → file_of s w ≡ Some name → r.kept ≡ None
@@ -202,9 +206,9 @@ module _ (s : CommandSet) (laws : AreLawful s) where
       → TellsUnread f reply → RepliesWith s r reply
   unread_file r w name Fault reply asks names none h is =
       let failed : FailedRead s r = record { request = w; asks = asks; name = name; is_read = reads_file none names; rose = h.failed refl } in
-      subst (λ o. Replied s r o reply.text.items) (sym is) failed
+      subst (λ o. Replied s r o (told_of reply)) (sym is) failed
   unread_file r w name (TooLong most) reply asks names none h long =
-      long_file r w name asks names none (not_true (r.lacks name) (λ t. let e = h.lacked t in cc e)) h.answer.1 reply.outcome reply.text.items long
+      long_file r w name asks names none (not_true (r.lacks name) (λ t. let e = h.lacked t in cc e)) h.answer.1 reply.outcome (told_of reply) long
   unread_file r w name NoMemory reply asks names none h is = no_room r reply is
 
 -- ---- the second input
@@ -238,7 +242,7 @@ module _ (held : Text → Option (List ℕ)) (lacks : Text → Bool) (faults fau
   given_on : (reply : Reply) (read : Result (Vec ℕ) ReadError)
       → IsReadOf (held l.second) (lacks l.second) (faults l.second) (faults_after l.second) (l.limit) read → GivesOnRead l read reply
       → Proceeds held lacks faults faults_after l reply
-  given_on reply (Ok other) h gives = replied (only other.items reply.outcome reply.text.items gives)
+  given_on reply (Ok other) h gives = replied (only other.items reply.outcome (told_of reply) gives)
       (not_true (lacks l.second) (λ t. let e = h.lacked t in cc e))
       (told (held l.second) other.items (λ all. GivesSecond l all reply) h.answer.1 gives)
   given_on reply (Err (TooLong most)) h gives = replied (long_answered l reply only gives) (not_true (lacks l.second) (λ t. let e = h.lacked t in cc e))
@@ -259,57 +263,92 @@ module _ (held : Text → Option (List ℕ)) (lacks : Text → Bool) (faults fau
 
 -- ---- deliveries
 
-module _ (s : CommandSet) where
-  -- a reply that was written whole
-  whole_end : (r : Run) (o : Outcome) (text : List ℕ) → code_of o ≤ 1 → Replied s r o text → Appends r.out.before r.out.after text
-      → Ends s r o (written_for s o text)
-  whole_end r Yes text low a whole = record { answers = a; whole = whole }
-  whole_end r No text low a whole = record { answers = a; whole = whole }
-  whole_end r o text low a whole = absurd (omega (arith, low))
+-- of these outcomes nothing is shown
+pub shown_answered : (format : Format) (o : Outcome) (text : Told) → (shown format o text ≡ [] → ⊥) → IsAnswered o
+shown_answered format Yes text some = tt
+shown_answered format No text some = tt
+shown_answered format Graph text some = tt
+shown_answered format Second text some = tt
+shown_answered format Evaluation text some = tt
+shown_answered format o text some = some refl
 
-  -- one of which a front was written
-  front_of : (r : Run) (o : Outcome) (text : List ℕ) → code_of o ≤ 1 → Replied s r o text → Answers s r o text
-  front_of r Yes text low a = a
-  front_of r No text low a = a
-  front_of r o text low a = absurd (omega (arith, low))
+-- to what stays nothing was appended
+nothing_appended : (before after : Option (List ℕ)) (text : List ℕ) → text ≡ [] → after ≡ before → Appends before after text
+nothing_appended before after text none same = subst (Appends before after) (sym none)
+    (subst (λ (k : Option (List ℕ)). Appends before k []) (sym same) (Appends-nil before))
 
-  -- one of which nothing was written
-  refused_end : (r : Run) (o : Outcome) (text : List ℕ) → 2 ≤ code_of o → Replied s r o text → r.out.after ≡ r.out.before → Ends s r o (written_for s o text)
-  refused_end r Yes text high a nothing = absurd (omega (arith, high))
-  refused_end r No text high a nothing = absurd (omega (arith, high))
-  refused_end r Words text high a nothing = (record { no_request = a; nothing = nothing }, refl)
-  refused_end r Read text high a nothing = (
+module _ (s : CommandSet) (r : Run) (format : Format) where
+  -- a defined answer that was shown, or of which nothing is shown
+  abbrev WasShown : Outcome → Told → Type 0
+  WasShown o text = Appends r.out.before r.out.after (shown format o text) × (shown format o text ≡ [] → r.out.after ≡ r.out.before)
+
+  -- that of a refusal
+  refused_end : (o : Outcome) (text : Told) → shown format o text ≡ object_in format text → HasFormat s r.words format → Answers s r o text
+      → WasShown o text → Refused s r o text
+  refused_end o text is has a w = record {
+    format = format;
+    of_words = has;
+    answers = a;
+    whole = w.0;
+    nothing = λ as_text. w.1 (is ∙ ap (λ f. object_in f text) as_text);
+  }
+
+  -- a reply that was shown, or of which nothing is shown
+  shown_end : (o : Outcome) (text : Told) → (IsAnswered o → HasFormat s r.words format) → Replied s r o text → WasShown o text
+      → Ends s r o (record { text = written_for s o text.text; object = text.object })
+  shown_end Yes text has a w = record { answers = a; whole = w.0 }
+  shown_end No text has a w = record { answers = a; whole = w.0 }
+  shown_end Graph text has a w = refused_end Graph text refl (has tt) a w
+  shown_end Second text has a w = refused_end Second text refl (has tt) a w
+  shown_end Evaluation text has a w = refused_end Evaluation text refl (has tt) a w
+  shown_end Words text has a w = (record { no_request = a; nothing = w.1 refl }, refl)
+  shown_end Read text has a w = (
     record {
       request = a.request;
       asks = a.asks;
       name = a.name;
       is_read = a.is_read;
       rose = a.rose;
-      nothing = nothing;
+      nothing = w.1 refl;
     },
     refl,
   )
-  refused_end r Write text high a nothing = absurd a
-  refused_end r Memory text high a nothing = (nothing, refl)
-  refused_end r o text high a nothing = record { answers = a; nothing = nothing }
+  shown_end Write text has a w = absurd a
+  shown_end Memory text has a w = (w.1 refl, refl)
+
+  -- an answer that a command gives
+  given_answer : (o : Outcome) (text : Told) → IsAnswered o → Replied s r o text → Answers s r o text
+  given_answer Words text only a = absurd only
+  given_answer Read text only a = absurd only
+  given_answer Write text only a = absurd only
+  given_answer Memory text only a = absurd only
+  given_answer o text only a = a
 
   -- the reply was delivered
-  pub delivered : (r : Run) (reply last : Reply) → RepliesWith s r reply → Delivers r.out reply last → EndsWith s r last
-  delivered r reply last a (written same low whole) = subst (EndsWith s r) (sym same) (whole_end r reply.outcome reply.text.items low a whole)
-  delivered r reply last a (refused same high nothing) = subst (EndsWith s r) (sym same) (refused_end r reply.outcome reply.text.items high a nothing)
-  delivered r reply last a (unwritten is low count within front rose) = subst (λ o. Ends s r o (written_for s o last.text.items)) (sym is) (
-    record {
-      outcome = reply.outcome;
-      text = reply.text.items;
-      count = count;
-      is_answer = low;
-      answers = front_of r reply.outcome reply.text.items low a;
-      within = within;
-      front = front;
-      rose = rose;
-    },
-    refl,
-  )
+  pub delivered : (reply last : Reply) → (IsAnswered reply.outcome → HasFormat s r.words format) → RepliesWith s r reply
+      → Delivers r.out format reply last → EndsWith s r last
+  delivered reply last has a (written same some whole) = subst (EndsWith s r) (sym same)
+      (shown_end reply.outcome (told_of reply) has a (whole, λ none. absurd (some none)))
+  delivered reply last has a (silent same none stays) = subst (EndsWith s r) (sym same) (shown_end reply.outcome (told_of reply) has a
+      (nothing_appended r.out.before r.out.after (shown format reply.outcome (told_of reply)) none stays, λ e. stays))
+  delivered reply last has a (unwritten is some count within front rose) =
+      let only = shown_answered format reply.outcome (told_of reply) some in
+      subst (λ o. Ends s r o (record { text = written_for s o last.text.items; object = last.object.items })) (sym is) (
+        record {
+          outcome = reply.outcome;
+          told = told_of reply;
+          format = format;
+          of_words = has only;
+          answered = only;
+          answers = given_answer reply.outcome (told_of reply) only a;
+          some = some;
+          count = count;
+          within = within;
+          front = front;
+          rose = rose;
+        },
+        refl,
+      )
 
 -- ---- the line
 

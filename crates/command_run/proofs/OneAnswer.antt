@@ -8,6 +8,7 @@ use Rattle.command_words.specs.Form.{Text}
 use Rattle.diagram.specs.declared.diagram.Diagram.{Diagram}
 use Rattle.diagram.proofs.OneDiagram.{AreSameDiagrams}
 use Rattle.replies.specs.declared.outcome.Outcome.{Outcome}
+use Rattle.replies.specs.Told.{Told}
 use Rattle.replies.specs.declared.outcome.Outcome.TheVariants.{Graph}
 use Rattle.replies.specs.Observed.{HoldsDiagram}
 use Rattle.replies.specs.OneOutcome.{OneOutcome, IsAnswerOn}
@@ -23,7 +24,7 @@ use Rattle.command_run.specs.Complete.{InputsAreKnown, IsFixedAnswer}
 use Rattle.command_run.proofs.OneRequest.{one_request}
 
 -- the answer to a request, by the bytes of its file, or by those of both inputs
-record ByFile (s : CommandSet) (r : Run) (w : Request s) (o : Outcome) (text : List ℕ) : Type 0 where
+record ByFile (s : CommandSet) (r : Run) (w : Request s) (o : Outcome) (text : Told) : Type 0 where
   file : Text
   bytes : List ℕ
   names : file_of s w ≡ Some file
@@ -31,7 +32,7 @@ record ByFile (s : CommandSet) (r : Run) (w : Request s) (o : Outcome) (text : L
   held : option_or r.kept (r.held file) ≡ Some bytes
   defined : Defined s w bytes o text
 
-record ByBoth (s : CommandSet) (r : Run) (w : Request s) (o : Outcome) (text : List ℕ) : Type 0 where
+record ByBoth (s : CommandSet) (r : Run) (w : Request s) (o : Outcome) (text : Told) : Type 0 where
   file : Text
   second : Text
   bytes : List ℕ
@@ -46,11 +47,11 @@ record ByBoth (s : CommandSet) (r : Run) (w : Request s) (o : Outcome) (text : L
   defined : DefinedWith s w bytes other o text
 
 -- the answer to a request
-abbrev ByAny : (s : CommandSet) → Run → Request s → Outcome → List ℕ → Type 0
+abbrev ByAny : (s : CommandSet) → Run → Request s → Outcome → Told → Type 0
 ByAny s r w o text = WordsAnswer s w o text ⊎ (ByFile s r w o text ⊎ ByBoth s r w o text)
 
 -- the request fixes its outcome
-abbrev IsFixedBy : (s : CommandSet) (r : Run) (w : Request s) (o : Outcome) (text : List ℕ) → ByAny s r w o text → Type 0
+abbrev IsFixedBy : (s : CommandSet) (r : Run) (w : Request s) (o : Outcome) (text : Told) → ByAny s r w o text → Type 0
 IsFixedBy s r w o text (inl a) = Unit {0}
 IsFixedBy s r w o text (inr (inl a)) = Unit {0}
 IsFixedBy s r w o text (inr (inr a)) = IsFixed s w
@@ -60,7 +61,7 @@ of_told : (held : Option (List ℕ)) (bytes : List ℕ) (P : List ℕ → Type 0
 of_told held bytes P e h = subst (λ (o : Option (List ℕ)). IfSome o P) e h
 
 -- the words of a defined answer ask for something
-pub asked : (s : CommandSet) (r : Run) (o : Outcome) (text : List ℕ) → Answers s r o text → (q : Request s) × Asks s r.words q
+pub asked : (s : CommandSet) (r : Run) (o : Outcome) (text : Told) → Answers s r o text → (q : Request s) × Asks s r.words q
 asked s r o text (by_words a) = (a.request, a.asks)
 asked s r o text (by_file a) = (a.request, a.asks)
 asked s r o text (by_both a) = (a.request, a.asks)
@@ -81,7 +82,7 @@ module _ (s : CommandSet) (laws : AreLawful s) where
   words_once (of c q) = (laws.each c).words_once q
 
   -- a request that words alone answer has no file
-  pub words_alone : (w : Request s) (file : Text) (o : Outcome) (text : List ℕ) → WordsAnswer s w o text → file_of s w ≡ Some file → ⊥
+  pub words_alone : (w : Request s) (file : Text) (o : Outcome) (text : Told) → WordsAnswer s w o text → file_of s w ≡ Some file → ⊥
   words_alone (of c q) file o text a names = (laws.each c).no_file q o text a file names
 
   on_diagram : (w : Request s) (bytes : List ℕ) → OneOutcome (IsAnswerOn bytes (λ d. DiagramAnswer s w d))
@@ -91,19 +92,19 @@ module _ (s : CommandSet) (laws : AreLawful s) where
   on_both (of c q) fixed bytes other = (laws.each c).both_once q fixed bytes other
 
   -- a request that the file alone answers reads no second input
-  file_alone : (w : Request s) (second : Text) (d e : Diagram) → AreSameDiagrams d e → second_of s w ≡ Some second → (o : Outcome) (text : List ℕ)
+  file_alone : (w : Request s) (second : Text) (d e : Diagram) → AreSameDiagrams d e → second_of s w ≡ Some second → (o : Outcome) (text : Told)
       → DiagramAnswer s w d o text → NeedsSecond s w e → ⊥
   file_alone (of c q) second d e same names o text a n = (laws.each c).file_alone q second d e same names o text a n
 
   -- ---- what bytes answer
 
   -- bytes that hold a diagram are no refused graph
-  held_or_refused : (bytes : List ℕ) (d : Diagram) (line : List ℕ) → HoldsDiagram bytes d → IsGraphRefusal bytes line → ⊥
+  held_or_refused : (bytes : List ℕ) (d : Diagram) (line : Told) → HoldsDiagram bytes d → IsGraphRefusal bytes line → ⊥
   held_or_refused bytes d line h (too_long long is) = absurd (let small = h.small in omega (arith, small, long))
   held_or_refused bytes d line h (faulty fault short ne reads is) = reads_either bytes d.read fault h.reads ne reads
 
   -- a defined answer is a refused graph, or one on a diagram
-  split : (w : Request s) (bytes : List ℕ) (o : Outcome) (text : List ℕ) → Defined s w bytes o text → ((o ≡ Graph) × IsGraphRefusal bytes text)
+  split : (w : Request s) (bytes : List ℕ) (o : Outcome) (text : Told) → Defined s w bytes o text → ((o ≡ Graph) × IsGraphRefusal bytes text)
       ⊎ HoldsAnswer s w bytes o text
   split w bytes Graph text (inl r) = inl (refl, r)
   split w bytes Graph text (inr h) = inr h
@@ -121,7 +122,7 @@ module _ (s : CommandSet) (laws : AreLawful s) where
           (record { diagram = y.diagram; holds = y.holds; given = y.answer })
 
   -- where the file alone is answered, the second input isn't read
-  pub alone : (w : Request s) (second : Text) (bytes : List ℕ) (o : Outcome) (text : List ℕ) → second_of s w ≡ Some second → Defined s w bytes o text
+  pub alone : (w : Request s) (second : Text) (bytes : List ℕ) (o : Outcome) (text : Told) → second_of s w ≡ Some second → Defined s w bytes o text
       → Continues s w bytes → ⊥
   alone w second bytes o text names a c = go (split w bytes o text a)
     where
@@ -142,7 +143,7 @@ module _ (s : CommandSet) (laws : AreLawful s) where
       go None none = told w asks file (ReadsName.file none names) (there none)
       go (Some text) is = (text, refl)
 
-  module _ (r : Run) (told : InputsAreKnown s r) (w : Request s) (asks : Asks s r.words w) (o : Outcome) (text : List ℕ) where
+  module _ (r : Run) (told : InputsAreKnown s r) (w : Request s) (asks : Asks s r.words w) (o : Outcome) (text : Told) where
     same : (q : Request s) → Asks s r.words q → q ≡ w
     same q a = one_request s laws r.words w q asks a
 
@@ -197,7 +198,7 @@ module _ (s : CommandSet) (laws : AreLawful s) where
     fixed_any (by_file a) f = tt
     fixed_any (by_both a) f = subst (λ (q : Request s). IsFixed s q) (same a.request a.asks) f
 
-  module _ (r : Run) (w : Request s) (o p : Outcome) (text line : List ℕ) where
+  module _ (r : Run) (w : Request s) (o p : Outcome) (text line : Told) where
     two_files : ByFile s r w o text → ByFile s r w p line → o ≡ p
     two_files a b = defined_once w a.bytes o p text line a.defined
         (subst (λ (bytes : List ℕ). Defined s w bytes p line)
@@ -215,7 +216,7 @@ module _ (s : CommandSet) (laws : AreLawful s) where
         (subst (λ (other : List ℕ). DefinedWith s w b.bytes other p line)
         (same_bytes r.held (second_of s w) a.second b.second a.other b.other a.names_second b.names_second a.held_second b.held_second) b.defined))
 
-  joined : (r : Run) (w : Request s) (o p : Outcome) (text line : List ℕ) → ByAny s r w o text → (b : ByAny s r w p line) → IsFixedBy s r w p line b → o ≡ p
+  joined : (r : Run) (w : Request s) (o p : Outcome) (text line : Told) → ByAny s r w o text → (b : ByAny s r w p line) → IsFixedBy s r w p line b → o ≡ p
   joined r w o p text line (inl a) (inl b) f = words_once w o p text line a b
   joined r w o p text line (inl a) (inr (inl b)) f = absurd (words_alone w b.file o text a b.names)
   joined r w o p text line (inl a) (inr (inr b)) f = absurd (words_alone w b.file o text a b.names)
@@ -227,7 +228,7 @@ module _ (s : CommandSet) (laws : AreLawful s) where
   joined r w o p text line (inr (inr a)) (inr (inr b)) f = two_both r w o p text line f a b
 
   -- a defined answer of a run whose inputs are told has the outcome of each that is fixed
-  pub one_answer : (r : Run) → InputsAreKnown s r → (o p : Outcome) (text line : List ℕ) → Answers s r o text → (b : Answers s r p line)
+  pub one_answer : (r : Run) → InputsAreKnown s r → (o p : Outcome) (text line : Told) → Answers s r o text → (b : Answers s r p line)
       → IsFixedAnswer s r p line b → o ≡ p
   one_answer r told o p text line a b fixed =
       let q = asked s r o text a in
@@ -236,7 +237,7 @@ module _ (s : CommandSet) (laws : AreLawful s) where
   -- ---- inputs that are lacked
 
   -- a name that is lacked is none of those that a defined answer was read of
-  module _ (r : Run) (w : Request s) (name : Text) (lacked : r.lacks name ≡ true) (o : Outcome) (text : List ℕ) where
+  module _ (r : Run) (w : Request s) (name : Text) (lacked : r.lacks name ≡ true) (o : Outcome) (text : Told) where
     -- another name, which isn't lacked
     is_other : (known : Option Text) (other : Text) → known ≡ Some name → known ≡ Some other → r.lacks other ≡ false → ⊥
     is_other known other a b there =
@@ -266,5 +267,5 @@ module _ (s : CommandSet) (laws : AreLawful s) where
 
   -- where an input that is read is lacked, a run whose inputs are told has no defined answer
   pub none_lacked : (r : Run) → InputsAreKnown s r → (w : Request s) → Asks s r.words w → (name : Text) → ReadsName s r w name → r.lacks name ≡ true
-      → (o : Outcome) (text : List ℕ) → Answers s r o text → ⊥
+      → (o : Outcome) (text : Told) → Answers s r o text → ⊥
   none_lacked r told w asks name is lacked o text a = not_of_any r w name lacked o text (from_any r told w asks o text a) is

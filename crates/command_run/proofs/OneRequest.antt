@@ -1,8 +1,9 @@
 -- Words are one call at most, and ask for one request at most.
-use Rattle.std.proofs.Common.{◌≡◌, List, sym, ap, subst}
+use Rattle.std.proofs.Common.{◌≡◌, List, sym, ap, subst, ◌∙◌}
 use Rattle.command_words.specs.Form.{Text, Use}
 use Rattle.command_words.proofs.Exact.{one_call}
-use Rattle.command_run.specs.Commands.{CommandSet, table, Request, of, command_of, IsRequest, Asks}
+use Rattle.replies.specs.declared.format.Format.{Format}
+use Rattle.command_run.specs.Commands.{CommandSet, table, Request, of, command_of, format_of, IsRequest, Asks, HasFormat}
 use Rattle.command_run.specs.Complete.{WordsAskOnce}
 use Rattle.command_run.specs.Laws.{AreLawful}
 
@@ -23,3 +24,7 @@ module _ (s : CommandSet) (laws : AreLawful s) where
   one_request words q r a b =
       let once = words_ask_once words (s.row_for (command_of s q)) (s.row_for (command_of s r)) a.uses b.uses a.call b.call in
       one_of_uses a.uses q r (laws.apart (command_of s q) (command_of s r) (sym once.0)) a.asks (subst (λ (us : List Use). IsRequest s us r) once.1 b.asks)
+
+  -- the format of a request that words ask for is that in which they ask
+  pub asked_format : (words : List Text) (q : Request s) (format : Format) → Asks s words q → format ≡ format_of s q → HasFormat s words format
+  asked_format words q format a is = λ r b. ap (format_of s) (one_request words q r a b) ∙ sym is

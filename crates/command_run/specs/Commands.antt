@@ -2,6 +2,7 @@
 use Rattle.std.specs.Prelude.{◌≡◌, List, Option, map}
 use Rattle.command_words.specs.Form.{Text, Row, Use, IsCall}
 use Rattle.command_words.specs.Asks.{AsksBy}
+use Rattle.replies.specs.declared.format.Format.{Format}
 use Rattle.replies.specs.Command.{CommandForm}
 use Rattle.replies.specs.Command as forms
 
@@ -34,6 +35,10 @@ file_of s (of c q) = (s.form_of c).file q
 abbrev pub second_of : (s : CommandSet) → Request s → Option Text
 second_of s (of c q) = (s.form_of c).second q
 
+-- the format of its answer
+abbrev pub format_of : (s : CommandSet) → Request s → Format
+format_of s (of c q) = (s.form_of c).format q
+
 -- its answers on both inputs have one outcome
 abbrev pub IsFixed : (s : CommandSet) → Request s → Type 0
 IsFixed s (of c q) = (s.form_of c).is_fixed q
@@ -49,6 +54,10 @@ AsksNothing s c uses = forms.AsksNothing (s.form_of c) uses
 -- the words ask for this: they are a call of its command, whose uses give the request
 abbrev pub Asks : (s : CommandSet) → List Text → Request s → Type 0
 Asks s = AsksBy (table s) (λ q. s.row_for (command_of s q)) (IsRequest s)
+
+-- words that ask for something ask for its answer in this format
+abbrev pub HasFormat : (s : CommandSet) → List Text → Format → Type 0
+HasFormat s words format = (q : Request s) → Asks s words q → format_of s q ≡ format
 
 -- words are one call at most
 abbrev pub AskOnce : CommandSet → List Text → Type 0

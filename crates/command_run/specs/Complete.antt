@@ -3,6 +3,7 @@ use Rattle.std.specs.Prelude.{ℕ, ◌≡◌, ◌⊎◌, true, false, List, Some
 use Rattle.causal_io.specs.Causes.{Rose}
 use Rattle.command_words.specs.Form.{Text}
 use Rattle.replies.specs.declared.outcome.Outcome.{Outcome}
+use Rattle.replies.specs.Told.{Told}
 use Rattle.replies.specs.Outcomes.{code_of, IsAnswered}
 use Rattle.command_run.specs.Commands.{CommandSet, Request, Asks, AskOnce, IsFixed}
 use Rattle.command_run.specs.Run.{Run, Answers, by_words, by_file, by_both, ReadsName}
@@ -15,10 +16,10 @@ pub record NothingFailed (s : CommandSet) (r : Run) : Type 0 where
 -- the status is that of the defined answer to what the words ask for
 pub record Answered (s : CommandSet) (r : Run) (code : ℕ) : Type 0 where
   pub outcome : Outcome
-  pub text : List ℕ
+  pub told : Told
   pub status : code ≡ code_of outcome
   pub answered : IsAnswered outcome
-  pub answers : Answers s r outcome text
+  pub answers : Answers s r outcome told
 
 -- each input that a request of the words reads tells what it holds
 abbrev pub InputsAreKnown : CommandSet → Run → Type 0
@@ -26,14 +27,14 @@ InputsAreKnown s r = (q : Request s) → Asks s r.words q → (name : Text) → 
     × (r.held name ≡ Some bytes)
 
 -- the request fixes the outcome of the answer: it does so unless the answer is on both inputs and by what the program chose
-abbrev pub IsFixedAnswer : (s : CommandSet) (r : Run) (o : Outcome) (text : List ℕ) → Answers s r o text → Type 0
-IsFixedAnswer s r o text (by_words a) = Unit {0}
-IsFixedAnswer s r o text (by_file a) = Unit {0}
-IsFixedAnswer s r o text (by_both a) = IsFixed s a.request
+abbrev pub IsFixedAnswer : (s : CommandSet) (r : Run) (o : Outcome) (told : Told) → Answers s r o told → Type 0
+IsFixedAnswer s r o told (by_words a) = Unit {0}
+IsFixedAnswer s r o told (by_file a) = Unit {0}
+IsFixedAnswer s r o told (by_both a) = IsFixed s a.request
 
 -- whatever is the defined answer, the status is that of its outcome; or memory was refused
 abbrev pub IsExact : CommandSet → Run → ℕ → Type 0
-IsExact s r code = (o : Outcome) (text : List ℕ) (answer : Answers s r o text) → IsFixedAnswer s r o text answer → (code ≡ code_of o) ⊎ (code ≡ 8)
+IsExact s r code = (o : Outcome) (told : Told) (answer : Answers s r o told) → IsFixedAnswer s r o told answer → (code ≡ code_of o) ⊎ (code ≡ 8)
 
 -- Where the words ask for nothing, the status is 2; where they ask for something and nothing failed, it is that of a defined answer, and, where the
 -- inputs are told, of each defined answer that is fixed; where these are told, and one that is read is lacked, it is 6. Or memory was refused.

@@ -1,5 +1,5 @@
 -- How a run comes to its end: the reply to its words, before anything is written, and what is written of it.
-use Rattle.std.specs.Prelude.{ℕ, ◌≡◌, ◌≢◌, ◌≤◌, ◌<◌, Bool, true, false, List, length, take, Option, Some, None, Result, Ok, Err, IfSome, IsErrOf}
+use Rattle.std.specs.Prelude.{ℕ, ◌≡◌, ◌≢◌, ◌≤◌, ◌<◌, Bool, true, false, List, [], length, take, Option, Some, None, Result, Ok, Err, IfSome, IsErrOf}
 use Rattle.std.specs.Option.{option_or}
 use Rattle.std.specs.Global.{Vec}
 use Rattle.std.specs.Io.KnownBytes.{Appends}
@@ -8,19 +8,22 @@ use Rattle.causal_io.specs.Reading.{AnswersAll}
 use Rattle.causal_io.specs.declared.ReadError.{ReadError}
 use Rattle.causal_io.specs.declared.ReadError.TheVariants.{Fault, TooLong, NoMemory}
 use Rattle.command_words.specs.Form.{Text}
-use Rattle.answer_text.specs.Lines.{line_of}
-use Rattle.dag_reader.specs.FaultTexts.{size_text}
 use Rattle.diagram.specs.declared.diagram.Diagram.{Diagram}
 use Rattle.replies.specs.declared.outcome.Outcome.{Outcome}
 use Rattle.replies.specs.declared.outcome.Outcome.TheVariants.{Words, Graph, Read, Write, Memory}
 use Rattle.replies.specs.declared.outcome.Reply.{Reply}
+use Rattle.replies.specs.declared.format.Format.{Format}
+use Rattle.replies.specs.Told.{Told, told_of}
+use Rattle.replies.specs.Refusals.{size_told}
 use Rattle.replies.specs.Observed.{HoldsDiagram}
-use Rattle.replies.specs.Outcomes.{code_of, IsAnswered}
-use Rattle.command_run.specs.Commands.{CommandSet, Request, Asks, second_of}
+use Rattle.replies.specs.Outcomes.{IsAnswered}
+use Rattle.command_run.specs.Commands.{CommandSet, Request, Asks, HasFormat, second_of}
 use Rattle.command_run.specs.Lines.{words_line, read_line, write_line, memory_line}
 use Rattle.command_run.specs.Run.{Stream, Run, Answers, ReadsName, Reads, IsNotRead, IsReadAtMostOnce, Ends}
 use Rattle.replies.specs.Command.{Remainder}
 use Rattle.command_run.specs.Answers.{NeedsSecond, GivesSecond}
+use Rattle.command_run.specs.Shown.{shown}
+use Rattle.command_run.specs.declared.ready.Ready.{Ready}
 
 -- a read of an input that the words ask for failed
 pub record FailedRead (s : CommandSet) (r : Run) : Type 0 where
@@ -31,16 +34,20 @@ pub record FailedRead (s : CommandSet) (r : Run) : Type 0 where
   pub rose : Rose (r.read_faults name) (r.read_faults_after name)
 
 -- what a reply says of the run, by its outcome: it is the defined answer, or the words ask for nothing, or a read failed, or memory was refused
-abbrev pub Replied : CommandSet → Run → Outcome → List ℕ → Type 0
-Replied s r Words text = (q : Request s) → Asks s r.words q → ⊥
-Replied s r Read text = FailedRead s r
-Replied s r Write text = ⊥
-Replied s r Memory text = Unit {0}
-Replied s r o text = Answers s r o text
+abbrev pub Replied : CommandSet → Run → Outcome → Told → Type 0
+Replied s r Words told = (q : Request s) → Asks s r.words q → ⊥
+Replied s r Read told = FailedRead s r
+Replied s r Write told = ⊥
+Replied s r Memory told = Unit {0}
+Replied s r o told = Answers s r o told
 
 -- the same of a reply
 abbrev pub RepliesWith : CommandSet → Run → Reply → Type 0
-RepliesWith s r reply = Replied s r reply.outcome reply.text.items
+RepliesWith s r reply = Replied s r reply.outcome (told_of reply)
+
+-- the format of a reply that a command gives is that in which the words ask for it
+abbrev pub IsInFormat : CommandSet → List Text → Ready → Type 0
+IsInFormat s words ready = IsAnswered ready.reply.outcome → HasFormat s words ready.format
 
 -- ---- the diagram of a file
 
@@ -74,15 +81,15 @@ pub record Stays (held held_after : Text → Option (List ℕ)) (lacks lacks_aft
   pub holds : held_after ≡ held
   pub lack : lacks_after ≡ lacks
 
--- the line says that the graph's text is too long; want of memory may stand in its place
-abbrev pub IsTooLongLine : Outcome → List ℕ → Type 0
-IsTooLongLine Graph line = line ≡ line_of size_text
-IsTooLongLine Memory line = Unit {0}
-IsTooLongLine o line = ⊥
+-- the graph's text is too long; or want of memory stands in the place of that refusal
+abbrev pub IsTooLongAs : Outcome → Told → Type 0
+IsTooLongAs Graph told = told ≡ size_told
+IsTooLongAs Memory told = Unit {0}
+IsTooLongAs o told = ⊥
 
 -- the same of a reply
 abbrev pub IsTooLong : Reply → Type 0
-IsTooLong reply = IsTooLongLine reply.outcome reply.text.items
+IsTooLong reply = IsTooLongAs reply.outcome (told_of reply)
 
 -- what a reply says of a file that couldn't be read whole
 abbrev pub TellsUnread : ReadError → Reply → Type 0
@@ -124,7 +131,7 @@ pub data Proceeds (held : Text → Option (List ℕ)) (lacks : Text → Bool) (f
 
 -- ---- what is written
 
--- what is told of an outcome: the text or the line of a command's answer, or the line of an outcome of the run alone
+-- the text or the line of an outcome: that of a command's answer, or the line of an outcome of the run alone
 abbrev pub written_for : CommandSet → Outcome → List ℕ → List ℕ
 written_for s Words text = words_line s
 written_for s Read text = read_line
@@ -132,18 +139,26 @@ written_for s Write text = write_line
 written_for s Memory text = memory_line
 written_for s o text = text
 
--- what is told of a reply
+-- that of a reply
 abbrev pub text_of : CommandSet → Reply → List ℕ
 text_of s reply = written_for s reply.outcome reply.text.items
 
+-- the same with the reply's object
+abbrev pub told_as : CommandSet → Reply → Told
+told_as s reply = record { text = text_of s reply; object = reply.object.items }
+
 -- the run ends with this reply
 abbrev pub EndsWith : CommandSet → Run → Reply → Type 0
-EndsWith s r reply = Ends s r reply.outcome (text_of s reply)
+EndsWith s r reply = Ends s r reply.outcome (told_as s reply)
 
--- a command's reply was written, or a front of it where the count of faults rose; nothing is written of a refusal
-pub data Delivers (out : Stream) (reply last : Reply) : Type 0 where
-  written : last ≡ reply → code_of reply.outcome ≤ 1 → Appends out.before out.after reply.text.items → Delivers out reply last
-  unwritten : last.outcome ≡ Write → code_of reply.outcome ≤ 1 → (count : ℕ) → count ≤ length reply.text.items
-      → Appends out.before out.after (take count reply.text.items)
-      → Rose out.faults out.faults_after → Delivers out reply last
-  refused : last ≡ reply → 2 ≤ code_of reply.outcome → out.after ≡ out.before → Delivers out reply last
+-- what a reply in a format shows
+abbrev pub shown_of : Format → Reply → List ℕ
+shown_of format reply = shown format reply.outcome (told_of reply)
+
+-- what a reply shows was written, or a front of it where the count of faults rose; where it shows nothing, nothing is written
+pub data Delivers (out : Stream) (format : Format) (reply last : Reply) : Type 0 where
+  written : last ≡ reply → (shown_of format reply ≡ [] → ⊥) → Appends out.before out.after (shown_of format reply) → Delivers out format reply last
+  unwritten : last.outcome ≡ Write → (shown_of format reply ≡ [] → ⊥) → (count : ℕ) → count ≤ length (shown_of format reply)
+      → Appends out.before out.after (take count (shown_of format reply))
+      → Rose out.faults out.faults_after → Delivers out format reply last
+  silent : last ≡ reply → shown_of format reply ≡ [] → out.after ≡ out.before → Delivers out format reply last

@@ -1,5 +1,5 @@
 -- How a run ends.
-use Rattle.std.specs.Prelude.{ℕ, ◌≡◌, ◌≤◌, Bool, false, List, length, take, Option, Some, None, IfSome}
+use Rattle.std.specs.Prelude.{ℕ, ◌≡◌, ◌≤◌, Bool, false, List, [], length, take, Option, Some, None, IfSome}
 use Rattle.std.specs.Option.{option_or}
 use Rattle.std.specs.Io.KnownBytes.{Appends}
 use Rattle.causal_io.specs.Causes.{Rose}
@@ -7,10 +7,14 @@ use Rattle.causal_io.specs.Reading.{IsReadOnce}
 use Rattle.command_words.specs.Form.{Text}
 use Rattle.replies.specs.declared.outcome.Outcome.{Outcome}
 use Rattle.replies.specs.declared.outcome.Outcome.TheVariants.{Yes, No, Words, Graph, Second, Evaluation, Read, Write, Memory}
-use Rattle.replies.specs.Outcomes.{code_of}
-use Rattle.command_run.specs.Commands.{CommandSet, Request, Asks, file_of, second_of}
+use Rattle.replies.specs.declared.format.Format.{Format}
+use Rattle.replies.specs.declared.format.Format.TheVariants as formats
+use Rattle.replies.specs.Told.{Told}
+use Rattle.replies.specs.Outcomes.{code_of, IsAnswered}
+use Rattle.command_run.specs.Commands.{CommandSet, Request, Asks, HasFormat, file_of, second_of}
 use Rattle.command_run.specs.Lines.{words_line, read_line, write_line, memory_line}
 use Rattle.command_run.specs.Answers.{WordsAnswer, Defined, Continues, DefinedWith}
+use Rattle.command_run.specs.Shown.{shown}
 
 -- an output before and after a run: what was written, where it tells, and its count of faults
 pub record Stream : Type 0 where
@@ -52,22 +56,22 @@ abbrev pub run_on : (words : List Text) (held : Text → Option (List ℕ)) (lac
 run_on words held lacks faults faults_after out = run_with None words held lacks faults faults_after out
 
 -- the words ask for a request without an input, and this is its answer
-pub record AnswersWords (s : CommandSet) (words : List Text) (o : Outcome) (text : List ℕ) : Type 0 where
+pub record AnswersWords (s : CommandSet) (words : List Text) (o : Outcome) (told : Told) : Type 0 where
   pub request : Request s
   pub asks : Asks s words request
-  pub answer : WordsAnswer s request o text
+  pub answer : WordsAnswer s request o told
 
 -- the words ask for a request whose file was read, and on the bytes that it holds, or on the text that stands for it, this is the defined answer
-pub record AnswersFile (s : CommandSet) (r : Run) (o : Outcome) (text : List ℕ) : Type 0 where
+pub record AnswersFile (s : CommandSet) (r : Run) (o : Outcome) (told : Told) : Type 0 where
   pub request : Request s
   pub asks : Asks s r.words request
   pub file : Text
   pub names_it : file_of s request ≡ Some file
   pub there : r.kept ≡ None → r.lacks file ≡ false
-  pub defined : IfSome (option_or r.kept (r.held file)) (λ bytes. Defined s request bytes o text)
+  pub defined : IfSome (option_or r.kept (r.held file)) (λ bytes. Defined s request bytes o told)
 
 -- the words ask for a request whose file was read and accepted, and whose second input was read, and on the bytes of both this is the defined answer
-pub record AnswersBoth (s : CommandSet) (r : Run) (o : Outcome) (text : List ℕ) : Type 0 where
+pub record AnswersBoth (s : CommandSet) (r : Run) (o : Outcome) (told : Told) : Type 0 where
   pub request : Request s
   pub asks : Asks s r.words request
   pub file : Text
@@ -77,23 +81,26 @@ pub record AnswersBoth (s : CommandSet) (r : Run) (o : Outcome) (text : List ℕ
   pub there : r.kept ≡ None → r.lacks file ≡ false
   pub second_there : r.lacks second ≡ false
   pub accepted : IfSome (option_or r.kept (r.held file)) (λ bytes. Continues s request bytes)
-  pub defined : IfSome (option_or r.kept (r.held file)) (λ bytes. IfSome (r.held second) (λ other. DefinedWith s request bytes other o text))
+  pub defined : IfSome (option_or r.kept (r.held file)) (λ bytes. IfSome (r.held second) (λ other. DefinedWith s request bytes other o told))
 
 -- the defined answer: by the words alone, by the file alone, or by both inputs
-pub data Answers (s : CommandSet) (r : Run) (o : Outcome) (text : List ℕ) : Type 0 where
-  by_words : AnswersWords s r.words o text → Answers s r o text
-  by_file : AnswersFile s r o text → Answers s r o text
-  by_both : AnswersBoth s r o text → Answers s r o text
+pub data Answers (s : CommandSet) (r : Run) (o : Outcome) (told : Told) : Type 0 where
+  by_words : AnswersWords s r.words o told → Answers s r o told
+  by_file : AnswersFile s r o told → Answers s r o told
+  by_both : AnswersBoth s r o told → Answers s r o told
 
 -- an answer was written whole
-pub record Written (s : CommandSet) (r : Run) (o : Outcome) (text : List ℕ) : Type 0 where
-  pub answers : Answers s r o text
-  pub whole : Appends r.out.before r.out.after text
+pub record Written (s : CommandSet) (r : Run) (o : Outcome) (told : Told) : Type 0 where
+  pub answers : Answers s r o told
+  pub whole : Appends r.out.before r.out.after told.text
 
--- an input was refused by this line, and nothing was written
-pub record Refused (s : CommandSet) (r : Run) (o : Outcome) (line : List ℕ) : Type 0 where
-  pub answers : Answers s r o line
-  pub nothing : r.out.after ≡ r.out.before
+-- an input was refused by this line; its object was written where the words ask for JSON, and else nothing
+pub record Refused (s : CommandSet) (r : Run) (o : Outcome) (told : Told) : Type 0 where
+  pub format : Format
+  pub of_words : HasFormat s r.words format
+  pub answers : Answers s r o told
+  pub whole : Appends r.out.before r.out.after (shown format o told)
+  pub nothing : format ≡ formats.Text → r.out.after ≡ r.out.before
 
 -- the words ask for nothing
 pub record NotUnderstood (s : CommandSet) (r : Run) : Type 0 where
@@ -140,28 +147,31 @@ pub record Unread (s : CommandSet) (r : Run) : Type 0 where
   pub rose : Rose (r.read_faults name) (r.read_faults_after name)
   pub nothing : r.out.after ≡ r.out.before
 
--- a write of the answer failed, and the front of it was written
+-- something of the answer was to be written, a write failed, and a front was written
 pub record Unwritten (s : CommandSet) (r : Run) : Type 0 where
   pub outcome : Outcome
-  pub text : List ℕ
+  pub told : Told
+  pub format : Format
+  pub of_words : HasFormat s r.words format
+  pub answered : IsAnswered outcome
+  pub answers : Answers s r outcome told
+  pub some : shown format outcome told ≡ [] → ⊥
   pub count : ℕ
-  pub is_answer : code_of outcome ≤ 1
-  pub answers : Answers s r outcome text
-  pub within : count ≤ length text
-  pub front : Appends r.out.before r.out.after (take count text)
+  pub within : count ≤ length (shown format outcome told)
+  pub front : Appends r.out.before r.out.after (take count (shown format outcome told))
   pub rose : Rose r.out.faults r.out.faults_after
 
--- what an outcome says of the run, with the text on `out` or the line on `err`
-abbrev pub Ends : CommandSet → Run → Outcome → List ℕ → Type 0
-Ends s r Yes text = Written s r Yes text
-Ends s r No text = Written s r No text
-Ends s r Words line = NotUnderstood s r × (line ≡ words_line s)
-Ends s r Graph line = Refused s r Graph line
-Ends s r Second line = Refused s r Second line
-Ends s r Evaluation line = Refused s r Evaluation line
-Ends s r Read line = Unread s r × (line ≡ read_line)
-Ends s r Write line = Unwritten s r × (line ≡ write_line)
-Ends s r Memory line = (r.out.after ≡ r.out.before) × (line ≡ memory_line)
+-- what an outcome says of the run, with what is told of it: the text on `out`, or the line on `err`
+abbrev pub Ends : CommandSet → Run → Outcome → Told → Type 0
+Ends s r Yes told = Written s r Yes told
+Ends s r No told = Written s r No told
+Ends s r Words told = NotUnderstood s r × (told.text ≡ words_line s)
+Ends s r Graph told = Refused s r Graph told
+Ends s r Second told = Refused s r Second told
+Ends s r Evaluation told = Refused s r Evaluation told
+Ends s r Read told = Unread s r × (told.text ≡ read_line)
+Ends s r Write told = Unwritten s r × (told.text ≡ write_line)
+Ends s r Memory told = (r.out.after ≡ r.out.before) × (told.text ≡ memory_line)
 
 -- the line was received: all of it, or a front of it where the count of faults rose
 pub record ReceivedLine (err : Stream) (line : List ℕ) : Type 0 where
@@ -179,7 +189,7 @@ Received err o line = ReceivedLine err line
 -- the run ended with this status
 pub record Ended (s : CommandSet) (r : Run) (err : Stream) (code : ℕ) : Type 0 where
   pub outcome : Outcome
-  pub text : List ℕ
+  pub told : Told
   pub status : code ≡ code_of outcome
-  pub ends : Ends s r outcome text
-  pub received : Received err outcome text
+  pub ends : Ends s r outcome told
+  pub received : Received err outcome told.text

@@ -5,13 +5,15 @@
 #![tactic(auto)]
 
 mod lines;
+mod ready;
 mod replying;
 mod request;
 mod sure;
 mod top;
 mod words;
 
-pub use lines::line_of;
+pub use lines::{line_of, shown};
+pub use ready::Ready;
 pub use replying::or_memory;
 pub use request::{AfterFile, AfterWords, Request, SecondInput};
 pub use sure::run_surely;

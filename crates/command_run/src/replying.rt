@@ -23,7 +23,7 @@ pub fn read_diagram(alloc: Global, bytes: &[u8]) -> Result<Diagram, Reply>
             Ok(diagram) => Ok(diagram),
             Err(_) => Err(Reply::bare(alloc, Outcome::Memory)),
         },
-        Err(fault) => Err(or_memory(alloc, refuse_graph(alloc, &fault))),
+        Err(fault) => Err(or_memory(alloc, refuse_graph(alloc, &fault, bytes))),
     }
 }
 

@@ -7,7 +7,7 @@ ghost use Rattle.command_words.specs.Gives.{HoldsCall};
 ghost use Rattle.command_words.specs.Readable.{AreReadable};
 ghost use Rattle.diagram.specs.declared.diagram.Diagram.{Diagram as Drawn};
 ghost use Rattle.replies.specs.Command.{Remainder};
-ghost use Rattle.command_run.specs.Commands.{CommandSet, table, command_of, file_of, IsRequest, AsksNothing};
+ghost use Rattle.command_run.specs.Commands.{CommandSet, table, command_of, file_of, format_of, IsRequest, AsksNothing};
 ghost use Rattle.command_run.specs.Commands as asked;
 ghost use Rattle.command_run.specs.Lines.{words_line};
 ghost use Rattle.command_run.specs.Answers.{GivesOnWords, GivesOn, GivesSecond};
@@ -16,7 +16,7 @@ use command_words::forms::Entry;
 use command_words::typed::RequestFault;
 use command_words::values::Values;
 use diagram::Diagram;
-use replies::Reply;
+use replies::{Format, Reply};
 use std::alloc::{AllocError, Global};
 
 /// What the words alone give.
@@ -97,6 +97,10 @@ pub trait Request<'a>: Sized + Drop {
         ensures row { IfOk result (λ r. command_of commands (request r) ≡ command it) }
         ensures ok { (uses : List Use) → HoldsCall (commands.row_for (command it)) uses values.now → IfOk result (λ r. IsRequest commands uses (request r)) }
         ensures none { (uses : List Use) → HoldsCall (commands.row_for (command it)) uses values.now → IsErrOf result RequestFault.NotUnderstood → AsksNothing commands (command it) uses };
+
+    /// The format of the answer.
+    fn format(&self) -> Format
+        ensures { result ≡ format_of commands (request self.now) };
 
     /// What the words alone give.
     fn after_words(&self, alloc: Global) -> Result<AfterWords<'a>, AllocError>

@@ -1,24 +1,24 @@
 //! The run of any commands: words are read, inputs are read, and the answer is written.
 
-ghost use Rattle.std.specs.Prelude.{◌≡◌, ◌≤◌, ℕ, List, Option, Some, IfOk, IfErr, IfSome, is_some, option_map};
+ghost use Rattle.std.specs.Prelude.{◌≡◌, ◌≤◌, ℕ, List, [], Option, Some, IfOk, IfErr, IfSome, is_some, option_map};
 ghost use Rattle.command_words.specs.Form.{Text};
 ghost use Rattle.command_words.specs.Views.{texts_of};
-ghost use Rattle.replies.specs.Outcomes.{code_of};
 ghost use Rattle.command_run.specs.Run.{Stream, Ended, Received, run_on, run_with, stream_of, reads_of, ReadsAsAsked};
 ghost use Rattle.command_run.specs.Complete.{Complete};
 ghost use Rattle.command_run.specs.Commands.{Asks, file_of};
 ghost use Rattle.command_run.specs.Laws.{AreLawful};
 ghost use Rattle.command_run.specs.Answers.{IsAnsweredWith};
-ghost use Rattle.command_run.specs.Ends.{RepliesWith, EndsWith, IsTextOf, IsOfFile, WereRead, IsReadOf, Stays, IsTooLong, TellsUnread, ReadsSecond, ReadsBeside, Delivers, Proceeds, text_of};
+ghost use Rattle.command_run.specs.Ends.{RepliesWith, EndsWith, IsTextOf, IsOfFile, WereRead, IsReadOf, Stays, IsTooLong, TellsUnread, ReadsSecond, ReadsBeside, Delivers, IsInFormat, Proceeds, shown_of, text_of};
 
-use crate::lines::line_of;
+use crate::lines::{line_of, shown};
+use crate::ready::Ready;
 use crate::replying::{or_memory, read_diagram, reply_on_second};
 use crate::request::{AfterFile, AfterWords, Request, SecondInput};
 use crate::words::read_request;
 use causal_io::{ReadError, Shelf, Sink, read_all, write_all};
 use command_words::typed::RequestFault;
 use diagram::Diagram;
-use replies::{Outcome, Reply};
+use replies::{Format, Outcome, Reply, refuse_size};
 use std::alloc::Global;
 
 /// The most bytes of a graph text.
@@ -32,7 +32,8 @@ pub struct Status {
 }
 
 /// Runs the command that the words name: reads its inputs from the shelf and writes its answer to `out`,
-/// or a line to `err` where the words, the graph, the target or the second input are refused or a device fails.
+/// or a line to `err` where the words, the graph, the target or the second input are refused or a device fails;
+/// where JSON is asked for, the object of such a refusal goes to `out` as well.
 pub fn run<'a, R: Request<'a>, S: Shelf, O: Sink, E: Sink>(
     alloc: Global,
     words: &'a [String],
@@ -50,7 +51,8 @@ pub fn run<'a, R: Request<'a>, S: Shelf, O: Sink, E: Sink>(
     ensures holds { S.held shelf.new ≡ S.held shelf.old }
     ensures lack { S.lacks shelf.new ≡ S.lacks shelf.old }
 {
-    let last = respond::<R, S, O>(alloc, words, shelf, out);
+    let Ready { reply, format } = reply_to::<R, S>(alloc, words, None, shelf);
+    let last = deliver(alloc, out, reply, format);
     report::<R, E>(err, &last);
     Status {
         code: last.outcome.code(),
@@ -69,86 +71,42 @@ fn report<'a, R: Request<'a>, E: Sink>(err: &mut E, last: &Reply)
     }
 }
 
-/// Does all of a run but the line on `err`.
-fn respond<'a, R: Request<'a>, S: Shelf, O: Sink>(
-    alloc: Global,
-    words: &'a [String],
-    shelf: &mut S,
-    out: &mut O,
-) -> Reply
-    requires { AreLawful R.commands }
-    ensures ends { EndsWith R.commands (run_on (texts_of words.now) (S.held shelf.old) (S.lacks shelf.old) (S.faults shelf.old) (S.faults shelf.new)
-        (stream_of (O.written out.old) (O.written out.new) (O.faults out.old) (O.faults out.new))) result }
-    ensures reads { ReadsAsAsked R.commands (run_on (texts_of words.now) (S.held shelf.old) (S.lacks shelf.old) (S.faults shelf.old) (S.faults shelf.new)
-        (stream_of (O.written out.old) (O.written out.new) (O.faults out.old) (O.faults out.new))) (reads_of (S.reads shelf.old) (S.reads shelf.new) (S.given shelf.old) (S.given shelf.new)) }
-    ensures stays { Stays (S.held shelf.old) (S.held shelf.new) (S.lacks shelf.old) (S.lacks shelf.new) }
-{
-    let reply = reply_to::<R, S>(alloc, words, None, shelf);
-    deliver(alloc, out, reply)
-}
-
 /// The reply to the words, for which their inputs are read and nothing is written. A diagram that is given stands for their file, which isn't read then.
 pub fn reply_to<'a, R: Request<'a>, S: Shelf>(
     alloc: Global,
     words: &'a [String],
     given: Option<&Diagram>,
     shelf: &mut S,
-) -> Reply
+) -> Ready
     requires { AreLawful R.commands }
     ensures replies { (kept : Option (List ℕ)) → IsTextOf kept (option_map (λ d. d.now) given.entry) → (out : Stream)
-        → RepliesWith R.commands (run_with kept (texts_of words.now) (S.held shelf.old) (S.lacks shelf.old) (S.faults shelf.old) (S.faults shelf.new) out) result }
+        → RepliesWith R.commands (run_with kept (texts_of words.now) (S.held shelf.old) (S.lacks shelf.old) (S.faults shelf.old) (S.faults shelf.new) out) result.reply }
+    ensures format { IsInFormat R.commands (texts_of words.now) result }
     ensures reads { (kept : Option (List ℕ)) → IsTextOf kept (option_map (λ d. d.now) given.entry) → (out : Stream)
         → ReadsAsAsked R.commands (run_with kept (texts_of words.now) (S.held shelf.old) (S.lacks shelf.old) (S.faults shelf.old) (S.faults shelf.new) out)
         (reads_of (S.reads shelf.old) (S.reads shelf.new) (S.given shelf.old) (S.given shelf.new)) }
     ensures stays { Stays (S.held shelf.old) (S.held shelf.new) (S.lacks shelf.old) (S.lacks shelf.new) }
 {
-    match read_request::<R>(alloc, words) {
-        Ok(request) => answer::<R, S>(alloc, request, given, shelf),
-        Err(RequestFault::NotUnderstood) => Reply::bare(alloc, Outcome::Words),
-        Err(RequestFault::NoMemory) => Reply::bare(alloc, Outcome::Memory),
-    }
-}
-
-/// Answers a request: by its words, or on its file.
-fn answer<'a, R: Request<'a>, S: Shelf>(
-    alloc: Global,
-    request: R,
-    given: Option<&Diagram>,
-    shelf: &mut S,
-) -> Reply
-    requires { AreLawful R.commands }
-    ensures replies { (kept : Option (List ℕ)) → IsTextOf kept (option_map (λ d. d.now) given.entry) → (words : List Text) → Asks R.commands words (R.request request) → (out : Stream)
-        → RepliesWith R.commands (run_with kept words (S.held shelf.old) (S.lacks shelf.old) (S.faults shelf.old) (S.faults shelf.new) out) result }
-    ensures reads { (kept : Option (List ℕ)) → IsTextOf kept (option_map (λ d. d.now) given.entry) → (words : List Text) → Asks R.commands words (R.request request) → (out : Stream)
-        → ReadsAsAsked R.commands (run_with kept words (S.held shelf.old) (S.lacks shelf.old) (S.faults shelf.old) (S.faults shelf.new) out) (reads_of (S.reads shelf.old) (S.reads shelf.new) (S.given shelf.old) (S.given shelf.new)) }
-    ensures stays { Stays (S.held shelf.old) (S.held shelf.new) (S.lacks shelf.old) (S.lacks shelf.new) }
-{
-    match request.after_words(alloc) {
-        Ok(AfterWords::Reads(file)) => answer_with::<R, S>(alloc, file, request, given, shelf),
-        Ok(AfterWords::Replied(reply)) => reply,
-        Err(_) => Reply::bare(alloc, Outcome::Memory),
-    }
-}
-
-/// Answers a request with a file: on the diagram that stands for it, or on what is read of it.
-fn answer_with<'a, R: Request<'a>, S: Shelf>(
-    alloc: Global,
-    file: &str,
-    request: R,
-    given: Option<&Diagram>,
-    shelf: &mut S,
-) -> Reply
-    requires lawful { AreLawful R.commands }
-    requires names { file_of R.commands (R.request request) ≡ Some file.now }
-    ensures replies { (kept : Option (List ℕ)) → IsTextOf kept (option_map (λ d. d.now) given.entry) → (words : List Text) → Asks R.commands words (R.request request) → (out : Stream)
-        → RepliesWith R.commands (run_with kept words (S.held shelf.old) (S.lacks shelf.old) (S.faults shelf.old) (S.faults shelf.new) out) result }
-    ensures reads { (kept : Option (List ℕ)) → IsTextOf kept (option_map (λ d. d.now) given.entry) → (words : List Text) → Asks R.commands words (R.request request) → (out : Stream)
-        → ReadsAsAsked R.commands (run_with kept words (S.held shelf.old) (S.lacks shelf.old) (S.faults shelf.old) (S.faults shelf.new) out) (reads_of (S.reads shelf.old) (S.reads shelf.new) (S.given shelf.old) (S.given shelf.new)) }
-    ensures stays { Stays (S.held shelf.old) (S.held shelf.new) (S.lacks shelf.old) (S.lacks shelf.new) }
-{
+    let request = match read_request::<R>(alloc, words) {
+        Ok(request) => request,
+        Err(RequestFault::NotUnderstood) => return Ready::bare(alloc, Outcome::Words),
+        Err(RequestFault::NoMemory) => return Ready::bare(alloc, Outcome::Memory),
+    };
+    let format = request.format();
+    let file = match request.after_words(alloc) {
+        Ok(AfterWords::Reads(file)) => file,
+        Ok(AfterWords::Replied(reply)) => return Ready { reply, format },
+        Err(_) => return Ready::bare(alloc, Outcome::Memory),
+    };
     match given {
-        Some(diagram) => answer_on::<R, S>(alloc, file, None, diagram, request, shelf),
-        None => answer_on_file::<R, S>(alloc, file, request, shelf),
+        Some(diagram) => {
+            let reply = answer_on::<R, S>(alloc, file, None, diagram, request, shelf);
+            Ready { reply, format }
+        }
+        None => {
+            let reply = answer_on_file::<R, S>(alloc, file, request, shelf);
+            Ready { reply, format }
+        }
     }
 }
 
@@ -279,31 +237,25 @@ fn unread_graph(alloc: Global, fault: ReadError) -> Reply
 fn too_long(alloc: Global) -> Reply
     ensures { IsTooLong result }
 {
-    match Vec::from_slice(alloc, b"causal: graph fault 12: over 1048576 bytes\n") {
-        Ok(text) => Reply {
-            outcome: Outcome::Graph,
-            text,
-        },
-        Err(_) => Reply::bare(alloc, Outcome::Memory),
-    }
+    or_memory(alloc, refuse_size(alloc))
 }
 
-/// Writes an answer to `out`; a refusal keeps its line for `err`.
-fn deliver<O: Sink>(alloc: Global, out: &mut O, reply: Reply) -> Reply
-    ensures { Delivers (stream_of (O.written out.old) (O.written out.new) (O.faults out.old) (O.faults out.new)) reply result }
+/// Writes what a reply shows to `out`. Where it shows nothing, nothing is written, and so no write can fail.
+fn deliver<O: Sink>(alloc: Global, out: &mut O, reply: Reply, format: Format) -> Reply
+    ensures { Delivers (stream_of (O.written out.old) (O.written out.new) (O.faults out.old) (O.faults out.new)) format reply result }
 {
-    match reply.outcome {
-        Outcome::Yes | Outcome::No => write_reply(alloc, out, reply),
-        _ => reply,
+    if shown(&reply, format).is_empty() {
+        return reply;
     }
+    write_reply(alloc, out, reply, format)
 }
 
-/// Writes the text of an answer.
-fn write_reply<O: Sink>(alloc: Global, out: &mut O, reply: Reply) -> Reply
-    requires { code_of reply.outcome ≤ 1 }
-    ensures { Delivers (stream_of (O.written out.old) (O.written out.new) (O.faults out.old) (O.faults out.new)) reply result }
+/// Writes what a reply shows.
+fn write_reply<O: Sink>(alloc: Global, out: &mut O, reply: Reply, format: Format) -> Reply
+    requires { shown_of format reply ≡ [] → ⊥ }
+    ensures { Delivers (stream_of (O.written out.old) (O.written out.new) (O.faults out.old) (O.faults out.new)) format reply result }
 {
-    match write_all(out, &reply.text) {
+    match write_all(out, shown(&reply, format)) {
         Ok(()) => reply,
         Err(_) => Reply::bare(alloc, Outcome::Write),
     }

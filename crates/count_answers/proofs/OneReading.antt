@@ -1,14 +1,9 @@
--- Bytes of counts are the text of one table, as far as its sums go, or are refused by one line.
-use Rattle.std.proofs.Common.{◌≡◌, ℕ, List, Option, sym, ap, ◌∙◌, arith}
+-- Bytes of counts are the text of one table, as far as its sums go.
+use Rattle.std.proofs.Common.{◌≡◌, ℕ, List, Option, sym, ap, ◌∙◌}
 use mathlib.Core.Path.{fun_ext}
-use Rattle.std.proofs.lemmas.Option.{same_Some}
-use Rattle.answer_text.specs.Lines.{line_of}
-use Rattle.count_rows.specs.FaultTexts.{count_fault_text}
-use Rattle.count_rows.specs.declared.fault.CountFault.{CountFault}
 use Rattle.count_rows.specs.Records.{Field, records_of, rows_of}
 use Rattle.count_rows.specs.Rows.{Table, counted, rows_in}
 use Rattle.count_table.specs.Reading.{IsTableOf, layout_in}
-use Rattle.count_answers.specs.Reads.{AreRefusedCounts, too_long, faulty}
 
 -- both tables have the same vertices, levels and sums
 pub record AreAlike (t u : Table) : Type 0 where
@@ -27,12 +22,3 @@ one_table bytes names used count t u a b =
       levels = b.levels ∙ sym a.levels;
       sums = fun_ext (λ k. fun_ext (λ s. b.rows k s ∙ ap (λ (v : List ℕ). counted v all k s) vertices ∙ sym (a.rows k s)));
     }
-
--- refused counts have one line
-pub one_refusal : (names : List (List ℕ)) (used : ℕ) (count : Option Field) (bytes text line : List ℕ) → AreRefusedCounts names used count bytes text
-    → AreRefusedCounts names used count bytes line → line ≡ text
-one_refusal names used count bytes text line (too_long long p) (too_long more q) = q ∙ sym p
-one_refusal names used count bytes text line (too_long long p) (faulty fault short ne at q) = absurd (omega (arith, long, short))
-one_refusal names used count bytes text line (faulty fault short ne at p) (too_long long q) = absurd (omega (arith, long, short))
-one_refusal names used count bytes text line (faulty fault short ne at p) (faulty other less never there q) =
-    q ∙ ap (λ (e : CountFault). line_of (count_fault_text e)) (same_Some other fault (sym there ∙ at)) ∙ sym p

@@ -1,4 +1,4 @@
-//! What the commands over counts have in common: the levels of a cell as text, and the words for what the bytes of counts are.
+//! What the commands over counts have in common: the levels of a cell as text, and when bytes hold counts.
 #![tactic(auto)]
 
 mod cells;

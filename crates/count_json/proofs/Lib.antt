@@ -1,1 +1,2 @@
 pub mod SameStops
+pub mod Refused

@@ -1,3 +1,4 @@
 pub mod CountFaults
 pub mod Cells
 pub mod Stops
+pub mod Refusals

@@ -42,7 +42,7 @@ pub fn push_level(
 }
 
 /// Vertices with their levels in a cell, in their order.
-pub(crate) fn push_levels(
+pub fn push_levels(
     object: &mut Object,
     names: &Names,
     counts: &Counts,

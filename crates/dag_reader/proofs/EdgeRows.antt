@@ -1,10 +1,10 @@
 -- The rows of edges, group by group.
-use Rattle.std.proofs.Common.{◌≡◌, ◌≤◌, ◌-◌, ℕ, Bool, true, false, List, [], ◌∷◌, ◌++◌, map, length, drop, take, get_or, Option, Some, None, refl}
+use Rattle.std.proofs.Common.{◌≡◌, ◌≤◌, ◌<◌, ◌-◌, ℕ, Bool, true, false, List, [], ◌∷◌, ◌++◌, map, length, drop, take, get_or, Option, Some, None, refl}
 use Rattle.std.proofs.Common.{sym, ap, subst, ◌∙◌, append_assoc, arith}
 use Rattle.std.specs.Prelude.{◌==◌, ◌||◌, ◌&&◌, nat_lt}
 use Rattle.std.specs.List.{list_any, list_all, filter_map}
 use Rattle.std.proofs.Math.Bool.{or_assoc}
-use Rattle.std.proofs.lemmas.Bool.{and_parts}
+use Rattle.std.proofs.lemmas.Bool.{and_parts, ltb-true}
 use Rattle.std.proofs.lemmas.List.{take_rest}
 use Rattle.std.proofs.lemmas.List.Folds.{list_any-append}
 use Rattle.mixed_graph.specs.Bits.{has}
@@ -15,6 +15,7 @@ use Rattle.dag_reader.specs.declared.marks.Remark.{Remark}
 use Rattle.dag_reader.specs.declared.marks.Remark.TheVariants.{Begins, Joined, Member, HasRole}
 use Rattle.dag_reader.specs.MarkEnds.{is_inside}
 use Rattle.dag_reader.specs.Rows.{row_has}
+use Rattle.dag_reader.specs.LoneEdges.{IsLone, has_edge}
 use Rattle.dag_reader.specs.Passes.{Edge, pairs, members, edges_behind, arrow_of, both_of, arrows_of, doubles_of}
 
 -- ---- one group joined to the next
@@ -235,3 +236,71 @@ opened marks [] left arrows doubles m s h is = absurd (omega arith)
 opened marks (x ∷ xs) left arrows doubles m s h is =
     let e : x ∷ xs ≡ m ∷ take (length (x ∷ xs) - 1) (drop 1 (x ∷ xs)) = ap (λ y. y ∷ xs) is ∙ ap (λ l. m ∷ l) (sym (take_rest (x ∷ xs) 1)) in
     subst (λ (l : List Remark). SoFar marks l left arrows doubles) e s
+
+-- ---- an edge whose ends are the only members of their groups
+
+front_or : (p q : Bool) → (p || q) ≡ ((p || false) || q)
+front_or true q = refl
+front_or false q = refl
+
+one_front : (f : Edge → Option (ℕ × ℕ)) (l : ℕ) (k : Arrow) (r : ℕ) (more : List Edge) (x y : ℕ)
+    → has_pair (filter_map f ((record { left = l; arrow = k; right = r }) ∷ more)) x y ≡ (has_edge f l k r x y || has_pair (filter_map f more) x y)
+one_front f l k r more x y = go (f (record { left = l; arrow = k; right = r })) refl
+  where
+    go : (o : Option (ℕ × ℕ)) → f (record { left = l; arrow = k; right = r }) ≡ o
+        → has_pair (filter_map f ((record { left = l; arrow = k; right = r }) ∷ more)) x y ≡ (has_edge f l k r x y || has_pair (filter_map f more) x y)
+    go None is = rw is refl
+    go (Some p) is = rw is (front_or ((x == p.0) && (y == p.1)) (has_pair (filter_map f more) x y))
+
+rows_with : (f : Edge → Option (ℕ × ℕ)) (l : ℕ) (k : Arrow) (r : ℕ) (es : List Edge) (rows more : List ℕ) (all : List (ℕ × ℕ))
+    → ((a b : ℕ) → row_has more a b ≡ (row_has rows a b || has_edge f l k r a b))
+    → ((a b : ℕ) → (row_has rows a b || has_pair (filter_map f ((record { left = l; arrow = k; right = r }) ∷ es)) a b) ≡ has_pair all a b)
+    → (a b : ℕ) → (row_has more a b || has_pair (filter_map f es) a b) ≡ has_pair all a b
+rows_with f l k r es rows more all joined before a b =
+    shift (row_has rows a b) (has_edge f l k r a b) (has_pair (filter_map f es) a b) (has_pair all a b) (row_has more a b) (joined a b)
+    (ap (λ t. row_has rows a b || t) (sym (one_front f l k r es a b)) ∙ before a b)
+
+lone_inside : (p q r : Bool) → (p && (q && r)) ≡ true → r ≡ true
+lone_inside true true r h = h
+lone_inside true false r h = cc h
+lone_inside false q r h = cc h
+
+lone_taken : (marks ms : List Remark) (left new l r : ℕ) (k : Arrow) (arrows doubles more_arrows more_doubles : List ℕ)
+    → SoFar marks (Begins ∷ Member l ∷ Joined k ∷ Member r ∷ Begins ∷ ms) left arrows doubles → ((v : ℕ) → has new v ≡ false)
+    → ((a b : ℕ) → row_has more_arrows a b ≡ (row_has arrows a b || has_edge arrow_of l k r a b))
+    → ((a b : ℕ) → row_has more_doubles a b ≡ (row_has doubles a b || has_edge both_of l k r a b)) → SoFar marks (Begins ∷ ms) new more_arrows more_doubles
+lone_taken marks ms left new l r k arrows doubles more_arrows more_doubles s none arrow_joined double_joined = record {
+  group = [];
+  same = none;
+  arrow_rows = rows_with arrow_of l k r (edges_behind [] ms) arrows more_arrows (arrows_of marks) arrow_joined s.arrow_rows;
+  double_rows = rows_with both_of l k r (edges_behind [] ms) doubles more_doubles (doubles_of marks) double_joined s.double_rows;
+  inside = lone_inside (nat_lt l 64) (nat_lt r 64) (list_all (is_inside 64) ms) s.inside;
+}
+
+-- the rows with such an edge
+pub at_lone : (marks all rest : List Remark) (left new l r : ℕ) (k : Arrow) (arrows doubles more_arrows more_doubles : List ℕ)
+    → SoFar marks all left arrows doubles → IsLone all l k r rest → ((v : ℕ) → has new v ≡ false)
+    → ((a b : ℕ) → row_has more_arrows a b ≡ (row_has arrows a b || has_edge arrow_of l k r a b))
+    → ((a b : ℕ) → row_has more_doubles a b ≡ (row_has doubles a b || has_edge both_of l k r a b)) → SoFar marks rest new more_arrows more_doubles
+at_lone marks all rest left new l r k arrows doubles more_arrows more_doubles s is none arrow_joined double_joined =
+    let e : all ≡ Begins ∷ Member l ∷ Joined k ∷ Member r ∷ Begins ∷ drop 1 rest =
+    is.front ∙ ap (λ (ms : List Remark). Begins ∷ Member l ∷ Joined k ∷ Member r ∷ ms) is.next in
+    subst (λ (ms : List Remark). SoFar marks ms new more_arrows more_doubles) (sym is.next)
+    (lone_taken marks (drop 1 rest) left new l r k arrows doubles more_arrows more_doubles
+    (subst (λ (ms : List Remark). SoFar marks ms left arrows doubles) e s) none arrow_joined double_joined)
+
+-- five marks at the front, of which the last is the first behind the edge
+pub lone_front : (marks : List Remark) (l r : ℕ) (k : Arrow) → 5 ≤ length marks → get_or marks 0 Begins ≡ Begins → get_or marks 1 Begins ≡ Member l
+    → get_or marks 2 Begins ≡ Joined k → get_or marks 3 Begins ≡ Member r → get_or marks 4 Begins ≡ Begins → IsLone marks l k r (drop 4 marks)
+lone_front (a ∷ b ∷ c ∷ d ∷ e ∷ ms) l r k some ha hb hc hd he = record { front = rw (ha, hb, hc, hd) refl; next = rw he refl }
+lone_front [] l r k some ha hb hc hd he = absurd (omega (arith, some))
+lone_front (a ∷ []) l r k some ha hb hc hd he = absurd (omega (arith, some))
+lone_front (a ∷ b ∷ []) l r k some ha hb hc hd he = absurd (omega (arith, some))
+lone_front (a ∷ b ∷ c ∷ []) l r k some ha hb hc hd he = absurd (omega (arith, some))
+lone_front (a ∷ b ∷ c ∷ d ∷ []) l r k some ha hb hc hd he = absurd (omega (arith, some))
+
+pub lone_below : (marks rest : List Remark) (l r : ℕ) (k : Arrow) → IsLone marks l k r rest → list_all (is_inside 64) marks ≡ true → (l < 64) × (r < 64)
+lone_below marks rest l r k is inside =
+    let h : (nat_lt l 64 && (nat_lt r 64 && list_all (is_inside 64) rest)) ≡ true = sym (ap (λ (ms : List Remark). list_all (is_inside 64) ms) is.front) ∙ inside in
+    let p = and_parts (nat_lt l 64) (nat_lt r 64 && list_all (is_inside 64) rest) h in
+    (ltb-true l 64 p.0, ltb-true r 64 (and_parts (nat_lt r 64) (list_all (is_inside 64) rest) p.1).0)

@@ -1,5 +1,5 @@
 -- A run of name bytes or an edge behind white space is the first token.
-use Rattle.std.proofs.Common.{◌≡◌, ◌<◌, ◌≤◌, ℕ, Bool, true, false, List, [], ◌∷◌, ◌++◌, length, take, drop, get_or, refl, sym, ap, ap₂, subst, ◌∙◌, arith, inl}
+use Rattle.std.proofs.Common.{◌≡◌, ◌<◌, ℕ, Bool, true, false, List, [], ◌∷◌, ◌++◌, length, take, drop, get_or, refl, sym, ap, ap₂, ◌∙◌, arith, inl}
 use Rattle.std.proofs.Common.{inr}
 use Rattle.std.proofs.lemmas.Bool.{cases_Bool}
 use Rattle.std.proofs.lemmas.Bool.Decides.{nat_tests}
@@ -12,7 +12,7 @@ use Rattle.dag_reader.specs.Bytes.{begins_name}
 use Rattle.dag_reader.specs.declared.marks.Arrow.{Arrow}
 use Rattle.dag_reader.specs.declared.marks.Arrow.TheVariants.{Right, Left, Both}
 use Rattle.dag_reader.specs.declared.tokens.Due.TheVariants as dues
-use Rattle.dag_reader.specs.Tokens.{Tok, edge, name, edge_token, name_token, sign_token, run_at, token_of, past_white, first}
+use Rattle.dag_reader.specs.Tokens.{edge, name, edge_token, name_token, sign_token, run_at, token_of, past_white, first}
 use Rattle.dag_reader.specs.Links.{sign_of, ends_edge}
 use Rattle.dag_reader.proofs.TextForm.{names_are_lines, behind_byte}
 use Rattle.dag_reader.proofs.Printed.{Stops, run_is, no_comment, not_true}

@@ -26,3 +26,5 @@ pub mod DrawnUtf8
 pub mod DrawnGraph
 pub mod OneReading
 pub mod ReadBack
+mod NameRuns
+mod RoleRows

@@ -19,3 +19,4 @@ pub mod Builds
 pub mod Written
 pub mod RoundTrip
 pub mod Links
+pub mod LoneEdges

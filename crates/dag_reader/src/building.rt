@@ -5,12 +5,15 @@ ghost use Rattle.std.specs.List.{list_all};
 ghost use Rattle.dag_reader.specs.MarkEnds.{is_inside};
 ghost use Rattle.mixed_graph.specs.Names.{name_of};
 ghost use Rattle.dag_reader.specs.Reads.{HasNoLoop};
+ghost use Rattle.dag_reader.specs.declared.marks.Role.{Role};
+ghost use Rattle.dag_reader.specs.Passes.{has_role, roles_of};
+ghost use Rattle.dag_reader.specs.RoleSets.{in_set};
 ghost use Rattle.dag_reader.specs.Builds.{AreEdgesOf, Builds, ChecksLoops, ChecksRoles, Marks};
 
-use crate::edges::{Edges, edges_in, has_loop, pairs_below, self_loop};
+use crate::edges::{Edges, edges_and_roles, has_loop, pairs_below, self_loop};
 use crate::faults::GraphFault;
 use crate::marks::Remark;
-use crate::roles::{Roles, roles_in};
+use crate::roles::Roles;
 use mixed_graph::{BuildFault, Cycle, Graph, Names, Text};
 use std::alloc::{AllocError, Global};
 
@@ -86,12 +89,16 @@ fn check_loops(
 }
 
 /// The roles, where no vertex has two.
-fn check_roles(alloc: Global, names: &Names, marks: &[Remark]) -> Result<Roles, GraphFault>
-    requires { list_all (is_inside (length names.now)) marks.now ≡ true }
+fn check_roles(
+    alloc: Global,
+    names: &Names,
+    marks: &[Remark],
+    roles: Roles,
+) -> Result<Roles, GraphFault>
+    requires inside { list_all (is_inside (length names.now)) marks.now ≡ true }
+    requires roles { (r : Role) (v : ℕ) → in_set roles r v ≡ has_role (roles_of marks.now) r v }
     ensures { ChecksRoles names.now marks.now result }
 {
-    let _count = names.count();
-    let roles = roles_in(marks);
     match roles.clash() {
         Some(v) => Err(GraphFault::RoleClash(vertex_name(alloc, names, v)?)),
         None => Ok(roles),
@@ -108,9 +115,9 @@ pub fn marked_graph(
     ensures { Marks names.now marks.now result }
 {
     let _count = names.count();
-    let edges = edges_in(marks);
-    check_loops(alloc, names, marks, &edges)?;
-    let roles = check_roles(alloc, names, marks)?;
-    let graph = build_graph(alloc, names, marks, &edges)?;
+    let said = edges_and_roles(marks);
+    check_loops(alloc, names, marks, &said.edges)?;
+    let roles = check_roles(alloc, names, marks, said.roles)?;
+    let graph = build_graph(alloc, names, marks, &said.edges)?;
     Ok(MarkedGraph { graph, roles })
 }

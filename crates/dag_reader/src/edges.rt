@@ -1,14 +1,18 @@
 //! The edges of a statement between groups.
 
-ghost use Rattle.std.specs.Prelude.{◌≡◌, ◌<◌, ◌≤◌, ◌&&◌, ◌||◌, ◌==◌, nat_lt, ℕ, List, [], true, false, slice_index, Option, find, option_map, IfOk, All, ◌++◌, map, OnOk};
+ghost use Rattle.std.specs.Prelude.{◌≡◌, ◌<◌, ◌≤◌, ◌&&◌, ◌||◌, ◌==◌, nat_lt, ℕ, List, [], true, false, slice_index, Option, find, option_map, IfOk, IfSome, All, ◌++◌, map, OnOk};
 ghost use Rattle.std.specs.List.{list_all, list_any};
 ghost use Rattle.mixed_graph.specs.Bits.{has, members_below};
 ghost use Rattle.mixed_graph.specs.Pairs.{has_pair};
 ghost use Rattle.dag_reader.specs.MarkEnds.{is_inside};
-ghost use Rattle.dag_reader.specs.Passes.{Edge, members, self_loop, arrows_of, doubles_of};
+ghost use Rattle.dag_reader.specs.declared.marks.Role.{Role};
+ghost use Rattle.dag_reader.specs.Passes.{Edge, members, self_loop, arrow_of, both_of, arrows_of, doubles_of, has_role, roles_of};
+ghost use Rattle.dag_reader.specs.RoleSets.{in_set};
+ghost use Rattle.dag_reader.specs.LoneEdges.{IsLone, has_edge};
 ghost use Rattle.dag_reader.specs.Rows.{row_has, pairs_below};
 
 use crate::marks::{Arrow, Remark};
+use crate::roles::Roles;
 use mixed_graph::{Rows, VSet};
 use std::alloc::{AllocError, Global};
 
@@ -77,6 +81,65 @@ fn connect(rows: &mut Rows, from: VSet, to: VSet)
     }
 }
 
+/// An edge whose ends are the only members of their groups, and the marks behind it.
+#[derive(Clone, Copy)]
+struct LoneEdge<'a> {
+    left: u8,
+    arrow: Arrow,
+    right: u8,
+    rest: &'a [Remark],
+}
+
+/// The edge at the front, where its ends are the only members of their groups and no further edge joins them.
+#[inline(always)]
+fn lone_edge(marks: &[Remark]) -> Option<LoneEdge<'_>>
+    requires { list_all (is_inside 64) marks.now ≡ true }
+    ensures edge { IfSome result (λ l. IsLone marks.now l.left l.arrow l.right l.rest.now) }
+    ensures inside { IfSome result (λ l. (l.left < 64) × (l.right < 64)) }
+{
+    match marks {
+        [
+            Remark::Begins,
+            Remark::Member(left),
+            Remark::Joined(arrow),
+            Remark::Member(right),
+            Remark::Begins,
+            ..
+        ] => Some(LoneEdge {
+            left: *left,
+            arrow: *arrow,
+            right: *right,
+            rest: &marks[4..],
+        }),
+        _ => None,
+    }
+}
+
+/// Joins one vertex to another.
+#[inline(always)]
+fn connect_one(rows: &mut Rows, from: u8, to: u8)
+    requires from { from < 64 }
+    requires to { to < 64 }
+    ensures { (a b : ℕ) → row_has rows.new a b ≡ (row_has rows.old a b || ((a == from) && (b == to))) }
+{
+    rows[from as usize] = VSet::row(rows, from).union(VSet::one(to)).bits;
+}
+
+/// Joins the ends of an edge.
+#[inline(always)]
+fn connect_ends(arrows: &mut Rows, doubles: &mut Rows, left: u8, arrow: Arrow, right: u8)
+    requires left { left < 64 }
+    requires right { right < 64 }
+    ensures arrows { (a b : ℕ) → row_has arrows.new a b ≡ (row_has arrows.old a b || has_edge arrow_of left arrow right a b) }
+    ensures doubles { (a b : ℕ) → row_has doubles.new a b ≡ (row_has doubles.old a b || has_edge both_of left arrow right a b) }
+{
+    match arrow {
+        Arrow::Right => connect_one(arrows, left, right),
+        Arrow::Left => connect_one(arrows, right, left),
+        Arrow::Both => connect_one(doubles, left, right),
+    }
+}
+
 /// The edges of each kind: row a holds each b with a -> b, or with a <-> b as it is written from the left.
 #[derive(Clone, Copy)]
 pub struct Edges {
@@ -84,34 +147,62 @@ pub struct Edges {
     pub doubles: Rows,
 }
 
-/// The edges that the marks say.
-pub fn edges_in(marks: &[Remark]) -> Edges
+/// The edges and the roles that the marks say.
+#[derive(Clone, Copy)]
+pub struct EdgesAndRoles {
+    pub edges: Edges,
+    pub roles: Roles,
+}
+
+/// The edges and the roles that the marks say, in one walk.
+pub fn edges_and_roles(marks: &[Remark]) -> EdgesAndRoles
     requires { list_all (is_inside 64) marks.now ≡ true }
-    ensures arrows { (a b : ℕ) → row_has result.arrows a b ≡ has_pair (arrows_of marks.now) a b }
-    ensures doubles { (a b : ℕ) → row_has result.doubles a b ≡ has_pair (doubles_of marks.now) a b }
+    ensures arrows { (a b : ℕ) → row_has result.edges.arrows a b ≡ has_pair (arrows_of marks.now) a b }
+    ensures doubles { (a b : ℕ) → row_has result.edges.doubles a b ≡ has_pair (doubles_of marks.now) a b }
+    ensures roles { (r : Role) (v : ℕ) → in_set result.roles r v ≡ has_role (roles_of marks.now) r v }
 {
     let mut arrows = [0u64; 64];
     let mut doubles = [0u64; 64];
     let mut left = VSet::empty();
+    let mut roles = Roles::none();
+    let mut last = None;
     let mut rest = marks;
-    while let [mark, after @ ..] = rest {
-        match *mark {
-            Remark::Begins => left = VSet::empty(),
-            Remark::Joined(arrow) => {
-                let right = group(after);
-                match arrow {
-                    Arrow::Right => connect(&mut arrows, left, right),
-                    Arrow::Left => connect(&mut arrows, right, left),
-                    Arrow::Both => connect(&mut doubles, left, right),
-                }
+    'turns: loop {
+        match lone_edge(rest) {
+            Some(edge) => {
+                connect_ends(&mut arrows, &mut doubles, edge.left, edge.arrow, edge.right);
                 left = VSet::empty();
+                last = Some(edge.right);
+                rest = edge.rest;
             }
-            Remark::Member(v) => left = left.union(VSet::one(v)),
-            Remark::HasRole(_) => {}
+            None => {
+                let [mark, after @ ..] = rest else {
+                    return EdgesAndRoles {
+                        edges: Edges { arrows, doubles },
+                        roles,
+                    };
+                };
+                match *mark {
+                    Remark::Begins => left = VSet::empty(),
+                    Remark::Joined(arrow) => {
+                        let right = group(after);
+                        match arrow {
+                            Arrow::Right => connect(&mut arrows, left, right),
+                            Arrow::Left => connect(&mut arrows, right, left),
+                            Arrow::Both => connect(&mut doubles, left, right),
+                        }
+                        left = VSet::empty();
+                    }
+                    Remark::Member(v) => {
+                        left = left.union(VSet::one(v));
+                        last = Some(v);
+                    }
+                    Remark::HasRole(role) => roles = roles.with_last(last, role),
+                }
+                rest = after;
+            }
         }
-        rest = after;
     }
-    Edges { arrows, doubles }
 }
 
 /// Whether an edge joins a vertex to itself.

@@ -1,14 +1,13 @@
 //! The vertices of each role.
 
-ghost use Rattle.std.specs.Prelude.{◌≡◌, ◌<◌, ◌&&◌, ◌||◌, ◌==◌, ℕ, List, true, false, IfSome, IfNone};
-ghost use Rattle.std.specs.List.{list_all};
+ghost use Rattle.std.specs.Prelude.{◌≡◌, ◌<◌, ◌&&◌, ◌||◌, ◌==◌, ℕ, List, [], ◌∷◌, Some, false, IfSome, IfNone};
 ghost use Rattle.mixed_graph.specs.Bits.{has};
 ghost use Rattle.dag_reader.specs.declared.marks.Role.{Role};
-ghost use Rattle.dag_reader.specs.MarkEnds.{is_inside};
-ghost use Rattle.dag_reader.specs.Passes.{same_role, has_role, roles_of, HasTwo, IsRoleClash};
+ghost use Rattle.dag_reader.specs.declared.marks.Remark.TheVariants.{HasRole};
+ghost use Rattle.dag_reader.specs.Passes.{same_role, has_role, roles_behind, HasTwo, IsRoleClash};
 ghost use Rattle.dag_reader.specs.RoleSets.{in_set};
 
-use crate::marks::{Remark, Role};
+use crate::marks::Role;
 use mixed_graph::VSet;
 
 /// The vertices of each role.
@@ -21,7 +20,8 @@ pub struct Roles {
 }
 
 impl Roles {
-    fn none() -> Roles
+    /// No vertex has a role.
+    pub fn none() -> Roles
         ensures { (r : Role) (v : ℕ) → in_set result r v ≡ false }
     {
         Roles {
@@ -48,6 +48,17 @@ impl Roles {
         roles
     }
 
+    /// The same with the role of the member before, if there is one.
+    pub fn with_last(self, last: Option<u8>, role: Role) -> Roles
+        requires { (v : ℕ) → last ≡ Some v → v < 64 }
+        ensures { (r : Role) (u : ℕ) → in_set result r u ≡ (in_set self r u || has_role (roles_behind last (HasRole role ∷ [])) r u) }
+    {
+        match last {
+            Some(v) => self.with(role, v),
+            None => self,
+        }
+    }
+
     /// The vertices in two of the sets.
     fn in_two(self) -> VSet
         ensures { (v : ℕ) → has result.bits v ≡ ((has self.exposures.bits v && has self.outcomes.bits v) || ((has self.exposures.bits v || has self.outcomes.bits v) && has self.adjusted.bits v) || ((has self.exposures.bits v || has self.outcomes.bits v || has self.adjusted.bits v) && has self.latent.bits v)) }
@@ -71,23 +82,4 @@ impl Roles {
         }
         Some(two.lowest())
     }
-}
-
-/// The roles that the marks give.
-pub fn roles_in(marks: &[Remark]) -> Roles
-    requires { list_all (is_inside 64) marks.now ≡ true }
-    ensures { (r : Role) (v : ℕ) → in_set result r v ≡ has_role (roles_of marks.now) r v }
-{
-    let mut roles = Roles::none();
-    let mut last: Option<u8> = None;
-    for mark in marks {
-        match *mark {
-            Remark::Begins | Remark::Joined(_) => {}
-            Remark::Member(v) => last = Some(v),
-            Remark::HasRole(role) => if let Some(v) = last {
-                roles = roles.with(role, v);
-            },
-        }
-    }
-    roles
 }

@@ -50,7 +50,7 @@ impl Statements {
     fn add_vertex<'a>(&mut self, name: Word<'a>) -> Result<(), ReadFault<'a>>
         ensures { Leaves (with_vertex name.entry.bytes.now (said_by self.old)) (said_by self.new) result }
     {
-        match self.names.add(name.bytes) {
+        match self.names.add_keyed(name.bytes, name.key) {
             Ok(index) => {
                 self.mark(Remark::Member(index))?;
                 Ok(())

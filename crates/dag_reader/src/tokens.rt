@@ -4,6 +4,7 @@ ghost use Rattle.std.specs.Prelude.{◌≡◌, ◌≢◌, ◌<◌, ◌≤◌, �
 ghost use Rattle.std.specs.List.{prefix_len, list_all, list_any};
 ghost use Rattle.std.specs.Str.{is_utf8};
 ghost use Rattle.mixed_graph.specs.Names.{IsName};
+ghost use Rattle.mixed_graph.specs.NameKeys.{AreBytes, IsKeyed, digits_on};
 ghost use Rattle.answer_text.specs.Printing.{is_white, is_edge_byte, is_sign, is_name_byte};
 ghost use Rattle.dag_reader.specs.Bytes.{in_class, is_run_byte, is_edge_sign};
 ghost use Rattle.mixed_graph.specs.Names.{is_line_byte};
@@ -16,6 +17,7 @@ use crate::bytes::{begins_name, is_edge_byte, is_name_byte, is_white};
 use crate::marks::Arrow;
 use crate::words::{Link, Word};
 use answer_text::names::begins_with_arrow;
+use mixed_graph::{key_of, key_of_digits, with_digit};
 
 /// The classes of bytes of which runs are made.
 #[derive(Clone, Copy, Debug, PartialEq, Eq)]
@@ -116,6 +118,42 @@ fn past_white(bytes: &[u8]) -> &[u8]
     rest
 }
 
+/// How many bytes of a bare name are at the front, and the digits of its key.
+#[inline(always)]
+fn name_len(bytes: &[u8]) -> (usize, u64)
+    ensures run { result.0 ≡ prefix_len is_name_byte bytes.now }
+    ensures within { result.0 ≤ length bytes.now }
+    ensures digits { result.0 ≤ 7 → result.1 ≡ digits_on 0 (take result.0 bytes.now) }
+    ensures bytes { AreBytes (take result.0 bytes.now) }
+{
+    let mut digits = 0;
+    for i in 0..bytes.len() {
+        let byte = bytes[i];
+        if !is_name_byte(byte) {
+            return (i, digits);
+        }
+        digits = with_digit(digits, byte);
+    }
+    (bytes.len(), digits)
+}
+
+/// The bare name at the front, what follows it, and the key of the name.
+#[inline(always)]
+fn split_name(bytes: &[u8]) -> (&[u8], &[u8], u64)
+    requires { is_utf8 bytes.now ≡ true }
+    ensures run { result.0.now ≡ take (prefix_len is_name_byte bytes.now) bytes.now }
+    ensures rest { result.1.now ≡ drop (prefix_len is_name_byte bytes.now) bytes.now }
+    ensures passes { list_all is_name_byte result.0.now ≡ true }
+    ensures text { is_utf8 result.0.now ≡ true }
+    ensures after { is_utf8 result.1.now ≡ true }
+    ensures within { length result.1.now ≤ length bytes.now }
+    ensures keyed { IsKeyed result.0.now result.2 }
+{
+    let (count, digits) = name_len(bytes);
+    let (run, rest) = bytes.split_at(count);
+    (run, rest, key_of_digits(run, digits))
+}
+
 fn edge(run: &[u8]) -> Token<'_>
     ensures { view result ≡ edge_token run.now }
 {
@@ -129,31 +167,30 @@ fn edge(run: &[u8]) -> Token<'_>
     }
 }
 
-fn bare_name(run: &[u8]) -> Token<'_>
-    requires { IsName run.now }
-    ensures { view result ≡ name_token run.now }
+fn bare_name(word: Word<'_>) -> Token<'_>
+    ensures { view result ≡ name_token word.entry.bytes.now }
 {
-    let [byte, ..] = run else {
-        return doubtful_name(run);
+    let [byte, ..] = word.bytes else {
+        return doubtful_name(word);
     };
     if begins_name(*byte) {
-        return Token::Name(false, Word { bytes: run });
+        return Token::Name(false, word);
     }
-    doubtful_name(run)
+    doubtful_name(word)
 }
 
 /// The same, where the first byte doesn't tell.
-fn doubtful_name(run: &[u8]) -> Token<'_>
-    requires { IsName run.now }
-    ensures { view result ≡ name_token run.now }
+fn doubtful_name(word: Word<'_>) -> Token<'_>
+    ensures { view result ≡ name_token word.entry.bytes.now }
 {
+    let run = word.bytes;
     if run.starts_with(b"//") || run.starts_with(b"/*") || run.starts_with(b"#") {
         return Token::Bad;
     }
     if begins_with_arrow(run) {
         return Token::BadEdge;
     }
-    Token::Name(false, Word { bytes: run })
+    Token::Name(false, word)
 }
 
 /// Whether an edge or a group of vertices may be written with the byte.
@@ -196,7 +233,13 @@ fn quoted_name(text: &[u8]) -> Token<'_>
     if text.is_empty() {
         Token::Bad
     } else {
-        Token::Name(true, Word { bytes: text })
+        Token::Name(
+            true,
+            Word {
+                bytes: text,
+                key: key_of(text),
+            },
+        )
     }
 }
 
@@ -254,8 +297,8 @@ fn token_at<'a>(byte: u8, rest: &'a [u8], bytes: &'a [u8]) -> (Token<'a>, &'a [u
         return (edge(run), after);
     }
     if is_in(Class::Name, byte) {
-        let (run, after) = split_run(Class::Name, bytes);
-        return (bare_name(run), after);
+        let (run, after, key) = split_name(bytes);
+        return (bare_name(Word { bytes: run, key }), after);
     }
     (sign(byte), rest)
 }
@@ -318,14 +361,14 @@ fn name_first(bytes: &[u8]) -> Option<(Word<'_>, &[u8])>
     ensures shorter { IfSome result (λ p. length p.1.now < length bytes.now) }
     ensures after { IfSome result (λ p. is_utf8 p.1.now ≡ true) }
 {
-    let (run, rest) = split_run(Class::Name, past_white(bytes));
+    let (run, rest, key) = split_name(past_white(bytes));
     let [byte, ..] = run else {
         return None;
     };
     if !begins_name(*byte) {
         return None;
     }
-    Some((Word { bytes: run }, rest))
+    Some((Word { bytes: run, key }, rest))
 }
 
 /// The edge at the front, behind white space, and what follows it.

@@ -1,5 +1,5 @@
 -- A formula of the identification procedure and a hedge at which it stops exclude each other.
-use Rattle.std.proofs.Common.{◌≡◌, ℕ, List, length, subst}
+use Rattle.std.proofs.Common.{◌≡◌, ℕ, length, subst}
 use Rattle.mixed_graph.specs.Bits.{has}
 use Rattle.mixed_graph.specs.Graphs.{MixedGraph, IsMixedGraph}
 use Rattle.mixed_graph.specs.Sets.{Within}
@@ -13,6 +13,7 @@ use Rattle.identification_theory.specs.Derivations.{IsDerived}
 use Rattle.identification_theory.specs.Procedure.{IsTarget, IsUnidentified}
 use Rattle.identification_theory.proofs.Answered.{never_both, derived_is_identified}
 use Rattle.identify.proofs.RightAnswers.{target_of}
+use Rattle.replies.specs.Told.{Told}
 use Rattle.replies.proofs.OneTarget.{some_member, same_two, no_effect_fault}
 use Rattle.effect_answers.specs.Effects.{IsEffectRefusal}
 use Rattle.effect_answers.specs.Hedges.{IsFoundHedge}
@@ -33,5 +34,5 @@ formula_or_hedge q valid l named x y x' y' s t f d derived h pair found =
     (same_two (λ u v. IsUnidentified q u v h.small.bits h.big.bits) l x y x' y' s t found.stop)
 
 -- lists that name the sets of an effect aren't refused
-pub effect_refused : (l : EffectLists) (x y : ℕ) (line : List ℕ) → AreEffectSets l x y → IsEffectRefusal l line → ⊥
-effect_refused l x y line s r = no_effect_fault l x y r.fault s r.is_fault
+pub effect_refused : (l : EffectLists) (x y : ℕ) (told : Told) → AreEffectSets l x y → IsEffectRefusal l told → ⊥
+effect_refused l x y told s r = no_effect_fault l x y r.fault s r.is_fault

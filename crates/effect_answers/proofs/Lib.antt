@@ -2,9 +2,12 @@ pub mod Belows
 pub mod Found
 pub mod Exclusive
 pub mod OneHedge
+pub mod AlikePairs
 pub mod HedgeTexts
+pub mod HedgeObjects
 pub mod HedgeViews
 pub mod OneNo
+pub mod ObjectLines
 pub mod Shallow
 pub mod Within
 pub mod Writing

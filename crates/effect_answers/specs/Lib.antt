@@ -1,3 +1,5 @@
 pub mod Effects
+pub mod Objects
+pub mod Formats
 pub mod Hedges
 pub mod Lines

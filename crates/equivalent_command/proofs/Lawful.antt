@@ -38,17 +38,18 @@ one_request uses q r a b = λ i. record {
   file = same_Some r.file q.file (sym b.file ∙ a.file) i;
   second = same_Some r.second q.second (sym b.second ∙ a.second) i;
   query = one_query (value_of uses (codes "x")) (value_of uses (codes "y")) (value_of uses (codes "given")) q.query r.query a.query b.query i;
+  format = (b.format ∙ sym a.format) i;
 }
 
 -- what holds of each command holds of it
 pub equivalent_lawful : IsLawful equivalent_command
 equivalent_lawful = lawful_on_two_inputs one_request
     (λ q d. first_answered d q.query)
-    (λ q d other o text a. second_answered d a.0 other o text a.2)
+    (λ q d other o told a. second_answered q.format d a.0 other o told a.2)
     (λ q bytes. first_once bytes q.query)
-    (λ q bytes other. equivalent_once bytes other q.query)
-    (λ q name d e same names o text a n. first_alone d e same q.query n.0 o text a n.1)
+    (λ q bytes other. equivalent_once q.format bytes other q.query)
+    (λ q name d e same names o told a n. first_alone d e same q.query n.0 o told a n.1)
 
 pub equivalent_is_left : (q : Request) (d : Diagram) (s : Option Sets) → IsAcceptedFirst d q.query s
-    → IsLeft equivalent_command q d (equivalent_left d s q.second)
-equivalent_is_left q d s is = record { named = refl; continues = (s, is); known = (q.query, is); answers = λ other o text a. (s, is, a) }
+    → IsLeft equivalent_command q d (equivalent_left q.format d s q.second)
+equivalent_is_left q d s is = record { named = refl; continues = (s, is); known = (q.query, is); answers = λ other o told a. (s, is, a) }

@@ -2,7 +2,9 @@ pub mod Answers
 pub mod Faults
 pub mod Firsts
 pub mod Lines
+pub mod Objects
 pub mod Numbers
 pub mod Queries
+pub mod Refusals
 pub mod Requests
 pub mod Command

@@ -1,12 +1,14 @@
 -- What `equivalent` is asked for.
 use Rattle.std.specs.Prelude.{ℕ, ◌≡◌, List, Option, Some, None, [], ◌∷◌, codes, option_map}
-use Rattle.command_words.specs.Form.{Text, Row, Use, word_of, value_of}
+use Rattle.command_words.specs.Form.{Text, Row, Use, word_of, value_of, has_flag}
 use Rattle.command_words.specs.ListViews.{names_in}
 use Rattle.command_words.specs.Values as values
+use Rattle.replies.specs.declared.format.Format.{Format}
+use Rattle.replies.specs.Told.{format_of}
 use Rattle.equivalent_command.specs.declared.request.Query.{Query as CodeQuery}
 use Rattle.equivalent_command.specs.declared.request.Request.{Request as CodeRequest}
 
--- `equivalent FILE FILE2 [--x L] [--y L] [--given L]`
+-- `equivalent FILE FILE2 [--x L] [--y L] [--given L] [--json]`
 abbrev pub equivalent_row : Row
 equivalent_row = record {
   name = codes "equivalent";
@@ -14,7 +16,7 @@ equivalent_row = record {
   optional = [];
   required = [];
   options = codes "x" ∷ codes "y" ∷ codes "given" ∷ [];
-  flags = [];
+  flags = codes "json" ∷ [];
 }
 
 -- the lists of a separation that is asked about
@@ -37,10 +39,11 @@ pub record Request : Type 0 where
   pub file : Text
   pub second : Text
   pub query : Option Query
+  pub format : Format
 
 -- the request
 abbrev pub request_of : CodeRequest → Request
-request_of r = record { file = r.file.now; second = r.second.now; query = option_map query_of r.query }
+request_of r = record { file = r.file.now; second = r.second.now; query = option_map query_of r.query; format = r.format }
 
 -- the uses ask for this
 pub record IsRequest (uses : List Use) (r : Request) : Type 0 where
@@ -48,3 +51,4 @@ pub record IsRequest (uses : List Use) (r : Request) : Type 0 where
   pub second : word_of equivalent_row uses (codes "second") ≡ Some r.second
   pub inputs : values.AreTwoInputs r.file r.second
   pub query : IsQuery (value_of uses (codes "x")) (value_of uses (codes "y")) (value_of uses (codes "given")) r.query
+  pub format : r.format ≡ format_of (has_flag uses (codes "json"))

@@ -1,14 +1,19 @@
-//! The texts of a difference.
+//! The texts of graphs that differ, and of graphs that don't.
 
 ghost use Rattle.std.specs.Prelude.{◌≡◌, ◌++◌, ◌∷◌, [], ◌<◌, IfOk, OnOk, length};
 ghost use Rattle.mixed_graph.specs.Bits.{has};
 ghost use Rattle.markov_equivalence.specs.Comparisons.{IsBelow};
-ghost use Rattle.equivalent_command.specs.Lines.{which, braced, pair_text, separation_text, place_text, edge_text, collider_text};
+ghost use Rattle.replies.specs.Lines.{IsPrintablePath};
+ghost use Rattle.equivalent_command.specs.Queries.{AreBelow};
+ghost use Rattle.equivalent_command.specs.Lines.{which, braced, pair_text, separation_text, place_text, edge_text, collider_text, separated_text, open_text, connected_text};
 
-use answer_text::{push_set, push_vertex};
+use answer_text::{push_path, push_set, push_vertex};
+use m_separation::OpenPath;
 use markov_equivalence::{Difference, Side};
 use mixed_graph::Names;
+use replies::push_query;
 use std::alloc::{AllocError, Global};
+use targets::Sets;
 
 /// The text of an edge that one graph has alone.
 pub fn edge_text(alloc: Global, names: &Names, d: Difference) -> Result<Vec<u8>, AllocError>
@@ -46,14 +51,21 @@ pub fn collider_text(
     Ok(text)
 }
 
-/// The first of the two graphs, or the second.
-pub fn which(side: Side) -> &'static [u8]
+/// The first of the two graphs, or the second, in a word.
+pub fn word_of(side: Side) -> &'static str
     ensures { result.now ≡ which side }
 {
     match side {
-        Side::First => b"first",
-        Side::Second => b"second",
+        Side::First => "first",
+        Side::Second => "second",
     }
+}
+
+/// The same as bytes.
+pub fn which(side: Side) -> &'static [u8]
+    ensures { result.now ≡ which side }
+{
+    word_of(side).as_bytes()
 }
 
 /// Appends the graph that has the edge or the collider: the one in which the separation doesn't hold.
@@ -99,6 +111,53 @@ fn push_separation(out: &mut Vec<u8>, names: &Names, d: Difference) -> Result<()
     out.extend_from_slice(which(d.holds_in))?;
     out.extend_from_slice(b" alone: ")?;
     push_pair(out, names, d)?;
+    out.push(b'\n')?;
+    Ok(())
+}
+
+/// The text of equivalent graphs in which sets are separated.
+pub fn separated_text(alloc: Global, names: &Names, sets: Sets) -> Result<Vec<u8>, AllocError>
+    requires { AreBelow (length names.now) sets }
+    ensures { IfOk result (λ v. v.items ≡ separated_text names.now sets) }
+{
+    let mut text = Vec::from_slice(alloc, b"equivalent\n")?;
+    text.extend_from_slice(b"separated in both: ")?;
+    push_query(&mut text, names, sets)?;
+    text.push(b'\n')?;
+    Ok(text)
+}
+
+/// The text of equivalent graphs with an open path of each.
+pub fn connected_text(
+    alloc: Global,
+    names: &Names,
+    first: &OpenPath,
+    second: &OpenPath,
+) -> Result<Vec<u8>, AllocError>
+    requires first { IsPrintablePath (length names.now) first.now }
+    requires second { IsPrintablePath (length names.now) second.now }
+    ensures { IfOk result (λ v. v.items ≡ connected_text names.now first.now second.now) }
+{
+    let mut text = Vec::from_slice(alloc, b"equivalent\n")?;
+    push_open_in(&mut text, Side::First, names, first)?;
+    push_open_in(&mut text, Side::Second, names, second)?;
+    Ok(text)
+}
+
+/// Appends an open path of the first graph or of the second.
+fn push_open_in(
+    out: &mut Vec<u8>,
+    side: Side,
+    names: &Names,
+    path: &OpenPath,
+) -> Result<(), AllocError>
+    requires { IsPrintablePath (length names.now) path.now }
+    ensures { OnOk result (out.new.items ≡ out.old.items ++ open_text side names.now path.now) }
+{
+    out.extend_from_slice(b"open in the ")?;
+    out.extend_from_slice(which(side))?;
+    out.extend_from_slice(b": ")?;
+    push_path(out, names, &path.vertices, &path.marks, path.count)?;
     out.push(b'\n')?;
     Ok(())
 }

@@ -3,6 +3,8 @@
 ghost use Rattle.std.specs.Prelude.{◌≡◌, ◌≤◌, ◌<◌, ℕ, List, Option, IfOk, IfSome, IfNone, length};
 ghost use Rattle.diagram.specs.declared.diagram.Diagram.{Diagram as First};
 ghost use Rattle.targets.specs.declared.query.Sets.{Sets as AskedSets};
+ghost use Rattle.replies.specs.declared.format.Format.{Format as AskedFormat};
+ghost use Rattle.replies.specs.Told.{told_of};
 ghost use Rattle.equivalent_command.specs.Requests.{Query as AskedQuery};
 ghost use Rattle.equivalent_command.specs.Queries.{AreBelow};
 ghost use Rattle.mixed_graph.specs.Shown.{graph_of};
@@ -10,15 +12,17 @@ ghost use Rattle.markov_equivalence.specs.Skeletons.{HasArrowsAlone};
 ghost use Rattle.equivalent_command.specs.Numbers.{HaveSameNames};
 ghost use Rattle.equivalent_command.specs.Answers.{IsAcceptedFirst, SecondAnswer, AreComparable, GraphsAnswer, ObservedFault};
 
-use crate::agreement::agreement_text;
+use crate::agreement::agreement;
 use crate::faults::{bidirected_fault, names_fault};
+use crate::formats::{collider, edge};
 use crate::numbers::graph_on;
-use crate::printing::{collider_text, edge_text};
+use crate::refusals::{refuse_second_graph, refuse_second_target};
 use dag_reader::{GraphFault, ReadGraph, read_graph};
 use diagram::Diagram;
+use fault_json::graph_size;
 use markov_equivalence::{Compared, compare};
 use mixed_graph::Names;
-use replies::{Outcome, Reply};
+use replies::{Format, Outcome, Reply};
 use std::alloc::{AllocError, Global};
 use targets::{Sets, TargetFault};
 
@@ -28,30 +32,29 @@ pub fn equivalent_reply(
     diagram: &Diagram,
     sets: Option<Sets>,
     second: &[u8],
+    format: Format,
 ) -> Result<Reply, AllocError>
     requires accepted { (query : Option AskedQuery) × IsAcceptedFirst diagram.now query sets }
     requires small { length second.now ≤ 1048576 }
-    ensures { IfOk result (λ r. SecondAnswer diagram.now sets second.now r.outcome r.text.items) }
+    ensures { IfOk result (λ r. SecondAnswer format diagram.now sets second.now r.outcome (told_of r)) }
 {
     match read_graph(alloc, second) {
         Ok(read) => {
             let other = Diagram::of(alloc, read)?;
-            graphs_reply(alloc, &diagram.observed, &other.observed, sets)
+            graphs_reply(alloc, &diagram.observed, &other.observed, sets, format)
         }
-        Err(fault) => Ok(Reply {
-            outcome: Outcome::Second,
-            text: fault.second_line(alloc)?,
-        }),
+        Err(fault) => refuse_second_graph(alloc, &fault, second),
     }
 }
 
 /// The answer of `equivalent` where the second graph's text has more than 1,048,576 bytes.
 pub fn long_second_graph(alloc: Global) -> Result<Reply, AllocError>
-    ensures { IfOk result (λ r. (first : First) (sets : Option AskedSets) (second : List ℕ) → 1048576 < length second → SecondAnswer first sets second r.outcome r.text.items) }
+    ensures { IfOk result (λ r. (format : AskedFormat) (first : First) (sets : Option AskedSets) (second : List ℕ) → 1048576 < length second → SecondAnswer format first sets second r.outcome (told_of r)) }
 {
     Ok(Reply {
         outcome: Outcome::Second,
         text: GraphFault::second_size_line(alloc)?,
+        object: graph_size(alloc, "second graph")?,
     })
 }
 
@@ -61,17 +64,15 @@ fn graphs_reply(
     first: &ReadGraph,
     second: &ReadGraph,
     sets: Option<Sets>,
+    format: Format,
 ) -> Result<Reply, AllocError>
     requires arrows { HasArrowsAlone (graph_of first.now.graph) }
     requires below { IfSome sets (AreBelow (length first.now.names)) }
-    ensures { IfOk result (λ r. GraphsAnswer first.now sets second.now r.outcome r.text.items) }
+    ensures { IfOk result (λ r. GraphsAnswer format first.now sets second.now r.outcome (told_of r)) }
 {
     match second_fault(alloc, &first.names, second)? {
-        Some(fault) => Ok(Reply {
-            outcome: Outcome::Second,
-            text: fault.second_line(alloc)?,
-        }),
-        None => compared_reply(alloc, first, second, sets),
+        Some(fault) => refuse_second_target(alloc, &fault),
+        None => compared_reply(alloc, first, second, sets, format),
     }
 }
 
@@ -97,24 +98,25 @@ fn compared_reply(
     first: &ReadGraph,
     second: &ReadGraph,
     sets: Option<Sets>,
+    format: Format,
 ) -> Result<Reply, AllocError>
     requires comparable { AreComparable first.now second.now }
     requires below { IfSome sets (AreBelow (length first.now.names)) }
-    ensures { IfOk result (λ r. GraphsAnswer first.now sets second.now r.outcome r.text.items) }
+    ensures { IfOk result (λ r. GraphsAnswer format first.now sets second.now r.outcome (told_of r)) }
 {
     let moved = graph_on(&first.names, second);
     match compare(&first.graph, &moved) {
-        Compared::Same => Ok(Reply {
-            outcome: Outcome::Yes,
-            text: agreement_text(alloc, &first.names, &first.graph, &moved, sets)?,
-        }),
-        Compared::Edge(d) => Ok(Reply {
-            outcome: Outcome::No,
-            text: edge_text(alloc, &first.names, d)?,
-        }),
-        Compared::Collider(d, m) => Ok(Reply {
-            outcome: Outcome::No,
-            text: collider_text(alloc, &first.names, d, m)?,
-        }),
+        Compared::Same => {
+            let text = agreement(alloc, format, &first.names, &first.graph, &moved, sets)?;
+            Ok(Reply::answer(alloc, Outcome::Yes, text))
+        }
+        Compared::Edge(d) => {
+            let text = edge(alloc, format, &first.names, d)?;
+            Ok(Reply::answer(alloc, Outcome::No, text))
+        }
+        Compared::Collider(d, m) => {
+            let text = collider(alloc, format, &first.names, d, m)?;
+            Ok(Reply::answer(alloc, Outcome::No, text))
+        }
     }
 }

@@ -10,16 +10,17 @@ use command_words::typed::{
     RequestFault, names_or_empty, required_names, required_word, second_input,
 };
 use command_words::values::Values;
+use replies::Format;
 use std::alloc::Global;
 
-/// `equivalent FILE FILE2 [--x L] [--y L] [--given L]`
+/// `equivalent FILE FILE2 [--x L] [--y L] [--given L] [--json]`
 pub const ROW: Entry = Entry {
     name: "equivalent",
     positionals: &["file", "second"],
     optional: &[],
     required: &[],
     options: &["x", "y", "given"],
-    flags: &[],
+    flags: &["json"],
 };
 
 /// The lists of a separation that is asked about, with names of the first graph.
@@ -36,6 +37,7 @@ pub struct Request<'a> {
     pub file: &'a str,
     pub second: &'a str,
     pub query: Option<Query>,
+    pub format: Format,
 }
 
 /// Whether the option is given.
@@ -97,10 +99,13 @@ impl<'a> Request<'a> {
         let file = required_word(values, "file")?;
         let second = second_input(values, file, "second")?;
         let query = read_query(alloc, values)?;
+        let json = values.flag("json");
+        let format = Format::of(json);
         Ok(Request {
             file,
             second,
             query,
+            format,
         })
     }
 }

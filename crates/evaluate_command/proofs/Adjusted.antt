@@ -2,14 +2,14 @@
 use Rattle.std.proofs.Common.{◌≡◌, ◌≢◌, ℕ, Bool, true, false, cond, [], Ok, refl}
 use Rattle.mixed_graph.specs.Graphs.{MixedGraph}
 use Rattle.mixed_graph.specs.Masks.{is_empty}
-use Rattle.answer_text.specs.Lines.{line_of}
 use Rattle.prob_expr.specs.Terms.{is_under, is_do_free}
 use Rattle.prob_expr.specs.Tree.{prob, effect_on}
 use Rattle.prob_expr.specs.Values.{EqualsEffect}
 use Rattle.targets.specs.declared.fault.TargetFault.TheVariants.{NotOneX}
-use Rattle.targets.specs.FaultTexts.{target_fault_text}
 use Rattle.replies.specs.declared.outcome.Outcome.TheVariants.{Yes, Graph}
 use Rattle.replies.specs.declared.outcome.Reply.{Reply}
+use Rattle.replies.specs.Refusals.{target_told}
+use Rattle.replies.specs.Told.{told_of}
 use Rattle.adjustment.specs.Formulas.{adjustment_formula, adjusted_sum}
 use Rattle.adjust_command.specs.Answers.{SetTexts, CriterionAnswer}
 use Rattle.adjust_command.specs.Verdicts.{IsVerdict}
@@ -32,5 +32,5 @@ adjusted_free x y z = free_main x y z (is_empty z)
 
 -- exposures that aren't one vertex are refused
 pub not_one_replied : (back_door : Bool) (q : MixedGraph) (texts : SetTexts) (x y z : ℕ) (r : Reply) → IsVerdict back_door q x y z NotOne → r.outcome ≡ Graph
-    → r.text.items ≡ line_of (target_fault_text NotOneX) → (r.outcome ≢ Yes) × CriterionAnswer back_door q texts x y z r.outcome r.text.items
+    → told_of r ≡ target_told NotOneX → (r.outcome ≢ Yes) × CriterionAnswer back_door q texts x y z r.outcome (told_of r)
 not_one_replied back_door q texts x y z r h o l = (λ e. cc (o, e), refused {E = ℕ} back_door q texts x y z (Ok r) h o l)

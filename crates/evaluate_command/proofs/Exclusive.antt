@@ -1,7 +1,6 @@
 -- An effect without a formula, refused lists, values, a cell without one and refused counts exclude each other.
-use Rattle.std.proofs.Common.{◌≡◌, ◌≢◌, ℕ, Bool, true, false, List, Option, Some, Result, Ok, Err, length, map, inl, inr, refl, sym, ap, ◌∙◌, subst, arith}
+use Rattle.std.proofs.Common.{◌≡◌, ◌≢◌, ℕ, Bool, true, false, List, Option, Some, Result, Ok, Err, length, map, inl, inr, refl, sym, ap, ◌∙◌, subst}
 use mathlib.Core.Path.{fun_ext}
-use Rattle.std.proofs.lemmas.Option.{none-some}
 use Rattle.fractions.specs.Fractions.{Fraction}
 use Rattle.mixed_graph.specs.Graphs.{MixedGraph, IsMixedGraph}
 use Rattle.mixed_graph.specs.Shown.{graph_of}
@@ -25,22 +24,23 @@ use Rattle.count_table.specs.Reading.{IsTableOf, layout_in}
 use Rattle.count_eval.specs.Evaluated.{formula_value}
 use Rattle.count_eval.specs.Programs.{cell_of}
 use Rattle.count_eval.specs.Stops.{Stop}
-use Rattle.count_answers.specs.Reads.{HoldsCounts, AreRefusedCounts, too_long, faulty}
+use Rattle.count_json.proofs.Refused.{read_or_refused}
 use Rattle.adjustment.specs.Formulas.{adjustment_formula}
 use Rattle.short_formulas.specs.Short.{IsOrShorter}
 use Rattle.short_formulas.proofs.Usable.{some_first}
+use Rattle.replies.specs.declared.format.Format.{Format}
 use Rattle.replies.specs.declared.outcome.Outcome.{Outcome}
 use Rattle.replies.specs.declared.outcome.Outcome.TheVariants.{Yes, No, Graph, Second, Evaluation}
 use Rattle.diagram.specs.Sets.{Names, effect_lists, query_lists}
 use Rattle.diagram.specs.declared.diagram.Diagram.{Diagram}
 use Rattle.diagram.proofs.OneDiagram.{AreSameDiagrams, same_drawing, same_effect_lists, same_query_lists}
+use Rattle.replies.specs.Told.{Told, answer_of}
 use Rattle.replies.specs.OneOutcome.{OneOutcome, IsAnswerOn}
 use Rattle.replies.proofs.OneOutcome.{IsOneOf, one_of_three, one_on_diagram, one_for_diagrams}
 use Rattle.replies.proofs.OneTarget.{one_set}
 use Rattle.effect_answers.specs.Hedges.{ShowsHedge}
 use Rattle.effect_answers.proofs.Exclusive.{formula_or_hedge, effect_refused}
 use Rattle.adjust_command.specs.Answers.{texts_of, adjust_lists, AdjustAnswer}
-use Rattle.adjust_command.specs.Lines.{admissible_text}
 use Rattle.adjust_command.proofs.Exclusive as adjusting
 use Rattle.adjust_command.proofs.Verdicts.{shown}
 use Rattle.adjust_command.specs.Verdicts.{IsVerdict}
@@ -48,7 +48,7 @@ use Rattle.adjust_command.specs.declared.criteria.Verdict.TheVariants.{Meets}
 use Rattle.identify_command.specs.declared.form.Writing.TheVariants.{Plain}
 use Rattle.identify_command.specs.declared.form.Form.{Form}
 use Rattle.identify_command.specs.Forms.{plain_form}
-use Rattle.identify_command.specs.Answers.{formula_text}
+use Rattle.identify_command.specs.Answers.{formula_shown}
 use Rattle.identify_command.specs.Conditions.{AreTargetSets, ConditionalAnswer}
 use Rattle.identify_command.specs.Conditions as identify
 use Rattle.identify_command.proofs.Exclusive as identifying
@@ -60,25 +60,25 @@ use Rattle.evaluate_command.proofs.Unmet.{criterion_answer}
 
 -- ---- before the counts
 
-module _ (q : MixedGraph) (l : EffectLists) where
-  first_among : (o : Outcome) (text : List ℕ) → ProcedureFirst q l o text → IsOneOf No Graph Yes o
-  first_among No text h = inl refl
-  first_among Graph text h = inr (inl refl)
-  first_among o text h = absurd h
+module _ (format : Format) (q : MixedGraph) (l : EffectLists) where
+  first_among : (o : Outcome) (told : Told) → ProcedureFirst format q l o told → IsOneOf No Graph Yes o
+  first_among No told h = inl refl
+  first_among Graph told h = inr (inl refl)
+  first_among o told h = absurd h
 
-  procedure_once : OneOutcome (ProcedureFirst q l)
-  procedure_once = one_of_three No Graph Yes (ProcedureFirst q l) first_among (λ text line a b. effect_refused l a.x a.y line a.sets b)
-      (λ text line a b. b) (λ text line a b. b)
+  procedure_once : OneOutcome (ProcedureFirst format q l)
+  procedure_once = one_of_three No Graph Yes (ProcedureFirst format q l) first_among (λ told other a b. effect_refused l a.x a.y other a.sets b)
+      (λ told other a b. b) (λ told other a b. b)
 
-pub first_once : (bytes : List ℕ) (way : Way) (x y : Names) → OneOutcome (IsAnswerOn bytes (λ d. EvaluateFirst way d x y))
-first_once bytes (by_procedure short) x y = one_for_diagrams bytes (λ d. effect_lists d.read d.observed.names x y) ProcedureFirst (same_effect_lists x y)
-    (λ d. procedure_once (graph_of d.observed.graph) (effect_lists d.read d.observed.names x y))
-first_once bytes (by_adjusting back_door set) x y = λ o p text line a b.
-    adjusting.adjust_once bytes x y (criterion_query back_door set) o p text line (record { diagram = a.diagram; holds = a.holds; given = a.given.1 })
+pub first_once : (format : Format) (bytes : List ℕ) (way : Way) (x y : Names) → OneOutcome (IsAnswerOn bytes (λ d. EvaluateFirst format way d x y))
+first_once format bytes (by_procedure short) x y = one_for_diagrams bytes (λ d. effect_lists d.read d.observed.names x y) (ProcedureFirst format) (same_effect_lists x y)
+    (λ d. procedure_once format (graph_of d.observed.graph) (effect_lists d.read d.observed.names x y))
+first_once format bytes (by_adjusting back_door set) x y = λ o p told other a b.
+    adjusting.adjust_once format bytes x y (criterion_query back_door set) o p told other (record { diagram = a.diagram; holds = a.holds; given = a.given.1 })
     (record { diagram = b.diagram; holds = b.holds; given = b.given.1 })
-first_once bytes (by_condition short given) x y = λ o p text line a b.
-    identifying.conditional_once bytes x y given o p text line (record { diagram = a.diagram; holds = a.holds; given = (plain_form, a.given.1) })
-    (record { diagram = b.diagram; holds = b.holds; given = (plain_form, b.given.1) })
+first_once format bytes (by_condition short given) x y = λ o p told other a b.
+    identifying.conditional_once bytes x y given o p told other (record { diagram = a.diagram; holds = a.holds; given = (plain_form format, a.given.1) })
+    (record { diagram = b.diagram; holds = b.holds; given = (plain_form format, b.given.1) })
 
 -- an effect that is identified on a diagram is so on one that is the same
 module _ (d d' : Diagram) (s : AreSameDiagrams d d') (x y : Names) (e : PlainEffect) where
@@ -101,34 +101,35 @@ module _ (d d' : Diagram) (s : AreSameDiagrams d d') (x y : Names) (e : PlainEff
   }
 
 -- where the file alone is answered, no effect is identified
-module _ (d : Diagram) (x y : Names) (o : Outcome) (text : List ℕ) (e : PlainEffect) where
-  adjusted_alone : (back_door : Bool) (set : List (List ℕ)) → o ≢ Yes → AdjustAnswer d x y (criterion_query back_door set) o text
+module _ (format : Format) (d : Diagram) (x y : Names) (o : Outcome) (told : Told) (e : PlainEffect) where
+  adjusted_alone : (back_door : Bool) (set : List (List ℕ)) → o ≢ Yes → AdjustAnswer format d x y (criterion_query back_door set) o told
       → Identifies (by_adjusting back_door set) d x y e → ⊥
   adjusted_alone back_door set unlike a i =
       let query = criterion_query back_door set in
       let q = graph_of d.observed.graph in
       let by = i.found in
-      let line = admissible_text d.observed.names e.x e.y by.0 in
+      let texts = texts_of format d.observed.names in
+      let yes = answer_of (texts.meets e.x e.y by.0) in
       let meets = subst (λ (g : MixedGraph). IsVerdict back_door g e.x e.y by.0 Meets) i.graph by.2.meets in
-      unlike (adjusting.lists_once query q (adjust_lists d.read d.observed.names x y query) d.observed.sized o Yes text line a
-      (criterion_answer d x y set Yes line back_door (record {
+      unlike (adjusting.lists_once format query q (adjust_lists d.read d.observed.names x y query) d.observed.sized o Yes told yes a
+      (criterion_answer format d x y set Yes yes back_door (record {
         x = e.x;
         y = e.y;
         z = by.0;
         sets = by.1;
-        answer = shown back_door q (texts_of d.observed.names) e.x e.y by.0 line meets refl;
+        answer = shown back_door q texts e.x e.y by.0 yes meets refl;
       })))
 
-  conditional_alone : (short : Bool) (given : List (List ℕ)) → o ≢ Yes → ConditionalAnswer plain_form d x y given o text
+  conditional_alone : (short : Bool) (given : List (List ℕ)) → o ≢ Yes → ConditionalAnswer (plain_form format) d x y given o told
       → Identifies (by_condition short given) d x y e → ⊥
   conditional_alone short given unlike a i =
-      let form : Form = record { writing = Plain; short = short } in
+      let form : Form = record { writing = Plain; short = short; format = format } in
       let q = graph_of d.observed.graph in
       let l = query_lists d.read d.observed.names x y (Some given) in
       let t = target_of e in
       let by = i.found.1 in
-      let line = formula_text Plain d.observed.names t e.formula by.derivation in
-      let yes : identify.ListsAnswer form q l Yes line = record {
+      let formula = answer_of (formula_shown form d.observed.names t e.formula by.derivation) in
+      let yes : identify.ListsAnswer form q l Yes formula = record {
         target = t;
         sets = i.found.0;
         answer = record {
@@ -137,31 +138,31 @@ module _ (d : Diagram) (x y : Names) (o : Outcome) (text : List ℕ) (e : PlainE
           right = subst (λ (g : MixedGraph). IsRightGiven g t e.formula by.derivation) i.graph by.right;
           derived = subst (λ (g : MixedGraph). IsOrShorter short (IsConditionalBySteps g t) e.formula by.derivation) i.graph by.derived;
           prints = refl;
-          reads_back = λ c. absurd (cc c);
+          reads_back = λ text c. absurd (cc c);
         };
       } in
-      unlike (identifying.target_once q d.observed.graph.valid l d.observed.sized o Yes text line (plain_form, a) (form, yes))
+      unlike (identifying.target_once q d.observed.graph.valid l d.observed.sized o Yes told formula (plain_form format, a) (form, yes))
 
-procedure_alone : (q : MixedGraph) (l : EffectLists) (o : Outcome) (text : List ℕ) (e : PlainEffect) (short : Bool) → length l.observed ≡ q.vertices
-    → e.graph ≡ q → IsMixedGraph e.graph → AreEffectSets l e.x e.y → IsByProcedure short e → ProcedureFirst q l o text → ⊥
-procedure_alone q l No text e short named same valid sets by a =
+procedure_alone : (format : Format) (q : MixedGraph) (l : EffectLists) (o : Outcome) (told : Told) (e : PlainEffect) (short : Bool) → length l.observed ≡ q.vertices
+    → e.graph ≡ q → IsMixedGraph e.graph → AreEffectSets l e.x e.y → IsByProcedure short e → ProcedureFirst format q l o told → ⊥
+procedure_alone format q l No told e short named same valid sets by a =
     let first = some_first short (IsDerived e.graph e.x e.y) e.formula by.derivation by.derived in
-    let hedge = subst (λ (g : MixedGraph). ShowsHedge g l.observed a.x a.y text) (sym same) a.answer in
+    let hedge = subst (λ (g : MixedGraph). ShowsHedge format g l.observed a.x a.y told) (sym same) a.answer in
     formula_or_hedge e.graph valid l (named ∙ sym (ap (λ (g : MixedGraph). g.vertices) same)) e.x e.y a.x a.y sets a.sets
     first.0 first.1 first.2 hedge.hedge hedge.pair hedge.found
-procedure_alone q l Graph text e short named same valid sets by a = effect_refused l e.x e.y text sets a
-procedure_alone q l o text e short named same valid sets by a = a
+procedure_alone format q l Graph told e short named same valid sets by a = effect_refused l e.x e.y told sets a
+procedure_alone format q l o told e short named same valid sets by a = a
 
-alone_on : (way : Way) (d : Diagram) (x y : Names) (o : Outcome) (text : List ℕ) (e : PlainEffect) → EvaluateFirst way d x y o text
+alone_on : (format : Format) (way : Way) (d : Diagram) (x y : Names) (o : Outcome) (told : Told) (e : PlainEffect) → EvaluateFirst format way d x y o told
     → Identifies way d x y e → ⊥
-alone_on (by_procedure short) d x y o text e a i = procedure_alone (graph_of d.observed.graph) (effect_lists d.read d.observed.names x y) o text e short
+alone_on format (by_procedure short) d x y o told e a i = procedure_alone format (graph_of d.observed.graph) (effect_lists d.read d.observed.names x y) o told e short
     d.observed.sized i.graph i.identified.graph i.found.0 i.found.1 a
-alone_on (by_adjusting back_door set) d x y o text e a i = adjusted_alone d x y o text e back_door set a.0 a.1 i
-alone_on (by_condition short given) d x y o text e a i = conditional_alone d x y o text e short given a.0 a.1 i
+alone_on format (by_adjusting back_door set) d x y o told e a i = adjusted_alone format d x y o told e back_door set a.0 a.1 i
+alone_on format (by_condition short given) d x y o told e a i = conditional_alone format d x y o told e short given a.0 a.1 i
 
-pub first_alone : (way : Way) (d d' : Diagram) → AreSameDiagrams d d' → (x y : Names) (o : Outcome) (text : List ℕ) (e : PlainEffect)
-    → EvaluateFirst way d x y o text → Identifies way d' x y e → ⊥
-first_alone way d d' s x y o text e a i = alone_on way d x y o text e a (same_identified d d' s x y e way i)
+pub first_alone : (format : Format) (way : Way) (d d' : Diagram) → AreSameDiagrams d d' → (x y : Names) (o : Outcome) (told : Told) (e : PlainEffect)
+    → EvaluateFirst format way d x y o told → Identifies way d' x y e → ⊥
+first_alone format way d d' s x y o told e a i = alone_on format way d x y o told e a (same_identified d d' s x y e way i)
 
 -- ---- over the bytes of counts
 
@@ -194,33 +195,29 @@ same_values rule e bytes count t u a b =
     ∙ ap (λ (w : (ℕ → Bool) → (ℕ → ℕ) → ℕ). values_of rule e t.vertices t.levels w) ws
     ∙ sym (of_table rule e t)
 
-module _ (e : PlainEffect) (bytes : List ℕ) (count : Option Field) where
-  all_or_stop : (rule : Rule) (covers : Pair → Fraction → Type 0) (sign : List ℕ) (t u : Table) (text line : List ℕ)
+module _ (format : Format) (e : PlainEffect) (bytes : List ℕ) (count : Option Field) where
+  all_or_stop : (rule : Rule) (covers : Pair → Fraction → Type 0) (is_exact : Bool) (t u : Table) (told other : Told)
       → IsTableOf bytes e.names (used_in e) count t → IsTableOf bytes e.names (used_in e) count u
-      → TableAnswer rule covers sign e t Yes text → TableAnswer rule covers sign e u Evaluation line → ⊥
-  all_or_stop rule covers sign t u text line at bu a b =
+      → TableAnswer format rule covers is_exact e t Yes told → TableAnswer format rule covers is_exact e u Evaluation other → ⊥
+  all_or_stop rule covers is_exact t u told other at bu a b =
       let clash : ◌≡◌ {A = Result (List CellValue) Stop} (Ok a.values.values) (Err b.stop) = sym a.values.evaluated
       ∙ sym (same_values rule e bytes count t u at bu) ∙ b.stops in cc clash
 
-  yes_stop : (is_exact zero : Bool) (text line : List ℕ) → AnswersTable is_exact zero e count bytes Yes text
-      → AnswersTable is_exact zero e count bytes Evaluation line → ⊥
-  yes_stop true zero text line a b = all_or_stop _ _ _ a.0 b.0 text line a.1.reads b.1.reads a.2 b.2
-  yes_stop false zero text line a b = all_or_stop _ _ _ a.0 b.0 text line a.1.reads b.1.reads a.2 b.2
+  yes_stop : (is_exact zero : Bool) (told other : Told) → AnswersTable format is_exact zero e count bytes Yes told
+      → AnswersTable format is_exact zero e count bytes Evaluation other → ⊥
+  yes_stop true zero told other a b = all_or_stop _ _ _ a.0 b.0 told other a.1.reads b.1.reads a.2 b.2
+  yes_stop false zero told other a b = all_or_stop _ _ _ a.0 b.0 told other a.1.reads b.1.reads a.2 b.2
 
-  -- counts that are read aren't refused
-  read_or_refused : (t : Table) (line : List ℕ) → HoldsCounts e.names (used_in e) count bytes t → AreRefusedCounts e.names (used_in e) count bytes line → ⊥
-  read_or_refused t line a (too_long long is) = absurd (omega (arith, a.small, long))
-  read_or_refused t line a (faulty fault short ne at is) = none-some fault (sym a.fits ∙ at)
+  counts_among : (is_exact zero : Bool) (o : Outcome) (told : Told) → CountsAnswer format is_exact zero e count bytes o told → IsOneOf Yes Second Evaluation o
+  counts_among is_exact zero Yes told h = inl refl
+  counts_among is_exact zero Second told h = inr (inl refl)
+  counts_among is_exact zero Evaluation told h = inr (inr refl)
+  counts_among is_exact zero o told h = absurd h
 
-  counts_among : (is_exact zero : Bool) (o : Outcome) (text : List ℕ) → CountsAnswer is_exact zero e count bytes o text → IsOneOf Yes Second Evaluation o
-  counts_among is_exact zero Yes text h = inl refl
-  counts_among is_exact zero Second text h = inr (inl refl)
-  counts_among is_exact zero Evaluation text h = inr (inr refl)
-  counts_among is_exact zero o text h = absurd h
-
-  counts_once : (is_exact zero : Bool) → OneOutcome (CountsAnswer is_exact zero e count bytes)
-  counts_once is_exact zero = one_of_three Yes Second Evaluation (CountsAnswer is_exact zero e count bytes) (counts_among is_exact zero)
-      (λ text line a b. read_or_refused a.0 line a.1 b) (yes_stop is_exact zero) (λ text line a b. read_or_refused b.0 text b.1 a)
+  counts_once : (is_exact zero : Bool) → OneOutcome (CountsAnswer format is_exact zero e count bytes)
+  counts_once is_exact zero = one_of_three Yes Second Evaluation (CountsAnswer format is_exact zero e count bytes) (counts_among is_exact zero)
+      (λ told other a b. read_or_refused e.names (used_in e) count bytes a.0 other.text other.object a.1 b) (yes_stop is_exact zero)
+      (λ told other a b. read_or_refused e.names (used_in e) count bytes b.0 told.text told.object b.1 a)
 
 abbrev target : (x y given : ℕ) → PlainTarget
 target x y given = record { x = x; y = y; given = given }
@@ -268,9 +265,9 @@ same_effect way fixed d d' s x y e f a i =
     let same = one_found d.read d.observed.names x y e f qs way fixed a.found b.found in
     λ i. effect_for (ns i) (qs i) (same.0 i) (same.1 i)
 
-pub evaluate_once : (bytes other : List ℕ) (is_exact zero : Bool) (way : Way) → FixesFormula way → (x y : Names) (count : Option Field)
-    → OneOutcome (IsAnswerOn bytes (λ d. EvaluateAnswer is_exact zero way d x y count other))
-evaluate_once bytes other is_exact zero way fixed x y count = one_on_diagram bytes (λ d. EvaluateAnswer is_exact zero way d x y count other)
-    (λ d d' s o p text line a b.
-    counts_once a.0 other count is_exact zero o p text line a.2 (subst (λ (e : PlainEffect). CountsAnswer is_exact zero e count other p line)
+pub evaluate_once : (format : Format) (bytes other : List ℕ) (is_exact zero : Bool) (way : Way) → FixesFormula way → (x y : Names) (count : Option Field)
+    → OneOutcome (IsAnswerOn bytes (λ d. EvaluateAnswer format is_exact zero way d x y count other))
+evaluate_once format bytes other is_exact zero way fixed x y count = one_on_diagram bytes (λ d. EvaluateAnswer format is_exact zero way d x y count other)
+    (λ d d' s o p told line a b.
+    counts_once format a.0 other count is_exact zero o p told line a.2 (subst (λ (e : PlainEffect). CountsAnswer format is_exact zero e count other p line)
     (same_effect way fixed d d' s x y a.0 b.0 a.1 b.1) b.2))

@@ -35,17 +35,18 @@ one_request uses q r a b = λ i. record {
   count = (sym b.count ∙ a.count) i;
   exact = (sym b.exact ∙ a.exact) i;
   zero = (sym b.zero ∙ a.zero) i;
+  format = (b.format ∙ sym a.format) i;
 }
 
 -- what holds of each command holds of it
 pub evaluate_lawful : IsLawful evaluate_command
 evaluate_lawful = lawful_on_two_inputs_where one_request
-    (λ q d. first_answered q.way d q.x q.y)
-    (λ q d other o text a. counts_answered q.exact q.zero a.0 q.count other o text a.2)
-    (λ q bytes. first_once bytes q.way q.x q.y)
-    (λ q fixed bytes other. evaluate_once bytes other q.exact q.zero q.way fixed q.x q.y q.count)
-    (λ q name d e same names o text a n. first_alone q.way d e same q.x q.y o text n.0 a n.1)
+    (λ q d. first_answered q.format q.way d q.x q.y)
+    (λ q d other o told a. counts_answered q.format q.exact q.zero a.0 q.count other o told a.2)
+    (λ q bytes. first_once q.format bytes q.way q.x q.y)
+    (λ q fixed bytes other. evaluate_once q.format bytes other q.exact q.zero q.way fixed q.x q.y q.count)
+    (λ q name d e same names o told a n. first_alone q.format q.way d e same q.x q.y o told n.0 a n.1)
 
 pub evaluate_is_left : (q : Request) (d : Diagram) (e : PlainEffect) → Identifies q.way d q.x q.y e
-    → IsLeft evaluate_command q d (evaluate_left e q.counts q.count q.exact q.zero)
-evaluate_is_left q d e is = record { named = refl; continues = (e, is); known = is.identified; answers = λ other o text a. (e, is, a) }
+    → IsLeft evaluate_command q d (evaluate_left q.format e q.counts q.count q.exact q.zero)
+evaluate_is_left q d e is = record { named = refl; continues = (e, is); known = is.identified; answers = λ other o told a. (e, is, a) }

@@ -2,7 +2,10 @@ pub mod Mentions
 pub mod Columns
 pub mod Tables
 pub mod CellLists
+mod Members
+pub mod Pages
 pub mod Printed
+mod Telling
 pub mod Stops
 pub mod Evaluable
 pub mod Outcomes

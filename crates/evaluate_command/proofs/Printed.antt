@@ -1,10 +1,8 @@
 -- Printing cells: one list after another.
 use Rattle.std.proofs.Common.{◌≡◌, ℕ, ◌+◌, ◌-◌, ◌<◌, ◌≤◌, length, set, get_or, drop, inl, inr, List, [], ◌∷◌, ◌++◌, Ok, Bool, false, refl, sym, ap}
-use Rattle.std.proofs.Common.{subst, ◌∙◌, arith, append_assoc}
+use Rattle.std.proofs.Common.{subst, ◌∙◌, arith}
 use Rattle.std.specs.List.{flat_map, range_with_len}
 use Rattle.std.proofs.lemmas.Bool.{cases_Bool}
-use Rattle.std.proofs.lemmas.List.{append-nil}
-use Rattle.std.proofs.lemmas.List.Concat.{flat_map-append}
 use Rattle.std.proofs.lemmas.List.Elements.{All-nil, All-cons, All-append}
 use Rattle.fractions.specs.Fractions.{Fraction}
 use Rattle.finite_models.specs.Models.{FiniteModel, Fits, IsAssignment}
@@ -20,7 +18,8 @@ use Rattle.count_eval.specs.Programs.{weights_in, is_used, cell_of}
 use Rattle.evaluate_command.specs.Answers.{CoversEffect}
 use Rattle.evaluate_command.specs.Cells.{CellValue, IsCell, value_in, cells_along, level_count}
 use Rattle.evaluate_command.specs.Effects.{PlainEffect, target_of, IsIdentified}
-use Rattle.evaluate_command.specs.Lines.{value_line}
+use Rattle.evaluate_command.specs.Pages.{Page, with_cells}
+use Rattle.evaluate_command.proofs.Pages.{cells_none, cells_both}
 use Rattle.evaluate_command.specs.Printing.{Appends, IsFailureOf, IsPreparedFor}
 use Rattle.count_eval.specs.Preparations.{Preparation}
 use Rattle.prob_expr.specs.Tree.{PlainFormula}
@@ -56,69 +55,62 @@ on_prepared P e t p is h =
 
 -- ---- one list of cells after another
 
-module _ (rule : Rule) (covers : Pair → Fraction → Type 0) (sign : List ℕ) (e : PlainEffect) (t : Table) where
-  pub appends_none : (old : List ℕ) → Appends rule covers sign e t [] old old
+module _ (rule : Rule) (covers : Pair → Fraction → Type 0) (is_exact : Bool) (e : PlainEffect) (t : Table) where
+  pub appends_none : (old : Page) → Appends rule covers is_exact e t [] old old
   appends_none old = record {
-    added = [];
-    values = record { values = []; evaluated = refl; prints = refl; counts = λ first. All-nil _; effects = All-nil _ };
-    text = sym (append-nil old);
+    values = record { values = []; evaluated = refl; counts = λ first. All-nil _; effects = All-nil _ };
+    page = cells_none rule.kind is_exact e t old;
   }
 
-  pub appends_one : (cell : List ℕ) (q : Pair) (old new : List ℕ) → value_in rule e t cell ≡ Ok q
+  pub appends_one : (cell : List ℕ) (q : Pair) (old new : Page) → value_in rule e t cell ≡ Ok q
       → (rule.zero ≡ false → CoversCounts covers e.graph.vertices t e.formula (cell_of cell) q)
-      → CoversEffect covers e t (record { cell = cell; quantity = q }) → new ≡ old ++ value_line rule.kind sign e t (record { cell = cell; quantity = q })
-      → Appends rule covers sign e t (cell ∷ []) old new
-  appends_one cell q old new is counts effects text = record {
-    added = value_line rule.kind sign e t (record { cell = cell; quantity = q });
+      → CoversEffect covers e t (record { cell = cell; quantity = q })
+      → new ≡ with_cells rule.kind is_exact e t (record { cell = cell; quantity = q } ∷ []) old → Appends rule covers is_exact e t (cell ∷ []) old new
+  appends_one cell q old new is counts effects page = record {
     values = record {
       values = record { cell = cell; quantity = q } ∷ [];
       evaluated = values_one (value_in rule e t) cell q is;
-      prints = sym (append-nil (value_line rule.kind sign e t (record { cell = cell; quantity = q })));
       counts = λ first. All-cons (λ (v : CellValue). CoversCounts covers e.graph.vertices t e.formula (cell_of v.cell) v.quantity)
           (record { cell = cell; quantity = q }) [] (counts first) (All-nil _);
       effects = All-cons (CoversEffect covers e t) (record { cell = cell; quantity = q }) [] effects (All-nil _);
     };
-    text = text;
+    page = page;
   }
 
-  pub appends_both : (cs ds : List (List ℕ)) (old mid new : List ℕ)
-      → Appends rule covers sign e t cs old mid → Appends rule covers sign e t ds mid new → Appends rule covers sign e t (cs ++ ds) old new
+  pub appends_both : (cs ds : List (List ℕ)) (old mid new : Page)
+      → Appends rule covers is_exact e t cs old mid → Appends rule covers is_exact e t ds mid new → Appends rule covers is_exact e t (cs ++ ds) old new
   appends_both cs ds old mid new a b = record {
-    added = a.added ++ b.added;
     values = record {
       values = a.values.values ++ b.values.values;
       evaluated = values_both (value_in rule e t) cs ds a.values.values b.values.values a.values.evaluated b.values.evaluated;
-      prints =
-          ap (λ x. x ++ b.added) a.values.prints ∙ ap (λ x. flat_map (value_line rule.kind sign e t) a.values.values ++ x) b.values.prints
-          ∙ sym (flat_map-append (value_line rule.kind sign e t) a.values.values b.values.values);
       counts = λ first. All-append (λ (v : CellValue). CoversCounts covers e.graph.vertices t e.formula (cell_of v.cell) v.quantity)
           a.values.values b.values.values (a.values.counts first) (b.values.counts first);
       effects = All-append (CoversEffect covers e t) a.values.values b.values.values a.values.effects b.values.effects;
     };
-    text = b.text ∙ ap (λ x. x ++ b.added) a.text ∙ append_assoc old a.added b.added;
+    page = b.page ∙ ap (with_cells rule.kind is_exact e t b.values.values) a.page ∙ cells_both rule.kind is_exact e t a.values.values b.values.values old;
   }
 
   -- the cells of one more level
-  pub appends_turn : (cell0 cell : List ℕ) (v k : ℕ) (rest old mid new : List ℕ) → ((j : ℕ) → set cell v j ≡ set cell0 v j)
-      → Appends rule covers sign e t (flat_map (λ j. cells_along t (set cell0 v j) rest) (range_with_len 0 k)) old mid
-      → Appends rule covers sign e t (cells_along t (set cell v k) rest) mid new
-      → Appends rule covers sign e t (flat_map (λ j. cells_along t (set cell0 v j) rest) (range_with_len 0 (k + 1))) old new
+  pub appends_turn : (cell0 cell : List ℕ) (v k : ℕ) (rest : List ℕ) (old mid new : Page) → ((j : ℕ) → set cell v j ≡ set cell0 v j)
+      → Appends rule covers is_exact e t (flat_map (λ j. cells_along t (set cell0 v j) rest) (range_with_len 0 k)) old mid
+      → Appends rule covers is_exact e t (cells_along t (set cell v k) rest) mid new
+      → Appends rule covers is_exact e t (flat_map (λ j. cells_along t (set cell0 v j) rest) (range_with_len 0 (k + 1))) old new
   appends_turn cell0 cell v k rest old mid new same a b =
-      subst (λ (cs : List (List ℕ)). Appends rule covers sign e t cs old new) (sym (numbers_more (λ j. cells_along t (set cell0 v j) rest) k))
+      subst (λ (cs : List (List ℕ)). Appends rule covers is_exact e t cs old new) (sym (numbers_more (λ j. cells_along t (set cell0 v j) rest) k))
       (appends_both (flat_map (λ j. cells_along t (set cell0 v j) rest) (range_with_len 0 k)) (cells_along t (set cell0 v k) rest) old mid new a
-      (subst (λ (c : List ℕ). Appends rule covers sign e t (cells_along t c rest) mid new) (same k) b))
+      (subst (λ (c : List ℕ). Appends rule covers is_exact e t (cells_along t c rest) mid new) (same k) b))
 
   -- the cells of all levels of the first vertex
-  pub appends_all : (cell vs rest : List ℕ) (k : ℕ) (old new : List ℕ) → 1 ≤ length vs → rest ≡ drop 1 vs → k ≡ level_count t (get_or vs 0 0)
-      → Appends rule covers sign e t (flat_map (λ j. cells_along t (set cell (get_or vs 0 0) j) rest) (range_with_len 0 k)) old new
-      → Appends rule covers sign e t (cells_along t cell vs) old new
+  pub appends_all : (cell vs rest : List ℕ) (k : ℕ) (old new : Page) → 1 ≤ length vs → rest ≡ drop 1 vs → k ≡ level_count t (get_or vs 0 0)
+      → Appends rule covers is_exact e t (flat_map (λ j. cells_along t (set cell (get_or vs 0 0) j) rest) (range_with_len 0 k)) old new
+      → Appends rule covers is_exact e t (cells_along t cell vs) old new
   appends_all cell vs rest k old new some is all a =
-      subst (λ (cs : List (List ℕ)). Appends rule covers sign e t cs old new) (sym (cells_at_first t cell vs some))
-      (subst (λ (us : List ℕ). Appends rule covers sign e t (flat_map (λ j. cells_along t (set cell (get_or vs 0 0) j) us)
+      subst (λ (cs : List (List ℕ)). Appends rule covers is_exact e t cs old new) (sym (cells_at_first t cell vs some))
+      (subst (λ (us : List ℕ). Appends rule covers is_exact e t (flat_map (λ j. cells_along t (set cell (get_or vs 0 0) j) us)
       (range_with_len 0 (level_count t (get_or vs 0 0)))) old new) is
-      (subst (λ n. Appends rule covers sign e t (flat_map (λ j. cells_along t (set cell (get_or vs 0 0) j) rest) (range_with_len 0 n)) old new) all a))
+      (subst (λ n. Appends rule covers is_exact e t (flat_map (λ j. cells_along t (set cell (get_or vs 0 0) j) rest) (range_with_len 0 n)) old new) all a))
 
-  pub failure_later : (cs ds : List (List ℕ)) (old mid : List ℕ) (f : Failure) → Appends rule covers sign e t cs old mid → IsFailureOf rule e t ds f
+  pub failure_later : (cs ds : List (List ℕ)) (old mid : Page) (f : Failure) → Appends rule covers is_exact e t cs old mid → IsFailureOf rule e t ds f
       → IsFailureOf rule e t (cs ++ ds) f
   failure_later cs ds old mid (Evaluation fault) a h = (h.0, values_later (value_in rule e t) cs ds a.values.values h.0 a.values.evaluated h.1, h.2)
   failure_later cs ds old mid NoMemory a h = tt
@@ -129,13 +121,13 @@ failure_sooner rule e t cs ds (Evaluation fault) h = (h.0, values_sooner (value_
 failure_sooner rule e t cs ds NoMemory h = tt
 
 -- the failure at the cells of one level is that of all cells
-pub failure_turn : (rule : Rule) (covers : Pair → Fraction → Type 0) (sign : List ℕ) (e : PlainEffect) (t : Table) (cell0 cell vs rest : List ℕ) (k : ℕ)
-    (old mid : List ℕ) (f : Failure)
+pub failure_turn : (rule : Rule) (covers : Pair → Fraction → Type 0) (is_exact : Bool) (e : PlainEffect) (t : Table) (cell0 cell vs rest : List ℕ) (k : ℕ)
+    (old mid : Page) (f : Failure)
     → 1 ≤ length vs
     → rest ≡ drop 1 vs → k < level_count t (get_or vs 0 0) → ((j : ℕ) → set cell (get_or vs 0 0) j ≡ set cell0 (get_or vs 0 0) j)
-    → Appends rule covers sign e t (flat_map (λ j. cells_along t (set cell0 (get_or vs 0 0) j) rest) (range_with_len 0 k)) old mid
+    → Appends rule covers is_exact e t (flat_map (λ j. cells_along t (set cell0 (get_or vs 0 0) j) rest) (range_with_len 0 k)) old mid
     → IsFailureOf rule e t (cells_along t (set cell (get_or vs 0 0) k) rest) f → IsFailureOf rule e t (cells_along t cell0 vs) f
-failure_turn rule covers sign e t cell0 cell vs rest k old mid f some is lt same a h =
+failure_turn rule covers is_exact e t cell0 cell vs rest k old mid f some is lt same a h =
     let v = get_or vs 0 0 in
     let cells : List ℕ → ℕ → List (List ℕ) = λ us j. cells_along t (set cell0 v j) us in
     let n = level_count t v in
@@ -143,5 +135,5 @@ failure_turn rule covers sign e t cell0 cell vs rest k old mid f some is lt same
     subst (λ (cs : List (List ℕ)). IsFailureOf rule e t cs f) (sym (cells_at_first t cell0 vs some))
     (subst (λ (us : List ℕ). IsFailureOf rule e t (flat_map (cells us) (range_with_len 0 n)) f) is
     (subst (λ (cs : List (List ℕ)). IsFailureOf rule e t cs f) (sym (numbers_around (cells rest) k n lt))
-    (failure_later rule covers sign e t (flat_map (cells rest) (range_with_len 0 k)) (cells rest k ++ later) old mid f a
+    (failure_later rule covers is_exact e t (flat_map (cells rest) (range_with_len 0 k)) (cells rest k ++ later) old mid f a
     (failure_sooner rule e t (cells rest k) later f (subst (λ (c : List ℕ). IsFailureOf rule e t (cells_along t c rest) f) (same k) h)))))

@@ -1,6 +1,5 @@
 -- The answer of `evaluate`: the effect of x on y at each level of x and y, and of what is given, from counts of observations.
-use Rattle.std.specs.Prelude.{ℕ, ◌≡◌, ◌≢◌, List, ◌++◌, All, Bool, true, false, Option, Ok, Err}
-use Rattle.std.specs.List.{flat_map}
+use Rattle.std.specs.Prelude.{ℕ, ◌≡◌, ◌≢◌, List, All, Bool, true, false, Option, Ok, Err}
 use Rattle.fractions.specs.Fractions.{Fraction}
 use Rattle.mixed_graph.specs.Graphs.{MixedGraph}
 use Rattle.mixed_graph.specs.Shown.{graph_of}
@@ -11,13 +10,16 @@ use Rattle.identify_command.specs.Forms.{plain_form}
 use Rattle.identify_command.specs.Conditions.{ConditionalAnswer}
 use Rattle.adjust_command.specs.Answers.{AdjustAnswer}
 use Rattle.answer_text.specs.Lines.{line_of}
+use Rattle.replies.specs.declared.format.Format.{Format}
 use Rattle.replies.specs.declared.outcome.Outcome.{Outcome}
 use Rattle.replies.specs.declared.outcome.Outcome.TheVariants.{Yes, No, Graph, Second, Evaluation}
+use Rattle.replies.specs.Told.{Told, text_in, answer_of, refusal_of}
+use Rattle.answer_json.specs.Progress.{json_line}
 use Rattle.diagram.specs.Sets.{Names, effect_lists}
 use Rattle.diagram.specs.declared.diagram.Diagram.{Diagram}
 use Rattle.effect_answers.specs.Effects.{IsOfSets, IsEffectRefusal}
 use Rattle.effect_answers.specs.Hedges.{ShowsHedge}
-use Rattle.quantity.specs.Kinds.{Pair}
+use Rattle.quantity.specs.Kinds.{Pair, Kind}
 use Rattle.count_eval.specs.Rules.{Rule, rule as rule_of}
 use Rattle.quantity.specs.Exacts.{exact, Equals}
 use Rattle.quantity.specs.Intervals.{bounds, Covers}
@@ -28,26 +30,29 @@ use Rattle.count_eval.specs.Answers.{CoversCounts}
 use Rattle.count_eval.specs.Laws.{IsMatched}
 use Rattle.count_eval.specs.Programs.{weights_in, is_used, cell_of}
 use Rattle.count_eval.specs.Stops.{Stop}
-use Rattle.count_answers.specs.Reads.{HoldsCounts, AreRefusedCounts}
+use Rattle.count_answers.specs.Reads.{HoldsCounts}
+use Rattle.count_json.specs.Refusals.{AreRefusedCounts}
+use Rattle.count_json.specs.Stops.{stop_json}
 use Rattle.evaluate_command.specs.Effects.{PlainEffect, target_of, Identifies, used_in}
 use Rattle.evaluate_command.specs.Ways.{Way, by_procedure, by_adjusting, by_condition, criterion_query}
 use Rattle.evaluate_command.specs.Cells.{CellValue, value_in, values_at, printed_cells}
-use Rattle.evaluate_command.specs.Lines.{sign_of, value_line, pinned_lines, stop_text}
+use Rattle.evaluate_command.specs.Lines.{values_text, stop_text}
+use Rattle.evaluate_command.specs.Objects.{values_json}
 
 -- ---- before the counts
 
--- where the procedure is asked, in the observed graph q: a hedge with its two models, as `identify` shows it, or the line of a listed name that is at
--- fault
-abbrev pub ProcedureFirst : MixedGraph → EffectLists → Outcome → List ℕ → Type 0
-ProcedureFirst q l No text = IsOfSets l (λ x y. ShowsHedge q l.observed x y text)
-ProcedureFirst q l Graph line = IsEffectRefusal l line
-ProcedureFirst q l o text = ⊥
+-- where the procedure is asked, in the observed graph q: a hedge with its two models, as `identify` shows it, or a listed name that is at fault
+abbrev pub ProcedureFirst : Format → MixedGraph → EffectLists → Outcome → Told → Type 0
+ProcedureFirst format q l No told = IsOfSets l (λ x y. ShowsHedge format q l.observed x y told)
+ProcedureFirst format q l Graph told = IsEffectRefusal l told
+ProcedureFirst format q l o told = ⊥
 
 -- the answer for which the counts aren't read: that one; or what `adjust` answers for the set, or `identify` under the condition, where that isn't yes
-abbrev pub EvaluateFirst : Way → Diagram → (x y : Names) → Outcome → List ℕ → Type 0
-EvaluateFirst (by_procedure short) d x y o text = ProcedureFirst (graph_of d.observed.graph) (effect_lists d.read d.observed.names x y) o text
-EvaluateFirst (by_adjusting back_door set) d x y o text = (o ≢ Yes) × AdjustAnswer d x y (criterion_query back_door set) o text
-EvaluateFirst (by_condition short given) d x y o text = (o ≢ Yes) × ConditionalAnswer plain_form d x y given o text
+abbrev pub EvaluateFirst : Format → Way → Diagram → (x y : Names) → Outcome → Told → Type 0
+EvaluateFirst format (by_procedure short) d x y o told =
+    ProcedureFirst format (graph_of d.observed.graph) (effect_lists d.read d.observed.names x y) o told
+EvaluateFirst format (by_adjusting back_door set) d x y o told = (o ≢ Yes) × AdjustAnswer format d x y (criterion_query back_door set) o told
+EvaluateFirst format (by_condition short given) d x y o told = (o ≢ Yes) × ConditionalAnswer (plain_form format) d x y given o told
 
 -- ---- over a table of counts
 
@@ -57,55 +62,63 @@ abbrev pub CoversEffect : (Pair → Fraction → Type 0) → PlainEffect → Tab
 CoversEffect covers e t v = (m : FiniteModel) → Fits e.graph m → IsPositiveModel m → IsMatched (is_used t) (weights_in e.graph.vertices t) (total t.rows) m
     → covers v.quantity (effect m (target_of e) (cell_of v.cell))
 
--- The cells have these values by the rule, and `added` is their lines. By the first rule each quantity covers the formula's value over the counts; by
--- either rule, where a model of the graph has
--- these counts, the effect in it.
-pub record AreValues (rule : Rule) (covers : Pair → Fraction → Type 0) (sign : List ℕ) (e : PlainEffect) (t : Table) (cells : List (List ℕ))
-    (added : List ℕ) : Type 0 where
+-- The cells have these values by the rule. By the first rule each quantity covers the formula's value over the counts; by either rule, where a model of
+-- the graph has these counts, the effect in it.
+pub record AreValues (rule : Rule) (covers : Pair → Fraction → Type 0) (e : PlainEffect) (t : Table) (cells : List (List ℕ)) : Type 0 where
   pub values : List CellValue
   pub evaluated : values_at (value_in rule e t) cells ≡ Ok values
-  pub prints : added ≡ flat_map (value_line rule.kind sign e t) values
   pub counts : rule.zero ≡ false → All (λ v. CoversCounts covers e.graph.vertices t e.formula (cell_of v.cell) v.quantity) values
   pub effects : All (CoversEffect covers e t) values
 
--- yes: the lines of what is pinned, and the lines of the printed cells
-pub record ShowsValues (rule : Rule) (covers : Pair → Fraction → Type 0) (sign : List ℕ) (e : PlainEffect) (t : Table) (text : List ℕ) : Type 0 where
-  pub lines : List ℕ
-  pub values : AreValues rule covers sign e t (printed_cells e t) lines
-  pub prints : text ≡ pinned_lines e t ++ lines
+-- what is told of values: the lines of what is pinned and of the cells, or one object
+abbrev pub values_told : Format → Kind → (is_exact : Bool) → PlainEffect → Table → List CellValue → Told
+values_told format kind is_exact e t values =
+    answer_of (text_in format (values_text kind is_exact e t values) (json_line (values_json is_exact e t values)))
 
--- no value: the line of the stop at the first printed cell that has none
-pub record ShowsStop (rule : Rule) (e : PlainEffect) (t : Table) (line : List ℕ) : Type 0 where
+-- yes: the values at the printed cells
+pub record ShowsValues (format : Format) (rule : Rule) (covers : Pair → Fraction → Type 0) (is_exact : Bool) (e : PlainEffect) (t : Table) (told : Told)
+    : Type 0 where
+  pub values : AreValues rule covers e t (printed_cells e t)
+  pub prints : told ≡ values_told format rule.kind is_exact e t values.values
+
+-- what is told of a stop: its line and its object
+abbrev pub stop_told : List (List ℕ) → Table → Stop → Told
+stop_told names t s = refusal_of (line_of (stop_text names t s)) (json_line (stop_json names t s))
+
+-- no value: the stop at the first printed cell that has none
+pub record ShowsStop (rule : Rule) (e : PlainEffect) (t : Table) (told : Told) : Type 0 where
   pub stop : Stop
   pub stops : values_at (value_in rule e t) (printed_cells e t) ≡ Err stop
-  pub prints : line ≡ line_of (stop_text e.names t stop)
+  pub prints : told ≡ stop_told e.names t stop
 
 -- the answer by a rule in a kind of quantity
-abbrev pub TableAnswer : Rule → (Pair → Fraction → Type 0) → List ℕ → PlainEffect → Table → Outcome → List ℕ → Type 0
-TableAnswer rule covers sign e t Yes text = ShowsValues rule covers sign e t text
-TableAnswer rule covers sign e t Evaluation line = ShowsStop rule e t line
-TableAnswer rule covers sign e t o text = ⊥
+abbrev pub TableAnswer : Format → Rule → (Pair → Fraction → Type 0) → (is_exact : Bool) → PlainEffect → Table → Outcome → Told → Type 0
+TableAnswer format rule covers is_exact e t Yes told = ShowsValues format rule covers is_exact e t told
+TableAnswer format rule covers is_exact e t Evaluation told = ShowsStop rule e t told
+TableAnswer format rule covers is_exact e t o told = ⊥
 
 -- the answer in exact fractions, or else in bounds, by one of the two rules for products
-abbrev pub QuantityAnswer : (is_exact zero : Bool) → PlainEffect → Table → Outcome → List ℕ → Type 0
-QuantityAnswer true zero = TableAnswer (rule_of exact zero) Equals (sign_of true)
-QuantityAnswer false zero = TableAnswer (rule_of bounds zero) Covers (sign_of false)
+abbrev pub QuantityAnswer : Format → (is_exact zero : Bool) → PlainEffect → Table → Outcome → Told → Type 0
+QuantityAnswer format true zero = TableAnswer format (rule_of exact zero) Equals true
+QuantityAnswer format false zero = TableAnswer format (rule_of bounds zero) Covers false
 
 -- ---- over the bytes of counts
 
 -- the table of the bytes, and the answer over it
-abbrev pub AnswersTable : (is_exact zero : Bool) → PlainEffect → Option Field → List ℕ → Outcome → List ℕ → Type 0
-AnswersTable is_exact zero e count bytes o text = (t : Table) × HoldsCounts e.names (used_in e) count bytes t × QuantityAnswer is_exact zero e t o text
+abbrev pub AnswersTable : Format → (is_exact zero : Bool) → PlainEffect → Option Field → List ℕ → Outcome → Told → Type 0
+AnswersTable format is_exact zero e count bytes o told =
+    (t : Table) × HoldsCounts e.names (used_in e) count bytes t × QuantityAnswer format is_exact zero e t o told
 
--- the answer for an effect that has a formula: its values, the line of refused counts, or the line of the first printed cell without a value
-abbrev pub CountsAnswer : (is_exact zero : Bool) → PlainEffect → Option Field → List ℕ → Outcome → List ℕ → Type 0
-CountsAnswer is_exact zero e count bytes Yes text = AnswersTable is_exact zero e count bytes Yes text
-CountsAnswer is_exact zero e count bytes Second line = AreRefusedCounts e.names (used_in e) count bytes line
-CountsAnswer is_exact zero e count bytes Evaluation line = AnswersTable is_exact zero e count bytes Evaluation line
-CountsAnswer is_exact zero e count bytes o text = ⊥
+-- the answer for an effect that has a formula: its values, refused counts, or the first printed cell without a value
+abbrev pub CountsAnswer : Format → (is_exact zero : Bool) → PlainEffect → Option Field → List ℕ → Outcome → Told → Type 0
+CountsAnswer format is_exact zero e count bytes Yes told = AnswersTable format is_exact zero e count bytes Yes told
+CountsAnswer format is_exact zero e count bytes Second told = AreRefusedCounts e.names (used_in e) count bytes told.text told.object
+CountsAnswer format is_exact zero e count bytes Evaluation told = AnswersTable format is_exact zero e count bytes Evaluation told
+CountsAnswer format is_exact zero e count bytes o told = ⊥
 
 -- ---- on a diagram
 
 -- the answer where the counts are read: the lists name an effect that has a formula
-abbrev pub EvaluateAnswer : (is_exact zero : Bool) → Way → Diagram → (x y : Names) → Option Field → List ℕ → Outcome → List ℕ → Type 0
-EvaluateAnswer is_exact zero way d x y count bytes o text = (e : PlainEffect) × Identifies way d x y e × CountsAnswer is_exact zero e count bytes o text
+abbrev pub EvaluateAnswer : Format → (is_exact zero : Bool) → Way → Diagram → (x y : Names) → Option Field → List ℕ → Outcome → Told → Type 0
+EvaluateAnswer format is_exact zero way d x y count bytes o told =
+    (e : PlainEffect) × Identifies way d x y e × CountsAnswer format is_exact zero e count bytes o told

@@ -2,6 +2,8 @@ pub mod Ways
 pub mod Effects
 pub mod Cells
 pub mod Lines
+pub mod Objects
+pub mod Pages
 pub mod Answers
 pub mod Firsts
 pub mod Printing

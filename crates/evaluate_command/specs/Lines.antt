@@ -44,6 +44,10 @@ pinned_line names t v = codes "pinned " ++ (assignment names t (λ u. 0) v ++ co
 abbrev pub pinned_lines : PlainEffect → Table → List ℕ
 pinned_lines e t = flat_map (pinned_line e.names t) (members_below (has (free_beside (target_of e) e.formula)) 64)
 
+-- the values: the lines of what is pinned, and those of the cells
+abbrev pub values_text : Kind → (is_exact : Bool) → PlainEffect → Table → List CellValue → List ℕ
+values_text kind is_exact e t values = pinned_lines e t ++ flat_map (value_line kind (sign_of is_exact) e t) values
+
 -- the digit of why there is no value
 abbrev pub why_digit : QuantityFault → List ℕ
 why_digit ZeroBelow = codes "1"

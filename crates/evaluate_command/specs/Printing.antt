@@ -1,5 +1,5 @@
 -- What the functions that print cells promise.
-use Rattle.std.specs.Prelude.{ℕ, ◌≡◌, Bool, List, ◌++◌, Err}
+use Rattle.std.specs.Prelude.{ℕ, ◌≡◌, Bool, List, Err}
 use Rattle.fractions.specs.Fractions.{Fraction}
 use Rattle.quantity.specs.Kinds.{Pair}
 use Rattle.count_eval.specs.Rules.{Rule}
@@ -11,6 +11,7 @@ use Rattle.count_eval.specs.Preparations.{Preparation}
 use Rattle.evaluate_command.specs.Answers.{AreValues}
 use Rattle.evaluate_command.specs.Cells.{value_in, values_at}
 use Rattle.evaluate_command.specs.Effects.{PlainEffect}
+use Rattle.evaluate_command.specs.Pages.{Page, with_cells}
 use Rattle.evaluate_command.specs.declared.values.Failure.{Failure}
 use Rattle.evaluate_command.specs.declared.values.Failure.TheVariants.{Evaluation, NoMemory}
 
@@ -21,12 +22,11 @@ pub record IsPreparedFor (zero : Bool) (e : PlainEffect) (t : Table) (p : Prepar
   pub formula : p.formula ≡ e.formula
   pub rule : p.zero ≡ zero
 
--- the lines of the cells, with the values there, are appended
-pub record Appends (rule : Rule) (covers : Pair → Fraction → Type 0) (sign : List ℕ) (e : PlainEffect) (t : Table) (cells : List (List ℕ))
-    (old new : List ℕ) : Type 0 where
-  pub added : List ℕ
-  pub values : AreValues rule covers sign e t cells added
-  pub text : new ≡ old ++ added
+-- the cells are appended, with the values there
+pub record Appends (rule : Rule) (covers : Pair → Fraction → Type 0) (is_exact : Bool) (e : PlainEffect) (t : Table) (cells : List (List ℕ))
+    (old new : Page) : Type 0 where
+  pub values : AreValues rule covers e t cells
+  pub page : new ≡ with_cells rule.kind is_exact e t values.values old
 
 -- the fault is that of the first cell without a value; want of memory may come instead
 abbrev pub IsFailureOf : Rule → PlainEffect → Table → List (List ℕ) → Failure → Type 0

@@ -4,10 +4,12 @@ use Rattle.command_words.specs.Form.{Text, Row, Use, word_of, value_of, has_flag
 use Rattle.command_words.specs.Values as values
 use Rattle.diagram.specs.Sets.{Names}
 use Rattle.command_words.specs.ListViews.{names_in}
+use Rattle.replies.specs.declared.format.Format.{Format}
+use Rattle.replies.specs.Told.{format_of}
 use Rattle.evaluate_command.specs.Ways.{Way, way_of, way_for}
 use Rattle.evaluate_command.specs.declared.request.Request.{Request as CodeRequest}
 
--- `evaluate FILE COUNTS [--x L] [--y L] [--given L] [--set L] [--back-door] [--count NAME] [--exact] [--zero] [--short]`
+-- `evaluate FILE COUNTS [--x L] [--y L] [--given L] [--set L] [--back-door] [--count NAME] [--exact] [--zero] [--short] [--json]`
 abbrev pub evaluate_row : Row
 evaluate_row = record {
   name = codes "evaluate";
@@ -15,7 +17,7 @@ evaluate_row = record {
   optional = [];
   required = [];
   options = codes "x" ∷ codes "y" ∷ codes "given" ∷ codes "set" ∷ codes "count" ∷ [];
-  flags = codes "back-door" ∷ codes "exact" ∷ codes "zero" ∷ codes "short" ∷ [];
+  flags = codes "back-door" ∷ codes "exact" ∷ codes "zero" ∷ codes "short" ∷ codes "json" ∷ [];
 }
 
 -- a request
@@ -28,6 +30,7 @@ pub record Request : Type 0 where
   pub count : Option Text
   pub exact : Bool
   pub zero : Bool
+  pub format : Format
 
 -- the request
 abbrev pub request_of : CodeRequest → Request
@@ -40,6 +43,7 @@ request_of r = record {
   count = option_map (λ s. s.now) r.count;
   exact = r.exact;
   zero = r.zero;
+  format = r.format;
 }
 
 -- the uses ask for this
@@ -57,3 +61,4 @@ pub record IsRequest (uses : List Use) (r : Request) : Type 0 where
   pub count : value_of uses (codes "count") ≡ r.count
   pub exact : has_flag uses (codes "exact") ≡ r.exact
   pub zero : has_flag uses (codes "zero") ≡ r.zero
+  pub format : r.format ≡ format_of (has_flag uses (codes "json"))

@@ -11,12 +11,12 @@ ghost use Rattle.evaluate_command.specs.Ways.{by_adjusting as way_by_adjusting};
 
 use crate::first::EffectOrReply;
 use crate::identified::Identified;
-use adjust_command::{Verdict, judge, not_admissible_text};
+use adjust_command::{Verdict, judge, not_admissible};
 use adjustment::formula_for;
 use diagram::{Diagram, asked_query};
 use mixed_graph::VSet;
 use prob_expr::Target;
-use replies::{Outcome, Reply, refuse};
+use replies::{Format, Outcome, Reply, refuse};
 use std::alloc::{AllocError, Global};
 use targets::{Sets, TargetFault};
 
@@ -29,11 +29,12 @@ pub fn by_adjusting(
     y: Option<&[Vec<u8>]>,
     set: &[Vec<u8>],
     by_back_door: bool,
+    format: Format,
 ) -> Result<EffectOrReply, AllocError>
-    ensures { IfOk result (IsEffectOrReply (way_by_adjusting by_back_door (texts set.now)) diagram.now (lent x.entry) (lent y.entry)) }
+    ensures { IfOk result (IsEffectOrReply format (way_by_adjusting by_back_door (texts set.now)) diagram.now (lent x.entry) (lent y.entry)) }
 {
     match asked_query(alloc, diagram, x, y, Some(set)) {
-        Ok(sets) => find_adjusted(alloc, diagram, sets, by_back_door),
+        Ok(sets) => find_adjusted(alloc, diagram, sets, by_back_door, format),
         Err(fault) => Ok(EffectOrReply::Replied(refuse(alloc, &fault)?)),
     }
 }
@@ -44,12 +45,13 @@ fn find_adjusted(
     diagram: &Diagram,
     sets: Sets,
     by_back_door: bool,
+    format: Format,
 ) -> Result<EffectOrReply, AllocError>
     requires sets { AreThreeSets diagram.now.observed.graph.n (has sets.x.bits) (has sets.y.bits) (has sets.given.bits) }
     requires some_x { 0 < sets.x.bits }
     requires some_y { 0 < sets.y.bits }
     ensures { (x y : Names) (set : List (List ℕ)) → AreSets (query_lists diagram.now.read diagram.now.observed.names x y (Some set)) sets.x.bits sets.y.bits sets.given.bits
-        → IfOk result (IsEffectOrReply (way_by_adjusting by_back_door set) diagram.now x y) }
+        → IfOk result (IsEffectOrReply format (way_by_adjusting by_back_door set) diagram.now x y) }
 {
     let seen = &diagram.observed;
     match judge(&seen.graph, sets, by_back_door) {
@@ -61,10 +63,10 @@ fn find_adjusted(
             },
             formula: formula_for(alloc, sets.x, sets.y, sets.given)?,
         })),
-        Verdict::Breaks(fault) => Ok(EffectOrReply::Replied(Reply {
-            outcome: Outcome::No,
-            text: not_admissible_text(alloc, &seen.names, sets.given, &fault)?,
-        })),
+        Verdict::Breaks(fault) => {
+            let text = not_admissible(alloc, format, &seen.names, sets, &fault)?;
+            Ok(EffectOrReply::Replied(Reply::answer(alloc, Outcome::No, text)))
+        }
         Verdict::NotOne => Ok(EffectOrReply::Replied(refuse(alloc, &TargetFault::NotOneX)?)),
     }
 }

@@ -13,12 +13,12 @@ use crate::first::EffectOrReply;
 use crate::identified::Identified;
 use conditional_id::{Conditional, identify_given};
 use diagram::{Diagram, asked_condition};
-use effect_answers::has_arrays;
-use identify_text::joint_answer;
+use effect_answers::{has_arrays, joint_in};
 use prob_expr::Target;
-use replies::{Outcome, Reply, refuse};
+use replies::{Format, Outcome, Reply, refuse};
 use short_formulas::{Candidate, shortened_if};
 use std::alloc::{AllocError, Global};
+use targets::EffectSets;
 
 /// Identifies the effect of x on y under a condition in the observed graph: a formula for it, or else what `identify` answers.
 pub fn by_condition(
@@ -28,8 +28,9 @@ pub fn by_condition(
     y: Option<&[Vec<u8>]>,
     given: &[Vec<u8>],
     short: bool,
+    format: Format,
 ) -> Result<EffectOrReply, AllocError>
-    ensures { IfOk result (IsEffectOrReply (way_by_condition short (texts given.now)) diagram.now (lent x.entry) (lent y.entry)) }
+    ensures { IfOk result (IsEffectOrReply format (way_by_condition short (texts given.now)) diagram.now (lent x.entry) (lent y.entry)) }
 {
     match asked_condition(alloc, diagram, x, y, Some(given)) {
         Ok(sets) => {
@@ -38,7 +39,7 @@ pub fn by_condition(
                 y: sets.y,
                 given: sets.given,
             };
-            find_given(alloc, diagram, target, short)
+            find_given(alloc, diagram, target, short, format)
         }
         Err(fault) => Ok(EffectOrReply::Replied(refuse(alloc, &fault)?)),
     }
@@ -50,11 +51,12 @@ fn find_given(
     diagram: &Diagram,
     target: Target,
     short: bool,
+    format: Format,
 ) -> Result<EffectOrReply, AllocError>
     requires sets { AreThreeSets diagram.now.observed.graph.n (has target.x.bits) (has target.y.bits) (has target.given.bits) }
     requires some { 0 < target.y.bits }
     ensures { (x y : Names) (given : List (List ℕ)) → AreListedSets (query_lists diagram.now.read diagram.now.observed.names x y (Some given)) target.x.bits target.y.bits target.given.bits
-        → IfOk result (IsEffectOrReply (way_by_condition short given) diagram.now x y) }
+        → IfOk result (IsEffectOrReply format (way_by_condition short given) diagram.now x y) }
 {
     let seen = &diagram.observed;
     match identify_given(alloc, &seen.graph, &target)? {
@@ -77,10 +79,9 @@ fn find_given(
             ..
         } => {
             has_arrays(&hedge);
-            Ok(EffectOrReply::Replied(Reply {
-                outcome: Outcome::No,
-                text: joint_answer(alloc, &target, x, y, &hedge, &pair, &seen.names)?,
-            }))
+            let sets = EffectSets { x, y };
+            let text = joint_in(alloc, format, &seen.names, &target, sets, &hedge, &pair)?;
+            Ok(EffectOrReply::Replied(Reply::answer(alloc, Outcome::No, text)))
         }
     }
 }

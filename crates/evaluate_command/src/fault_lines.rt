@@ -1,4 +1,4 @@
-//! The line of a cell without a value.
+//! The reply to a cell without a value.
 
 ghost use Rattle.std.specs.Prelude.{ℕ, ◌≡◌, ◌++◌, ◌<◌, ◌≤◌, All, length, OnOk, IfOk};
 ghost use Rattle.mixed_graph.specs.Bits.{has, members_below};
@@ -7,13 +7,17 @@ ghost use Rattle.answer_text.specs.Lines.{line_of};
 ghost use Rattle.count_eval.specs.Answers.{IsEvaluationFault};
 ghost use Rattle.count_eval.specs.Programs.{is_used};
 ghost use Rattle.count_eval.specs.Stops.{Stop};
+ghost use Rattle.replies.specs.Told.{told_of};
+ghost use Rattle.evaluate_command.specs.Answers.{stop_told};
 ghost use Rattle.evaluate_command.specs.Lines.{place_text, stop_text};
 
 use count_answers::{entries, push_assignments};
 use count_eval::EvalFault;
+use count_json::evaluation_fault;
 use count_table::Counts;
 use mixed_graph::Names;
 use prob_expr::Place;
+use replies::{Outcome, Reply};
 use std::alloc::{AllocError, Global};
 
 /// Appends the place of a node, as `main node 3` or `q0 node 3`.
@@ -65,7 +69,7 @@ fn push_fault(
 }
 
 /// The line of a fault: why the formula has no value at a cell, and at which node.
-pub fn fault_line(
+fn fault_line(
     alloc: Global,
     names: &Names,
     counts: &Counts,
@@ -79,4 +83,25 @@ pub fn fault_line(
     push_fault(alloc, &mut line, names, counts, fault)?;
     line.push(b'\n')?;
     Ok(line)
+}
+
+/// The reply to a fault: why the formula has no value at a cell, and at which node. The only error is want of memory.
+pub fn refuse_value(
+    alloc: Global,
+    names: &Names,
+    counts: &Counts,
+    fault: &EvalFault,
+) -> Result<Reply, AllocError>
+    requires few { length names.now ≤ 64 }
+    requires named { All (λ v. v < length names.now) counts.now.vertices }
+    ensures outcome { IfOk result (λ r. r.outcome ≡ Outcome.Evaluation) }
+    ensures told { IfOk result (λ r. (s : Stop) → IsEvaluationFault (is_used counts.now) fault.now s → told_of r ≡ stop_told names.now counts.now s) }
+{
+    // The clause `table` of `used` is needed: each used vertex has a level, and none other.
+    let _used = counts.used();
+    Ok(Reply {
+        outcome: Outcome::Evaluation,
+        text: fault_line(alloc, names, counts, fault)?,
+        object: evaluation_fault(alloc, names, counts, fault)?,
+    })
 }

@@ -31,16 +31,17 @@ pub fn identify_first(
     diagram: &Diagram,
     asked: &Request<'_>,
 ) -> Result<EffectOrReply, AllocError>
-    ensures { let q = request_of asked.now in IfOk result (IsEffectOrReply q.way diagram.now q.x q.y) }
+    ensures { let q = request_of asked.now in IfOk result (IsEffectOrReply q.format q.way diagram.now q.x q.y) }
 {
     let (x, y) = (asked.x.as_deref(), asked.y.as_deref());
+    let format = asked.format;
     match &asked.way {
-        Way::Procedure { short } => by_procedure(alloc, diagram, x, y, *short),
+        Way::Procedure { short } => by_procedure(alloc, diagram, x, y, *short, format),
         Way::Adjusting { set, back_door } => {
-            by_adjusting(alloc, diagram, x, y, set.as_slice(), *back_door)
+            by_adjusting(alloc, diagram, x, y, set.as_slice(), *back_door, format)
         }
         Way::Given { names, short } => {
-            by_condition(alloc, diagram, x, y, names.as_slice(), *short)
+            by_condition(alloc, diagram, x, y, names.as_slice(), *short, format)
         }
     }
 }

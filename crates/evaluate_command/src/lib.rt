@@ -8,9 +8,12 @@ mod first;
 mod identified;
 mod lines;
 mod mentioned;
+mod objects;
 mod procedure;
 mod reply;
 mod request;
+mod sheet;
+mod shown;
 mod values;
 mod way;
 

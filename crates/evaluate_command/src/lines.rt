@@ -7,14 +7,14 @@ ghost use Rattle.mixed_graph.specs.Masks.{is_empty};
 ghost use Rattle.count_eval.specs.Programs.{cell_of};
 ghost use Rattle.evaluate_command.specs.Effects.{effect_view, target_of};
 ghost use Rattle.identify_text.specs.Answers.{free_beside};
-ghost use Rattle.evaluate_command.specs.Lines.{doing_text, given_text, effect_text, value_line, pinned_line, pinned_lines};
+ghost use Rattle.evaluate_command.specs.Lines.{doing_text, given_text, effect_text, sign_of, value_line, pinned_line, pinned_lines};
 
 use crate::identified::Effect;
+use crate::shown::Shown;
 use count_answers::{push_assignment, push_assignments};
 use count_table::Counts;
+use identify_text::free_beside;
 use mixed_graph::{Names, VSet};
-use prob_expr::free;
-use quantity::Quantity;
 use std::alloc::{AllocError, Global};
 
 /// Appends what is done: nothing where x is empty.
@@ -84,13 +84,19 @@ fn push_effect(
     Ok(())
 }
 
+/// What stands between an effect and its value.
+fn sign_of(exact: bool) -> &'static [u8]
+    ensures { result.now ≡ sign_of exact }
+{
+    if exact { b" = " } else { b" " }
+}
+
 /// Appends the line of a cell with its quantity.
-pub fn push_value<Q: Quantity>(
+pub fn push_line<Q: Shown>(
     alloc: Global,
     out: &mut Vec<u8>,
     effect: &Effect<'_, '_>,
     counts: &Counts,
-    sign: &[u8],
     cell: &[u32],
     quantity: &Q,
 ) -> Result<(), AllocError>
@@ -98,10 +104,10 @@ pub fn push_value<Q: Quantity>(
     requires y { Within (length effect.now.seen.now.names) (has effect.now.target.y.bits) }
     requires given { Within (length effect.now.seen.now.names) (has effect.now.target.given.bits) }
     requires entries { length effect.now.seen.now.names ≡ length cell.now }
-    ensures { OnOk result (out.new.items ≡ out.old.items ++ value_line Q.kind sign.now (effect_view effect.now) counts.now (record { cell = cell.now; quantity = Q.numbers quantity.now })) }
+    ensures { OnOk result (out.new.items ≡ out.old.items ++ value_line Q.kind (sign_of Q.IS_EXACT) (effect_view effect.now) counts.now (record { cell = cell.now; quantity = Q.numbers quantity.now })) }
 {
     push_effect(out, effect, counts, cell)?;
-    out.extend_from_slice(sign)?;
+    out.extend_from_slice(sign_of(Q::IS_EXACT))?;
     quantity.print(alloc, out)?;
     out.push(b'\n')?;
     Ok(())
@@ -128,6 +134,13 @@ fn push_pinned(
     Ok(())
 }
 
+/// The free variables of the formula outside x, y and what is given.
+pub fn pinned_set(alloc: Global, effect: &Effect<'_, '_>) -> Result<VSet, AllocError>
+    ensures { IfOk result (λ s. s.bits ≡ free_beside (target_of (effect_view effect.now)) (effect_view effect.now).formula) }
+{
+    free_beside(alloc, effect.formula, &effect.target)
+}
+
 /// The lines of the free variables outside x, y and what is given, at their first levels.
 pub fn pinned_lines(
     alloc: Global,
@@ -137,10 +150,7 @@ pub fn pinned_lines(
     requires { Within (length effect.now.seen.now.names) (has (free_beside (target_of (effect_view effect.now)) (effect_view effect.now).formula)) }
     ensures { IfOk result (λ v. v.items ≡ pinned_lines (effect_view effect.now) counts.now) }
 {
-    let all = free(alloc, effect.formula)?;
-    let pinned = all
-        .difference(effect.target.x.union(effect.target.y))
-        .difference(effect.target.given);
+    let pinned = pinned_set(alloc, effect)?;
     let mut text = Vec::new(alloc);
     for v in 0..64u8 {
         push_pinned(&mut text, &effect.seen.names, counts, pinned, v)?;

@@ -11,11 +11,11 @@ ghost use Rattle.evaluate_command.specs.Ways.{by_procedure as way_by_procedure};
 use crate::first::EffectOrReply;
 use crate::identified::Identified;
 use diagram::{Diagram, asked_effect};
+use effect_answers::hedge_in;
 use identify::{Answer, FormulaAnswer, identify, identify_formula};
-use identify_text::hedge_answer;
 use mixed_graph::VSet;
 use prob_expr::Target;
-use replies::{Outcome, Reply, refuse};
+use replies::{Format, Outcome, Reply, refuse};
 use short_formulas::{Candidate, shortened};
 use std::alloc::{AllocError, Global};
 use targets::EffectSets;
@@ -27,11 +27,12 @@ pub fn by_procedure(
     x: Option<&[Vec<u8>]>,
     y: Option<&[Vec<u8>]>,
     short: bool,
+    format: Format,
 ) -> Result<EffectOrReply, AllocError>
-    ensures { IfOk result (IsEffectOrReply (way_by_procedure short) diagram.now (lent x.entry) (lent y.entry)) }
+    ensures { IfOk result (IsEffectOrReply format (way_by_procedure short) diagram.now (lent x.entry) (lent y.entry)) }
 {
     match asked_effect(alloc, diagram, x, y) {
-        Ok(sets) => find_formula(alloc, diagram, sets, short),
+        Ok(sets) => find_formula(alloc, diagram, sets, short, format),
         Err(fault) => Ok(EffectOrReply::Replied(refuse(alloc, &fault)?)),
     }
 }
@@ -42,18 +43,19 @@ fn find_formula(
     diagram: &Diagram,
     sets: EffectSets,
     short: bool,
+    format: Format,
 ) -> Result<EffectOrReply, AllocError>
     requires x { Within diagram.now.observed.graph.n (has sets.x.bits) }
     requires y { Within diagram.now.observed.graph.n (has sets.y.bits) }
     requires apart { Apart (has sets.x.bits) (has sets.y.bits) }
     requires some { 0 < sets.y.bits }
     ensures { (x y : Names) → AreEffectSets (effect_lists diagram.now.read diagram.now.observed.names x y) sets.x.bits sets.y.bits
-        → IfOk result (IsEffectOrReply (way_by_procedure short) diagram.now x y) }
+        → IfOk result (IsEffectOrReply format (way_by_procedure short) diagram.now x y) }
 {
     if short {
-        return short_formula(alloc, diagram, sets);
+        return short_formula(alloc, diagram, sets, format);
     }
-    first_formula(alloc, diagram, sets)
+    first_formula(alloc, diagram, sets, format)
 }
 
 /// The formula of the procedure, whose derivation isn't asked for.
@@ -61,13 +63,14 @@ fn first_formula(
     alloc: Global,
     diagram: &Diagram,
     sets: EffectSets,
+    format: Format,
 ) -> Result<EffectOrReply, AllocError>
     requires x { Within diagram.now.observed.graph.n (has sets.x.bits) }
     requires y { Within diagram.now.observed.graph.n (has sets.y.bits) }
     requires apart { Apart (has sets.x.bits) (has sets.y.bits) }
     requires some { 0 < sets.y.bits }
     ensures { (x y : Names) → AreEffectSets (effect_lists diagram.now.read diagram.now.observed.names x y) sets.x.bits sets.y.bits
-        → IfOk result (IsEffectOrReply (way_by_procedure false) diagram.now x y) }
+        → IfOk result (IsEffectOrReply format (way_by_procedure false) diagram.now x y) }
 {
     let seen = &diagram.observed;
     match identify_formula(alloc, &seen.graph, sets.x, sets.y)? {
@@ -79,10 +82,10 @@ fn first_formula(
             },
             formula,
         })),
-        FormulaAnswer::Hedge(hedge, pair) => Ok(EffectOrReply::Replied(Reply {
-            outcome: Outcome::No,
-            text: hedge_answer(alloc, sets.x, sets.y, &hedge, &pair, &seen.names)?,
-        })),
+        FormulaAnswer::Hedge(hedge, pair) => {
+            let text = hedge_in(alloc, format, &seen.names, sets, &hedge, &pair)?;
+            Ok(EffectOrReply::Replied(Reply::answer(alloc, Outcome::No, text)))
+        }
     }
 }
 
@@ -91,13 +94,14 @@ fn short_formula(
     alloc: Global,
     diagram: &Diagram,
     sets: EffectSets,
+    format: Format,
 ) -> Result<EffectOrReply, AllocError>
     requires x { Within diagram.now.observed.graph.n (has sets.x.bits) }
     requires y { Within diagram.now.observed.graph.n (has sets.y.bits) }
     requires apart { Apart (has sets.x.bits) (has sets.y.bits) }
     requires some { 0 < sets.y.bits }
     ensures { (x y : Names) → AreEffectSets (effect_lists diagram.now.read diagram.now.observed.names x y) sets.x.bits sets.y.bits
-        → IfOk result (IsEffectOrReply (way_by_procedure true) diagram.now x y) }
+        → IfOk result (IsEffectOrReply format (way_by_procedure true) diagram.now x y) }
 {
     let seen = &diagram.observed;
     match identify(alloc, &seen.graph, sets.x, sets.y)? {
@@ -117,9 +121,9 @@ fn short_formula(
                 formula: shown.formula,
             }))
         }
-        Answer::Hedge(hedge, pair) => Ok(EffectOrReply::Replied(Reply {
-            outcome: Outcome::No,
-            text: hedge_answer(alloc, sets.x, sets.y, &hedge, &pair, &seen.names)?,
-        })),
+        Answer::Hedge(hedge, pair) => {
+            let text = hedge_in(alloc, format, &seen.names, sets, &hedge, &pair)?;
+            Ok(EffectOrReply::Replied(Reply::answer(alloc, Outcome::No, text)))
+        }
     }
 }

@@ -13,16 +13,17 @@ use command_words::typed::{
     RequestFault, Subject, listed_names, names_or_empty, second_input, value_bytes,
 };
 use command_words::values::Values;
+use replies::Format;
 use std::alloc::Global;
 
-/// `evaluate FILE COUNTS [--x L] [--y L] [--given L] [--set L] [--back-door] [--count NAME] [--exact] [--zero] [--short]`
+/// `evaluate FILE COUNTS [--x L] [--y L] [--given L] [--set L] [--back-door] [--count NAME] [--exact] [--zero] [--short] [--json]`
 pub const ROW: Entry = Entry {
     name: "evaluate",
     positionals: &["file", "counts"],
     optional: &[],
     required: &[],
     options: &["x", "y", "given", "set", "count"],
-    flags: &["back-door", "exact", "zero", "short"],
+    flags: &["back-door", "exact", "zero", "short", "json"],
 };
 
 /// What is asked for.
@@ -36,6 +37,7 @@ pub struct Request<'a> {
     pub count: Option<&'a [u8]>,
     pub exact: bool,
     pub zero: bool,
+    pub format: Format,
 }
 
 impl<'a> Request<'a> {
@@ -53,6 +55,7 @@ impl<'a> Request<'a> {
         let count = value_bytes(values, "count");
         let exact = values.flag("exact");
         let zero = values.flag("zero");
+        let format = Format::of(values.flag("json"));
         let set = listed_names(alloc, values, "set")?;
         let given = names_or_empty(alloc, values, "given")?;
         let back_door = values.flag("back-door");
@@ -69,6 +72,7 @@ impl<'a> Request<'a> {
             count,
             exact,
             zero,
+            format,
         })
     }
 }

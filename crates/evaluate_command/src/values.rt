@@ -1,4 +1,4 @@
-//! The lines of the cells.
+//! The cells.
 
 ghost use Rattle.std.specs.Prelude.{ℕ, ◌≡◌, ◌++◌, ◌<◌, ◌∷◌, [], List, All, true, length, OnOk, IfOk, IfErr};
 ghost use Rattle.mixed_graph.specs.Bits.{has, members_below};
@@ -6,18 +6,19 @@ ghost use Rattle.count_eval.specs.Programs.{is_used};
 ghost use Rattle.count_eval.specs.Rules.{rule};
 ghost use Rattle.evaluate_command.specs.Cells.{varied, cells_along, IsCell};
 ghost use Rattle.evaluate_command.specs.Effects.{effect_view, IsIdentified};
+ghost use Rattle.evaluate_command.specs.Pages.{page_of};
 ghost use Rattle.evaluate_command.specs.Printing.{Appends, IsFailureOf, IsPreparedFor};
 
 use crate::identified::Effect;
-use crate::lines::push_value;
+use crate::sheet::{Sheet, push_shown};
+use crate::shown::Shown;
 use count_eval::EvalFault;
 use count_eval::tables::Prepared;
 use count_table::Counts;
 use mixed_graph::VSet;
-use quantity::Quantity;
 use std::alloc::{AllocError, Global};
 
-/// Why there are no lines.
+/// Why not all cells are written.
 #[derive(Drop)]
 pub enum Failure {
     /// The formula has no value at some cell.
@@ -26,40 +27,38 @@ pub enum Failure {
     NoMemory,
 }
 
-/// Appends the line of a cell.
-fn push_cell<Q: Quantity>(
+/// Appends a cell.
+fn push_cell<Q: Shown>(
     alloc: Global,
-    out: &mut Vec<u8>,
+    sheet: &mut Sheet,
     effect: &Effect<'_, '_>,
     counts: &Counts,
     prepared: &Prepared<Q>,
-    sign: &[u8],
     cell: &[u32],
 ) -> Result<(), Failure>
     requires identified { IsIdentified (effect_view effect.now) }
     requires prepared { IsPreparedFor prepared.now.zero (effect_view effect.now) counts.now prepared.now }
     requires cell { IsCell (length effect.now.seen.now.names) counts.now cell.now }
-    ensures lines { OnOk result (Appends (rule Q.kind prepared.now.zero) Q.covers sign.now (effect_view effect.now) counts.now (cell.now ∷ []) out.old.items out.new.items) }
+    ensures lines { OnOk result (Appends (rule Q.kind prepared.now.zero) Q.covers Q.IS_EXACT (effect_view effect.now) counts.now (cell.now ∷ []) (page_of sheet.old) (page_of sheet.new)) }
     ensures failure { IfErr result (IsFailureOf (rule Q.kind prepared.now.zero) (effect_view effect.now) counts.now (cell.now ∷ [])) }
 {
     let quantity: Q = match prepared.value(cell) {
         Ok(quantity) => quantity,
         Err(fault) => return Err(Failure::Evaluation(fault)),
     };
-    match push_value(alloc, out, effect, counts, sign, cell, &quantity) {
+    match push_shown(alloc, sheet, effect, counts, cell, &quantity) {
         Ok(()) => Ok(()),
         Err(_) => Err(Failure::NoMemory),
     }
 }
 
-/// Appends the lines of all cells that differ from `cell` at most in these vertices, those of the first vertex slowest.
-pub fn push_cells<Q: Quantity>(
+/// Appends all cells that differ from `cell` at most in these vertices, those of the first vertex slowest.
+pub fn push_cells<Q: Shown>(
     alloc: Global,
-    out: &mut Vec<u8>,
+    sheet: &mut Sheet,
     effect: &Effect<'_, '_>,
     counts: &Counts,
     prepared: &Prepared<Q>,
-    sign: &[u8],
     vertices: &[u8],
     cell: &mut [u32],
 ) -> Result<(), Failure>
@@ -67,18 +66,18 @@ pub fn push_cells<Q: Quantity>(
     requires prepared { IsPreparedFor prepared.now.zero (effect_view effect.now) counts.now prepared.now }
     requires vertices { All (λ v. is_used counts.now v ≡ true) vertices.now }
     requires cell { IsCell (length effect.now.seen.now.names) counts.now cell.old }
-    ensures lines { OnOk result (Appends (rule Q.kind prepared.now.zero) Q.covers sign.now (effect_view effect.now) counts.now (cells_along counts.now cell.old vertices.now) out.old.items out.new.items) }
+    ensures lines { OnOk result (Appends (rule Q.kind prepared.now.zero) Q.covers Q.IS_EXACT (effect_view effect.now) counts.now (cells_along counts.now cell.old vertices.now) (page_of sheet.old) (page_of sheet.new)) }
     ensures cell { OnOk result (cell.new ≡ cell.old) }
     ensures failure { IfErr result (IsFailureOf (rule Q.kind prepared.now.zero) (effect_view effect.now) counts.now (cells_along counts.now cell.old vertices.now)) }
 {
     let [v, rest @ ..] = vertices else {
-        return push_cell(alloc, out, effect, counts, prepared, sign, cell);
+        return push_cell(alloc, sheet, effect, counts, prepared, cell);
     };
     let place = *v as usize;
     let before = cell[place];
     for k in 0..counts.levels(*v) {
         cell[place] = k;
-        match push_cells(alloc, out, effect, counts, prepared, sign, rest, cell) {
+        match push_cells(alloc, sheet, effect, counts, prepared, rest, cell) {
             Ok(()) => {}
             Err(failure) => return Err(failure),
         }

@@ -1,4 +1,5 @@
 mod Telling
+mod Replying
 mod Readable
 mod OneKind
 mod Refusing

@@ -1,5 +1,5 @@
 -- From what is found under a condition to the answer of which kind it is.
-use Rattle.std.proofs.Common.{◌≡◌, ℕ, Bool, List, Result, IfOk, subst}
+use Rattle.std.proofs.Common.{◌≡◌, Bool, Result, IfOk, subst}
 use Rattle.mixed_graph.specs.Graphs.{MixedGraph}
 use Rattle.mixed_graph.specs.declared.sets.VSet.{VSet}
 use Rattle.prob_expr.specs.Tree.{PlainTarget}
@@ -12,6 +12,7 @@ use Rattle.targets.specs.Targets.{Lists}
 use Rattle.replies.specs.declared.outcome.Outcome.{Outcome}
 use Rattle.replies.specs.declared.outcome.Outcome.TheVariants.{Yes, No}
 use Rattle.replies.specs.declared.outcome.Reply.{Reply}
+use Rattle.replies.specs.Told.{Told, told_of}
 use Rattle.replies.proofs.Results.{mapped}
 use Rattle.identify_command.specs.Conditions.{AreTargetSets}
 use Rattle.explain_call.specs.Settled.{IsJoint, KindFor, KindIn}
@@ -29,13 +30,13 @@ joint q t a right shown x y b settled h pair is so = subst (λ (s : Bool). IsJoi
 })
 
 -- the answer for the target that lists name
-of_target : (q : MixedGraph) (l : Lists) (t : PlainTarget) → AreTargetSets l t → (o : Outcome) (text : List ℕ) → KindFor q t o text → KindIn q l o text
+of_target : (q : MixedGraph) (l : Lists) (t : PlainTarget) → AreTargetSets l t → (o : Outcome) (text : Told) → KindFor q t o text → KindIn q l o text
 of_target q l t s Yes text a = record { target = t; sets = s; answer = a }
 of_target q l t s No text a = record { target = t; sets = s; answer = a }
 of_target q l t s o text a = absurd a
 
 -- for the target that the lists name
 pub on_target : (q : MixedGraph) (l : Lists) (t : PlainTarget) → AreTargetSets l t → {E : Type 0} (r : Result Reply E)
-    → IfOk r (λ p. KindFor q t p.outcome p.text.items) → IfOk r (λ p. KindIn q l p.outcome p.text.items)
-on_target q l t s r a = mapped (λ p. KindFor q t p.outcome p.text.items) (λ p. KindIn q l p.outcome p.text.items) r
-    (λ p k. of_target q l t s p.outcome p.text.items k) a
+    → IfOk r (λ p. KindFor q t p.outcome (told_of p)) → IfOk r (λ p. KindIn q l p.outcome (told_of p))
+on_target q l t s r a = mapped (λ p. KindFor q t p.outcome (told_of p)) (λ p. KindIn q l p.outcome (told_of p)) r
+    (λ p k. of_target q l t s p.outcome (told_of p) k) a

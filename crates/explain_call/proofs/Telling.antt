@@ -5,34 +5,41 @@ use Rattle.mixed_graph.specs.Graphs.{MixedGraph}
 use Rattle.prob_expr.specs.Tree.{PlainFormula, PlainTarget}
 use Rattle.do_derivation.specs.Plans.{PlainDerivation}
 use Rattle.certificate.specs.Plain.{PlainHedge, formula, hedge}
+use Rattle.certificate.specs.Faults.{Fails}
 use Rattle.certificate.specs.Reading.{certificate_in}
+use Rattle.certificate.specs.declared.fault.CertFault.{CertFault}
+use Rattle.certificate.specs.declared.fault.CertFault.TheVariants as certificates
+use Rattle.check_command.specs.Answers as refusals
+use Rattle.check_command.specs.Answers.{cert_fault_told}
+use Rattle.check_command.proofs.Using.{unread}
 use Rattle.dag_reader.specs.Reads.{Reads}
 use Rattle.dag_reader.specs.declared.graph.ReadGraph.{ReadGraph}
 use Rattle.dag_reader.specs.declared.faults.GraphFault.{GraphFault}
 use Rattle.dag_reader.specs.declared.faults.GraphFault.TheVariants.{NoMemory}
-use Rattle.answer_text.specs.Lines.{line_of}
-use Rattle.dag_reader.specs.FaultTexts.{graph_fault_text}
 use Rattle.replies.specs.declared.outcome.Outcome.{Outcome}
 use Rattle.replies.specs.declared.outcome.Outcome.TheVariants.{Yes, No, Words, Graph, Second, Evaluation, Read, Write, Memory}
 use Rattle.replies.specs.declared.outcome.Reply.{Reply}
+use Rattle.replies.specs.Told.{Told, told_of, answer_of}
 use Rattle.replies.proofs.Results.{mapped}
 use Rattle.diagram.specs.declared.diagram.Diagram.{Diagram}
 use Rattle.replies.specs.Observed.{HoldsDiagram}
 use Rattle.explain_call.specs.Requests.{Request}
 use Rattle.explain_call.specs.Steps.{StepsIn}
 use Rattle.explain_call.specs.Answers.{DiagramAnswer, FileAnswer}
-use Rattle.replies.specs.Refusals.{faulty}
+use Rattle.replies.specs.Refusals.{graph_told, faulty}
 use Rattle.explain_call.specs.Told.{TellsSteps}
 
 module _ (graphs : Bool) (q : MixedGraph) (names : List (List ℕ)) (bytes : List ℕ) where
   told : length bytes ≤ 67108864 → (t : PlainTarget) (f : PlainFormula) (d : PlainDerivation) → certificate_in names bytes ≡ Ok (formula t f d)
-      → (o : Outcome) (text : List ℕ) → TellsSteps graphs q names t d o text → StepsIn graphs q names bytes o text
+      → (o : Outcome) (text : Told) → TellsSteps graphs q names t d o text → StepsIn graphs q names bytes o text
   told small t f d reads Yes text a = record {
     target = t;
     main = f;
     derivation = d;
     read = record { small = small; reads = reads };
-    explains = a;
+    text = a.0;
+    explains = a.1;
+    prints = a.2;
   }
   told small t f d reads No text a = inl (record {
     target = t;
@@ -53,14 +60,14 @@ module _ (graphs : Bool) (q : MixedGraph) (names : List (List ℕ)) (bytes : Lis
   told small t f d reads Memory text a = absurd a
 
   pub tells : length bytes ≤ 67108864 → (t : PlainTarget) (f : PlainFormula) (d : PlainDerivation) → certificate_in names bytes ≡ Ok (formula t f d)
-      → {E : Type 0} (r : Result Reply E) → IfOk r (λ x. TellsSteps graphs q names t d x.outcome x.text.items)
-      → IfOk r (λ x. StepsIn graphs q names bytes x.outcome x.text.items)
-  tells small t f d reads r a = mapped (λ x. TellsSteps graphs q names t d x.outcome x.text.items)
-      (λ x. StepsIn graphs q names bytes x.outcome x.text.items) r
-      (λ x h. told small t f d reads x.outcome x.text.items h) a
+      → {E : Type 0} (r : Result Reply E) → IfOk r (λ x. TellsSteps graphs q names t d x.outcome (told_of x))
+      → IfOk r (λ x. StepsIn graphs q names bytes x.outcome (told_of x))
+  tells small t f d reads r a = mapped (λ x. TellsSteps graphs q names t d x.outcome (told_of x))
+      (λ x. StepsIn graphs q names bytes x.outcome (told_of x)) r
+      (λ x h. told small t f d reads x.outcome (told_of x) h) a
 
-  pub of_hedge : length bytes ≤ 67108864 → (t : PlainTarget) (h : PlainHedge) (text : List ℕ) → certificate_in names bytes ≡ Ok (hedge t h) → text
-      ≡ codes "hedge\n" → StepsIn graphs q names bytes No text
+  pub of_hedge : length bytes ≤ 67108864 → (t : PlainTarget) (h : PlainHedge) (text : Told) → certificate_in names bytes ≡ Ok (hedge t h)
+      → text ≡ answer_of (codes "hedge\n") → StepsIn graphs q names bytes No text
   of_hedge small t h text reads prints = inr (record {
     target = t;
     set = h;
@@ -68,8 +75,16 @@ module _ (graphs : Bool) (q : MixedGraph) (names : List (List ℕ)) (bytes : Lis
     prints = prints;
   })
 
+  -- a fault of the certificate is answered by its refusal
+  pub unread_certificate : length bytes ≤ 67108864 → (fault : CertFault) → Fails fault (certificate_in names bytes) → {E : Type 0} (r : Result Reply E)
+      → IfOk r (λ (x : Reply). x.outcome ≡ Second) → IfOk r (λ (x : Reply). told_of x ≡ cert_fault_told fault) → OnOk r (fault ≡ certificates.NoMemory → ⊥)
+      → IfOk r (λ x. StepsIn graphs q names bytes x.outcome (told_of x))
+  unread_certificate small fault fails (Err e) outcome refusal memory = tt
+  unread_certificate small fault fails (Ok x) outcome refusal memory = subst (λ (o : Outcome). StepsIn graphs q names bytes o (told_of x)) (sym outcome)
+      (refusals.faulty fault small memory (unread fault (certificate_in names bytes) fails memory) refusal)
+
 -- the answer on a diagram that the bytes hold
-on_diagram : (q : Request) (bytes second : List ℕ) (d : Diagram) → HoldsDiagram bytes d → (o : Outcome) (text : List ℕ) → DiagramAnswer q d second o text
+on_diagram : (q : Request) (bytes second : List ℕ) (d : Diagram) → HoldsDiagram bytes d → (o : Outcome) (text : Told) → DiagramAnswer q d second o text
     → FileAnswer q bytes second o text
 on_diagram q bytes second d holds Yes text a = record { diagram = d; holds = holds; answer = a }
 on_diagram q bytes second d holds No text a = record { diagram = d; holds = holds; answer = a }
@@ -82,16 +97,16 @@ on_diagram q bytes second d holds Write text a = record { diagram = d; holds = h
 on_diagram q bytes second d holds Memory text a = record { diagram = d; holds = holds; answer = a }
 
 pub on_file : (q : Request) (bytes second : List ℕ) (g : ReadGraph) → length bytes ≤ 1048576 → Reads bytes (Ok g) → (d : Diagram) → d.read ≡ g
-    → {E : Type 0} (r : Result Reply E) → IfOk r (λ x. DiagramAnswer q d second x.outcome x.text.items)
-    → IfOk r (λ x. FileAnswer q bytes second x.outcome x.text.items)
+    → {E : Type 0} (r : Result Reply E) → IfOk r (λ x. DiagramAnswer q d second x.outcome (told_of x))
+    → IfOk r (λ x. FileAnswer q bytes second x.outcome (told_of x))
 on_file q bytes second g small reads d same r a =
     let holds : HoldsDiagram bytes d = record { small = small; reads = subst (λ (k : ReadGraph). Reads bytes (Ok k)) (sym same) reads } in
-    mapped (λ x. DiagramAnswer q d second x.outcome x.text.items) (λ x. FileAnswer q bytes second x.outcome x.text.items) r
-    (λ x h. on_diagram q bytes second d holds x.outcome x.text.items h) a
+    mapped (λ x. DiagramAnswer q d second x.outcome (told_of x)) (λ x. FileAnswer q bytes second x.outcome (told_of x)) r
+    (λ x h. on_diagram q bytes second d holds x.outcome (told_of x) h) a
 
 pub refused : (q : Request) (bytes second : List ℕ) (fault : GraphFault) → length bytes ≤ 1048576 → Reads bytes (Err fault) → {E : Type 0} (r : Result Reply E)
-    → IfOk r (λ x. x.outcome ≡ Graph) → IfOk r (λ x. x.text.items ≡ line_of (graph_fault_text fault)) → OnOk r (fault ≡ NoMemory → ⊥)
-    → IfOk r (λ x. FileAnswer q bytes second x.outcome x.text.items)
-refused q bytes second fault small reads (Ok x) o line memory = subst (λ z. FileAnswer q bytes second z x.text.items) (sym o)
+    → IfOk r (λ x. x.outcome ≡ Graph) → IfOk r (λ x. told_of x ≡ graph_told bytes fault) → OnOk r (fault ≡ NoMemory → ⊥)
+    → IfOk r (λ x. FileAnswer q bytes second x.outcome (told_of x))
+refused q bytes second fault small reads (Ok x) o line memory = subst (λ z. FileAnswer q bytes second z (told_of x)) (sym o)
     (inl (faulty fault small memory reads line))
 refused q bytes second fault small reads (Err e) o line memory = tt

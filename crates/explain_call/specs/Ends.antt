@@ -3,6 +3,7 @@ use Rattle.std.specs.Prelude.{ℕ, ◌≡◌, ◌⊎◌, true, List, [], is_none
 use Rattle.command_words.specs.Form.{Text}
 use Rattle.caller_memory.specs.declared.spans.Input.{Input}
 use Rattle.caller_memory.specs.Parts.{place_named, content_named}
+use Rattle.replies.specs.Told.{told_of}
 use Rattle.explain_call.specs.declared.ending.Ending.{Ending}
 use Rattle.explain_call.specs.declared.ending.Ending.TheVariants.{Replied, NotUnderstood, NoInput, NoMemory}
 use Rattle.explain_call.specs.Requests.{Request, file_of, second_of, Asks}
@@ -36,7 +37,7 @@ pub record Lacks (bytes : List ℕ) (words : List Text) (inputs : List Input) : 
 
 -- what an ending says of the words and the inputs; want of memory may come at any time
 abbrev pub Ends : List ℕ → List Text → List Input → Ending → Type 0
-Ends bytes words inputs (Replied r) = Answers bytes words inputs (λ q held second. FileAnswer q held second r.outcome r.text.items)
+Ends bytes words inputs (Replied r) = Answers bytes words inputs (λ q held second. FileAnswer q held second r.outcome (told_of r))
 Ends bytes words inputs NotUnderstood = (q : Request) → Asks words q → ⊥
 Ends bytes words inputs NoInput = Lacks bytes words inputs
 Ends bytes words inputs NoMemory = Unit {0}

@@ -9,6 +9,7 @@ use Rattle.conditional_id.specs.Answers.{IsRightJoint, IsJointShown, SomeFormula
 use Rattle.mixed_graph.specs.Shown.{graph_of}
 use Rattle.diagram.specs.declared.diagram.Diagram.{Diagram}
 use Rattle.targets.specs.Targets.{Lists}
+use Rattle.replies.specs.Told.{Told, answer_of}
 use Rattle.replies.specs.declared.outcome.Outcome.{Outcome}
 use Rattle.replies.specs.declared.outcome.Outcome.TheVariants.{Yes, No, Graph}
 use Rattle.diagram.specs.Sets.{Names, query_lists}
@@ -27,24 +28,24 @@ pub record IsJoint (q : MixedGraph) (t : PlainTarget) (settled : Bool) : Type 0 
 
 -- The answer for a target. Yes: a joint effect is answered, and settled. No: it is answered, and unsettled; or there is a formula without interventions
 -- that equals the target.
-abbrev pub KindFor : MixedGraph → PlainTarget → Outcome → List ℕ → Type 0
-KindFor q t Yes text = IsJoint q t true × (text ≡ codes "settled\n")
-KindFor q t No text = (IsJoint q t false × (text ≡ codes "unsettled\n")) ⊎ (SomeFormula q t × (text ≡ codes "formula\n"))
-KindFor q t o text = ⊥
+abbrev pub KindFor : MixedGraph → PlainTarget → Outcome → Told → Type 0
+KindFor q t Yes told = IsJoint q t true × (told ≡ answer_of (codes "settled\n"))
+KindFor q t No told = (IsJoint q t false × (told ≡ answer_of (codes "unsettled\n"))) ⊎ (SomeFormula q t × (told ≡ answer_of (codes "formula\n")))
+KindFor q t o told = ⊥
 
 -- the lists name a target, for which the answer is given
-pub record IsKindOfTarget (q : MixedGraph) (l : Lists) (o : Outcome) (text : List ℕ) : Type 0 where
+pub record IsKindOfTarget (q : MixedGraph) (l : Lists) (o : Outcome) (told : Told) : Type 0 where
   pub target : PlainTarget
   pub sets : AreTargetSets l target
-  pub answer : KindFor q target o text
+  pub answer : KindFor q target o told
 
 -- the answer for lists of names, which are refused as those of `identify --given` are
-abbrev pub KindIn : MixedGraph → Lists → Outcome → List ℕ → Type 0
-KindIn q l Yes text = IsKindOfTarget q l Yes text
-KindIn q l No text = IsKindOfTarget q l No text
-KindIn q l Graph line = IsListRefusal l line
-KindIn q l o text = ⊥
+abbrev pub KindIn : MixedGraph → Lists → Outcome → Told → Type 0
+KindIn q l Yes told = IsKindOfTarget q l Yes told
+KindIn q l No told = IsKindOfTarget q l No told
+KindIn q l Graph told = IsListRefusal l told
+KindIn q l o told = ⊥
 
 -- the answer on a diagram
-abbrev pub SettledAnswer : Diagram → (x y : Names) → (given : List (List ℕ)) → Outcome → List ℕ → Type 0
-SettledAnswer d x y given o text = KindIn (graph_of d.observed.graph) (query_lists d.read d.observed.names x y (Some given)) o text
+abbrev pub SettledAnswer : Diagram → (x y : Names) → (given : List (List ℕ)) → Outcome → Told → Type 0
+SettledAnswer d x y given o told = KindIn (graph_of d.observed.graph) (query_lists d.read d.observed.names x y (Some given)) o told

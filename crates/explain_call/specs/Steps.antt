@@ -8,6 +8,7 @@ use Rattle.do_derivation.specs.declared.faults.StepFault.{StepFault}
 use Rattle.certificate.specs.Plain.{PlainHedge, formula, hedge}
 use Rattle.mixed_graph.specs.Shown.{graph_of}
 use Rattle.diagram.specs.declared.diagram.Diagram.{Diagram}
+use Rattle.replies.specs.Told.{Told, answer_of}
 use Rattle.replies.specs.declared.outcome.Outcome.{Outcome}
 use Rattle.replies.specs.declared.outcome.Outcome.TheVariants.{Yes, No, Second}
 use Rattle.check_command.specs.Answers.{HoldsCertificate, IsCertificateRefusal}
@@ -16,15 +17,17 @@ use Rattle.explain_call.specs.Parts.{Explains, DerivationStops}
 -- yes: the bytes are a certificate of a formula, and each move of its derivation is made; the text has the expressions, one after another, and where
 -- graphs are wanted what
 -- is told of each rule
-pub record IsExplained (graphs : Bool) (q : MixedGraph) (names : List (List ℕ)) (bytes text : List ℕ) : Type 0 where
+pub record IsExplained (graphs : Bool) (q : MixedGraph) (names : List (List ℕ)) (bytes : List ℕ) (told : Told) : Type 0 where
   pub target : PlainTarget
   pub main : PlainFormula
   pub derivation : PlainDerivation
   pub read : HoldsCertificate names bytes (formula target main derivation)
+  pub text : List ℕ
   pub explains : Explains graphs q names target derivation text
+  pub prints : told ≡ answer_of text
 
 -- no: a move of the derivation is refused by a fault of the step, and not for want of memory
-pub record IsRefusedDerivation (q : MixedGraph) (names : List (List ℕ)) (bytes text : List ℕ) : Type 0 where
+pub record IsRefusedDerivation (q : MixedGraph) (names : List (List ℕ)) (bytes : List ℕ) (told : Told) : Type 0 where
   pub target : PlainTarget
   pub main : PlainFormula
   pub derivation : PlainDerivation
@@ -32,22 +35,22 @@ pub record IsRefusedDerivation (q : MixedGraph) (names : List (List ℕ)) (bytes
   pub number : ℕ
   pub why : StepFault
   pub stops : DerivationStops q target derivation (Step number why)
-  pub prints : text ≡ codes "refused\n"
+  pub prints : told ≡ answer_of (codes "refused\n")
 
 -- no: the bytes are a certificate of a hedge, which has no steps
-pub record IsOfHedge (names : List (List ℕ)) (bytes text : List ℕ) : Type 0 where
+pub record IsOfHedge (names : List (List ℕ)) (bytes : List ℕ) (told : Told) : Type 0 where
   pub target : PlainTarget
   pub set : PlainHedge
   pub read : HoldsCertificate names bytes (hedge target set)
-  pub prints : text ≡ codes "hedge\n"
+  pub prints : told ≡ answer_of (codes "hedge\n")
 
 -- the answer in the observed graph q
-abbrev pub StepsIn : Bool → MixedGraph → List (List ℕ) → List ℕ → Outcome → List ℕ → Type 0
-StepsIn graphs q names bytes Yes text = IsExplained graphs q names bytes text
-StepsIn graphs q names bytes No text = IsRefusedDerivation q names bytes text ⊎ IsOfHedge names bytes text
-StepsIn graphs q names bytes Second line = IsCertificateRefusal names bytes line
-StepsIn graphs q names bytes o text = ⊥
+abbrev pub StepsIn : Bool → MixedGraph → List (List ℕ) → List ℕ → Outcome → Told → Type 0
+StepsIn graphs q names bytes Yes told = IsExplained graphs q names bytes told
+StepsIn graphs q names bytes No told = IsRefusedDerivation q names bytes told ⊎ IsOfHedge names bytes told
+StepsIn graphs q names bytes Second told = IsCertificateRefusal names bytes told
+StepsIn graphs q names bytes o told = ⊥
 
 -- the answer on a diagram and the bytes of a certificate
-abbrev pub StepsAnswer : Bool → Diagram → (bytes : List ℕ) → Outcome → List ℕ → Type 0
-StepsAnswer graphs d bytes o text = StepsIn graphs (graph_of d.observed.graph) d.observed.names bytes o text
+abbrev pub StepsAnswer : Bool → Diagram → (bytes : List ℕ) → Outcome → Told → Type 0
+StepsAnswer graphs d bytes o told = StepsIn graphs (graph_of d.observed.graph) d.observed.names bytes o told

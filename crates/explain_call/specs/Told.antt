@@ -5,12 +5,13 @@ use Rattle.prob_expr.specs.Tree.{PlainTarget}
 use Rattle.do_derivation.specs.Plans.{PlainDerivation}
 use Rattle.do_derivation.specs.declared.faults.ApplyFault.TheVariants.{Step}
 use Rattle.do_derivation.specs.declared.faults.StepFault.{StepFault}
+use Rattle.replies.specs.Told.{Told, answer_of}
 use Rattle.replies.specs.declared.outcome.Outcome.{Outcome}
 use Rattle.replies.specs.declared.outcome.Outcome.TheVariants.{Yes, No}
 use Rattle.explain_call.specs.Parts.{Explains, DerivationStops}
 
 -- yes with its text, or no where a move is refused
-abbrev pub TellsSteps : Bool → MixedGraph → List (List ℕ) → PlainTarget → PlainDerivation → Outcome → List ℕ → Type 0
-TellsSteps graphs q names t d Yes text = Explains graphs q names t d text
-TellsSteps graphs q names t d No text = ((number : ℕ) × (why : StepFault) × DerivationStops q t d (Step number why)) × (text ≡ codes "refused\n")
-TellsSteps graphs q names t d o text = ⊥
+abbrev pub TellsSteps : Bool → MixedGraph → List (List ℕ) → PlainTarget → PlainDerivation → Outcome → Told → Type 0
+TellsSteps graphs q names t d Yes told = (text : List ℕ) × Explains graphs q names t d text × (told ≡ answer_of text)
+TellsSteps graphs q names t d No told = ((number : ℕ) × (why : StepFault) × DerivationStops q t d (Step number why)) × (told ≡ answer_of (codes "refused\n"))
+TellsSteps graphs q names t d o told = ⊥

@@ -4,10 +4,12 @@ ghost use Rattle.std.specs.Prelude.{ℕ, ◌≡◌, ◌<◌, IfOk, length};
 ghost use Rattle.mixed_graph.specs.Bits.{has};
 ghost use Rattle.mixed_graph.specs.Shown.{graph_of};
 ghost use Rattle.do_rules.specs.Rules.{AreThreeSets};
+ghost use Rattle.replies.specs.Told.{told_of};
 ghost use Rattle.explain_call.specs.Formulas.{formula_latex, FormulaFor, FormulaAnswer};
 ghost use Rattle.explain_call.specs.Requests.{formula_of};
 
 use crate::requests::FormulaRequest;
+use crate::word::word_reply;
 use adjust_command::{Verdict, judge};
 use adjustment::formula_for;
 use answer_text::Notation;
@@ -28,7 +30,7 @@ pub fn formula_reply(
     diagram: &Diagram,
     asked: &FormulaRequest<'_>,
 ) -> Result<Reply, AllocError>
-    ensures { let q = formula_of asked.now in IfOk result (λ r. FormulaAnswer q.back_door diagram.now q.x q.y q.set r.outcome r.text.items) }
+    ensures { let q = formula_of asked.now in IfOk result (λ r. FormulaAnswer q.back_door diagram.now q.x q.y q.set r.outcome (told_of r)) }
 {
     let (x, y) = (asked.x.as_deref(), asked.y.as_deref());
     match asked_query(alloc, diagram, x, y, Some(asked.set.as_slice())) {
@@ -47,17 +49,14 @@ fn decide(
     requires sets { AreThreeSets seen.now.graph.n (has sets.x.bits) (has sets.y.bits) (has sets.given.bits) }
     requires some_x { 0 < sets.x.bits }
     requires some_y { 0 < sets.y.bits }
-    ensures { IfOk result (λ r. FormulaFor by_back_door (graph_of seen.now.graph) seen.now.names sets.x.bits sets.y.bits sets.given.bits r.outcome r.text.items) }
+    ensures { IfOk result (λ r. FormulaFor by_back_door (graph_of seen.now.graph) seen.now.names sets.x.bits sets.y.bits sets.given.bits r.outcome (told_of r)) }
 {
     match judge(&seen.graph, sets, by_back_door) {
-        Verdict::Meets => Ok(Reply {
-            outcome: Outcome::Yes,
-            text: formula_latex(alloc, &seen.names, sets)?,
-        }),
-        Verdict::Breaks(_) => Ok(Reply {
-            outcome: Outcome::No,
-            text: Vec::from_slice(alloc, b"not admissible\n")?,
-        }),
+        Verdict::Meets => {
+            let text = formula_latex(alloc, &seen.names, sets)?;
+            Ok(Reply::answer(alloc, Outcome::Yes, text))
+        }
+        Verdict::Breaks(_) => word_reply(alloc, Outcome::No, b"not admissible\n"),
         Verdict::NotOne => refuse(alloc, &TargetFault::NotOneX),
     }
 }

@@ -14,6 +14,7 @@ mod requests;
 mod rule_graphs;
 mod settled;
 mod steps;
+mod word;
 
 pub use ending::{Ending, respond};
 pub use requests::{FormulaRequest, Kind, Request, SettledRequest, StepsRequest};

@@ -1,6 +1,7 @@
 //! The answer of each question.
 
 ghost use Rattle.std.specs.Prelude.{IfOk};
+ghost use Rattle.replies.specs.Told.{told_of};
 ghost use Rattle.explain_call.specs.Requests.{request_of};
 ghost use Rattle.explain_call.specs.Answers.{DiagramAnswer, FileAnswer};
 
@@ -9,9 +10,9 @@ use crate::requests::Request;
 use crate::rule_graphs::rule_graph_reply;
 use crate::settled::settled_reply;
 use crate::steps::steps_reply;
-use dag_reader::{GraphFault, read_graph};
+use dag_reader::read_graph;
 use diagram::Diagram;
-use replies::{Outcome, Reply, refuse_graph};
+use replies::{Reply, refuse_graph, refuse_size};
 use std::alloc::{AllocError, Global};
 
 /// The most bytes of a graph text.
@@ -24,7 +25,7 @@ fn diagram_reply(
     diagram: &Diagram,
     second: &[u8],
 ) -> Result<Reply, AllocError>
-    ensures { IfOk result (λ r. DiagramAnswer (request_of request.now) diagram.now second.now r.outcome r.text.items) }
+    ensures { IfOk result (λ r. DiagramAnswer (request_of request.now) diagram.now second.now r.outcome (told_of r)) }
 {
     match request {
         Request::Steps(asked) => steps_reply(alloc, &diagram.observed, second, asked.graphs),
@@ -41,19 +42,16 @@ pub fn file_reply(
     file: &[u8],
     second: &[u8],
 ) -> Result<Reply, AllocError>
-    ensures { IfOk result (λ r. FileAnswer (request_of request.now) file.now second.now r.outcome r.text.items) }
+    ensures { IfOk result (λ r. FileAnswer (request_of request.now) file.now second.now r.outcome (told_of r)) }
 {
     if file.len() > MAX_GRAPH_BYTES {
-        return Ok(Reply {
-            outcome: Outcome::Graph,
-            text: GraphFault::size_line(alloc)?,
-        });
+        return refuse_size(alloc);
     }
     match read_graph(alloc, file) {
         Ok(read) => {
             let diagram = Diagram::of(alloc, read)?;
             diagram_reply(alloc, request, &diagram, second)
         }
-        Err(fault) => refuse_graph(alloc, &fault),
+        Err(fault) => refuse_graph(alloc, &fault, file),
     }
 }

@@ -4,6 +4,7 @@ ghost use Rattle.std.specs.Prelude.{◌≡◌, IfOk};
 ghost use Rattle.mixed_graph.specs.Bits.{has};
 ghost use Rattle.mixed_graph.specs.Sets.{Within};
 ghost use Rattle.mixed_graph.specs.Shown.{graph_of};
+ghost use Rattle.replies.specs.Told.{told_of, answer_of};
 ghost use Rattle.separation_commands.specs.RuleRequests.{request_of};
 ghost use Rattle.explain_call.specs.Graphs.{IsRuleGraphText};
 ghost use Rattle.explain_call.specs.RuleGraphs.{RuleGraphAnswer};
@@ -23,7 +24,7 @@ pub fn rule_graph_reply(
     diagram: &Diagram,
     asked: &Request<'_>,
 ) -> Result<Reply, AllocError>
-    ensures { let q = request_of asked.now in IfOk result (λ r. RuleGraphAnswer q.rule diagram.now q.y q.x q.z q.given r.outcome r.text.items) }
+    ensures { let q = request_of asked.now in IfOk result (λ r. RuleGraphAnswer q.rule diagram.now q.y q.x q.z q.given r.outcome (told_of r)) }
 {
     match asked_rule(alloc, diagram, &asked.y, &asked.x, &asked.z, &asked.given) {
         Ok(sets) => show(alloc, &diagram.observed, asked.rule, sets),
@@ -38,10 +39,9 @@ fn show(alloc: Global, seen: &ReadGraph, rule: Rule, sets: RuleSets) -> Result<R
     requires given { Within seen.now.graph.n (has sets.given.bits) }
     ensures outcome { IfOk result (λ r. r.outcome ≡ Outcome.Yes) }
     ensures shows { IfOk result (λ r. IsRuleGraphText rule (graph_of seen.now.graph) seen.now.names sets.x.bits sets.z.bits sets.given.bits r.text.items) }
+    ensures told { IfOk result (λ r. told_of r ≡ answer_of r.text.items) }
 {
     let (names, graph) = (&seen.names, &seen.graph);
-    Ok(Reply {
-        outcome: Outcome::Yes,
-        text: rule_graph_text(alloc, names, graph, rule, sets.x, sets.z, sets.given)?,
-    })
+    let text = rule_graph_text(alloc, names, graph, rule, sets.x, sets.z, sets.given)?;
+    Ok(Reply::answer(alloc, Outcome::Yes, text))
 }

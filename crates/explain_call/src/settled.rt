@@ -5,10 +5,12 @@ ghost use Rattle.mixed_graph.specs.Bits.{has};
 ghost use Rattle.mixed_graph.specs.Shown.{graph_of};
 ghost use Rattle.do_rules.specs.Rules.{AreThreeSets};
 ghost use Rattle.prob_expr.specs.View.{target_view};
+ghost use Rattle.replies.specs.Told.{told_of};
 ghost use Rattle.explain_call.specs.Requests.{settled_of};
 ghost use Rattle.explain_call.specs.Settled.{KindFor, SettledAnswer};
 
 use crate::requests::SettledRequest;
+use crate::word::word_reply;
 use conditional_id::{Conditional, identify_given};
 use diagram::{Diagram, asked_condition};
 use mixed_graph::Graph;
@@ -25,7 +27,7 @@ pub fn settled_reply(
     diagram: &Diagram,
     asked: &SettledRequest<'_>,
 ) -> Result<Reply, AllocError>
-    ensures { let q = settled_of asked.now in IfOk result (λ r. SettledAnswer diagram.now q.x q.y q.given r.outcome r.text.items) }
+    ensures { let q = settled_of asked.now in IfOk result (λ r. SettledAnswer diagram.now q.x q.y q.given r.outcome (told_of r)) }
 {
     let (x, y) = (asked.x.as_deref(), asked.y.as_deref());
     match asked_condition(alloc, diagram, x, y, Some(asked.given.as_slice())) {
@@ -45,21 +47,18 @@ pub fn settled_reply(
 fn tell_kind(alloc: Global, graph: &Graph, target: Target) -> Result<Reply, AllocError>
     requires sets { AreThreeSets graph.now.n (has target.x.bits) (has target.y.bits) (has target.given.bits) }
     requires some { 0 < target.y.bits }
-    ensures { IfOk result (λ r. KindFor (graph_of graph.now) (target_view target) r.outcome r.text.items) }
+    ensures { IfOk result (λ r. KindFor (graph_of graph.now) (target_view target) r.outcome (told_of r)) }
 {
     let answer = identify_given(alloc, graph, &target)?;
     match answer {
-        Conditional::Formula(formula, derivation) => Ok(Reply {
-            outcome: Outcome::No,
-            text: Vec::from_slice(alloc, b"formula\n")?,
-        }),
-        Conditional::Joint { settled: true, .. } => Ok(Reply {
-            outcome: Outcome::Yes,
-            text: Vec::from_slice(alloc, b"settled\n")?,
-        }),
-        Conditional::Joint { settled: false, .. } => Ok(Reply {
-            outcome: Outcome::No,
-            text: Vec::from_slice(alloc, b"unsettled\n")?,
-        }),
+        Conditional::Formula(formula, derivation) => {
+            word_reply(alloc, Outcome::No, b"formula\n")
+        }
+        Conditional::Joint { settled: true, .. } => {
+            word_reply(alloc, Outcome::Yes, b"settled\n")
+        }
+        Conditional::Joint { settled: false, .. } => {
+            word_reply(alloc, Outcome::No, b"unsettled\n")
+        }
     }
 }

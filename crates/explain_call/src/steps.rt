@@ -4,12 +4,16 @@ ghost use Rattle.std.specs.Prelude.{IfOk, length};
 ghost use Rattle.mixed_graph.specs.Shown.{graph_of};
 ghost use Rattle.prob_expr.specs.View.{target_view};
 ghost use Rattle.do_derivation.specs.View.{derivation_view};
+ghost use Rattle.replies.specs.Told.{told_of};
 ghost use Rattle.check_command.specs.Replies.{IsSoundTarget, IsSoundDerivation};
 ghost use Rattle.explain_call.specs.Steps.{StepsIn};
 ghost use Rattle.explain_call.specs.Told.{TellsSteps};
 
 use crate::explaining::explain;
+use crate::word::word_reply;
 use certificate::{CertFault, Certificate, read_answer};
+use check_command::refuse_certificate;
+use check_json::certificate_size;
 use dag_reader::ReadGraph;
 use do_derivation::{ApplyFault, Derivation};
 use prob_expr::Target;
@@ -29,22 +33,16 @@ fn tell(
 ) -> Result<Reply, AllocError>
     requires target { IsSoundTarget (length seen.now.names) (target_view target.now) }
     requires derivation { IsSoundDerivation (length seen.now.names) (derivation_view derivation.now) }
-    ensures { IfOk result (λ r. TellsSteps graphs (graph_of seen.now.graph) seen.now.names (target_view target.now) (derivation_view derivation.now) r.outcome r.text.items) }
+    ensures { IfOk result (λ r. TellsSteps graphs (graph_of seen.now.graph) seen.now.names (target_view target.now) (derivation_view derivation.now) r.outcome (told_of r)) }
 {
     match explain(alloc, graphs, &seen.graph, &seen.names, target, derivation) {
-        Ok(text) => Ok(Reply {
-            outcome: Outcome::Yes,
-            text,
-        }),
+        Ok(text) => Ok(Reply::answer(alloc, Outcome::Yes, text)),
         Err(
             ApplyFault::Step {
                 number: _,
                 fault: _,
             },
-        ) => Ok(Reply {
-            outcome: Outcome::No,
-            text: Vec::from_slice(alloc, b"refused\n")?,
-        }),
+        ) => word_reply(alloc, Outcome::No, b"refused\n"),
         Err(ApplyFault::NoMemory) => Err(AllocError),
     }
 }
@@ -58,25 +56,20 @@ pub fn steps_reply(
     certificate: &[u8],
     graphs: bool,
 ) -> Result<Reply, AllocError>
-    ensures { IfOk result (λ r. StepsIn graphs (graph_of seen.now.graph) seen.now.names certificate.now r.outcome r.text.items) }
+    ensures { IfOk result (λ r. StepsIn graphs (graph_of seen.now.graph) seen.now.names certificate.now r.outcome (told_of r)) }
 {
     if certificate.len() > MAX_CERTIFICATE_BYTES {
         return Ok(Reply {
             outcome: Outcome::Second,
             text: CertFault::size_line(alloc)?,
+            object: certificate_size(alloc)?,
         });
     }
     match read_answer(alloc, certificate, &seen.names) {
         Ok(Certificate::Formula(target, formula, derivation)) => {
             tell(alloc, seen, &target, &derivation, graphs)
         }
-        Ok(Certificate::Hedge(target, hedge)) => Ok(Reply {
-            outcome: Outcome::No,
-            text: Vec::from_slice(alloc, b"hedge\n")?,
-        }),
-        Err(fault) => Ok(Reply {
-            outcome: Outcome::Second,
-            text: fault.line(alloc)?,
-        }),
+        Ok(Certificate::Hedge(target, hedge)) => word_reply(alloc, Outcome::No, b"hedge\n"),
+        Err(fault) => refuse_certificate(alloc, &fault),
     }
 }

@@ -15,6 +15,7 @@ use Rattle.replies.specs.declared.outcome.Outcome.TheVariants.{Yes, No, Graph}
 use Rattle.diagram.specs.Sets.{Names, effect_lists, query_lists}
 use Rattle.diagram.proofs.OneDiagram.{same_effect_lists, same_query_lists}
 use Rattle.replies.specs.OneOutcome.{OneOutcome, IsAnswerOn}
+use Rattle.replies.specs.Told.{Told}
 use Rattle.replies.proofs.OneOutcome.{IsOneOf, one_of_three, one_for_diagrams}
 use Rattle.replies.proofs.OneTarget.{one_set, no_fault_of, some_list, is_some_list, some_member}
 use Rattle.short_formulas.proofs.Usable.{some_first}
@@ -30,26 +31,26 @@ use Rattle.identify_command.proofs.Lists.{three_sets}
 -- ---- where nothing is given
 
 -- the answer in some form
-abbrev SomeEffect : MixedGraph → EffectLists → Outcome → List ℕ → Type 0
-SomeEffect q l o text = (form : Form) × EffectAnswer form q l o text
+abbrev SomeEffect : MixedGraph → EffectLists → Outcome → Told → Type 0
+SomeEffect q l o told = (form : Form) × EffectAnswer form q l o told
 
 module _ (q : MixedGraph) (valid : IsMixedGraph q) (l : EffectLists) (named : length l.observed ≡ q.vertices) where
-  formula_or_none : (f h : Form) (text line : List ℕ) → EffectAnswer f q l Yes text → EffectAnswer h q l No line → ⊥
-  formula_or_none f h text line a b =
+  formula_or_none : (f h : Form) (told other : Told) → EffectAnswer f q l Yes told → EffectAnswer h q l No other → ⊥
+  formula_or_none f h told other a b =
       let first = some_first f.short (IsDerived q a.x a.y) a.answer.formula a.answer.derivation a.answer.derived in
       formula_or_hedge q valid l named a.x a.y b.x b.y a.sets b.sets first.0 first.1 first.2 b.answer.hedge b.answer.pair b.answer.found
 
-  among : (o : Outcome) (text : List ℕ) → SomeEffect q l o text → IsOneOf Yes No Graph o
-  among Yes text h = inl refl
-  among No text h = inr (inl refl)
-  among Graph text h = inr (inr refl)
-  among o text h = absurd h.1
+  among : (o : Outcome) (told : Told) → SomeEffect q l o told → IsOneOf Yes No Graph o
+  among Yes told h = inl refl
+  among No told h = inr (inl refl)
+  among Graph told h = inr (inr refl)
+  among o told h = absurd h.1
 
   effect_once : OneOutcome (SomeEffect q l)
-  effect_once = one_of_three Yes No Graph (SomeEffect q l) among (λ text line a b. formula_or_none a.0 b.0 text line a.1 b.1)
-      (λ text line a r. effect_refused l a.1.x a.1.y line a.1.sets r.1) (λ text line a r. effect_refused l a.1.x a.1.y line a.1.sets r.1)
+  effect_once = one_of_three Yes No Graph (SomeEffect q l) among (λ told other a b. formula_or_none a.0 b.0 told other a.1 b.1)
+      (λ told other a r. effect_refused l a.1.x a.1.y other a.1.sets r.1) (λ told other a r. effect_refused l a.1.x a.1.y other a.1.sets r.1)
 
-bare_once : (bytes : List ℕ) (x y : Names) → OneOutcome (IsAnswerOn bytes (λ d o text. (form : Form) × IdentifyAnswer form d x y o text))
+bare_once : (bytes : List ℕ) (x y : Names) → OneOutcome (IsAnswerOn bytes (λ d o told. (form : Form) × IdentifyAnswer form d x y o told))
 bare_once bytes x y = one_for_diagrams bytes (λ d. effect_lists d.read d.observed.names x y) SomeEffect (same_effect_lists x y)
     (λ d. effect_once (graph_of d.observed.graph) d.observed.graph.valid (effect_lists d.read d.observed.names x y) d.observed.sized)
 
@@ -69,12 +70,12 @@ list_fault_of : (l : Lists) (f : TargetFault) → IsListFault l f → IsFaultOfT
 list_fault_of l EmptyX h = absurd h
 list_fault_of l f h = h
 
-refused : (l : Lists) (t : PlainTarget) (line : List ℕ) → AreTargetSets l t → IsListRefusal l line → ⊥
-refused l t line s r = no_fault_of (fault_in l) l.y some_list r.fault s.no_fault s.some_y is_some_list (list_fault_of l r.fault r.is_fault)
+refused : (l : Lists) (t : PlainTarget) (told : Told) → AreTargetSets l t → IsListRefusal l told → ⊥
+refused l t told s r = no_fault_of (fault_in l) l.y some_list r.fault s.no_fault s.some_y is_some_list (list_fault_of l r.fault r.is_fault)
 
 -- the answer in some form
-abbrev pub SomeTarget : MixedGraph → Lists → Outcome → List ℕ → Type 0
-SomeTarget q l o text = (form : Form) × ListsAnswer form q l o text
+abbrev pub SomeTarget : MixedGraph → Lists → Outcome → Told → Type 0
+SomeTarget q l o told = (form : Form) × ListsAnswer form q l o told
 
 module _ (q : MixedGraph) (valid : IsMixedGraph q) (l : Lists) (named : length l.observed ≡ q.vertices) where
   is_target : (t : PlainTarget) → AreTargetSets l t → IsConditionalTarget q t
@@ -83,31 +84,31 @@ module _ (q : MixedGraph) (valid : IsMixedGraph q) (l : Lists) (named : length l
     some = some_member q.vertices t.y sets.y_within (listed_outcome l t.x t.y t.given s);
   }
 
-  formula_or_joint : (f h : Form) (t : PlainTarget) (text line : List ℕ) → AreTargetSets l t → ShowsConditional f q l.observed t text
-      → ShowsJoint h q l.observed t line → ⊥
-  formula_or_joint f h t text line s a b =
+  formula_or_joint : (f h : Form) (t : PlainTarget) (told other : Told) → AreTargetSets l t → ShowsConditional f q l.observed t told
+      → ShowsJoint h q l.observed t other → ⊥
+  formula_or_joint f h t told other s a b =
       let e = b.joint in
       let first = some_first f.short (IsConditionalBySteps q t) a.formula a.derivation a.derived in
       joint_excludes_formula q valid t (is_target t s) b.x e.left e.moved e.turned b.hedge.small.bits b.hedge.big.bits
       (subst (λ (y : ℕ). IsUnidentified q b.x y b.hedge.small.bits b.hedge.big.bits) e.joint b.found.stop) first.0
       (derived_is_conditional q t first.0 first.1 first.2)
 
-  given_yes_no : (f h : Form) (text line : List ℕ) → ListsAnswer f q l Yes text → ListsAnswer h q l No line → ⊥
-  given_yes_no f h text line a b = formula_or_joint f h a.target text line a.sets a.answer
-      (subst (λ (t : PlainTarget). ShowsJoint h q l.observed t line) (one_target l a.target b.target a.sets b.sets) b.answer)
+  given_yes_no : (f h : Form) (told other : Told) → ListsAnswer f q l Yes told → ListsAnswer h q l No other → ⊥
+  given_yes_no f h told other a b = formula_or_joint f h a.target told other a.sets a.answer
+      (subst (λ (t : PlainTarget). ShowsJoint h q l.observed t other) (one_target l a.target b.target a.sets b.sets) b.answer)
 
-  given_among : (o : Outcome) (text : List ℕ) → SomeTarget q l o text → IsOneOf Yes No Graph o
-  given_among Yes text h = inl refl
-  given_among No text h = inr (inl refl)
-  given_among Graph text h = inr (inr refl)
-  given_among o text h = absurd h.1
+  given_among : (o : Outcome) (told : Told) → SomeTarget q l o told → IsOneOf Yes No Graph o
+  given_among Yes told h = inl refl
+  given_among No told h = inr (inl refl)
+  given_among Graph told h = inr (inr refl)
+  given_among o told h = absurd h.1
 
   pub target_once : OneOutcome (SomeTarget q l)
-  target_once = one_of_three Yes No Graph (SomeTarget q l) given_among (λ text line a b. given_yes_no a.0 b.0 text line a.1 b.1)
-      (λ text line a r. refused l a.1.target line a.1.sets r.1) (λ text line a r. refused l a.1.target line a.1.sets r.1)
+  target_once = one_of_three Yes No Graph (SomeTarget q l) given_among (λ told other a b. given_yes_no a.0 b.0 told other a.1 b.1)
+      (λ told other a r. refused l a.1.target other a.1.sets r.1) (λ told other a r. refused l a.1.target other a.1.sets r.1)
 
 pub conditional_once : (bytes : List ℕ) (x y : Names) (given : List (List ℕ))
-    → OneOutcome (IsAnswerOn bytes (λ d o text. (form : Form) × ConditionalAnswer form d x y given o text))
+    → OneOutcome (IsAnswerOn bytes (λ d o told. (form : Form) × ConditionalAnswer form d x y given o told))
 conditional_once bytes x y given = one_for_diagrams bytes (λ d. query_lists d.read d.observed.names x y (Some given)) SomeTarget
     (same_query_lists x y (Some given))
     (λ d. target_once (graph_of d.observed.graph) d.observed.graph.valid (query_lists d.read d.observed.names x y (Some given)) d.observed.sized)
@@ -120,5 +121,5 @@ forms_agree bytes x y (Some (n ∷ ns)) = conditional_once bytes x y (n ∷ ns)
 
 -- and so have answers in one form
 pub identify_once : (bytes : List ℕ) (form : Form) (x y given : Names) → OneOutcome (IsAnswerOn bytes (λ d. IdentifyAnswerGiven form d x y given))
-identify_once bytes form x y given o p text line a b = forms_agree bytes x y given o p text line
+identify_once bytes form x y given o p told other a b = forms_agree bytes x y given o p told other
     (record { diagram = a.diagram; holds = a.holds; given = (form, a.given) }) (record { diagram = b.diagram; holds = b.holds; given = (form, b.given) })

@@ -13,16 +13,18 @@ use Rattle.identify_command.specs.Command.{identify_command}
 use Rattle.identify_command.proofs.Outcomes.{given_answered}
 use Rattle.identify_command.proofs.Exclusive.{identify_once}
 
-one_writing : (certificate latex : Bool) (f h : Writing) → IsWriting certificate latex f → IsWriting certificate latex h → h ≡ f
-one_writing false false f h a b = b ∙ sym a
-one_writing true false f h a b = b ∙ sym a
-one_writing false true f h a b = b ∙ sym a
-one_writing true true f h a b = absurd a
+one_writing : (certificate latex json : Bool) (f h : Writing) → IsWriting certificate latex json f → IsWriting certificate latex json h → h ≡ f
+one_writing false false json f h a b = b ∙ sym a
+one_writing true false json f h a b = b ∙ sym a
+one_writing false true false f h a b = b ∙ sym a
+one_writing false true true f h a b = absurd a
+one_writing true true json f h a b = absurd a
 
-one_form : (certificate latex short : Bool) (f h : Form) → IsForm certificate latex short f → IsForm certificate latex short h → h ≡ f
-one_form certificate latex short f h a b = λ i. record {
-  writing = one_writing certificate latex f.writing h.writing a.writing b.writing i;
+one_form : (certificate latex short json : Bool) (f h : Form) → IsForm certificate latex short json f → IsForm certificate latex short json h → h ≡ f
+one_form certificate latex short json f h a b = λ i. record {
+  writing = one_writing certificate latex json f.writing h.writing a.writing b.writing i;
   short = (b.short ∙ sym a.short) i;
+  format = (b.format ∙ sym a.format) i;
 }
 
 -- the uses ask for one request
@@ -32,7 +34,8 @@ one_request uses q r a b = λ i. record {
   x = one_listed (value_of uses (codes "x")) q.x r.x a.x b.x i;
   y = one_listed (value_of uses (codes "y")) q.y r.y a.y b.y i;
   given = one_listed (value_of uses (codes "given")) q.given r.given a.given b.given i;
-  form = one_form (has_flag uses (codes "certificate")) (has_flag uses (codes "latex")) (has_flag uses (codes "short")) q.form r.form a.form b.form i;
+  form = one_form (has_flag uses (codes "certificate")) (has_flag uses (codes "latex")) (has_flag uses (codes "short"))
+      (has_flag uses (codes "json")) q.form r.form a.form b.form i;
 }
 
 -- what holds of each command holds of it

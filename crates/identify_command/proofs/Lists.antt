@@ -9,6 +9,7 @@ use Rattle.targets.proofs.Disjoint.{disjoint_listed_sets}
 use Rattle.diagram.specs.Sets.{Names}
 use Rattle.diagram.specs.declared.diagram.Diagram.{Diagram}
 use Rattle.replies.specs.declared.outcome.Outcome.{Outcome}
+use Rattle.replies.specs.Told.{Told}
 use Rattle.identify_command.specs.declared.form.Form.{Form}
 use Rattle.identify_command.specs.Answers.{IdentifyAnswer}
 use Rattle.identify_command.specs.Conditions.{ConditionalAnswer, IdentifyAnswerGiven, AreTargetSets}
@@ -27,15 +28,15 @@ with_member (suc k) v h = omega arith
 -- ---- answers
 
 -- where names are listed, the answer is that under a condition
-pub where_given : (form : Form) (d : Diagram) (x y : Names) (list : List (List ℕ)) (o : Outcome) (text : List ℕ) → (list ≡ [] → ⊥)
-    → ConditionalAnswer form d x y list o text
-    → IdentifyAnswerGiven form d x y (Some list) o text
-where_given form d x y [] o text some h = absurd (some refl)
-where_given form d x y (n ∷ ns) o text some h = h
+pub where_given : (form : Form) (d : Diagram) (x y : Names) (list : List (List ℕ)) (o : Outcome) (told : Told) → (list ≡ [] → ⊥)
+    → ConditionalAnswer form d x y list o told
+    → IdentifyAnswerGiven form d x y (Some list) o told
+where_given form d x y [] o told some h = absurd (some refl)
+where_given form d x y (n ∷ ns) o told some h = h
 
 -- where none is, it is that without
-pub where_none : (form : Form) (d : Diagram) (x y : Names) (list : List (List ℕ)) (o : Outcome) (text : List ℕ) → list ≡ []
-    → IdentifyAnswer form d x y o text
-    → IdentifyAnswerGiven form d x y (Some list) o text
-where_none form d x y [] o text none h = h
-where_none form d x y (n ∷ ns) o text none h = absurd (cc none)
+pub where_none : (form : Form) (d : Diagram) (x y : Names) (list : List (List ℕ)) (o : Outcome) (told : Told) → list ≡ []
+    → IdentifyAnswer form d x y o told
+    → IdentifyAnswerGiven form d x y (Some list) o told
+where_none form d x y [] o told none h = h
+where_none form d x y (n ∷ ns) o told none h = absurd (cc none)

@@ -27,6 +27,10 @@ use Rattle.certificate_writing.specs.Written.{certificate_text}
 use Rattle.identify_command.specs.declared.form.Form.{Form}
 use Rattle.identify_command.specs.declared.form.Writing.{Writing}
 use Rattle.identify_command.specs.declared.form.Writing.TheVariants.{Plain, Certificate, Latex}
+use Rattle.answer_json.specs.Progress.{json_line}
+use Rattle.replies.specs.declared.format.Format.TheVariants.{Text}
+use Rattle.replies.specs.Told.{Told, text_in, answer_of}
+use Rattle.identify_command.specs.Objects.{formula_json, hedge_json}
 
 -- ---- texts
 
@@ -46,47 +50,59 @@ hedge_text Latex names x y h pair = hedge_answer names x y h pair
 abbrev pub ReadsBack : Writing → List (List ℕ) → PlainCertificate → Type 0
 ReadsBack writing names c = writing ≡ Certificate → certificate_in names (certificate_text names c) ≡ Ok c
 
+-- ---- either format
+
+-- a formula for a target: its text, or its object as a line of JSON
+abbrev pub formula_shown : Form → List (List ℕ) → PlainTarget → PlainFormula → PlainDerivation → List ℕ
+formula_shown form names t f d = text_in form.format (formula_text form.writing names t f d) (json_line (formula_json form.writing names t f d))
+
+-- a hedge for the effect of x on y: its text, or its object as a line of JSON
+abbrev pub hedge_shown : Form → List (List ℕ) → (x y : ℕ) → Hedge → CounterPair → List ℕ
+hedge_shown form names x y h pair =
+    text_in form.format (hedge_text form.writing names x y h pair) (json_line (hedge_json form.writing names (effect_on x y) x y h pair))
+
 -- ---- answers for sets of the observed graph q
 
 -- Yes: the formula is accepted by the check of formulas, has no intervention, equals P(y | do(x)) in each positive model that fits q, and names
 -- ancestors of y alone; the derivation turns the effect into it.
--- Both are those of the identification procedure, or where a short formula is asked for, the formula is no longer than that one; and the text shows them.
-pub record ShowsFormula (form : Form) (q : MixedGraph) (names : List (List ℕ)) (x y : ℕ) (text : List ℕ) : Type 0 where
+-- Both are those of the identification procedure, or where a short formula is asked for, the formula is no longer than that one; and what is told shows
+-- them.
+pub record ShowsFormula (form : Form) (q : MixedGraph) (names : List (List ℕ)) (x y : ℕ) (told : Told) : Type 0 where
   pub formula : PlainFormula
   pub derivation : PlainDerivation
   pub right : IsRightFormula q x y formula derivation
   pub derived : IsOrShorter form.short (IsDerived q x y) formula derivation
-  pub prints : text ≡ formula_text form.writing names (effect_on x y) formula derivation
-  pub reads_back : ReadsBack form.writing names (plain.formula (effect_on x y) formula derivation)
+  pub prints : told ≡ answer_of (formula_shown form names (effect_on x y) formula derivation)
+  pub reads_back : form.format ≡ Text → ReadsBack form.writing names (plain.formula (effect_on x y) formula derivation)
 
--- No: it is a hedge for the effect of x on y with two models that show that there is no formula, and the text shows it.
-pub record ShowsHedge (form : Form) (q : MixedGraph) (names : List (List ℕ)) (x y : ℕ) (text : List ℕ) : Type 0 where
+-- No: it is a hedge for the effect of x on y with two models that show that there is no formula, and what is told shows it.
+pub record ShowsHedge (form : Form) (q : MixedGraph) (names : List (List ℕ)) (x y : ℕ) (told : Told) : Type 0 where
   pub hedge : Hedge
   pub pair : CounterPair
   pub found : IsFoundHedge q x y hedge pair
   pub arrays : HasArrays hedge
-  pub prints : text ≡ hedge_text form.writing names x y hedge pair
-  pub reads_back : ReadsBack form.writing names (plain.hedge (effect_on x y) (hedge_view hedge))
+  pub prints : told ≡ answer_of (hedge_shown form names x y hedge pair)
+  pub reads_back : form.format ≡ Text → ReadsBack form.writing names (plain.hedge (effect_on x y) (hedge_view hedge))
 
 -- the answer for the sets x and y
-abbrev pub SetsAnswer : Form → MixedGraph → List (List ℕ) → (x y : ℕ) → Outcome → List ℕ → Type 0
-SetsAnswer form q names x y Yes text = ShowsFormula form q names x y text
-SetsAnswer form q names x y No text = ShowsHedge form q names x y text
-SetsAnswer form q names x y o text = ⊥
+abbrev pub SetsAnswer : Form → MixedGraph → List (List ℕ) → (x y : ℕ) → Outcome → Told → Type 0
+SetsAnswer form q names x y Yes told = ShowsFormula form q names x y told
+SetsAnswer form q names x y No told = ShowsHedge form q names x y told
+SetsAnswer form q names x y o told = ⊥
 
 -- ---- answers on a diagram
 
 -- the lists name two sets, for which the answer is given
-abbrev pub IsAnswerOfSets : Form → MixedGraph → EffectLists → Outcome → List ℕ → Type 0
-IsAnswerOfSets form q l o text = IsOfSets l (λ x y. SetsAnswer form q l.observed x y o text)
+abbrev pub IsAnswerOfSets : Form → MixedGraph → EffectLists → Outcome → Told → Type 0
+IsAnswerOfSets form q l o told = IsOfSets l (λ x y. SetsAnswer form q l.observed x y o told)
 
 -- the answer for lists of names
-abbrev pub EffectAnswer : Form → MixedGraph → EffectLists → Outcome → List ℕ → Type 0
-EffectAnswer form q l Yes text = IsAnswerOfSets form q l Yes text
-EffectAnswer form q l No text = IsAnswerOfSets form q l No text
-EffectAnswer form q l Graph text = IsEffectRefusal l text
-EffectAnswer form q l o text = ⊥
+abbrev pub EffectAnswer : Form → MixedGraph → EffectLists → Outcome → Told → Type 0
+EffectAnswer form q l Yes told = IsAnswerOfSets form q l Yes told
+EffectAnswer form q l No told = IsAnswerOfSets form q l No told
+EffectAnswer form q l Graph told = IsEffectRefusal l told
+EffectAnswer form q l o told = ⊥
 
 -- the answer on a diagram, in its observed graph: x and y are those that are listed, or else the exposures and the outcomes
-abbrev pub IdentifyAnswer : Form → Diagram → Names → Names → Outcome → List ℕ → Type 0
-IdentifyAnswer form d x y o text = EffectAnswer form (graph_of d.observed.graph) (effect_lists d.read d.observed.names x y) o text
+abbrev pub IdentifyAnswer : Form → Diagram → Names → Names → Outcome → Told → Type 0
+IdentifyAnswer form d x y o told = EffectAnswer form (graph_of d.observed.graph) (effect_lists d.read d.observed.names x y) o told

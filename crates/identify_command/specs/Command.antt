@@ -5,4 +5,4 @@ use Rattle.identify_command.specs.Requests.{Request, IsRequest}
 
 -- its request and its answers
 abbrev pub identify_command : CommandForm
-identify_command = on_file Request IsRequest (λ q. q.file) (λ q d. IdentifyAnswerGiven q.form d q.x q.y q.given)
+identify_command = on_file Request IsRequest (λ q. q.form.format) (λ q. q.file) (λ q d. IdentifyAnswerGiven q.form d q.x q.y q.given)

@@ -4,8 +4,10 @@ use Rattle.mixed_graph.specs.Graphs.{MixedGraph}
 use Rattle.mixed_graph.specs.Shown.{graph_of}
 use Rattle.targets.specs.declared.fault.TargetFault.{TargetFault}
 use Rattle.targets.specs.Targets.{Lists, AreListedSets, IsListFault}
-use Rattle.answer_text.specs.Lines.{line_of}
-use Rattle.targets.specs.FaultTexts.{target_fault_text}
+use Rattle.answer_json.specs.Progress.{json_line}
+use Rattle.replies.specs.declared.format.Format.TheVariants.{Text}
+use Rattle.replies.specs.Refusals.{target_told}
+use Rattle.replies.specs.Told.{Told, text_in, answer_of}
 use Rattle.replies.specs.declared.outcome.Outcome.{Outcome}
 use Rattle.replies.specs.declared.outcome.Outcome.TheVariants.{Yes, No, Graph}
 use Rattle.diagram.specs.Sets.{Names, query_lists}
@@ -30,7 +32,8 @@ use Rattle.identify_command.specs.declared.form.Form.{Form}
 use Rattle.effect_answers.specs.Lines.{certificate_line}
 use Rattle.identify_command.specs.declared.form.Writing.{Writing}
 use Rattle.identify_command.specs.declared.form.Writing.TheVariants.{Plain, Certificate, Latex}
-use Rattle.identify_command.specs.Answers.{formula_text, ReadsBack, IdentifyAnswer}
+use Rattle.identify_command.specs.Answers.{formula_shown, ReadsBack, IdentifyAnswer}
+use Rattle.identify_command.specs.Objects.{hedge_json}
 
 -- ---- lists
 
@@ -38,11 +41,11 @@ use Rattle.identify_command.specs.Answers.{formula_text, ReadsBack, IdentifyAnsw
 abbrev pub AreTargetSets : Lists → PlainTarget → Type 0
 AreTargetSets l t = AreListedSets l t.x t.y t.given
 
--- a listed name is at fault, or y is empty: the line says so
-pub record IsListRefusal (l : Lists) (line : List ℕ) : Type 0 where
+-- a listed name is at fault, or y is empty: what is told says so
+pub record IsListRefusal (l : Lists) (told : Told) : Type 0 where
   pub fault : TargetFault
   pub is_fault : IsListFault l fault
-  pub prints : line ≡ line_of (target_fault_text fault)
+  pub prints : told ≡ target_told fault
 
 -- ---- answers for a target in the observed graph q
 
@@ -52,24 +55,28 @@ joint_text Plain names t x y h pair = joint_answer names t x y h pair
 joint_text Certificate names t x y h pair = certificate_line names (plain.hedge (effect_on x y) (hedge_view h))
 joint_text Latex names t x y h pair = joint_answer names t x y h pair
 
+-- that text, or the object of the hedge as a line of JSON
+abbrev pub joint_shown : Form → List (List ℕ) → PlainTarget → (x y : ℕ) → Hedge → CounterPair → List ℕ
+joint_shown form names t x y h pair = text_in form.format (joint_text form.writing names t x y h pair) (json_line (hedge_json form.writing names t x y h pair))
+
 -- Yes: the formula is accepted by the check of formulas, has no intervention, equals P(y | do(x), given) in each positive model that fits q, and
 -- names ancestors of y and given alone; the derivation turns the effect into it.
 -- Both are those of the procedure for conditional effects (Shpitser and Pearl), or where a short formula is asked for, the formula is no longer than
--- that one; and the text shows them.
-pub record ShowsConditional (form : Form) (q : MixedGraph) (names : List (List ℕ)) (t : PlainTarget) (text : List ℕ) : Type 0 where
+-- that one; and what is told shows them.
+pub record ShowsConditional (form : Form) (q : MixedGraph) (names : List (List ℕ)) (t : PlainTarget) (told : Told) : Type 0 where
   pub formula : PlainFormula
   pub derivation : PlainDerivation
   pub right : IsRightGiven q t formula derivation
   pub derived : IsOrShorter form.short (IsConditionalBySteps q t) formula derivation
-  pub prints : text ≡ formula_text form.writing names t formula derivation
-  pub reads_back : ReadsBack form.writing names (plain.formula t formula derivation)
+  pub prints : told ≡ answer_of (formula_shown form names t formula derivation)
+  pub reads_back : form.format ≡ Text → ReadsBack form.writing names (plain.formula t formula derivation)
 
 -- No: observations turn the target into an effect of x on the target's y and what is left, which is equal to it in each positive model that fits q.
--- For the joint effect of both there is a hedge, with two models that show that there is no formula for it, and the text shows it.
+-- For the joint effect of both there is a hedge, with two models that show that there is no formula for it, and what is told shows it.
 -- The target itself isn't identifiable: two positive models that fit q and agree on all observations give it two values, so no formula without
 -- interventions equals it in each such model. Where no observation is left, or those that are left have an effect that is known, it is settled by the
 -- very models of the hedge, which differ on the target too.
-pub record ShowsJoint (form : Form) (q : MixedGraph) (names : List (List ℕ)) (t : PlainTarget) (text : List ℕ) : Type 0 where
+pub record ShowsJoint (form : Form) (q : MixedGraph) (names : List (List ℕ)) (t : PlainTarget) (told : Told) : Type 0 where
   pub x : ℕ
   pub y : ℕ
   pub settled : Bool
@@ -82,36 +89,36 @@ pub record ShowsJoint (form : Form) (q : MixedGraph) (names : List (List ℕ)) (
   pub differs : IsTrue settled → DifferOnTarget (meaning q pair.first) (meaning q pair.second) t
   pub found : IsFoundHedge q x y hedge pair
   pub arrays : HasArrays hedge
-  pub prints : text ≡ joint_text form.writing names t x y hedge pair
-  pub reads_back : ReadsBack form.writing names (plain.hedge (effect_on x y) (hedge_view hedge))
+  pub prints : told ≡ answer_of (joint_shown form names t x y hedge pair)
+  pub reads_back : form.format ≡ Text → ReadsBack form.writing names (plain.hedge (effect_on x y) (hedge_view hedge))
 
 -- the answer for a target
-abbrev pub TargetAnswer : Form → MixedGraph → List (List ℕ) → PlainTarget → Outcome → List ℕ → Type 0
-TargetAnswer form q names t Yes text = ShowsConditional form q names t text
-TargetAnswer form q names t No text = ShowsJoint form q names t text
-TargetAnswer form q names t o text = ⊥
+abbrev pub TargetAnswer : Form → MixedGraph → List (List ℕ) → PlainTarget → Outcome → Told → Type 0
+TargetAnswer form q names t Yes told = ShowsConditional form q names t told
+TargetAnswer form q names t No told = ShowsJoint form q names t told
+TargetAnswer form q names t o told = ⊥
 
 -- ---- answers on a diagram
 
 -- the lists name a target, for which the answer is given
-pub record IsAnswerOfTarget (form : Form) (q : MixedGraph) (l : Lists) (o : Outcome) (text : List ℕ) : Type 0 where
+pub record IsAnswerOfTarget (form : Form) (q : MixedGraph) (l : Lists) (o : Outcome) (told : Told) : Type 0 where
   pub target : PlainTarget
   pub sets : AreTargetSets l target
-  pub answer : TargetAnswer form q l.observed target o text
+  pub answer : TargetAnswer form q l.observed target o told
 
 -- the answer for lists of names
-abbrev pub ListsAnswer : Form → MixedGraph → Lists → Outcome → List ℕ → Type 0
-ListsAnswer form q l Yes text = IsAnswerOfTarget form q l Yes text
-ListsAnswer form q l No text = IsAnswerOfTarget form q l No text
-ListsAnswer form q l Graph text = IsListRefusal l text
-ListsAnswer form q l o text = ⊥
+abbrev pub ListsAnswer : Form → MixedGraph → Lists → Outcome → Told → Type 0
+ListsAnswer form q l Yes told = IsAnswerOfTarget form q l Yes told
+ListsAnswer form q l No told = IsAnswerOfTarget form q l No told
+ListsAnswer form q l Graph told = IsListRefusal l told
+ListsAnswer form q l o told = ⊥
 
 -- the answer where names are given, in the observed graph: x and y are those that are listed, or else the exposures and the outcomes
-abbrev pub ConditionalAnswer : Form → Diagram → (x y : Names) → (given : List (List ℕ)) → Outcome → List ℕ → Type 0
-ConditionalAnswer form d x y given o text = ListsAnswer form (graph_of d.observed.graph) (query_lists d.read d.observed.names x y (Some given)) o text
+abbrev pub ConditionalAnswer : Form → Diagram → (x y : Names) → (given : List (List ℕ)) → Outcome → Told → Type 0
+ConditionalAnswer form d x y given o told = ListsAnswer form (graph_of d.observed.graph) (query_lists d.read d.observed.names x y (Some given)) o told
 
 -- the answer on a diagram: that for the effect of x on y where nothing is given
-abbrev pub IdentifyAnswerGiven : Form → Diagram → (x y given : Names) → Outcome → List ℕ → Type 0
-IdentifyAnswerGiven form d x y None o text = IdentifyAnswer form d x y o text
-IdentifyAnswerGiven form d x y (Some []) o text = IdentifyAnswer form d x y o text
-IdentifyAnswerGiven form d x y (Some (n ∷ ns)) o text = ConditionalAnswer form d x y (n ∷ ns) o text
+abbrev pub IdentifyAnswerGiven : Form → Diagram → (x y given : Names) → Outcome → Told → Type 0
+IdentifyAnswerGiven form d x y None o told = IdentifyAnswer form d x y o told
+IdentifyAnswerGiven form d x y (Some []) o told = IdentifyAnswer form d x y o told
+IdentifyAnswerGiven form d x y (Some (n ∷ ns)) o told = ConditionalAnswer form d x y (n ∷ ns) o told

@@ -1,28 +1,32 @@
--- The form of an answer, by its three flags.
+-- The form of an answer, by its four flags.
 use Rattle.std.specs.Prelude.{◌≡◌, Bool, true, false}
 use Rattle.identify_command.specs.declared.form.Writing.{Writing}
 use Rattle.identify_command.specs.declared.form.Writing.TheVariants.{Plain, Certificate, Latex}
 use Rattle.identify_command.specs.declared.form.Form.{Form}
+use Rattle.replies.specs.declared.format.Format.{Format}
+use Rattle.replies.specs.Told.{format_of}
 use Rattle.answer_text.specs.declared.signs.Notation.{Notation}
 use Rattle.answer_text.specs.declared.signs.Notation.TheVariants as notations
 
--- how an answer is written, by two flags, of which one stands at most
-abbrev pub IsWriting : (certificate latex : Bool) → Writing → Type 0
-IsWriting false false w = w ≡ Plain
-IsWriting true false w = w ≡ Certificate
-IsWriting false true w = w ≡ Latex
-IsWriting true true w = ⊥
+-- how an answer is written, by the flags for a certificate and for LaTeX, of which one stands at most, and that for LaTeX not beside that for JSON
+abbrev pub IsWriting : (certificate latex json : Bool) → Writing → Type 0
+IsWriting false false json w = w ≡ Plain
+IsWriting true false json w = w ≡ Certificate
+IsWriting false true false w = w ≡ Latex
+IsWriting false true true w = ⊥
+IsWriting true true json w = ⊥
 
--- the form of an answer: how it is written, and whether a short formula is asked for
-pub record IsForm (certificate latex is_short : Bool) (f : Form) : Type 0 where
-  pub writing : IsWriting certificate latex f.writing
+-- the form of an answer: how it is written, whether a short formula is asked for, and the format
+pub record IsForm (certificate latex is_short json : Bool) (f : Form) : Type 0 where
+  pub writing : IsWriting certificate latex json f.writing
   pub short : f.short ≡ is_short
+  pub format : f.format ≡ format_of json
 
--- the form in which an answer is plain text, with the formula of the procedure
-abbrev pub plain_form : Form
-plain_form = record { writing = Plain; short = false }
+-- the form in which an answer in that format is plain, with the formula of the procedure
+abbrev pub plain_form : Format → Form
+plain_form format = record { writing = Plain; short = false; format = format }
 
 -- the form in which the formula of the procedure stands in a notation
-abbrev pub form_in : Notation → Form
-form_in notations.Plain = plain_form
-form_in notations.Latex = record { writing = Latex; short = false }
+abbrev pub form_in : Notation → Format → Form
+form_in notations.Plain format = plain_form format
+form_in notations.Latex format = record { writing = Latex; short = false; format = format }

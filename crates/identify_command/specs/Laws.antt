@@ -7,4 +7,4 @@ use Rattle.identify_command.specs.Conditions.{IdentifyAnswerGiven}
 
 -- answers on the bytes of a file in any two forms, of which one may be short, have one outcome
 abbrev pub FormsAgree : Type 0
-FormsAgree = (bytes : List ℕ) (x y given : Names) → OneOutcome (IsAnswerOn bytes (λ d o text. (form : Form) × IdentifyAnswerGiven form d x y given o text))
+FormsAgree = (bytes : List ℕ) (x y given : Names) → OneOutcome (IsAnswerOn bytes (λ d o told. (form : Form) × IdentifyAnswerGiven form d x y given o told))

@@ -1,3 +1,4 @@
+pub mod Objects
 pub mod Answers
 pub mod Conditions
 pub mod Requests

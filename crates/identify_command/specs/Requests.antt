@@ -8,7 +8,7 @@ use Rattle.identify_command.specs.declared.form.Form.{Form}
 use Rattle.identify_command.specs.Forms.{IsForm}
 use Rattle.identify_command.specs.declared.request.Request.{Request as CodeRequest}
 
--- `identify FILE [--x L] [--y L] [--given L] [--certificate] [--latex] [--short]`
+-- `identify FILE [--x L] [--y L] [--given L] [--certificate] [--latex] [--short] [--json]`
 abbrev pub identify_row : Row
 identify_row = record {
   name = codes "identify";
@@ -16,7 +16,7 @@ identify_row = record {
   optional = [];
   required = [];
   options = codes "x" ∷ codes "y" ∷ codes "given" ∷ [];
-  flags = codes "certificate" ∷ codes "latex" ∷ codes "short" ∷ [];
+  flags = codes "certificate" ∷ codes "latex" ∷ codes "short" ∷ codes "json" ∷ [];
 }
 
 -- a request
@@ -37,4 +37,5 @@ pub record IsRequest (uses : List Use) (r : Request) : Type 0 where
   pub x : values.IsListed (value_of uses (codes "x")) r.x
   pub y : values.IsListed (value_of uses (codes "y")) r.y
   pub given : values.IsListed (value_of uses (codes "given")) r.given
-  pub form : IsForm (has_flag uses (codes "certificate")) (has_flag uses (codes "latex")) (has_flag uses (codes "short")) r.form
+  pub form : IsForm (has_flag uses (codes "certificate")) (has_flag uses (codes "latex")) (has_flag uses (codes "short")) (has_flag uses (codes "json"))
+      r.form

@@ -6,12 +6,13 @@ ghost use Rattle.mixed_graph.specs.Names.{texts};
 ghost use Rattle.mixed_graph.specs.Shown.{graph_of};
 ghost use Rattle.do_rules.specs.Rules.{AreThreeSets};
 ghost use Rattle.prob_expr.specs.View.{target_view};
+ghost use Rattle.replies.specs.Told.{told_of};
 ghost use Rattle.identify_command.specs.Conditions.{ConditionalAnswer, TargetAnswer};
 ghost use Rattle.identify_command.specs.Requests.{request_of};
 
 use crate::form::Form;
+use crate::formats::{formula_shown, joint_shown};
 use crate::request::Request;
-use crate::texts::{formula_text, joint_text};
 use conditional_id::{Conditional, identify_given};
 use dag_reader::ReadGraph;
 use diagram::{Diagram, asked_condition};
@@ -29,7 +30,7 @@ pub fn conditional_reply(
     asked: &Request<'_>,
     given: &[Vec<u8>],
 ) -> Result<Reply, AllocError>
-    ensures { let q = request_of asked.now in IfOk result (λ r. ConditionalAnswer q.form diagram.now q.x q.y (texts given.now) r.outcome r.text.items) }
+    ensures { let q = request_of asked.now in IfOk result (λ r. ConditionalAnswer q.form diagram.now q.x q.y (texts given.now) r.outcome (told_of r)) }
 {
     let (x, y) = (asked.x.as_deref(), asked.y.as_deref());
     match asked_condition(alloc, diagram, x, y, Some(given)) {
@@ -54,7 +55,7 @@ fn decide_given(
 ) -> Result<Reply, AllocError>
     requires sets { AreThreeSets seen.now.graph.n (has target.x.bits) (has target.y.bits) (has target.given.bits) }
     requires some { 0 < target.y.bits }
-    ensures { IfOk result (λ r. TargetAnswer form (graph_of seen.now.graph) seen.now.names (target_view target) r.outcome r.text.items) }
+    ensures { IfOk result (λ r. TargetAnswer form (graph_of seen.now.graph) seen.now.names (target_view target) r.outcome (told_of r)) }
 {
     match identify_given(alloc, &seen.graph, &target)? {
         Conditional::Formula(formula, derivation) => {
@@ -63,17 +64,15 @@ fn decide_given(
                 derivation,
             };
             let shown = shortened_if(alloc, &seen.graph, &target, form.short, found)?;
-            Ok(Reply {
-                outcome: Outcome::Yes,
-                text: formula_text(
-                    alloc,
-                    &seen.names,
-                    target,
-                    shown.formula,
-                    shown.derivation,
-                    form.writing,
-                )?,
-            })
+            let text = formula_shown(
+                alloc,
+                &seen.names,
+                target,
+                shown.formula,
+                shown.derivation,
+                form,
+            )?;
+            Ok(Reply::answer(alloc, Outcome::Yes, text))
         }
         Conditional::Joint {
             x,
@@ -84,18 +83,8 @@ fn decide_given(
         } => {
             has_arrays(&hedge);
             let sets = EffectSets { x, y };
-            Ok(Reply {
-                outcome: Outcome::No,
-                text: joint_text(
-                    alloc,
-                    &seen.names,
-                    &target,
-                    sets,
-                    hedge,
-                    &pair,
-                    form.writing,
-                )?,
-            })
+            let text = joint_shown(alloc, &seen.names, &target, sets, hedge, &pair, form)?;
+            Ok(Reply::answer(alloc, Outcome::No, text))
         }
     }
 }

@@ -3,6 +3,8 @@
 
 mod conditional;
 mod form;
+mod formats;
+mod objects;
 mod reply;
 mod request;
 mod texts;

@@ -4,6 +4,7 @@ ghost use Rattle.std.specs.Prelude.{◌≡◌, ◌<◌, IfOk};
 ghost use Rattle.mixed_graph.specs.Bits.{has};
 ghost use Rattle.mixed_graph.specs.Sets.{Within, Apart};
 ghost use Rattle.mixed_graph.specs.Shown.{graph_of};
+ghost use Rattle.replies.specs.Told.{told_of};
 ghost use Rattle.identify_command.specs.Answers.{IdentifyAnswer, SetsAnswer};
 ghost use Rattle.identify_command.specs.Conditions.{IdentifyAnswerGiven};
 ghost use Rattle.identify_command.specs.Forms.{form_in};
@@ -11,15 +12,14 @@ ghost use Rattle.identify_command.specs.Requests.{request_of};
 
 use crate::conditional::conditional_reply;
 use crate::form::{Form, Writing};
+use crate::formats::{formula_in, formula_shown, hedge_shown};
 use crate::request::Request;
-use crate::texts::{formula_text, hedge_text, target_of};
 use answer_text::Notation;
 use dag_reader::ReadGraph;
 use diagram::{Diagram, asked_effect};
-use effect_answers::has_arrays;
+use effect_answers::{has_arrays, hedge_in, target_of};
 use identify::{Answer, FormulaAnswer, identify, identify_formula};
-use identify_text::{answer_in, hedge_answer};
-use replies::{Outcome, Reply, refuse};
+use replies::{Format, Outcome, Reply, refuse};
 use short_formulas::{Candidate, shortened_if};
 use std::alloc::{AllocError, Global};
 use targets::EffectSets;
@@ -34,7 +34,7 @@ pub fn identify_reply(
     diagram: &Diagram,
     asked: &Request<'_>,
 ) -> Result<Reply, AllocError>
-    ensures { let q = request_of asked.now in IfOk result (λ r. IdentifyAnswerGiven q.form diagram.now q.x q.y q.given r.outcome r.text.items) }
+    ensures { let q = request_of asked.now in IfOk result (λ r. IdentifyAnswerGiven q.form diagram.now q.x q.y q.given r.outcome (told_of r)) }
 {
     let Some(given) = asked.given.as_deref() else {
         return effect_reply(alloc, diagram, asked);
@@ -47,7 +47,7 @@ pub fn identify_reply(
 
 /// The answer where nothing is given.
 fn effect_reply(alloc: Global, diagram: &Diagram, asked: &Request<'_>) -> Result<Reply, AllocError>
-    ensures { let q = request_of asked.now in IfOk result (λ r. IdentifyAnswer q.form diagram.now q.x q.y r.outcome r.text.items) }
+    ensures { let q = request_of asked.now in IfOk result (λ r. IdentifyAnswer q.form diagram.now q.x q.y r.outcome (told_of r)) }
 {
     let (x, y) = (asked.x.as_deref(), asked.y.as_deref());
     match asked_effect(alloc, diagram, x, y) {
@@ -67,14 +67,14 @@ fn decide(
     requires y { Within seen.now.graph.n (has sets.y.bits) }
     requires apart { Apart (has sets.x.bits) (has sets.y.bits) }
     requires some { 0 < sets.y.bits }
-    ensures { IfOk result (λ r. SetsAnswer form (graph_of seen.now.graph) seen.now.names sets.x.bits sets.y.bits r.outcome r.text.items) }
+    ensures { IfOk result (λ r. SetsAnswer form (graph_of seen.now.graph) seen.now.names sets.x.bits sets.y.bits r.outcome (told_of r)) }
 {
     if form.short {
         return decide_derived(alloc, seen, sets, form);
     }
     match form.writing {
-        Writing::Plain => decide_alone(alloc, seen, sets, Notation::Plain),
-        Writing::Latex => decide_alone(alloc, seen, sets, Notation::Latex),
+        Writing::Plain => decide_alone(alloc, seen, sets, Notation::Plain, form.format),
+        Writing::Latex => decide_alone(alloc, seen, sets, Notation::Latex, form.format),
         Writing::Certificate => decide_derived(alloc, seen, sets, form),
     }
 }
@@ -85,24 +85,24 @@ fn decide_alone(
     seen: &ReadGraph,
     sets: EffectSets,
     notation: Notation,
+    format: Format,
 ) -> Result<Reply, AllocError>
     requires x { Within seen.now.graph.n (has sets.x.bits) }
     requires y { Within seen.now.graph.n (has sets.y.bits) }
     requires apart { Apart (has sets.x.bits) (has sets.y.bits) }
     requires some { 0 < sets.y.bits }
-    ensures { IfOk result (λ r. SetsAnswer (form_in notation) (graph_of seen.now.graph) seen.now.names sets.x.bits sets.y.bits r.outcome r.text.items) }
+    ensures { IfOk result (λ r. SetsAnswer (form_in notation format) (graph_of seen.now.graph) seen.now.names sets.x.bits sets.y.bits r.outcome (told_of r)) }
 {
     match identify_formula(alloc, &seen.graph, sets.x, sets.y)? {
-        FormulaAnswer::Formula(formula) => Ok(Reply {
-            outcome: Outcome::Yes,
-            text: answer_in(alloc, notation, &formula, &target_of(sets), &seen.names)?,
-        }),
+        FormulaAnswer::Formula(formula) => {
+            let target = target_of(sets);
+            let text = formula_in(alloc, &seen.names, &target, &formula, notation, format)?;
+            Ok(Reply::answer(alloc, Outcome::Yes, text))
+        }
         FormulaAnswer::Hedge(hedge, pair) => {
             has_arrays(&hedge);
-            Ok(Reply {
-                outcome: Outcome::No,
-                text: hedge_answer(alloc, sets.x, sets.y, &hedge, &pair, &seen.names)?,
-            })
+            let text = hedge_in(alloc, format, &seen.names, sets, &hedge, &pair)?;
+            Ok(Reply::answer(alloc, Outcome::No, text))
         }
     }
 }
@@ -118,7 +118,7 @@ fn decide_derived(
     requires y { Within seen.now.graph.n (has sets.y.bits) }
     requires apart { Apart (has sets.x.bits) (has sets.y.bits) }
     requires some { 0 < sets.y.bits }
-    ensures { IfOk result (λ r. SetsAnswer form (graph_of seen.now.graph) seen.now.names sets.x.bits sets.y.bits r.outcome r.text.items) }
+    ensures { IfOk result (λ r. SetsAnswer form (graph_of seen.now.graph) seen.now.names sets.x.bits sets.y.bits r.outcome (told_of r)) }
 {
     match identify(alloc, &seen.graph, sets.x, sets.y)? {
         Answer::Formula(formula, derivation) => {
@@ -128,24 +128,20 @@ fn decide_derived(
             };
             let target = target_of(sets);
             let shown = shortened_if(alloc, &seen.graph, &target, form.short, found)?;
-            Ok(Reply {
-                outcome: Outcome::Yes,
-                text: formula_text(
-                    alloc,
-                    &seen.names,
-                    target,
-                    shown.formula,
-                    shown.derivation,
-                    form.writing,
-                )?,
-            })
+            let text = formula_shown(
+                alloc,
+                &seen.names,
+                target,
+                shown.formula,
+                shown.derivation,
+                form,
+            )?;
+            Ok(Reply::answer(alloc, Outcome::Yes, text))
         }
         Answer::Hedge(hedge, pair) => {
             has_arrays(&hedge);
-            Ok(Reply {
-                outcome: Outcome::No,
-                text: hedge_text(alloc, &seen.names, sets, hedge, &pair, form.writing)?,
-            })
+            let text = hedge_shown(alloc, &seen.names, sets, hedge, &pair, form)?;
+            Ok(Reply::answer(alloc, Outcome::No, text))
         }
     }
 }

@@ -11,16 +11,17 @@ use crate::form::{Form, Writing};
 use command_words::forms::Entry;
 use command_words::typed::{RequestFault, Subject, listed_names};
 use command_words::values::Values;
+use replies::Format;
 use std::alloc::Global;
 
-/// `identify FILE [--x L] [--y L] [--given L] [--certificate] [--latex] [--short]`
+/// `identify FILE [--x L] [--y L] [--given L] [--certificate] [--latex] [--short] [--json]`
 pub const ROW: Entry = Entry {
     name: "identify",
     positionals: &["file"],
     optional: &[],
     required: &[],
     options: &["x", "y", "given"],
-    flags: &["certificate", "latex", "short"],
+    flags: &["certificate", "latex", "short", "json"],
 };
 
 /// What is asked for.
@@ -46,30 +47,36 @@ impl<'a> Request<'a> {
         let certificate = values.flag("certificate");
         let latex = values.flag("latex");
         let short = values.flag("short");
-        let Some(writing) = read_writing(certificate, latex) else {
+        let json = values.flag("json");
+        let Some(writing) = read_writing(certificate, latex, json) else {
             return Err(RequestFault::NotUnderstood);
         };
         let Subject { file, x, y } = Subject::read(alloc, values)?;
         let given = listed_names(alloc, values, "given")?;
+        let format = Format::of(json);
         Ok(Request {
             file,
             x,
             y,
             given,
-            form: Form { writing, short },
+            form: Form {
+                writing,
+                short,
+                format,
+            },
         })
     }
 }
 
-/// How an answer is written, where at most one way is asked for.
-fn read_writing(certificate: bool, latex: bool) -> Option<Writing>
-    ensures some { IfSome result (λ w. IsWriting certificate latex w) }
-    ensures none { IfNone result ((w : asked.Writing) → IsWriting certificate latex w → ⊥) }
+/// How an answer is written, where at most one way is asked for, and LaTeX not as JSON.
+fn read_writing(certificate: bool, latex: bool, json: bool) -> Option<Writing>
+    ensures some { IfSome result (λ w. IsWriting certificate latex json w) }
+    ensures none { IfNone result ((w : asked.Writing) → IsWriting certificate latex json w → ⊥) }
 {
-    match (certificate, latex) {
-        (false, false) => Some(Writing::Plain),
-        (true, false) => Some(Writing::Certificate),
-        (false, true) => Some(Writing::Latex),
-        (true, true) => None,
+    match (certificate, latex, json) {
+        (false, false, _) => Some(Writing::Plain),
+        (true, false, _) => Some(Writing::Certificate),
+        (false, true, false) => Some(Writing::Latex),
+        (false, true, true) | (true, true, _) => None,
     }
 }

@@ -19,23 +19,13 @@ use certificate::Certificate;
 use counter_models::CounterPair;
 use do_derivation::Derivation;
 use effect_answers::certificates::certificate_line;
+use effect_answers::target_of;
 use hedge::Hedge;
 use identify_text::{answer_in, hedge_answer, joint_answer};
-use mixed_graph::{Names, VSet};
+use mixed_graph::Names;
 use prob_expr::{Formula, Target};
 use std::alloc::{AllocError, Global};
 use targets::EffectSets;
-
-/// The target P(y | do(x)).
-pub fn target_of(sets: EffectSets) -> Target
-    ensures { target_view result ≡ effect_on sets.x.bits sets.y.bits }
-{
-    Target {
-        x: sets.x,
-        y: sets.y,
-        given: VSet::EMPTY,
-    }
-}
 
 /// The text of a formula with its derivation.
 pub fn formula_text(

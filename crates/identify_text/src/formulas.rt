@@ -52,7 +52,7 @@ fn push_free(out: &mut Vec<u8>, names: &Names, free: VSet) -> Result<(), AllocEr
 }
 
 /// The free variables of a formula that are in none of the target's sets.
-fn free_beside(alloc: Global, f: &Formula, target: &Target) -> Result<VSet, AllocError>
+pub fn free_beside(alloc: Global, f: &Formula, target: &Target) -> Result<VSet, AllocError>
     ensures { IfOk result (λ s. s.bits ≡ free_beside (target_view target.now) (formula_view f.now)) }
 {
     let all = free(alloc, f)?;

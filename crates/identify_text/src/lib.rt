@@ -9,7 +9,7 @@ mod pairs;
 mod parts;
 mod theory;
 
-pub use formulas::{answer_in, effect_text};
+pub use formulas::{answer_in, effect_text, free_beside};
 pub use hedges::{hedge_heading, push_hedge_sets};
 pub use pairs::{hedge_answer, joint_answer, push_models};
 pub use theory::laws;

@@ -20,18 +20,19 @@ one_request uses q r a b = λ i. record {
   file = same_Some r.file q.file (sym b.file ∙ a.file) i;
   counts = (sym b.counts ∙ a.counts) i;
   count = (sym b.count ∙ a.count) i;
+  format = (b.format ∙ sym a.format) i;
 }
 
 -- what holds of each command holds of it
 pub implications_lawful : IsLawful implications_command
 implications_lawful = lawful_on_two_inputs one_request
-    (λ q d. first_answered q.counts (graph_of d.observed.graph) d.observed.names)
-    (λ q d other o text a. counts_answered (pairs_in d.observed a.0) q.count other o text a.2)
-    (λ q bytes. first_once bytes q.counts)
-    (λ q bytes other. implications_once bytes other q.count)
-    (λ q name d e same names o text a n. first_alone d e same name o text n.0
-    (subst (λ (c : Option Text). FirstAnswer c (graph_of d.observed.graph) d.observed.names o text) names a) n.1)
+    (λ q d. first_answered q.format q.counts (graph_of d.observed.graph) d.observed.names)
+    (λ q d other o told a. counts_answered q.format (pairs_in d.observed a.0) q.count other o told a.2)
+    (λ q bytes. first_once q.format bytes q.counts)
+    (λ q bytes other. implications_once q.format bytes other q.count)
+    (λ q name d e same names o told a n. first_alone q.format d e same name o told n.0
+    (subst (λ (c : Option Text). FirstAnswer q.format c (graph_of d.observed.graph) d.observed.names o told) names a) n.1)
 
 pub implications_is_left : (q : Request) (d : Diagram) (list : List Implication) (counts : Text) → q.counts ≡ Some counts
-    → ArePairs (pairs_in d.observed list) → IsLeft implications_command q d (implications_left d list counts q.count)
-implications_is_left q d list counts names is = record { named = names; continues = (list, is); known = is; answers = λ other o text a. (list, is, a) }
+    → ArePairs (pairs_in d.observed list) → IsLeft implications_command q d (implications_left q.format d list counts q.count)
+implications_is_left q d list counts names is = record { named = names; continues = (list, is); known = is; answers = λ other o told a. (list, is, a) }

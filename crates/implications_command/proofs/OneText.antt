@@ -1,12 +1,15 @@
--- The pairs of a graph have one text, and so have their differences over the bytes of counts.
+-- Of the pairs of a graph one thing is told, and so it is of their differences over the bytes of counts.
 use Rattle.std.proofs.Common.{◌≡◌, ◌≢◌, ◌<◌, ◌*◌, ◌⊎◌, ℕ, Bool, List, [], ◌∷◌, ◌++◌, Option, Some, None, length, map, get_or, inl, inr, refl, sym, ap, ap₂}
 use Rattle.std.proofs.Common.{◌∙◌, subst, arith}
 use mathlib.Core.Path.{fun_ext}
 use Rattle.std.specs.Prelude.{All, ℤ, pos, ◌-ℤ◌, slice_index_or, codes}
+use Rattle.std.specs.Fmt.{signed_decimal}
 use Rattle.std.specs.Int.{abs_diff}
 use Rattle.std.specs.List.{flat_map, filter}
 use Rattle.std.proofs.lemmas.Bool.{cases_lt, cases_eq}
 use Rattle.std.proofs.lemmas.List.Elements.{All-nil, All-cons, All-head, All-tail}
+use Rattle.std.proofs.lemmas.List.Folds.{flat_map-map}
+use Rattle.std.proofs.lemmas.Simd.{map-map}
 use Rattle.mixed_graph.specs.Bits.{has}
 use Rattle.mixed_graph.specs.Graphs.{MixedGraph}
 use Rattle.mixed_graph.specs.Names.{name_of}
@@ -19,34 +22,47 @@ use Rattle.count_table.specs.Cells.{IsCell}
 use Rattle.count_table.specs.Tables.{levels_in}
 use Rattle.count_table.proofs.Placing.{same_place}
 use Rattle.count_eval.specs.Programs.{cell_of}
-use Rattle.count_answers.specs.Lines.{with_commas, assignments}
-use Rattle.count_answers.specs.Reads.{HoldsCounts, AreRefusedCounts}
-use Rattle.count_answers.proofs.OneReading.{AreAlike, one_table, one_refusal}
+use Rattle.count_answers.specs.Lines.{with_commas}
+use Rattle.count_answers.specs.Reads.{HoldsCounts}
+use Rattle.count_answers.proofs.OneReading.{AreAlike, one_table}
+use Rattle.count_json.specs.Refusals.{AreRefusedCounts}
+use Rattle.count_json.proofs.Refused.{one_line, one_object}
 use Rattle.implications.specs.declared.pairs.Implication.{Implication}
 use Rattle.implied_differences.specs.declared.largest.Difference.{Difference}
 use Rattle.implied_differences.specs.Differences.{IsLargest, axes_in, whole_of, first_of_pair, second_of_pair, distance, difference}
+use Rattle.json.specs.Json.{Json, string}
+use Rattle.answer_json.specs.Progress.{json_line, array_of, object_of}
+use Rattle.answer_json.specs.Values.{text_json, vertex_json, set_json}
+use Rattle.replies.specs.declared.format.Format.{Format}
+use Rattle.replies.specs.Told.{Told, answer_of, text_in}
 use Rattle.replies.specs.declared.outcome.Outcome.{Outcome}
 use Rattle.replies.specs.declared.outcome.Outcome.TheVariants.{Yes, No, Second}
 use Rattle.implications_command.specs.Answers.{ShowsPairs, FirstAnswer, CountsAnswer, DifferencesAnswer}
-use Rattle.implications_command.specs.Lines.{pair_line, pair_lines, vertices_of, value_text, difference_line, Measured, measured_lines}
+use Rattle.implications_command.specs.Lines.{pair_line, pair_lines, vertices_of, value_text, measured_lines}
+use Rattle.implications_command.specs.Objects.{pairs_json, listed_json, differences_json}
+use Rattle.implications_command.specs.declared.differences.Measured.{Measured}
 use Rattle.implications_command.specs.Pairs.{ArePairs, pairs_of}
 use Rattle.implications_command.specs.Used.{used_in}
 use Rattle.implications_command.proofs.SameList.{one_list}
 
 -- ---- pairs
 
--- the pairs of a graph have one text, and so has there being none
-pairs_text : (q : MixedGraph) (names : List (List ℕ)) (text line : List ℕ) → ShowsPairs q names text → ShowsPairs q names line → line ≡ text
-pairs_text q names text line a b =
-    b.prints ∙ ap (pair_lines names) (one_list q a.list b.list a.are.implications b.are.implications) ∙ sym a.prints
+-- of the pairs of a graph one thing is told, and so it is of there being none
+pairs_text : (format : Format) (q : MixedGraph) (names : List (List ℕ)) (told other : Told) → ShowsPairs format q names told
+    → ShowsPairs format q names other → other ≡ told
+pairs_text format q names told other a b =
+    b.prints
+    ∙ ap (λ (l : List Implication). answer_of (text_in format (pair_lines names l) (json_line (pairs_json names l))))
+    (one_list q a.list b.list a.are.implications b.are.implications)
+    ∙ sym a.prints
 
-pub first_text : (counts : Option Text) (o : Outcome) (q : MixedGraph) (names : List (List ℕ)) (text line : List ℕ) → FirstAnswer counts q names o text
-    → FirstAnswer counts q names o line → line ≡ text
-first_text None Yes q names text line a b = pairs_text q names text line a b
-first_text None No q names text line a b = b.prints ∙ sym a.prints
-first_text None o q names text line a b = absurd a
-first_text (Some counts) No q names text line a b = b.prints ∙ sym a.prints
-first_text (Some counts) o q names text line a b = absurd a
+pub first_text : (format : Format) (counts : Option Text) (o : Outcome) (q : MixedGraph) (names : List (List ℕ)) (told other : Told)
+    → FirstAnswer format counts q names o told → FirstAnswer format counts q names o other → other ≡ told
+first_text format None Yes q names told other a b = pairs_text format q names told other a b
+first_text format None No q names told other a b = b.prints ∙ sym a.prints
+first_text format None o q names told other a b = absurd a
+first_text format (Some counts) No q names told other a b = b.prints ∙ sym a.prints
+first_text format (Some counts) o q names told other a b = absurd a
 
 -- ---- differences
 
@@ -71,9 +87,44 @@ axes_with i vertices levels = record {
   sizes = map (λ v. length (levels_in vertices levels v)) (i.a ∷ i.b ∷ filter (has i.given.bits) vertices);
 }
 
--- the levels of some vertices in a cell of a table with these levels
-abbrev assigned : List (List ℕ) → (ℕ → ℕ) → List ℕ → List ℕ → List (List Field) → List ℕ
-assigned names cell of vs ls = with_commas (map (λ v. printed (name_of names v) ++ (codes "=" ++ slice_index_or (levels_in vs ls v) (cell v) [])) of)
+-- what is told of a pair over a table: its difference and its cell, and the levels of the table
+record Shown : Type 0 where
+  pair : Implication
+  value : ℤ
+  cell : ℕ → ℕ
+  vertices : List ℕ
+  levels : List (List Field)
+
+abbrev shown : Table → Measured → Shown
+shown t m = record { pair = m.pair; value = m.difference.value; cell = cell_of m.difference.cell; vertices = t.vertices; levels = t.levels }
+
+-- the level of a vertex in its cell
+abbrev level_in : Shown → ℕ → List ℕ
+level_in s v = slice_index_or (levels_in s.vertices s.levels v) (s.cell v) []
+
+-- its lines
+abbrev lines_of : List (List ℕ) → Shown → List ℕ
+lines_of names s = pair_line names s.pair ++ (value_text s.value
+    ++ (with_commas (map (λ v. printed (name_of names v) ++ (codes "=" ++ level_in s v)) (vertices_of s.pair)) ++ codes "\n"))
+
+-- its object
+abbrev object_in : List (List ℕ) → Shown → Json
+object_in names s = object_of (
+    (codes "x", vertex_json names s.pair.a) ∷ (codes "y", vertex_json names s.pair.b) ∷ (codes "given", set_json names s.pair.given.bits)
+    ∷ (codes "difference", string (signed_decimal s.value))
+    ∷ (codes "cell", array_of (map (λ v. array_of (vertex_json names v ∷ text_json (level_in s v) ∷ [])) (vertices_of s.pair))) ∷ [])
+
+-- what is told of all
+abbrev told_of_shown : Format → List (List ℕ) → List Shown → Told
+told_of_shown format names ss =
+    answer_of (text_in format (flat_map (lines_of names) ss) (json_line (listed_json (codes "implications") (map (object_in names) ss))))
+
+told_is : (format : Format) (names : List (List ℕ)) (t : Table) (ms : List Measured)
+    → answer_of (text_in format (flat_map (measured_lines names t) ms) (json_line (differences_json names t ms)))
+    ≡ told_of_shown format names (map (shown t) ms)
+told_is format names t ms =
+    ap₂ (λ (text : List ℕ) (objects : List Json). answer_of (text_in format text (json_line (listed_json (codes "implications") objects))))
+    (sym (flat_map-map (lines_of names) (shown t) ms)) (sym (map-map (object_in names) (shown t) ms))
 
 abbrev Counter : Type 0
 Counter = (ℕ → Bool) → (ℕ → ℕ) → ℕ
@@ -130,32 +181,29 @@ module _ (t u : Table) (same : AreAlike t u) (i : Implication) where
     value_same : e.value ≡ d.value
     value_same = b.value ∙ difference_same (cell_of e.cell) ∙ ap (difference t i) cells_same ∙ sym a.value
 
-    difference_text : (names : List (List ℕ)) → difference_line names u i e ≡ difference_line names t i d
-    difference_text names = ap (λ (z : ℤ). value_text z ++ (assignments names u (cell_of e.cell) (vertices_of i) ++ codes "\n")) value_same
-        ∙ ap (λ (c : ℕ → ℕ). value_text d.value ++ (assignments names u c (vertices_of i) ++ codes "\n")) cells_same
-        ∙ ap (λ (vs : List ℕ). value_text d.value ++ (assigned names (cell_of d.cell) (vertices_of i) vs u.levels ++ codes "\n")) same.vertices
-        ∙ ap (λ (ls : List (List Field)). value_text d.value ++ (assigned names (cell_of d.cell) (vertices_of i) t.vertices ls ++ codes "\n")) same.levels
+    shown_same : shown u (record { pair = i; difference = e }) ≡ shown t (record { pair = i; difference = d })
+    shown_same = λ k. record { pair = i; value = value_same k; cell = cells_same k; vertices = same.vertices k; levels = same.levels k }
 
--- the lines of pairs that are the same, each with its largest difference
-measured_text : (names : List (List ℕ)) (t u : Table) → AreAlike t u → (ms ns : List Measured)
+-- what is told of pairs that are the same, each with its largest difference
+all_shown : (t u : Table) → AreAlike t u → (ms ns : List Measured)
     → map (λ (m : Measured). m.pair) ns ≡ map (λ (m : Measured). m.pair) ms
     → All (λ (m : Measured). IsLargest t m.pair m.difference) ms → All (λ (m : Measured). IsLargest u m.pair m.difference) ns
-    → flat_map (measured_lines names u) ns ≡ flat_map (measured_lines names t) ms
-measured_text names t u same [] [] e a b = refl
-measured_text names t u same [] (n ∷ ns) e a b = absurd (let k = ap (λ (l : List Implication). length l) e in omega (arith, k))
-measured_text names t u same (m ∷ ms) [] e a b = absurd (let k = ap (λ (l : List Implication). length l) e in omega (arith, k))
-measured_text names t u same (m ∷ ms) (n ∷ ns) e a b =
+    → map (shown u) ns ≡ map (shown t) ms
+all_shown t u same [] [] e a b = refl
+all_shown t u same [] (n ∷ ns) e a b = absurd (let k = ap (λ (l : List Implication). length l) e in omega (arith, k))
+all_shown t u same (m ∷ ms) [] e a b = absurd (let k = ap (λ (l : List Implication). length l) e in omega (arith, k))
+all_shown t u same (m ∷ ms) (n ∷ ns) e a b =
     let first : n.pair ≡ m.pair = ap (λ (l : List Implication). get_or l 0 m.pair) e in
     let here = All-head (λ (k : Measured). IsLargest t k.pair k.difference) m ms a in
     let there = subst (λ (i : Implication). IsLargest u i n.difference) first (All-head (λ (k : Measured). IsLargest u k.pair k.difference) n ns b) in
-    let line : measured_lines names u n ≡ measured_lines names t m =
-    ap (λ (i : Implication). pair_line names i ++ difference_line names u i n.difference) first
-    ∙ ap (λ (l : List ℕ). pair_line names m.pair ++ l) (difference_text t u same m.pair m.difference n.difference here there names) in
-    ap₂ (λ (k l : List ℕ). k ++ l) line
-    (measured_text names t u same ms ns (ap tail_of e) (All-tail (λ (k : Measured). IsLargest t k.pair k.difference) m ms a)
+    let one : shown u n ≡ shown t m =
+    ap (λ (i : Implication). shown u (record { pair = i; difference = n.difference })) first
+    ∙ shown_same t u same m.pair m.difference n.difference here there in
+    ap₂ (λ (s : Shown) (ss : List Shown). s ∷ ss) one
+    (all_shown t u same ms ns (ap tail_of e) (All-tail (λ (k : Measured). IsLargest t k.pair k.difference) m ms a)
     (All-tail (λ (k : Measured). IsLargest u k.pair k.difference) n ns b))
 
-module _ (q : MixedGraph) (names : List (List ℕ)) (list others : List Implication) (a : ArePairs (pairs_of q names list))
+module _ (format : Format) (q : MixedGraph) (names : List (List ℕ)) (list others : List Implication) (a : ArePairs (pairs_of q names list))
     (b : ArePairs (pairs_of q names others)) (count : Option Field) (bytes : List ℕ) where
   list_same : others ≡ list
   list_same = one_list q list others a.implications b.implications
@@ -164,19 +212,23 @@ module _ (q : MixedGraph) (names : List (List ℕ)) (list others : List Implicat
   of_list : (P : ℕ → Type 0) → P (used_in others) → P (used_in list)
   of_list P x = subst (λ (l : List Implication). P (used_in l)) list_same x
 
-  counts_text : (o : Outcome) (text line : List ℕ) → CountsAnswer (pairs_of q names list) count bytes o text
-      → CountsAnswer (pairs_of q names others) count bytes o line → line ≡ text
-  counts_text Yes text line x y =
+  counts_text : (o : Outcome) (told other : Told) → CountsAnswer format (pairs_of q names list) count bytes o told
+      → CountsAnswer format (pairs_of q names others) count bytes o other → other ≡ told
+  counts_text Yes told other x y =
       let read = of_list (λ used. HoldsCounts names used count bytes y.0) y.1 in
       let alike = one_table bytes names (used_in list) count x.0 y.0 x.1.reads read.reads in
-      y.2.prints
-      ∙ measured_text names x.0 y.0 alike x.2.measured y.2.measured (y.2.pairs ∙ list_same ∙ sym x.2.pairs) x.2.largest y.2.largest
-      ∙ sym x.2.prints
-  counts_text Second text line x y = one_refusal names (used_in list) count bytes text line x
-      (of_list (λ used. AreRefusedCounts names used count bytes line) y)
-  counts_text o text line x y = absurd x
+      let same = all_shown x.0 y.0 alike x.2.measured y.2.measured (y.2.are.pairs ∙ list_same ∙ sym x.2.are.pairs) x.2.are.largest y.2.are.largest in
+      y.2.prints ∙ told_is format names y.0 y.2.measured ∙ ap (told_of_shown format names) same ∙ sym (told_is format names x.0 x.2.measured) ∙ sym x.2.prints
+  counts_text Second told other x y =
+      let z = of_list (λ used. AreRefusedCounts names used count bytes other.text other.object) y in
+      let used = used_in list in
+      λ i. record {
+        text = one_line names used count bytes told.text told.object other.text other.object x z i;
+        object = one_object names used count bytes told.text told.object other.text other.object x z i;
+      }
+  counts_text o told other x y = absurd x
 
--- the answer over counts has one text, whatever its outcome
-pub differences_text : (count : Option Field) (bytes : List ℕ) (o : Outcome) (q : MixedGraph) (names : List (List ℕ)) (text line : List ℕ)
-    → DifferencesAnswer q names count bytes o text → DifferencesAnswer q names count bytes o line → line ≡ text
-differences_text count bytes o q names text line a b = counts_text q names a.0 b.0 a.1 b.1 count bytes o text line a.2 b.2
+-- of the answer over counts one thing is told, whatever its outcome
+pub differences_text : (format : Format) (count : Option Field) (bytes : List ℕ) (o : Outcome) (q : MixedGraph) (names : List (List ℕ)) (told other : Told)
+    → DifferencesAnswer format q names count bytes o told → DifferencesAnswer format q names count bytes o other → other ≡ told
+differences_text format count bytes o q names told other a b = counts_text format q names a.0 b.0 a.1 b.1 count bytes o told other a.2 b.2

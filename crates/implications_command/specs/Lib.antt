@@ -1,8 +1,8 @@
 pub mod Pairs
 pub mod Used
 pub mod Lines
+pub mod Objects
 pub mod Answers
 pub mod Firsts
-pub mod Printing
 pub mod Requests
 pub mod Command

@@ -11,6 +11,7 @@ use Rattle.count_eval.specs.Programs.{cell_of}
 use Rattle.count_answers.specs.Lines.{assignments}
 use Rattle.implications.specs.declared.pairs.Implication.{Implication}
 use Rattle.implied_differences.specs.declared.largest.Difference.{Difference}
+use Rattle.implications_command.specs.declared.differences.Measured.{Measured}
 
 -- the line where no set separates any two vertices
 abbrev pub none_line : List ℕ
@@ -37,11 +38,6 @@ value_text z = codes "largest difference " ++ (signed_decimal z ++ codes " at ")
 abbrev pub difference_line : List (List ℕ) → Table → Implication → Difference → List ℕ
 difference_line names t i d = value_text d.value ++ (assignments names t (cell_of d.cell) (vertices_of i) ++ codes "\n")
 
--- a pair with the largest difference of the counts
-pub record Measured : Type 0 where
-  pub pair : Implication
-  pub difference : Difference
-
--- its two lines
+-- the two lines of a pair with its difference
 abbrev pub measured_lines : List (List ℕ) → Table → Measured → List ℕ
 measured_lines names t m = pair_line names m.pair ++ difference_line names t m.pair m.difference

@@ -1,10 +1,12 @@
 -- What `implications` is asked for.
 use Rattle.std.specs.Prelude.{◌≡◌, List, Option, Some, None, [], ◌∷◌, codes, option_map}
-use Rattle.command_words.specs.Form.{Text, Row, Use, word_of, value_of}
+use Rattle.command_words.specs.Form.{Text, Row, Use, word_of, value_of, has_flag}
 use Rattle.command_words.specs.Values.{AreTwoInputs}
+use Rattle.replies.specs.declared.format.Format.{Format}
+use Rattle.replies.specs.Told.{format_of}
 use Rattle.implications_command.specs.declared.request.Request.{Request as CodeRequest}
 
--- `implications FILE [COUNTS] [--count NAME]`
+-- `implications FILE [COUNTS] [--count NAME] [--json]`
 abbrev pub implications_row : Row
 implications_row = record {
   name = codes "implications";
@@ -12,7 +14,7 @@ implications_row = record {
   optional = codes "counts" ∷ [];
   required = [];
   options = codes "count" ∷ [];
-  flags = [];
+  flags = codes "json" ∷ [];
 }
 
 -- a request
@@ -20,10 +22,11 @@ pub record Request : Type 0 where
   pub file : Text
   pub counts : Option Text
   pub count : Option Text
+  pub format : Format
 
 -- the request
 abbrev pub request_of : CodeRequest → Request
-request_of r = record { file = r.file.now; counts = option_map (λ s. s.now) r.counts; count = option_map (λ s. s.now) r.count }
+request_of r = record { file = r.file.now; counts = option_map (λ s. s.now) r.counts; count = option_map (λ s. s.now) r.count; format = r.format }
 
 -- file, counts and the name of their column go together: counts aren't standard input where the file is, and no column is named without counts
 abbrev pub AreInputs : Text → Option Text → Option Text → Type 0
@@ -37,3 +40,4 @@ pub record IsRequest (uses : List Use) (r : Request) : Type 0 where
   pub counts : word_of implications_row uses (codes "counts") ≡ r.counts
   pub count : value_of uses (codes "count") ≡ r.count
   pub inputs : AreInputs r.file r.counts r.count
+  pub format : r.format ≡ format_of (has_flag uses (codes "json"))

@@ -1,12 +1,14 @@
 //! The command `implications`: the pairs of observed vertices that some set separates, and how far counts are from each.
 //!
-//! `pairs_reply(alloc, &diagram)` lists the pairs. With counts `counted_pairs(alloc, &diagram)` finds them, and `differences_reply`
+//! `pairs_reply(alloc, &diagram, format)` lists the pairs. With counts `counted_pairs` finds them, and `differences_reply`
 //! adds the largest difference of the counts to each.
 #![tactic(auto)]
 
 mod differences;
+mod formats;
 mod lines;
 mod listing;
+mod objects;
 mod reply;
 mod request;
 mod used;

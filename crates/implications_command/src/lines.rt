@@ -1,11 +1,13 @@
 //! The lines of an answer.
 
 ghost use Rattle.std.specs.Prelude.{◌≡◌, ◌++◌, ◌≤◌, All, length, OnOk, IfOk};
+ghost use Rattle.std.specs.List.{flat_map};
 ghost use Rattle.count_eval.specs.Programs.{cell_of};
 ghost use Rattle.count_answers.specs.Lines.{assignments};
 ghost use Rattle.implications_command.specs.Pairs.{IsNamed};
-ghost use Rattle.implications_command.specs.Lines.{pair_line, pair_lines, vertices_of, value_text, difference_line};
+ghost use Rattle.implications_command.specs.Lines.{pair_line, pair_lines, vertices_of, value_text, difference_line, measured_lines};
 
+use crate::differences::Measured;
 use answer_text::{push_set, push_vertex};
 use count_answers::{entries, push_assignment, push_assignments, separator};
 use count_table::Counts;
@@ -15,7 +17,7 @@ use mixed_graph::Names;
 use std::alloc::{AllocError, Global};
 
 /// Appends the line of a pair: `A from C given {B}`.
-pub fn push_pair(out: &mut Vec<u8>, names: &Names, i: &Implication) -> Result<(), AllocError>
+fn push_pair(out: &mut Vec<u8>, names: &Names, i: &Implication) -> Result<(), AllocError>
     requires { IsNamed (length names.now) i.now }
     ensures { OnOk result (out.new.items ≡ out.old.items ++ pair_line names.now i.now) }
 {
@@ -70,7 +72,7 @@ fn push_value(alloc: Global, out: &mut Vec<u8>, value: i128) -> Result<(), Alloc
 }
 
 /// Appends the line of a difference: `largest difference -5 at A=0,C=0,B=1`.
-pub fn push_difference(
+fn push_difference(
     alloc: Global,
     out: &mut Vec<u8>,
     names: &Names,
@@ -86,4 +88,39 @@ pub fn push_difference(
     push_cell(out, names, counts, i, entries(&d.cell))?;
     out.push(b'\n')?;
     Ok(())
+}
+
+/// Appends the line of a pair, and that of its difference.
+fn push_measured(
+    alloc: Global,
+    out: &mut Vec<u8>,
+    names: &Names,
+    counts: &Counts,
+    m: &Measured,
+) -> Result<(), AllocError>
+    requires named { IsNamed (length names.now) m.now.pair }
+    requires few { length names.now ≤ 64 }
+    ensures { OnOk result (out.new.items ≡ out.old.items ++ measured_lines names.now counts.now m.now) }
+{
+    push_pair(out, names, &m.pair)?;
+    push_difference(alloc, out, names, counts, &m.pair, m.difference)?;
+    Ok(())
+}
+
+/// The lines of pairs with their differences.
+pub fn difference_lines(
+    alloc: Global,
+    names: &Names,
+    counts: &Counts,
+    measured: &[Measured],
+) -> Result<Vec<u8>, AllocError>
+    requires named { All (λ m. IsNamed (length names.now) m.pair) measured.now }
+    requires few { length names.now ≤ 64 }
+    ensures { IfOk result (λ v. v.items ≡ flat_map (measured_lines names.now counts.now) measured.now) }
+{
+    let mut text = Vec::new(alloc);
+    for m in measured {
+        push_measured(alloc, &mut text, names, counts, m)?;
+    }
+    Ok(text)
 }

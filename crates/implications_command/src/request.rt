@@ -8,15 +8,16 @@ ghost use Rattle.implications_command.specs.Requests.{AreInputs};
 use command_words::forms::Entry;
 use command_words::typed::{RequestFault, are_both_standard, required_word, value_bytes};
 use command_words::values::Values;
+use replies::Format;
 
-/// `implications FILE [COUNTS] [--count NAME]`
+/// `implications FILE [COUNTS] [--count NAME] [--json]`
 pub const ROW: Entry = Entry {
     name: "implications",
     positionals: &["file"],
     optional: &["counts"],
     required: &[],
     options: &["count"],
-    flags: &[],
+    flags: &["json"],
 };
 
 /// What is asked for.
@@ -25,6 +26,7 @@ pub struct Request<'a> {
     pub file: &'a str,
     pub counts: Option<&'a str>,
     pub count: Option<&'a [u8]>,
+    pub format: Format,
 }
 
 impl<'a> Request<'a> {
@@ -43,10 +45,13 @@ impl<'a> Request<'a> {
         if !are_inputs(file, counts, count) {
             return Err(RequestFault::NotUnderstood);
         }
+        let json = values.flag("json");
+        let format = Format::of(json);
         Ok(Request {
             file,
             counts,
             count,
+            format,
         })
     }
 }

@@ -1,43 +1,36 @@
-use Rattle.std.proofs.Common.{◌≡◌, ℕ, ◌<◌, true, false, not, ◌&&◌, ◌==◌, inl, inr, List, [], ◌∷◌, subst, IsTrue, arith}
-use Rattle.std.proofs.lemmas.Bool.{cases_eq, ne_eqb}
+use Rattle.std.proofs.Common.{◌≡◌, ℕ, ◌<◌, Bool, true, false, not, ◌&&◌, ◌==◌, inl, inr, List, [], ◌∷◌, ◌++◌, refl, sym, subst, IsTrue, arith}
+use Rattle.std.proofs.lemmas.Bool.{cases_Bool, cases_eq, ne_eqb}
 use Rattle.mixed_graph.specs.Bits.{has}
 use Rattle.mixed_graph.specs.Graphs.{MixedGraph}
 use Rattle.mixed_graph.specs.Arrows.{IsOnNoCycle, IsPathBelow}
 
--- the vertices outside the mask have been taken: their children too, and no cycle leads through them
-pub record Peeled (g : MixedGraph) (rest : ℕ) : Type 0 where
-  pub children : (a b : ℕ) → has rest a ≡ false → a < g.vertices → IsTrue (g.arrow a b) → has rest b ≡ false
-  pub no_cycle : (a : ℕ) → has rest a ≡ false → IsOnNoCycle g a
+-- no cycle leads through a vertex outside the mask
+abbrev pub AreOnNoCycle : MixedGraph → ℕ → Type 0
+AreOnNoCycle g rest = (a : ℕ) → has rest a ≡ false → IsOnNoCycle g a
 
-taken_along_path : (g : MixedGraph) (rest : ℕ) →
-    ((a b : ℕ) → has rest a ≡ false → a < g.vertices → IsTrue (g.arrow a b) → has rest b ≡ false) →
-    (a b : ℕ) (path : List ℕ) → IsPathBelow g a path b → has rest a ≡ false → has rest b ≡ false
-taken_along_path g rest closed a b [] p h = rw p.1 at h
-taken_along_path g rest closed a b (c ∷ path) p h =
-    taken_along_path g rest closed c b path p.2 (closed a c h p.0 p.1)
+start_below : (g : MixedGraph) (a b : ℕ) (path : List ℕ) → IsPathBelow g a path b → a < g.vertices
+start_below g a b [] p = p.0
+start_below g a b (c ∷ rest) p = p.0
 
-pub peeled_none : (g : MixedGraph) (rest : ℕ) → ((v : ℕ) → has rest v ≡ false → v < g.vertices → ⊥) → Peeled g rest
-peeled_none g rest all = record {
-  children = λ a b h below e. absurd (all a h below);
-  no_cycle = λ a h c path p. all a h p.0;
-}
+-- one more arrow at the end
+path_below_push : (g : MixedGraph) (a b c : ℕ) (path : List ℕ) → IsPathBelow g a path b → IsTrue (g.arrow b c) → c < g.vertices →
+    IsPathBelow g a (path ++ c ∷ []) c
+path_below_push g a b c [] p e below = (p.0, subst (λ v. g.arrow v c ≡ true) (sym p.1) e, (below, refl))
+path_below_push g a b c (d ∷ rest) p e below = (p.0, p.1, path_below_push g d b c rest p.2 e below)
 
-pub peeled_more : (g : MixedGraph) (v rest rest' : ℕ) → IsTrue (has rest v) →
-    ((b : ℕ) → IsTrue (g.arrow v b) → has rest b ≡ false) →
-    ((u : ℕ) → has rest' u ≡ (has rest u && not (u == v))) → Peeled g rest → Peeled g rest'
-peeled_more g v rest rest' in' childless rest_is s = record {
-  children = λ a b h below e. let p = rest_is a in let q = rest_is b in let k = s.children a b in
-      elim (cases_eq a v) [
-        | inl same ↦ let e' : g.arrow v b ≡ true = subst (λ x. g.arrow x b ≡ true) same e in let out = childless b e' in grind arith
-        | inr apart ↦ let d : (a == v) ≡ false = ne_eqb a v apart in grind arith
-      ];
-  no_cycle = λ a h c path p. let q = rest_is a in
-      elim (cases_eq a v) [
-        | inl same ↦
-            let edge : g.arrow v c ≡ true = subst (λ x. g.arrow x c ≡ true) same p.1 in
-            let back : has rest a ≡ false = taken_along_path g rest s.children c a path p.2 (childless c edge) in
-            let there : has rest a ≡ true = rw same in' in cc
-        | inr apart ↦ let d : (a == v) ≡ false = ne_eqb a v apart in
-            let out : has rest a ≡ false = grind arith in s.no_cycle a out c path p
-      ];
-}
+-- a cycle leads through its second vertex too
+turned_cycle : (g : MixedGraph) (a c : ℕ) (rest : List ℕ) → IsPathBelow g a (c ∷ rest) a → IsOnNoCycle g c → ⊥
+turned_cycle g a c [] p none = none c [] (path_below_push g c a c [] p.2 p.1 (start_below g c a [] p.2))
+turned_cycle g a c (d ∷ rest) p none = none d (rest ++ c ∷ []) (path_below_push g c a c (d ∷ rest) p.2 p.1 (start_below g c a (d ∷ rest) p.2))
+
+-- v too, if it has no child in the mask, may be left out of it
+pub without_childless : (g : MixedGraph) (v rest rest' : ℕ) (is_taken : Bool) →
+    (is_taken ≡ true → (b : ℕ) → IsTrue (g.arrow v b) → has rest b ≡ false) →
+    ((u : ℕ) → has rest' u ≡ (has rest u && not (is_taken && (u == v)))) → AreOnNoCycle g rest → AreOnNoCycle g rest'
+without_childless g v rest rest' is_taken childless rest_is outside = λ a h. let q = rest_is a in elim (cases_Bool is_taken) [
+  | inl taken ↦ elim (cases_eq a v) [
+    | inl same ↦ subst (IsOnNoCycle g) (sym same) (λ c path p. turned_cycle g v c path p (outside c (childless taken c p.1)))
+    | inr apart ↦ let d : (a == v) ≡ false = ne_eqb a v apart in outside a (grind arith)
+  ]
+  | inr kept ↦ outside a (grind arith)
+]

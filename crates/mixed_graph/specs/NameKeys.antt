@@ -18,3 +18,8 @@ AreBytes = All (λ b. b < 256)
 pub record AreKeys (keys : List ℕ) (names : List (List ℕ)) : Type 0 where
   pub same : (i : ℕ) → i < length names → slice_index keys i ≡ key_of (slice_index_or names i [])
   pub bytes : (i : ℕ) → i < length names → (key_of (slice_index_or names i []) ≡ 0 → ⊥) → AreBytes (slice_index_or names i [])
+
+-- the number is the key of the name, and a name with a key is made of bytes
+pub record IsKeyed (name : List ℕ) (key : ℕ) : Type 0 where
+  pub same : key ≡ key_of name
+  pub bytes : (key ≡ 0 → ⊥) → AreBytes name

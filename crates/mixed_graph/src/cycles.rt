@@ -25,13 +25,28 @@ pub fn childless(children: &Rows, set: VSet) -> Option<u8>
     None
 }
 
+/// What stays of the vertices below n when each, from the highest down, is taken unless a child of it is left.
+///
+/// Nothing stays where all arrows lead to higher vertices, as in most diagrams.
+fn passed_down(n: u32, children: &Rows) -> VSet
+    requires { n ≤ 64 }
+    ensures taken { (a : ℕ) → has result.bits a ≡ false → IsOnNoCycle (arrows_only n children.now) a }
+{
+    let mut rest = VSet::below(n);
+    'down: for v in (0..64u8).rev() {
+        let is_taken = VSet::row(children, v).is_apart(rest);
+        rest = rest.difference(VSet::one(v).only_if(is_taken));
+    }
+    rest
+}
+
 /// What stays of the vertices below n when, again and again, one without a child among those left is taken.
 pub fn stuck(n: u32, children: &Rows) -> VSet
     requires { n ≤ 64 }
     ensures taken { (a : ℕ) → has result.bits a ≡ false → IsOnNoCycle (arrows_only n children.now) a }
     ensures left { (a : ℕ) → IsTrue (has result.bits a) → HasChildIn children.now a result.bits }
 {
-    let mut rest = VSet::below(n);
+    let mut rest = passed_down(n, children);
     while let Some(v) = childless(children, rest) {
         rest = rest.difference(VSet::one(v));
     }

@@ -16,6 +16,7 @@ mod text;
 
 pub use lists::{Cycle, Order};
 pub use mixed::{BuildFault, Graph};
+pub use name_keys::{key_of, key_of_digits, with_digit};
 pub use names::{AddFault, Names, is_name};
 pub use rows::{Rows, joined, reached};
 pub use sets::{MembersLeft, VSet};

@@ -1,11 +1,11 @@
 //! The names of vertices.
 
-ghost use Rattle.std.specs.Prelude.{◌≡◌, ◌<◌, ◌≤◌, ◌+◌, ◌↔◌, List, ℕ, [], ◌∷◌, ◌++◌, is_some, true, false, length, IfOk, IfSome, IfNone, OnOk, OnSome, OnErr, IsErrOf, IsTrue, slice_get, slice_index_or};
+ghost use Rattle.std.specs.Prelude.{◌≡◌, ◌<◌, ◌≤◌, ◌+◌, ◌↔◌, List, ℕ, [], ◌∷◌, ◌++◌, is_some, true, false, length, IfOk, IfSome, IfNone, OnOk, OnSome, OnErr, IsErrOf, IsTrue, slice_get, slice_index, slice_index_or};
 ghost use Rattle.std.specs.List.{list_all};
 ghost use Rattle.std.specs.Str.{IsUtf8, bytes_eq};
 ghost use Rattle.mixed_graph.specs.Names.{IsName, AreNames, is_named, with_name, index_of, is_line_byte};
 ghost use Rattle.mixed_graph.specs.NameBlocks.{start_of, cut, IsBlock};
-ghost use Rattle.mixed_graph.specs.NameKeys.{AreBytes, AreKeys, key_of};
+ghost use Rattle.mixed_graph.specs.NameKeys.{AreKeys, IsKeyed};
 
 use crate::guesses::NameGuesses;
 use crate::name_keys::key_of;
@@ -98,7 +98,26 @@ impl Names {
         ensures err { OnErr result (self.new ≡ self.old) }
         ensures names { AreNames self.new }
     {
-        let key = key_of(name);
+        let _count = self.count;
+        if !is_name(name) {
+            return Err(AddFault::NotAName);
+        }
+        self.add_keyed(name, key_of(name))
+    }
+
+    /// The same of bytes that are known to have the form of a name, with their key.
+    #[inline(always)]
+    pub fn add_keyed(&mut self, name: &[u8], key: u64) -> Result<u8, AddFault>
+        requires formed { IsName name.now }
+        requires keyed { IsKeyed name.now key }
+        ensures added { OnOk result (self.new ≡ with_name self.old name.now) }
+        ensures index { IfOk result (λ i. i ≡ index_of self.old name.now) }
+        ensures within { IfOk result (λ i. i < length self.new) }
+        ensures a_name { IsErrOf result AddFault.NotAName → ⊥ }
+        ensures full { IsErrOf result AddFault.Full ↔ ((is_named self.old name.now ≡ false) × (length self.old ≡ 64)) }
+        ensures err { OnErr result (self.new ≡ self.old) }
+        ensures names { AreNames self.new }
+    {
         if let Some(index) = self.guessed(name, key) {
             return Ok(index);
         }
@@ -108,21 +127,17 @@ impl Names {
     /// The same without a guess.
     #[inline(never)]
     fn add_unguessed(&mut self, name: &[u8], key: u64) -> Result<u8, AddFault>
-        requires key { key ≡ key_of name.now }
-        requires bytes { (key ≡ 0 → ⊥) → AreBytes name.now }
+        requires formed { IsName name.now }
+        requires keyed { IsKeyed name.now key }
         ensures added { OnOk result (self.new ≡ with_name self.old name.now) }
         ensures index { IfOk result (λ i. i ≡ index_of self.old name.now) }
         ensures within { IfOk result (λ i. i < length self.new) }
-        ensures formed { OnOk result (IsName name.now) }
-        ensures not_a_name { IsErrOf result AddFault.NotAName ↔ (IsName name.now → ⊥) }
-        ensures full { IsErrOf result AddFault.Full ↔ (IsName name.now × (is_named self.old name.now ≡ false) × (length self.old ≡ 64)) }
+        ensures a_name { IsErrOf result AddFault.NotAName → ⊥ }
+        ensures full { IsErrOf result AddFault.Full ↔ ((is_named self.old name.now ≡ false) × (length self.old ≡ 64)) }
         ensures err { OnErr result (self.new ≡ self.old) }
         ensures names { AreNames self.new }
     {
         let count = self.count;
-        if !is_name(name) {
-            return Err(AddFault::NotAName);
-        }
         if let Some(index) = self.look_up(name, key) {
             self.guesses.keep(name, key, index);
             return Ok(index);
@@ -155,8 +170,7 @@ impl Names {
     /// The index of a name, where the guess is right.
     #[inline(always)]
     fn guessed(&self, name: &[u8], key: u64) -> Option<u8>
-        requires key { key ≡ key_of name.now }
-        requires bytes { (key ≡ 0 → ⊥) → AreBytes name.now }
+        requires keyed { IsKeyed name.now key }
         ensures found { IfSome result (λ i. (i ≡ index_of self.now name.now) × (i < length self.now)) }
         ensures has { OnSome result (is_named self.now name.now ≡ true) }
         ensures formed { OnSome result (IsName name.now) }
@@ -173,8 +187,40 @@ impl Names {
     /// The same by all names.
     #[inline(never)]
     fn look_up(&self, name: &[u8], key: u64) -> Option<u8>
-        requires key { key ≡ key_of name.now }
-        requires bytes { (key ≡ 0 → ⊥) → AreBytes name.now }
+        requires keyed { IsKeyed name.now key }
+        ensures found { IfSome result (λ i. (i ≡ index_of self.now name.now) × (i < length self.now)) }
+        ensures has { is_some result ≡ is_named self.now name.now }
+        ensures names { AreNames self.now }
+    {
+        if key == 0 {
+            self.look_up_bytes(name, key)
+        } else {
+            self.look_up_key(name, key)
+        }
+    }
+
+    /// The same of a name that has a key.
+    fn look_up_key(&self, name: &[u8], key: u64) -> Option<u8>
+        requires keyed { IsKeyed name.now key }
+        requires some { key ≡ 0 → ⊥ }
+        ensures found { IfSome result (λ i. (i ≡ index_of self.now name.now) × (i < length self.now)) }
+        ensures has { is_some result ≡ is_named self.now name.now }
+        ensures names { AreNames self.now }
+    {
+        if !has_entry(&self.keys, key) {
+            return None;
+        }
+        for v in 0..self.count {
+            if self.has_key(v as u8, name, key) {
+                return Some(v as u8);
+            }
+        }
+        None
+    }
+
+    /// The same of any name.
+    fn look_up_bytes(&self, name: &[u8], key: u64) -> Option<u8>
+        requires keyed { IsKeyed name.now key }
         ensures found { IfSome result (λ i. (i ≡ index_of self.now name.now) × (i < length self.now)) }
         ensures has { is_some result ≡ is_named self.now name.now }
         ensures names { AreNames self.now }
@@ -191,15 +237,25 @@ impl Names {
     #[inline(always)]
     fn is_at(&self, v: u8, name: &[u8], key: u64) -> bool
         requires below { v < length self.now }
-        requires key { key ≡ key_of name.now }
-        requires bytes { (key ≡ 0 → ⊥) → AreBytes name.now }
+        requires keyed { IsKeyed name.now key }
         ensures { result ≡ bytes_eq name.now (slice_index_or self.now v []) }
     {
         if key == 0 {
             self.get(v) == name
         } else {
-            self.keys[v as usize] == key
+            self.has_key(v, name, key)
         }
+    }
+
+    /// The same of a name that has a key.
+    #[inline(always)]
+    fn has_key(&self, v: u8, name: &[u8], key: u64) -> bool
+        requires below { v < length self.now }
+        requires keyed { IsKeyed name.now key }
+        requires some { key ≡ 0 → ⊥ }
+        ensures { result ≡ bytes_eq name.now (slice_index_or self.now v []) }
+    {
+        self.keys[v as usize] == key
     }
 
     /// The name of vertex v.
@@ -212,6 +268,18 @@ impl Names {
         let end = self.ends[v as usize] as usize;
         &self.bytes[start..end]
     }
+}
+
+/// Whether one of the entries is the key. Nothing ends the loop early, so several are compared at a time.
+#[inline(always)]
+fn has_entry(keys: &[u64; 64], key: u64) -> bool
+    ensures { result ≡ false → (i : ℕ) → i < 64 → slice_index keys.now i ≡ key → ⊥ }
+{
+    let mut found = false;
+    for v in 0..64usize {
+        found |= keys[v] == key;
+    }
+    found
 }
 
 /// Where name v begins.

@@ -7,10 +7,10 @@ use Rattle.diagram.specs.Observed.{observed_names}
 use Rattle.diagram.specs.Sets.{Names}
 use Rattle.targets.specs.declared.fault.TargetFault.{TargetFault}
 use Rattle.targets.specs.Targets.{listed, Lists, AreSets, IsTargetFault}
-use Rattle.answer_text.specs.Lines.{line_of}
-use Rattle.targets.specs.FaultTexts.{target_fault_text}
 use Rattle.replies.specs.declared.outcome.Outcome.{Outcome}
 use Rattle.replies.specs.declared.outcome.Outcome.TheVariants.{Graph}
+use Rattle.replies.specs.Refusals.{target_told}
+use Rattle.replies.specs.Told.{Told}
 
 -- the bytes are the text of this graph, and at most 1,048,576
 pub record HoldsGraph (bytes : List ℕ) (g : ReadGraph) : Type 0 where
@@ -21,11 +21,11 @@ pub record HoldsGraph (bytes : List ℕ) (g : ReadGraph) : Type 0 where
 abbrev pub HoldsDiagram : List ℕ → Diagram → Type 0
 HoldsDiagram bytes d = HoldsGraph bytes d.read
 
--- a name is at fault, or a set is empty: the line says so
-pub record IsTargetRefusal (l : Lists) (line : List ℕ) : Type 0 where
+-- a name is at fault, or a set is empty: the line and the object say so
+pub record IsTargetRefusal (l : Lists) (told : Told) : Type 0 where
   pub fault : TargetFault
   pub is_fault : IsTargetFault l fault
-  pub prints : line ≡ line_of (target_fault_text fault)
+  pub prints : told ≡ target_told fault
 
 -- the lists of a query with a third list: x and y are those that are given, or else the exposures and the outcomes
 abbrev pub query_lists : ReadGraph → (x y : Names) → (given : List (List ℕ)) → Lists
@@ -46,6 +46,6 @@ pub record IsOfThreeSets (l : Lists) (is_so : (x y z : ℕ) → Type 0) : Type 0
   pub answer : is_so x y z
 
 -- the answer for lists: that for the three sets which they name, of which the graph may be refused, or their own refusal
-abbrev pub AnswerForSets : Lists → ((x y z : ℕ) → Outcome → List ℕ → Type 0) → Outcome → List ℕ → Type 0
-AnswerForSets l answer Graph text = IsTargetRefusal l text ⊎ IsOfThreeSets l (λ x y z. answer x y z Graph text)
-AnswerForSets l answer o text = IsOfThreeSets l (λ x y z. answer x y z o text)
+abbrev pub AnswerForSets : Lists → ((x y z : ℕ) → Outcome → Told → Type 0) → Outcome → Told → Type 0
+AnswerForSets l answer Graph told = IsTargetRefusal l told ⊎ IsOfThreeSets l (λ x y z. answer x y z Graph told)
+AnswerForSets l answer o told = IsOfThreeSets l (λ x y z. answer x y z o told)

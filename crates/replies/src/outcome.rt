@@ -48,21 +48,35 @@ impl Outcome {
     }
 }
 
-/// An outcome with its text for `out`, or its line for `err`. The outcomes that no command answers have a fixed line, and no text here.
+/// An outcome with what is told of it: an answer's text, which may be a line of JSON, or the line of a refusal with its object as a line of JSON.
+/// The outcomes that no command answers have a fixed line, and no text here.
 #[derive(Drop)]
 pub struct Reply {
     pub outcome: Outcome,
     pub text: Vec<u8>,
+    /// The object of a refusal; an answer has none.
+    pub object: Vec<u8>,
 }
 
 impl Reply {
+    ghost use Rattle.replies.specs.Told.{told_of, answer_of};
+
     /// A reply without a text.
     pub fn bare(alloc: Global, outcome: Outcome) -> Self
         ensures { result.outcome ≡ outcome }
     {
+        Reply::answer(alloc, outcome, Vec::new(alloc))
+    }
+
+    /// An answer.
+    pub fn answer(alloc: Global, outcome: Outcome, text: Vec<u8>) -> Self
+        ensures outcome { result.outcome ≡ outcome }
+        ensures told { told_of result ≡ answer_of text.items }
+    {
         Reply {
             outcome,
-            text: Vec::new(alloc),
+            text,
+            object: Vec::new(alloc),
         }
     }
 }

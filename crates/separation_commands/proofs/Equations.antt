@@ -1,41 +1,31 @@
 -- Both sides of a rule, and the text around them.
-use Rattle.std.proofs.Common.{◌≡◌, ℕ, Bool, ◌||◌, List, [], ◌∷◌, ◌++◌, Result, OnOk, codes, sym, ap, ◌∙◌, subst}
+use Rattle.std.proofs.Common.{◌≡◌, ℕ, Bool, ◌||◌, List, [], ◌∷◌, ◌++◌, codes, inl, inr, sym, ap, ap₂, ◌∙◌}
+use Rattle.std.proofs.lemmas.Bool.{or_cases}
 use Rattle.std.proofs.lemmas.List.{append_assoc}
 use Rattle.mixed_graph.specs.Bits.{has}
-use Rattle.answer_text.specs.Texts.{term_text}
-use Rattle.separation_commands.specs.RuleLines.{equation_text}
-use Rattle.do_rules.specs.declared.rules.Rule.{Rule}
-use Rattle.do_rules.specs.declared.rules.Rule.TheVariants.{One, Two, Three}
+use Rattle.mixed_graph.specs.Sets.{Within}
+use Rattle.do_rules.specs.Rules.{Side}
 
-same_set : (s t : ℕ → Bool) → ((v : ℕ) → s v ≡ t v) → s ≡ t
-same_set s t h = λ i v. h v i
+-- sides with the same members are the same
+pub same_side : (s t : Side) → ((v : ℕ) → s.of v ≡ t.of v) → ((v : ℕ) → s.doing v ≡ t.doing v) → ((v : ℕ) → s.given v ≡ t.given v) → s ≡ t
+same_side s t of doing given = λ i. record { of = λ v. of v i; doing = λ v. doing v i; given = λ v. given v i }
 
-module _ {T E : Type 0} (r : Result T E) (names : List (List ℕ)) (old new : List ℕ) (x y z w : ℕ) (rule : Rule) where
-  pub first_rule : (z_w : ℕ) → rule ≡ One → ((v : ℕ) → has z_w v ≡ (has z v || has w v)) →
-      OnOk r (new ≡ old ++ (term_text names (has y) (has x) (has z_w) ++ (codes " = " ++ term_text names (has y) (has x) (has w)))) →
-      OnOk r (new ≡ old ++ equation_text rule names (has x) (has y) (has z) (has w))
-  first_rule z_w is both h =
-      subst (λ k. OnOk r (new ≡ old ++ equation_text k names (has x) (has y) (has z) (has w))) (sym is)
-      (subst (λ s. OnOk r (new ≡ old ++ (term_text names (has y) (has x) s ++ (codes " = " ++ term_text names (has y) (has x) (has w)))))
-      (same_set (has z_w) (λ v. has z v || has w v) both) h)
+-- what has the members of two sets within n is within n
+pub within_either : (n : ℕ) (s t : ℕ → Bool) (both : ℕ) → ((v : ℕ) → has both v ≡ (s v || t v)) → Within n s → Within n t → Within n (has both)
+within_either n s t both is low_s low_t = λ v h. elim (or_cases (s v) (t v) (sym (is v) ∙ h)) [
+  | inl a ↦ low_s v a
+  | inr b ↦ low_t v b
+]
 
-  pub second_rule : (x_z z_w : ℕ) → rule ≡ Two → ((v : ℕ) → has x_z v ≡ (has x v || has z v)) → ((v : ℕ) → has z_w v ≡ (has z v || has w v)) →
-      OnOk r (new ≡ old ++ (term_text names (has y) (has x_z) (has w) ++ (codes " = " ++ term_text names (has y) (has x) (has z_w)))) →
-      OnOk r (new ≡ old ++ equation_text rule names (has x) (has y) (has z) (has w))
-  second_rule x_z z_w is done both h =
-      subst (λ k. OnOk r (new ≡ old ++ equation_text k names (has x) (has y) (has z) (has w))) (sym is)
-      (subst (λ s. OnOk r (new ≡ old ++ (term_text names (has y) s (has w) ++ (codes " = " ++ term_text names (has y) (has x) (λ v. has z v || has w v)))))
-      (same_set (has x_z) (λ v. has x v || has z v) done)
-      (subst (λ s. OnOk r (new ≡ old ++ (term_text names (has y) (has x_z) (has w) ++ (codes " = " ++ term_text names (has y) (has x) s))))
-      (same_set (has z_w) (λ v. has z v || has w v) both) h))
-
-  pub third_rule : (x_z : ℕ) → rule ≡ Three → ((v : ℕ) → has x_z v ≡ (has x v || has z v)) →
-      OnOk r (new ≡ old ++ (term_text names (has y) (has x_z) (has w) ++ (codes " = " ++ term_text names (has y) (has x) (has w)))) →
-      OnOk r (new ≡ old ++ equation_text rule names (has x) (has y) (has z) (has w))
-  third_rule x_z is done h =
-      subst (λ k. OnOk r (new ≡ old ++ equation_text k names (has x) (has y) (has z) (has w))) (sym is)
-      (subst (λ s. OnOk r (new ≡ old ++ (term_text names (has y) s (has w) ++ (codes " = " ++ term_text names (has y) (has x) (has w)))))
-      (same_set (has x_z) (λ v. has x v || has z v) done) h)
+-- two sides with an equals sign between them
+pub equation_in : (old l r l' r' : List ℕ) {a b new : List ℕ} → l ≡ l' → r ≡ r' → a ≡ old ++ l → b ≡ a ++ codes " = " → new ≡ b ++ r
+    → new ≡ old ++ (l' ++ (codes " = " ++ r'))
+equation_in old l r l' r' same_l same_r e1 e2 e3 =
+    e3
+    ∙ ap (λ t. t ++ r) (e2 ∙ ap (λ t. t ++ codes " = ") e1)
+    ∙ append_assoc (old ++ l) (codes " = ") r
+    ∙ append_assoc old l (codes " = " ++ r)
+    ∙ ap₂ (λ x y. old ++ (x ++ (codes " = " ++ y))) same_l same_r
 
 -- a text that is made piece by piece, with a line feed before the last piece
 pub in_pieces : (a b c d o : List ℕ) {t1 t2 t3 t4 t5 : List ℕ} → t1 ≡ a ++ b → t2 ≡ t1 ++ c → t3 ≡ t2 ++ d → t4 ≡ t3 ++ 10 ∷ [] → t5 ≡ t4 ++ o → t5 ≡ a

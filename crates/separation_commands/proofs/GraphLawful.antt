@@ -13,8 +13,9 @@ one_request : (uses : List Use) (q r : Request) → IsRequest uses q → IsReque
 one_request uses q r a b = λ i. record {
   file = same_Some r.file q.file (sym b.file ∙ a.file) i;
   project = (sym b.project ∙ a.project) i;
+  format = (b.format ∙ sym a.format) i;
 }
 
 -- what holds of each command holds of it
 pub graph_lawful : IsLawful graph_command
-graph_lawful = lawful_on_file one_request (λ q d. graph_answered q.project d) (λ q bytes. graph_once bytes q.project)
+graph_lawful = lawful_on_file one_request (λ q d. graph_answered q.format q.project d) (λ q bytes. graph_once bytes q.format q.project)

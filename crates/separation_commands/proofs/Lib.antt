@@ -1,3 +1,4 @@
+mod EdgeRows
 pub mod GraphOutcomes
 pub mod GraphExclusive
 pub mod GraphLawful

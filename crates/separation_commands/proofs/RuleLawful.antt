@@ -28,8 +28,10 @@ one_request uses q r a b = λ i. record {
   x = one_listed_or_empty (value_of uses (codes "do")) q.x r.x a.x b.x i;
   z = one_needed_list (value_of uses (codes "z")) q.z r.z a.z b.z i;
   given = one_listed_or_empty (value_of uses (codes "given")) q.given r.given a.given b.given i;
+  format = (b.format ∙ sym a.format) i;
 }
 
 -- what holds of each command holds of it
 pub rule_lawful : IsLawful rule_command
-rule_lawful = lawful_on_file one_request (λ q d. rule_answered q.rule d q.y q.x q.z q.given) (λ q bytes. rule_once bytes q.rule q.y q.x q.z q.given)
+rule_lawful = lawful_on_file one_request (λ q d. rule_answered q.format q.rule d q.y q.x q.z q.given)
+    (λ q bytes. rule_once bytes q.format q.rule q.y q.x q.z q.given)

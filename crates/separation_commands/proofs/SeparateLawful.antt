@@ -17,8 +17,9 @@ one_request uses q r a b = λ i. record {
   x = one_listed (value_of uses (codes "x")) q.x r.x a.x b.x i;
   y = one_listed (value_of uses (codes "y")) q.y r.y a.y b.y i;
   given = one_listed (value_of uses (codes "given")) q.given r.given a.given b.given i;
+  format = (b.format ∙ sym a.format) i;
 }
 
 -- what holds of each command holds of it
 pub separate_lawful : IsLawful separate_command
-separate_lawful = lawful_on_file one_request (λ q d. separate_answered d q.x q.y q.given) (λ q bytes. separate_once bytes q.x q.y q.given)
+separate_lawful = lawful_on_file one_request (λ q d. separate_answered q.format d q.x q.y q.given) (λ q bytes. separate_once bytes q.format q.x q.y q.given)

@@ -1,11 +1,14 @@
 pub mod GraphAnswers
+pub mod GraphObjects
 pub mod GraphRequests
 pub mod GraphCommand
 pub mod SeparateAnswers
 pub mod SeparateLines
+pub mod SeparateObjects
 pub mod SeparateRequests
 pub mod SeparateCommand
 pub mod RuleAnswers
 pub mod RuleLines
+pub mod RuleObjects
 pub mod RuleRequests
 pub mod RuleCommand

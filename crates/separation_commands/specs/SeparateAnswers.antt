@@ -11,51 +11,56 @@ use Rattle.targets.specs.Targets.{Lists, AreSets}
 use Rattle.diagram.specs.declared.diagram.Diagram.{Diagram}
 use Rattle.replies.specs.declared.outcome.Outcome.{Outcome}
 use Rattle.replies.specs.declared.outcome.Outcome.TheVariants.{Yes, No, Graph}
+use Rattle.replies.specs.declared.format.Format.{Format}
 use Rattle.replies.specs.Lines.{open_text}
+use Rattle.replies.specs.Told.{Told, text_in, answer_of}
 use Rattle.diagram.specs.Sets.{Names, query_lists}
 use Rattle.replies.specs.Observed.{IsTargetRefusal}
+use Rattle.answer_json.specs.Progress.{json_line}
 use Rattle.separation_commands.specs.SeparateLines.{separated_text, not_separated_text}
+use Rattle.separation_commands.specs.SeparateObjects.{separated_json, not_separated_json}
 
 -- ---- answers for sets of the observed graph q
 
--- Yes: no walk from x to y is open given w, x and y are independent given w in each model that fits q, positive or not, and the text says so
-pub record ShowsSeparation (q : MixedGraph) (names : List (List ℕ)) (x y w : ℕ) (text : List ℕ) : Type 0 where
+-- Yes: no walk from x to y is open given w, x and y are independent given w in each model that fits q, positive or not, and what is told says so
+pub record ShowsSeparation (format : Format) (q : MixedGraph) (names : List (List ℕ)) (x y w : ℕ) (told : Told) : Type 0 where
   pub apart : IsSeparated q (has x) (has y) (has w)
   pub independent : AreIndependent q (has x) (has y) (has w)
-  pub prints : text ≡ separated_text names x y w
+  pub prints : told ≡ answer_of (text_in format (separated_text names x y w) (json_line (separated_json names x y w)))
 
--- No: this path is open, x and y are dependent given w in some positive model that fits q, and the text shows the path
-pub record ShowsOpenPath (q : MixedGraph) (names : List (List ℕ)) (x y w : ℕ) (text : List ℕ) : Type 0 where
+-- No: this path is open, x and y are dependent given w in some positive model that fits q, and what is told shows the path
+pub record ShowsOpenPath (format : Format) (q : MixedGraph) (names : List (List ℕ)) (x y w : ℕ) (told : Told) : Type 0 where
   pub vertices : List ℕ
   pub marks : List Mark
   pub count : ℕ
   pub path : IsOpenPath q (has x) (has y) (has w) vertices marks count
   pub dependent : AreDependent q (has x) (has y) (has w)
-  pub prints : text ≡ not_separated_text names x y w (open_text names vertices marks count)
+  pub prints : told ≡ answer_of (text_in format (not_separated_text names x y w (open_text names vertices marks count))
+      (json_line (not_separated_json names x y w vertices marks count)))
 
 -- the answer for the sets x, y and w
-abbrev pub SetsAnswer : MixedGraph → List (List ℕ) → (x y w : ℕ) → Outcome → List ℕ → Type 0
-SetsAnswer q names x y w Yes text = ShowsSeparation q names x y w text
-SetsAnswer q names x y w No text = ShowsOpenPath q names x y w text
-SetsAnswer q names x y w o text = ⊥
+abbrev pub SetsAnswer : Format → MixedGraph → List (List ℕ) → (x y w : ℕ) → Outcome → Told → Type 0
+SetsAnswer format q names x y w Yes told = ShowsSeparation format q names x y w told
+SetsAnswer format q names x y w No told = ShowsOpenPath format q names x y w told
+SetsAnswer format q names x y w o told = ⊥
 
 -- ---- answers on a diagram
 
 -- the lists name these sets, for which the answer is given
-pub record IsAnswerOfSets (q : MixedGraph) (l : Lists) (o : Outcome) (text : List ℕ) : Type 0 where
+pub record IsAnswerOfSets (format : Format) (q : MixedGraph) (l : Lists) (o : Outcome) (told : Told) : Type 0 where
   pub x : ℕ
   pub y : ℕ
   pub w : ℕ
   pub sets : AreSets l x y w
-  pub answer : SetsAnswer q l.observed x y w o text
+  pub answer : SetsAnswer format q l.observed x y w o told
 
 -- the answer for lists of names
-abbrev pub ListsAnswer : MixedGraph → Lists → Outcome → List ℕ → Type 0
-ListsAnswer q l Yes text = IsAnswerOfSets q l Yes text
-ListsAnswer q l No text = IsAnswerOfSets q l No text
-ListsAnswer q l Graph text = IsTargetRefusal l text
-ListsAnswer q l o text = ⊥
+abbrev pub ListsAnswer : Format → MixedGraph → Lists → Outcome → Told → Type 0
+ListsAnswer format q l Yes told = IsAnswerOfSets format q l Yes told
+ListsAnswer format q l No told = IsAnswerOfSets format q l No told
+ListsAnswer format q l Graph told = IsTargetRefusal l told
+ListsAnswer format q l o told = ⊥
 
 -- the answer on a diagram, in its observed graph: for the lists that are given, or else the exposures, the outcomes and the adjusted vertices
-abbrev pub SeparateAnswer : Diagram → (x y given : Names) → Outcome → List ℕ → Type 0
-SeparateAnswer d x y given o text = ListsAnswer (graph_of d.observed.graph) (query_lists d.read d.observed.names x y given) o text
+abbrev pub SeparateAnswer : Format → Diagram → (x y given : Names) → Outcome → Told → Type 0
+SeparateAnswer format d x y given o told = ListsAnswer format (graph_of d.observed.graph) (query_lists d.read d.observed.names x y given) o told

@@ -5,4 +5,4 @@ use Rattle.separation_commands.specs.SeparateRequests.{Request, IsRequest}
 
 -- its request and its answers
 abbrev pub separate_command : CommandForm
-separate_command = on_file Request IsRequest (λ q. q.file) (λ q d. SeparateAnswer d q.x q.y q.given)
+separate_command = on_file Request IsRequest (λ q. q.format) (λ q. q.file) (λ q d. SeparateAnswer q.format d q.x q.y q.given)

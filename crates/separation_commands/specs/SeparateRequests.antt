@@ -1,12 +1,14 @@
 -- What `separate` is asked for.
 use Rattle.std.specs.Prelude.{◌≡◌, List, Some, [], ◌∷◌, codes, option_map}
-use Rattle.command_words.specs.Form.{Text, Row, Use, word_of, value_of}
+use Rattle.command_words.specs.Form.{Text, Row, Use, word_of, value_of, has_flag}
 use Rattle.command_words.specs.Values as values
 use Rattle.diagram.specs.Sets.{Names}
 use Rattle.command_words.specs.ListViews.{names_in}
+use Rattle.replies.specs.declared.format.Format.{Format}
+use Rattle.replies.specs.Told.{format_of}
 use Rattle.separation_commands.specs.declared.separate.request.Request.{Request as CodeRequest}
 
--- `separate FILE [--x L] [--y L] [--given L]`
+-- `separate FILE [--x L] [--y L] [--given L] [--json]`
 abbrev pub separate_row : Row
 separate_row = record {
   name = codes "separate";
@@ -14,7 +16,7 @@ separate_row = record {
   optional = [];
   required = [];
   options = codes "x" ∷ codes "y" ∷ codes "given" ∷ [];
-  flags = [];
+  flags = codes "json" ∷ [];
 }
 
 -- a request
@@ -23,10 +25,11 @@ pub record Request : Type 0 where
   pub x : Names
   pub y : Names
   pub given : Names
+  pub format : Format
 
 -- the request
 abbrev pub request_of : CodeRequest → Request
-request_of r = record { file = r.file.now; x = option_map names_in r.x; y = option_map names_in r.y; given = option_map names_in r.given }
+request_of r = record { file = r.file.now; x = option_map names_in r.x; y = option_map names_in r.y; given = option_map names_in r.given; format = r.format }
 
 -- the uses ask for this
 pub record IsRequest (uses : List Use) (r : Request) : Type 0 where
@@ -34,3 +37,4 @@ pub record IsRequest (uses : List Use) (r : Request) : Type 0 where
   pub x : values.IsListed (value_of uses (codes "x")) r.x
   pub y : values.IsListed (value_of uses (codes "y")) r.y
   pub given : values.IsListed (value_of uses (codes "given")) r.given
+  pub format : r.format ≡ format_of (has_flag uses (codes "json"))

@@ -1,4 +1,6 @@
-//! The command `graph`: the text of a graph, or of its observed graph.
+//! The command `graph`: a graph, or its observed graph.
+mod edges;
+mod objects;
 mod reply;
 mod request;
 

@@ -1,4 +1,6 @@
 //! The command `separate`: whether two sets are separated given a third, in the observed graph.
+mod formats;
+mod objects;
 mod reply;
 mod request;
 mod texts;

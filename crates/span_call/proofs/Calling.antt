@@ -1,5 +1,5 @@
 -- From the reply to words over spans to what their call gives.
-use Rattle.std.proofs.Common.{◌≡◌, ◌≤◌, ℕ, Bool, List, [], Option, Some, length, nat_le, if◌then◌else◌, refl, sym, ◌∙◌, subst, lit≤, arith}
+use Rattle.std.proofs.Common.{◌≡◌, ◌≤◌, ℕ, Bool, List, [], ◌∷◌, Option, Some, length, nat_le, if◌then◌else◌, refl, sym, ap, ◌∙◌, subst, arith}
 use Rattle.std.proofs.Math.Seq.{take-length}
 use Rattle.std.specs.Io.KnownBytes.{Appends}
 use Rattle.command_words.specs.Form.{Text}
@@ -8,10 +8,12 @@ use Rattle.caller_memory.specs.declared.spans.Input.{Input}
 use Rattle.replies.specs.declared.outcome.Outcome.{Outcome}
 use Rattle.replies.specs.declared.outcome.Outcome.TheVariants.{Yes, No}
 use Rattle.replies.specs.declared.outcome.Reply.{Reply}
-use Rattle.replies.specs.Outcomes.{code_of}
+use Rattle.replies.specs.declared.format.Format.{Format}
+use Rattle.replies.specs.Outcomes.{code_of, IsAnswered}
+use Rattle.command_run.specs.Commands.{HasFormat}
 use Rattle.command_run.specs.Run.{Stream, stream_of, Run, run_with, Received}
 use Rattle.command_run.specs.Complete.{InputsAreKnown}
-use Rattle.command_run.specs.Ends.{RepliesWith, EndsWith, Delivers, written, refused, text_of}
+use Rattle.command_run.specs.Ends.{RepliesWith, EndsWith, Delivers, written, silent, shown_of, text_of, told_as}
 use Rattle.command_run.proofs.CompleteRuns.{complete, exact_unless_lacked}
 use Rattle.command_run.proofs.Deliveries.{delivered}
 use Rattle.causal_cli.specs.Calls.{call_of}
@@ -24,7 +26,7 @@ use Rattle.causal_cli.proofs.Headlines.{headline}
 use Rattle.causal_cli.proofs.Lawful.{lawful}
 use Rattle.causal_cli.proofs.RefutedRuns.{refuted_as_drawn_of}
 use Rattle.span_call.specs.declared.Sizes.{Sizes}
-use Rattle.span_call.specs.Called.{IsRunOf, Called, answer_of, line_of}
+use Rattle.span_call.specs.Called.{IsRunOf, Called, line_of}
 use Rattle.span_call.specs.Rooms.{ShowsText}
 use Rattle.span_call.proofs.Contents.{content_if_there}
 use Rattle.span_call.proofs.Endings.{fails_lacked}
@@ -33,11 +35,13 @@ use Rattle.span_call.proofs.Endings.{fails_lacked}
 abbrev pub written_on : List ℕ → Stream
 written_on text = stream_of (Some []) (Some text) 0 0
 
--- an answer is what is written, and nothing of a refusal
-delivers : (reply : Reply) (o : Outcome) → reply.outcome ≡ o → Delivers (written_on (if nat_le (code_of o) 1 then reply.text.items else [])) reply reply
-delivers reply Yes is = written refl (subst (λ k. code_of k ≤ 1) (sym is) (lit≤ tt)) refl
-delivers reply No is = written refl (subst (λ k. code_of k ≤ 1) (sym is) (lit≤ tt)) refl
-delivers reply o is = refused refl (subst (λ k. 2 ≤ code_of k) (sym is) (lit≤ tt)) refl
+-- what a reply shows is what is written
+delivers : (format : Format) (reply : Reply) → Delivers (written_on (shown_of format reply)) format reply reply
+delivers format reply = go (shown_of format reply) refl
+  where
+    go : (text : List ℕ) → shown_of format reply ≡ text → Delivers (written_on (shown_of format reply)) format reply reply
+    go [] is = silent refl is (ap (λ (t : List ℕ). Some t) is)
+    go (b ∷ bs) is = written refl (λ none. let e : b ∷ bs ≡ [] = sym is ∙ none in cc e) refl
 
 -- the line is what is received, and nothing on an answer
 received : (o : Outcome) (line : List ℕ) → Received (written_on (if nat_le (code_of o) 1 then [] else line)) o line
@@ -57,23 +61,24 @@ known kept bytes words inputs r is = λ q asks name reads there.
     let content = content_if_there bytes inputs name (sym (is.lacks_is name) ∙ there) in (content.0, is.held_is name ∙ content.1)
 
 module _ (kept : Option (List ℕ)) (bytes : List ℕ) (words : List Span) (inputs : List Input) (out_before out err_before err : List ℕ) (sizes : Sizes)
-    (code : ℕ) (reply : Reply) (said : List Text) (held : Text → Option (List ℕ)) (lacks : Text → Bool) (faults faults_after : Text → ℕ) where
+    (code : ℕ) (format : Format) (reply : Reply) (said : List Text) (held : Text → Option (List ℕ)) (lacks : Text → Bool) (faults faults_after : Text → ℕ) where
   -- the run that writes the answer
   abbrev pub run_of : Run
-  run_of = run_with kept said held lacks faults faults_after (written_on (answer_of reply))
+  run_of = run_with kept said held lacks faults faults_after (written_on (shown_of format reply))
 
-  module _ (is_run : IsRunOf run_of kept bytes words inputs) (replies : RepliesWith commands run_of reply) (status : code ≡ code_of reply.outcome) where
+  module _ (is_run : IsRunOf run_of kept bytes words inputs) (replies : RepliesWith commands run_of reply)
+      (has : IsAnswered reply.outcome → HasFormat commands said format) (status : code ≡ code_of reply.outcome) where
     ends : EndsWith commands run_of reply
-    ends = delivered commands run_of reply reply replies (delivers reply reply.outcome refl)
+    ends = delivered commands run_of format reply reply has replies (delivers format reply)
 
-    gives : code ≤ 1 → Gave (call_of run_of) reply.outcome (text_of commands reply)
-    gives = gave run_of code reply.outcome (text_of commands reply) status ends
+    gives : code ≤ 1 → Gave (call_of run_of) reply.outcome (told_as commands reply)
+    gives = gave run_of code reply.outcome (told_as commands reply) status ends
 
     certificate : HeadlineOfCheck (call_of run_of) code
-    certificate = checked (call_of run_of) code reply.outcome (text_of commands reply) status gives
+    certificate = checked (call_of run_of) code reply.outcome (told_as commands reply) status gives
 
     -- the rooms show what it wrote
-    pub called : ShowsText (answer_of reply) out_before out sizes.out → ShowsText (line_of reply) err_before err sizes.err
+    pub called : ShowsText (shown_of format reply) out_before out sizes.out → ShowsText (line_of reply) err_before err sizes.err
         → Called kept bytes words inputs out_before out err_before err sizes code
     called shows_out shows_err = record {
       run = run_of;
@@ -81,19 +86,19 @@ module _ (kept : Option (List ℕ)) (bytes : List ℕ) (words : List Span) (inpu
       is_run = is_run;
       ended = record {
         outcome = reply.outcome;
-        text = text_of commands reply;
+        told = told_as commands reply;
         status = status;
         ends = ends;
         received = received reply.outcome (text_of commands reply);
       };
-      complete = complete commands lawful run_of code reply.outcome (text_of commands reply) status ends;
+      complete = complete commands lawful run_of code reply.outcome (told_as commands reply) status ends;
       told = known kept bytes words inputs run_of is_run;
-      exact = exact_unless_lacked commands lawful run_of code reply.outcome (text_of commands reply) status ends
+      exact = exact_unless_lacked commands lawful run_of code reply.outcome (told_as commands reply) status ends
           (known kept bytes words inputs run_of is_run) (fails_lacked kept bytes words inputs run_of is_run) (λ rose. absurd (omega (arith, rose)));
-      headline = headline (call_of run_of) code reply.outcome (text_of commands reply) status gives;
+      headline = headline (call_of run_of) code reply.outcome (told_as commands reply) status gives;
       checked = certificate;
-      drawn = right_as_drawn_of (call_of run_of) code reply.outcome (text_of commands reply) status gives certificate;
-      refuted = refuted_as_drawn_of (call_of run_of) code reply.outcome (text_of commands reply) status gives certificate;
-      shows_out = record { text = answer_of reply; empty = refl; none_failed = refl; fails_never = refl; wrote = refl; shown = shows_out };
+      drawn = right_as_drawn_of (call_of run_of) code reply.outcome (told_as commands reply) status gives certificate;
+      refuted = refuted_as_drawn_of (call_of run_of) code reply.outcome (told_as commands reply) status gives certificate;
+      shows_out = record { text = shown_of format reply; empty = refl; none_failed = refl; fails_never = refl; wrote = refl; shown = shows_out };
       shows_err = record { text = line_of reply; empty = refl; none_failed = refl; fails_never = refl; wrote = refl; shown = shows_err };
     }

@@ -7,6 +7,7 @@ use Rattle.caller_memory.specs.declared.spans.Input.{Input}
 use Rattle.span_call.specs.declared.Sizes.{Sizes}
 use Rattle.replies.specs.declared.outcome.Outcome.{Outcome}
 use Rattle.replies.specs.declared.outcome.Outcome.TheVariants.{Read, Write}
+use Rattle.replies.specs.Told.{Told}
 use Rattle.replies.specs.Outcomes.{code_of}
 use Rattle.command_run.specs.Run.{Run, Ends, Unread, Unwritten}
 use Rattle.causal_cli.specs.Commands.{commands}
@@ -21,11 +22,11 @@ module _ (kept : Option (List ℕ)) (bytes : List ℕ) (words : List Span) (inpu
       go true p = refl
       go false p = absurd (omega (arith, rose, is.none_failed name, is.fails_lacked name p))
 
-  unread_at : (r : Run) (text : List ℕ) (o : Outcome) → 6 ≡ code_of o → Ends commands r o text → Unread commands r
+  unread_at : (r : Run) (text : Told) (o : Outcome) → 6 ≡ code_of o → Ends commands r o text → Unread commands r
   unread_at r text Read c h = h.0
   unread_at r text o c h = absurd (omega (arith, c))
 
-  unwritten_at : (r : Run) (text : List ℕ) (o : Outcome) → 7 ≡ code_of o → Ends commands r o text → Unwritten commands r
+  unwritten_at : (r : Run) (text : Told) (o : Outcome) → 7 ≡ code_of o → Ends commands r o text → Unwritten commands r
   unwritten_at r text Write c h = h.0
   unwritten_at r text o c h = absurd (omega (arith, c))
 
@@ -34,7 +35,7 @@ module _ (kept : Option (List ℕ)) (bytes : List ℕ) (words : List Span) (inpu
     -- at status 6 an input isn't there
     pub lacks_input : code ≡ 6 → LacksInput kept bytes words inputs
     lacks_input six =
-        let unread = unread_at called.run called.ended.text called.ended.outcome (sym six ∙ called.ended.status) called.ended.ends in
+        let unread = unread_at called.run called.ended.told called.ended.outcome (sym six ∙ called.ended.status) called.ended.ends in
         record {
           run = called.run;
           is_run = called.is_run;
@@ -45,5 +46,5 @@ module _ (kept : Option (List ℕ)) (bytes : List ℕ) (words : List Span) (inpu
     -- status 7 doesn't come
     pub never_cut_short : code ≡ 7 → ⊥
     never_cut_short seven =
-        let unwritten = unwritten_at called.run called.ended.text called.ended.outcome (sym seven ∙ called.ended.status) called.ended.ends in
+        let unwritten = unwritten_at called.run called.ended.told called.ended.outcome (sym seven ∙ called.ended.status) called.ended.ends in
         absurd (omega (arith, unwritten.rose, called.shows_out.none_failed, called.shows_out.fails_never))

@@ -62,10 +62,6 @@ pub record LacksInput (kept : Option (List ℕ)) (bytes : List ℕ) (words : Lis
   pub unread : Unread commands run
   pub lacked : is_none (place_named bytes inputs unread.name) ≡ true
 
--- what is written of a reply as an answer: the text of yes and of no
-abbrev pub answer_of : Reply → List ℕ
-answer_of r = if nat_le (code_of r.outcome) 1 then r.text.items else []
-
--- what is written of it as a line
+-- what is written of a reply as a line
 abbrev pub line_of : Reply → List ℕ
 line_of r = if nat_le (code_of r.outcome) 1 then [] else text_of commands r

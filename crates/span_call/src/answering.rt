@@ -4,14 +4,14 @@ ghost use Rattle.std.specs.Prelude.{◌≡◌, ◌≤◌, List, ℕ, Option, opt
 ghost use Rattle.command_words.specs.Views.{texts_of};
 ghost use Rattle.caller_memory.specs.Words.{texts};
 ghost use Rattle.replies.specs.Outcomes.{code_of};
-ghost use Rattle.command_run.specs.Ends.{IsTextOf};
-ghost use Rattle.span_call.specs.Called.{Called, answer_of, line_of};
+ghost use Rattle.command_run.specs.Ends.{IsTextOf, shown_of};
+ghost use Rattle.span_call.specs.Called.{Called, line_of};
 ghost use Rattle.span_call.specs.Rooms.{ShowsText};
 
 use crate::ends::{Arguments, CallEnd, show_both};
 use caller_memory::spans::SpanShelf;
 use causal_cli::{Request, reply_to};
-use command_run::line_of;
+use command_run::{Ready, line_of, shown};
 use diagram::Diagram;
 use replies::Reply;
 use std::alloc::Global;
@@ -30,31 +30,21 @@ pub fn answer_words(
     ensures known { result.status ≤ 8 }
 {
     let mut shelf = SpanShelf::of(arguments.bytes, arguments.inputs);
-    let reply = reply_to(alloc, words, given, &mut shelf);
-    show_reply(&reply, out, err)
+    let ready = reply_to(alloc, words, given, &mut shelf);
+    show_reply(&ready, out, err)
 }
 
 /// Shows a reply in two rooms, and gives the end of its call.
-pub fn show_reply(reply: &Reply, out: &mut [u8], err: &mut [u8]) -> CallEnd
-    ensures status { result.status ≡ code_of reply.now.outcome }
+pub fn show_reply(ready: &Ready, out: &mut [u8], err: &mut [u8]) -> CallEnd
+    ensures status { result.status ≡ code_of ready.now.reply.outcome }
     ensures known { result.status ≤ 8 }
-    ensures out { ShowsText (answer_of reply.now) out.old out.new result.sizes.out }
-    ensures err { ShowsText (line_of reply.now) err.old err.new result.sizes.err }
+    ensures out { ShowsText (shown_of ready.now.format ready.now.reply) out.old out.new result.sizes.out }
+    ensures err { ShowsText (line_of ready.now.reply) err.old err.new result.sizes.err }
 {
+    let answer = shown(&ready.reply, ready.format);
     CallEnd {
-        status: reply.outcome.code(),
-        sizes: show_both(answer_in(reply), line_in(reply), out, err),
-    }
-}
-
-/// What is written as an answer.
-fn answer_in(reply: &Reply) -> &[u8]
-    ensures { result.now ≡ answer_of reply.now }
-{
-    if reply.outcome.code() <= 1 {
-        reply.text.as_slice()
-    } else {
-        b""
+        status: ready.reply.outcome.code(),
+        sizes: show_both(answer, line_in(&ready.reply), out, err),
     }
 }
 

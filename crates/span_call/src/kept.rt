@@ -1,5 +1,5 @@
 //! Questions about a diagram that a caller keeps, over spans of bytes: the commands, answered as on the text that was read.
-ghost use Rattle.std.specs.Prelude.{◌≡◌, ◌≤◌, List, ℕ, Some, IfOk, IsErrOf};
+ghost use Rattle.std.specs.Prelude.{◌≡◌, ◌≤◌, List, ℕ, Some};
 ghost use Rattle.dag_reader.specs.declared.graph.ReadGraph.{ReadGraph};
 ghost use Rattle.caller_memory.specs.Kept.{KeepsText, Keeps};
 ghost use Rattle.span_call.specs.Ends.{IsEnd};
@@ -8,8 +8,8 @@ ghost use Rattle.span_call.specs.Called.{Called, LacksInput};
 use crate::answering::{answer_words, show_reply};
 use crate::{Arguments, CallEnd, call_words};
 use caller_memory::kept::{KeptDiagram, NamesFault};
-use diagram::Diagram;
-use replies::{Outcome, Reply};
+use command_run::Ready;
+use replies::Outcome;
 use std::alloc::Global;
 
 /// The status where no diagram with names on these lines is kept.
@@ -44,24 +44,9 @@ pub fn ask_kept(
         Ok(words) => words,
         Err(end) => return end,
     };
-    match diagram_kept(alloc, kept, lines) {
+    match kept.diagram(alloc, lines) {
         Ok(diagram) => answer_words(alloc, &words, Some(&diagram), arguments, out, err),
         Err(NamesFault::NotNames) => CallEnd::silent(NOT_KEPT),
-        Err(NamesFault::NoMemory) => show_reply(&Reply::bare(alloc, Outcome::Memory), out, err),
-    }
-}
-
-/// The diagram that is kept with the names on these lines.
-fn diagram_kept(alloc: Global, kept: &KeptDiagram, lines: &[u8]) -> Result<Diagram, NamesFault>
-    ensures keeps { IfOk result (λ d. Keeps kept.now lines.now d.read) }
-    ensures refused { IsErrOf result NamesFault.NotNames → (g : ReadGraph) → Keeps kept.now lines.now g → ⊥ }
-{
-    let read = match kept.graph(alloc, lines) {
-        Ok(read) => read,
-        Err(fault) => return Err(fault),
-    };
-    match Diagram::of(alloc, read) {
-        Ok(diagram) => Ok(diagram),
-        Err(_) => Err(NamesFault::NoMemory),
+        Err(NamesFault::NoMemory) => show_reply(&Ready::bare(alloc, Outcome::Memory), out, err),
     }
 }

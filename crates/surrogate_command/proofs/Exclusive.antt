@@ -12,6 +12,7 @@ use Rattle.diagram.specs.Sets.{Names}
 use Rattle.diagram.specs.declared.diagram.Diagram.{Diagram}
 use Rattle.diagram.proofs.OneDiagram.{AreSameDiagrams, same_effect_lists}
 use Rattle.replies.specs.OneOutcome.{OneOutcome, IsAnswerOn}
+use Rattle.replies.specs.Told.{Told}
 use Rattle.replies.proofs.OneOutcome.{IsOneOf, one_of_three, one_for_diagrams}
 use Rattle.replies.proofs.OneTarget.{same_two, no_fault_of, some_list, is_some_list}
 use Rattle.experiment_lists.specs.Words.{Lists}
@@ -25,31 +26,31 @@ surrogate_fault_of : (l : SurrogateLists) (f : TargetFault) → IsSurrogateFault
 surrogate_fault_of l EmptyX h = absurd h
 surrogate_fault_of l f h = h
 
-refused : (l : SurrogateLists) (x y : ℕ) (zs : List ℕ) (line : List ℕ) → AreSurrogateSets l x y zs → IsRefusal l line → ⊥
-refused l x y zs line s r = no_fault_of (surrogate_fault l) l.effect.y some_list r.fault s.no_fault s.effect.some_y is_some_list
+refused : (l : SurrogateLists) (x y : ℕ) (zs : List ℕ) (told : Told) → AreSurrogateSets l x y zs → IsRefusal l told → ⊥
+refused l x y zs told s r = no_fault_of (surrogate_fault l) l.effect.y some_list r.fault s.no_fault s.effect.some_y is_some_list
     (surrogate_fault_of l r.fault r.is_fault)
 
 module _ (form : Form) (q : MixedGraph) (l : SurrogateLists) where
   -- a district that stops the procedure is blocked
-  formula_or_stop : (x y : ℕ) (zs : List ℕ) (text line : List ℕ) → ShowsFormula form q l.effect.observed zs x y text
-      → ShowsStop form q l.effect.observed zs x y line → ⊥
-  formula_or_stop x y zs text line a b = a.unblocked (some_blocked q zs x y b.district.bits b.stop.first)
+  formula_or_stop : (x y : ℕ) (zs : List ℕ) (told other : Told) → ShowsFormula form q l.effect.observed zs x y told
+      → ShowsStop form q l.effect.observed zs x y other → ⊥
+  formula_or_stop x y zs told other a b = a.unblocked (some_blocked q zs x y b.district.bits b.stop.first)
 
-  yes_no : (text line : List ℕ) → ListsAnswer form q l Yes text → ListsAnswer form q l No line → ⊥
-  yes_no text line a b = formula_or_stop a.x a.y a.experiments text line a.answer
-      (subst (λ (zs : List ℕ). ShowsStop form q l.effect.observed zs a.x a.y line)
+  yes_no : (told other : Told) → ListsAnswer form q l Yes told → ListsAnswer form q l No other → ⊥
+  yes_no told other a b = formula_or_stop a.x a.y a.experiments told other a.answer
+      (subst (λ (zs : List ℕ). ShowsStop form q l.effect.observed zs a.x a.y other)
       (one_by_one l.effect.observed l.experiments a.experiments b.experiments a.sets.experiments b.sets.experiments)
-      (same_two (λ u v. ShowsStop form q l.effect.observed b.experiments u v line) l.effect a.x a.y b.x b.y a.sets.effect b.sets.effect b.answer))
+      (same_two (λ u v. ShowsStop form q l.effect.observed b.experiments u v other) l.effect a.x a.y b.x b.y a.sets.effect b.sets.effect b.answer))
 
-  among : (o : Outcome) (text : List ℕ) → ListsAnswer form q l o text → IsOneOf Yes No Graph o
-  among Yes text h = inl refl
-  among No text h = inr (inl refl)
-  among Graph text h = inr (inr refl)
-  among o text h = absurd h
+  among : (o : Outcome) (told : Told) → ListsAnswer form q l o told → IsOneOf Yes No Graph o
+  among Yes told h = inl refl
+  among No told h = inr (inl refl)
+  among Graph told h = inr (inr refl)
+  among o told h = absurd h
 
   lists_once : OneOutcome (ListsAnswer form q l)
   lists_once = one_of_three Yes No Graph (ListsAnswer form q l) among yes_no
-      (λ text line a r. refused l a.x a.y a.experiments line a.sets r) (λ text line a r. refused l a.x a.y a.experiments line a.sets r)
+      (λ told other a r. refused l a.x a.y a.experiments other a.sets r) (λ told other a r. refused l a.x a.y a.experiments other a.sets r)
 
 -- diagrams that are the same have the same lists
 pub same_surrogate_lists : (x y : Names) (experiments : Lists) (d e : Diagram) → AreSameDiagrams d e

@@ -1,6 +1,12 @@
 -- What the text of a stop needs: its vertices have names.
-use Rattle.std.proofs.Common.{◌≡◌, ◌≤◌, ℕ, List, Option, Some, None, sym, subst}
-use Rattle.std.specs.Prelude.{IfSome}
+use Rattle.std.proofs.Common.{◌≡◌, ◌≤◌, ◌&&◌, ℕ, true, not, List, [], ◌∷◌, Option, Some, None, sym, subst}
+use Rattle.std.specs.Prelude.{IfSome, All}
+use Rattle.std.proofs.lemmas.Bool.{and_parts}
+use Rattle.std.proofs.lemmas.List.Elements.{All-nil, All-cons}
+use Rattle.mixed_graph.specs.Masks.{is_below, is_empty}
+use Rattle.prob_expr.specs.Listed.{masks_of}
+use Rattle.do_derivation.specs.Accepts.{are_sets}
+use Rattle.expr_text.proofs.Within.{below_within}
 use Rattle.mixed_graph.specs.Bits.{has}
 use Rattle.mixed_graph.specs.Graphs.{MixedGraph, IsMixedGraph}
 use Rattle.mixed_graph.specs.Sets.{Within}
@@ -40,3 +46,12 @@ common_named g valid zs x y district (Some k) n e few in_y right shown = record 
   models = subst (λ m. ArePairBelow m k.pair) (sym e) (pair_below g valid x y k.hedge k.pair in_y shown.models right.hedge.counter);
   written = λ entries. subst (λ m. IsHedgeWithin m (hedge_view k.hedge)) (sym e) (hedge_within g x y k.hedge entries shown.hedge);
 }
+
+-- and so are the experiments
+pub experiments_named : (n k : ℕ) → n ≡ k → (sets : List VSet) → are_sets k (masks_of sets) ≡ true → All (λ (s : VSet). Within n (has s.bits)) sets
+experiments_named n k e [] are = All-nil (λ (s : VSet). Within n (has s.bits))
+experiments_named n k e (s ∷ sets) are =
+    let parts = and_parts (is_below k s.bits && not (is_empty s.bits)) (are_sets k (masks_of sets)) are in
+    let below = (and_parts (is_below k s.bits) (not (is_empty s.bits)) parts.0).0 in
+    All-cons (λ (t : VSet). Within n (has t.bits)) s sets (subst (λ m. Within m (has s.bits)) (sym e) (below_within k s.bits below))
+    (experiments_named n k e sets parts.1)

@@ -1,8 +1,8 @@
--- What lists of names ask for: the effect over experiments of the sets that they name, or the line that refuses them.
+-- What lists of names ask for: the effect over experiments of the sets that they name, or their refusal.
 use Rattle.std.specs.Prelude.{ℕ, ◌≡◌, List}
 use Rattle.targets.specs.declared.fault.TargetFault.{TargetFault}
-use Rattle.answer_text.specs.Lines.{line_of}
-use Rattle.targets.specs.FaultTexts.{target_fault_text}
+use Rattle.replies.specs.Refusals.{target_told}
+use Rattle.replies.specs.Told.{Told}
 use Rattle.surrogate_command.specs.Sets.{SurrogateLists, AreSurrogateSets, IsSurrogateFault}
 
 -- the lists name sets, of which this is so
@@ -13,8 +13,8 @@ pub record IsOfSets (l : SurrogateLists) (is_so : (x y : ℕ) → List ℕ → T
   pub sets : AreSurrogateSets l x y experiments
   pub answer : is_so x y experiments
 
--- a listed name is at fault, or y is empty: the line says so
-pub record IsRefusal (l : SurrogateLists) (line : List ℕ) : Type 0 where
+-- a listed name is at fault, or y is empty: what is told says so
+pub record IsRefusal (l : SurrogateLists) (told : Told) : Type 0 where
   pub fault : TargetFault
   pub is_fault : IsSurrogateFault l fault
-  pub prints : line ≡ line_of (target_fault_text fault)
+  pub prints : told ≡ target_told fault

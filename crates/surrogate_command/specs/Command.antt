@@ -5,4 +5,4 @@ use Rattle.surrogate_command.specs.Requests.{Request, IsRequest}
 
 -- its request and its answers
 abbrev pub surrogate_command : CommandForm
-surrogate_command = on_file Request IsRequest (λ q. q.file) (λ q d. SurrogateAnswer q.form d q.x q.y q.experiments)
+surrogate_command = on_file Request IsRequest (λ q. q.form.format) (λ q. q.file) (λ q d. SurrogateAnswer q.form d q.x q.y q.experiments)

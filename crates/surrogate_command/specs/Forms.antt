@@ -1,11 +1,18 @@
--- The form of an answer, by its two flags.
+-- The form of an answer, by its three flags.
 use Rattle.std.specs.Prelude.{◌≡◌, Bool, true, false}
+use Rattle.replies.specs.Told.{format_of}
 use Rattle.surrogate_command.specs.declared.form.Form.{Form}
-use Rattle.surrogate_command.specs.declared.form.Form.TheVariants.{Plain, Models, Certificate}
+use Rattle.surrogate_command.specs.declared.form.Writing.{Writing}
+use Rattle.surrogate_command.specs.declared.form.Writing.TheVariants.{Plain, Models, Certificate}
 
--- the form of an answer, by its two flags, of which one stands at most
-abbrev pub IsForm : (models certificate : Bool) → Form → Type 0
-IsForm false false f = f ≡ Plain
-IsForm true false f = f ≡ Models
-IsForm false true f = f ≡ Certificate
-IsForm true true f = ⊥
+-- how an answer is written, by two flags, of which one stands at most
+abbrev pub IsWriting : (models certificate : Bool) → Writing → Type 0
+IsWriting false false w = w ≡ Plain
+IsWriting true false w = w ≡ Models
+IsWriting false true w = w ≡ Certificate
+IsWriting true true w = ⊥
+
+-- the form of an answer: how it is written, and the format
+pub record IsForm (models certificate json : Bool) (f : Form) : Type 0 where
+  pub writing : IsWriting models certificate f.writing
+  pub format : f.format ≡ format_of json

@@ -2,6 +2,7 @@ pub mod Forms
 pub mod Requests
 pub mod Sets
 pub mod Asked
+pub mod Objects
 pub mod Lines
 pub mod Commons
 pub mod Answers

@@ -10,7 +10,7 @@ use Rattle.surrogate_command.specs.declared.form.Form.{Form}
 use Rattle.surrogate_command.specs.Forms.{IsForm}
 use Rattle.surrogate_command.specs.declared.request.Request.{Request as CodeRequest}
 
--- `surrogate FILE [--x L] [--y L] --experiments E [--models] [--certificate]`
+-- `surrogate FILE [--x L] [--y L] --experiments E [--models] [--certificate] [--json]`
 abbrev pub surrogate_row : Row
 surrogate_row = record {
   name = codes "surrogate";
@@ -18,7 +18,7 @@ surrogate_row = record {
   optional = [];
   required = codes "experiments" ∷ [];
   options = codes "x" ∷ codes "y" ∷ [];
-  flags = codes "models" ∷ codes "certificate" ∷ [];
+  flags = codes "models" ∷ codes "certificate" ∷ codes "json" ∷ [];
 }
 
 -- a request
@@ -39,4 +39,4 @@ pub record IsRequest (uses : List Use) (r : Request) : Type 0 where
   pub x : values.IsListed (value_of uses (codes "x")) r.x
   pub y : values.IsListed (value_of uses (codes "y")) r.y
   pub experiments : AreNeededExperiments (value_of uses (codes "experiments")) r.experiments
-  pub form : IsForm (has_flag uses (codes "models")) (has_flag uses (codes "certificate")) r.form
+  pub form : IsForm (has_flag uses (codes "models")) (has_flag uses (codes "certificate")) (has_flag uses (codes "json")) r.form

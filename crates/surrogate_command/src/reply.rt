@@ -6,13 +6,15 @@ ghost use Rattle.mixed_graph.specs.Sets.{Within, Apart};
 ghost use Rattle.mixed_graph.specs.Shown.{graph_of};
 ghost use Rattle.prob_expr.specs.Listed.{masks_of};
 ghost use Rattle.do_derivation.specs.Accepts.{are_sets};
+ghost use Rattle.replies.specs.Told.{told_of};
 ghost use Rattle.surrogate_command.specs.Answers.{SurrogateAnswer, SetsAnswer};
 ghost use Rattle.surrogate_command.specs.Requests.{request_of};
 
 use crate::form::Form;
+use crate::formats::{formula_shown, stopped_shown};
 use crate::request::Request;
 use crate::sets::{SurrogateSets, asked_sets};
-use crate::texts::{effect_of, formula_text, stopped_text};
+use crate::texts::effect_of;
 use dag_reader::ReadGraph;
 use diagram::Diagram;
 use replies::{Outcome, Reply, refuse};
@@ -32,7 +34,7 @@ pub fn surrogate_reply(
     diagram: &Diagram,
     asked: &Request<'_>,
 ) -> Result<Reply, AllocError>
-    ensures { let q = request_of asked.now in IfOk result (λ r. SurrogateAnswer q.form diagram.now q.x q.y q.experiments r.outcome r.text.items) }
+    ensures { let q = request_of asked.now in IfOk result (λ r. SurrogateAnswer q.form diagram.now q.x q.y q.experiments r.outcome (told_of r)) }
 {
     let (x, y) = (asked.x.as_deref(), asked.y.as_deref());
     match asked_sets(alloc, diagram, x, y, &asked.experiments) {
@@ -54,29 +56,31 @@ fn decide(
     requires some { 0 < sets.now.y.bits }
     requires few { length sets.now.experiments.items ≤ 8 }
     requires experiments { are_sets seen.now.graph.n (masks_of sets.now.experiments.items) ≡ true }
-    ensures { IfOk result (λ r. SetsAnswer form (graph_of seen.now.graph) seen.now.names (masks_of sets.now.experiments.items) sets.now.x.bits sets.now.y.bits r.outcome r.text.items) }
+    ensures { IfOk result (λ r. SetsAnswer form (graph_of seen.now.graph) seen.now.names (masks_of sets.now.experiments.items) sets.now.x.bits sets.now.y.bits r.outcome (told_of r)) }
 {
     let experiments = sets.experiments.as_slice();
     match identify_with(alloc, &seen.graph, sets.x, sets.y, experiments)? {
-        Surrogate::Formula(formula, derivation) => Ok(Reply {
-            outcome: Outcome::Yes,
-            text: formula_text(
+        Surrogate::Formula(formula, derivation) => {
+            let target = effect_of(sets);
+            let text = formula_shown(
                 alloc,
                 &seen.names,
-                effect_of(sets),
+                target,
+                experiments,
                 formula,
                 derivation,
                 form,
-            )?,
-        }),
+            )?;
+            Ok(Reply::answer(alloc, Outcome::Yes, text))
+        }
         Surrogate::Stopped {
             district,
             hedge,
             common,
             ..
-        } => Ok(Reply {
-            outcome: Outcome::No,
-            text: stopped_text(alloc, sets, district, &hedge, common, form, &seen.names)?,
-        }),
+        } => {
+            let text = stopped_shown(alloc, sets, district, &hedge, common, form, &seen.names)?;
+            Ok(Reply::answer(alloc, Outcome::No, text))
+        }
     }
 }

@@ -5,24 +5,25 @@ ghost use Rattle.command_words.specs.Form.{Row, Use, is_among, value_names, valu
 ghost use Rattle.command_words.specs.Gives.{HoldsCall};
 ghost use Rattle.experiment_lists.specs.Words.{AreFilled, AreNeededExperiments, Lists};
 ghost use Rattle.experiment_lists.specs.Views.{lists_in};
-ghost use Rattle.surrogate_command.specs.Forms.{IsForm};
-ghost use Rattle.surrogate_command.specs.declared.form.Form as asked;
+ghost use Rattle.surrogate_command.specs.Forms.{IsWriting};
+ghost use Rattle.surrogate_command.specs.declared.form.Writing as asked;
 
-use crate::form::Form;
+use crate::form::{Form, Writing};
 use command_words::forms::Entry;
 use command_words::typed::{RequestFault, Subject};
 use command_words::values::Values;
 use experiment_lists::read_experiments;
+use replies::Format;
 use std::alloc::Global;
 
-/// `surrogate FILE [--x L] [--y L] --experiments E [--models] [--certificate]`
+/// `surrogate FILE [--x L] [--y L] --experiments E [--models] [--certificate] [--json]`
 pub const ROW: Entry = Entry {
     name: "surrogate",
     positionals: &["file"],
     optional: &[],
     required: &["experiments"],
     options: &["x", "y"],
-    flags: &["models", "certificate"],
+    flags: &["models", "certificate", "json"],
 };
 
 /// What is asked for.
@@ -48,30 +49,32 @@ impl<'a> Request<'a> {
     {
         let models = values.flag("models");
         let certificate = values.flag("certificate");
-        let Some(form) = read_form(models, certificate) else {
+        let json = values.flag("json");
+        let Some(writing) = read_writing(models, certificate) else {
             return Err(RequestFault::NotUnderstood);
         };
         let Subject { file, x, y } = Subject::read(alloc, values)?;
         let experiments = needed_experiments(alloc, values, "experiments")?;
+        let format = Format::of(json);
         Ok(Request {
             file,
             x,
             y,
             experiments,
-            form,
+            form: Form { writing, format },
         })
     }
 }
 
-/// The form of an answer, where at most one is asked for.
-fn read_form(models: bool, certificate: bool) -> Option<Form>
-    ensures some { IfSome result (λ f. IsForm models certificate f) }
-    ensures none { IfNone result ((f : asked.Form) → IsForm models certificate f → ⊥) }
+/// How an answer is written, where at most one way is asked for.
+fn read_writing(models: bool, certificate: bool) -> Option<Writing>
+    ensures some { IfSome result (λ w. IsWriting models certificate w) }
+    ensures none { IfNone result ((w : asked.Writing) → IsWriting models certificate w → ⊥) }
 {
     match (models, certificate) {
-        (false, false) => Some(Form::Plain),
-        (true, false) => Some(Form::Models),
-        (false, true) => Some(Form::Certificate),
+        (false, false) => Some(Writing::Plain),
+        (true, false) => Some(Writing::Models),
+        (false, true) => Some(Writing::Certificate),
         (true, true) => None,
     }
 }

@@ -17,7 +17,7 @@ ghost use Rattle.effect_answers.specs.Lines.{certificate_line};
 ghost use Rattle.surrogate_command.specs.Commons.{IsCommonBelow};
 ghost use Rattle.surrogate_command.specs.Lines.{unfound_line, district_line, stop_answer, common_answer, formula_text, stopped_text, ReadsBack};
 
-use crate::form::Form;
+use crate::form::Writing;
 use crate::sets::SurrogateSets;
 use answer_text::{Notation, push_set};
 use certificate::Certificate;
@@ -126,7 +126,7 @@ pub fn formula_text(
     target: Target,
     formula: Formula,
     derivation: Derivation,
-    form: Form,
+    writing: Writing,
 ) -> Result<Vec<u8>, AllocError>
     requires what { Within (length names.now) (has target.y.bits) }
     requires doing { Within (length names.now) (has target.x.bits) }
@@ -135,12 +135,18 @@ pub fn formula_text(
     requires formula { fault_in (length names.now) (formula_view formula) ≡ None }
     requires derivation { IsDerivationWithin (length names.now) (derivation_view derivation) }
     requires shallow { IsFormulaShallow (formula_view formula) (derivation_view derivation) }
-    ensures text { IfOk result (λ v. v.items ≡ formula_text form names.now (target_view target) (formula_view formula) (derivation_view derivation)) }
-    ensures reads_back { IfOk result (λ v. ReadsBack form names.now (formula_case (target_view target) (formula_view formula) (derivation_view derivation))) }
+    ensures text { IfOk result (λ v. v.items ≡ formula_text writing names.now (target_view target) (formula_view formula) (derivation_view derivation)) }
+    ensures reads_back { IfOk result (λ v. ReadsBack writing names.now (formula_case (target_view target) (formula_view formula) (derivation_view derivation))) }
 {
-    match form {
-        Form::Plain | Form::Models => answer_in(alloc, Notation::Plain, &formula, &target, names),
-        Form::Certificate => {
+    match writing {
+        Writing::Plain | Writing::Models => answer_in(
+            alloc,
+            Notation::Plain,
+            &formula,
+            &target,
+            names,
+        ),
+        Writing::Certificate => {
             let certificate = Certificate::Formula(target, formula, derivation);
             certificate_line(alloc, &certificate, names)
         }
@@ -170,7 +176,7 @@ pub fn stopped_text(
     district: VSet,
     hedge: &Hedge,
     common: Option<CommonHedge>,
-    form: Form,
+    writing: Writing,
     names: &Names,
 ) -> Result<Vec<u8>, AllocError>
     requires x { Within (length names.now) (has sets.now.x.bits) }
@@ -179,9 +185,9 @@ pub fn stopped_text(
     requires district { Within (length names.now) (has district.bits) }
     requires hedge { IsHedgeBelow (length names.now) hedge.now }
     requires common { IfSome common (λ k. IsCommonBelow (length names.now) k) }
-    ensures text { IfOk result (λ v. v.items ≡ stopped_text form names.now sets.now.x.bits sets.now.y.bits district.bits hedge.now common) }
+    ensures text { IfOk result (λ v. v.items ≡ stopped_text writing names.now sets.now.x.bits sets.now.y.bits district.bits hedge.now common) }
     ensures arrays { IfOk result (λ v. IfSome common (λ k. HasArrays k.hedge)) }
-    ensures reads_back { IfOk result (λ v. IfSome common (λ k. ReadsBack form names.now (hedge_case (effect_on sets.now.x.bits sets.now.y.bits) (hedge_view k.hedge)))) }
+    ensures reads_back { IfOk result (λ v. IfSome common (λ k. ReadsBack writing names.now (hedge_case (effect_on sets.now.x.bits sets.now.y.bits) (hedge_view k.hedge)))) }
 {
     let Some(common) = common else {
         return stop_answer(alloc, sets.x, sets.y, district, hedge, names);
@@ -191,9 +197,9 @@ pub fn stopped_text(
         pair,
     } = common;
     has_arrays(&shared);
-    match form {
-        Form::Plain => stop_answer(alloc, sets.x, sets.y, district, hedge, names),
-        Form::Models => common_answer(alloc, sets, district, &shared, &pair, names),
-        Form::Certificate => hedge_certificate(alloc, names, effect_of(sets), shared),
+    match writing {
+        Writing::Plain => stop_answer(alloc, sets.x, sets.y, district, hedge, names),
+        Writing::Models => common_answer(alloc, sets, district, &shared, &pair, names),
+        Writing::Certificate => hedge_certificate(alloc, names, effect_of(sets), shared),
     }
 }

@@ -1,9 +1,11 @@
--- A survey has one text.
-use Rattle.std.proofs.Common.{◌≡◌, ◌+◌, ◌<◌, ◌==◌, ◌&&◌, ℕ, zero, suc, Bool, true, false, not, List, refl, sym, ap, ap₂, ◌∙◌, arith}
+-- Of a survey one thing is told.
+use Rattle.std.proofs.Common.{◌≡◌, ◌+◌, ◌<◌, ◌==◌, ◌&&◌, ℕ, zero, suc, Bool, true, false, not, refl, sym, ap, ap₂, ◌∙◌, arith}
 use Rattle.std.proofs.lemmas.Bool.{eq-eqb}
 use Rattle.mixed_graph.specs.Graphs.{MixedGraph}
+use Rattle.replies.specs.declared.format.Format.{Format}
 use Rattle.replies.specs.declared.outcome.Outcome.TheVariants.{Yes}
-use Rattle.survey_command.specs.Answers.{AreTwo, IsSurvey, count_of_pairs, survey_text, SurveyAnswer}
+use Rattle.replies.specs.Told.{Told}
+use Rattle.survey_command.specs.Answers.{AreTwo, IsSurvey, count_of_pairs, survey_told, SurveyAnswer}
 use Rattle.survey_command.specs.Counts.{pairs_from, arrow_count, spouse_count}
 use Rattle.survey_command.proofs.Tallying.{length-members-same}
 
@@ -26,8 +28,9 @@ counts_alike g s t same = pairs_alike g.vertices (λ a b. not (a == b) && s a b)
     (λ a b lt below. and_same (not (a == b)) (s a b) (t a b) (λ e. same a b (record { first = lt; second = below; differ = unlike a b e })))
 
 -- two tests tell the same effects to have a hedge
-hedged_alike : (g : MixedGraph) (text line : List ℕ) (s : IsSurvey g text) (t : IsSurvey g line) (a b : ℕ) → AreTwo g a b → t.is_hedged a b ≡ s.is_hedged a b
-hedged_alike g text line s t a b two = go (s.is_hedged a b) (t.is_hedged a b) refl refl
+hedged_alike : (format : Format) (seed : ℕ) (g : MixedGraph) (told other : Told) (s : IsSurvey format seed g told) (t : IsSurvey format seed g other) (a b : ℕ)
+    → AreTwo g a b → t.is_hedged a b ≡ s.is_hedged a b
+hedged_alike format seed g told other s t a b two = go (s.is_hedged a b) (t.is_hedged a b) refl refl
   where
     go : (p q : Bool) → s.is_hedged a b ≡ p → t.is_hedged a b ≡ q → t.is_hedged a b ≡ s.is_hedged a b
     go true true e f = f ∙ sym e
@@ -35,14 +38,14 @@ hedged_alike g text line s t a b two = go (s.is_hedged a b) (t.is_hedged a b) re
     go false true e f = absurd (s.unhedged a b two e (t.hedged a b two f))
     go false false e f = f ∙ sym e
 
-survey_once : (g : MixedGraph) (text line : List ℕ) → IsSurvey g text → IsSurvey g line → line ≡ text
-survey_once g text line s t =
+survey_once : (format : Format) (seed : ℕ) (g : MixedGraph) (told other : Told) → IsSurvey format seed g told → IsSurvey format seed g other → other ≡ told
+survey_once format seed g told other s t =
     t.prints
-    ∙ ap₂ (survey_text g.vertices (arrow_count g) (spouse_count g))
-    (counts_alike g (λ a b. not (t.is_hedged a b)) (λ a b. not (s.is_hedged a b)) (λ a b two. ap not (hedged_alike g text line s t a b two)))
-    (counts_alike g t.is_hedged s.is_hedged (hedged_alike g text line s t))
+    ∙ ap₂ (survey_told format seed g.vertices (arrow_count g) (spouse_count g))
+    (counts_alike g (λ a b. not (t.is_hedged a b)) (λ a b. not (s.is_hedged a b)) (λ a b two. ap not (hedged_alike format seed g told other s t a b two)))
+    (counts_alike g t.is_hedged s.is_hedged (hedged_alike format seed g told other s t))
     ∙ sym s.prints
 
 -- the graph that a seed draws has one survey
-pub one_survey_text : (seed : ℕ) (text line : List ℕ) → SurveyAnswer seed Yes text → SurveyAnswer seed Yes line → line ≡ text
-one_survey_text seed text line s t = survey_once _ text line s t
+pub one_survey_text : (format : Format) (seed : ℕ) (told other : Told) → SurveyAnswer format seed Yes told → SurveyAnswer format seed Yes other → other ≡ told
+one_survey_text format seed told other s t = survey_once format seed _ told other s t

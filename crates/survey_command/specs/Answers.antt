@@ -9,6 +9,10 @@ use Rattle.do_derivation.specs.Plans.{PlainDerivation}
 use Rattle.identify.specs.Answers.{IsRightFormula}
 use Rattle.survey_command.specs.Counts.{pairs_from, arrow_count, spouse_count}
 use Rattle.survey_command.specs.Drawn.{drawn_graph}
+use Rattle.replies.specs.declared.format.Format.{Format}
+use Rattle.replies.specs.Told.{Told, answer_of, text_in}
+use Rattle.answer_json.specs.Progress.{json_line}
+use Rattle.survey_command.specs.Objects.{survey_json}
 use Rattle.replies.specs.declared.outcome.Outcome.{Outcome}
 use Rattle.replies.specs.declared.outcome.Outcome.TheVariants.{Yes}
 
@@ -37,17 +41,23 @@ abbrev pub survey_text : (vertices directed bidirected formulas hedges : ℕ) �
 survey_text vertices directed bidirected formulas hedges = codes "vertices " ++ (decimal vertices ++ (codes "\ndirected " ++ (decimal directed
     ++ (codes "\nbidirected " ++ (decimal bidirected ++ (codes "\nformulas " ++ (decimal formulas ++ (codes "\nhedges " ++ (decimal hedges ++ 10 ∷ [])))))))))
 
+-- what is told of them: the five lines, or the object
+abbrev pub survey_told : Format → (seed vertices directed bidirected formulas hedges : ℕ) → Told
+survey_told format seed vertices directed bidirected formulas hedges =
+    answer_of (text_in format (survey_text vertices directed bidirected formulas hedges)
+    (json_line (survey_json seed vertices directed bidirected formulas hedges)))
+
 -- Some test tells for each ordered pair of two vertices whether the effect of the first on the second has a hedge. Where it has none it has a right formula.
--- The text shows how many pairs have a formula, and how many have a hedge.
-pub record IsSurvey (g : MixedGraph) (text : List ℕ) : Type 0 where
+-- What is told shows how many pairs have a formula, and how many have a hedge.
+pub record IsSurvey (format : Format) (seed : ℕ) (g : MixedGraph) (told : Told) : Type 0 where
   pub is_hedged : ℕ → ℕ → Bool
   pub hedged : (a b : ℕ) → AreTwo g a b → is_hedged a b ≡ true → HasHedge g a b
   pub unhedged : (a b : ℕ) → AreTwo g a b → is_hedged a b ≡ false → HasHedge g a b → ⊥
   pub identified : (a b : ℕ) → AreTwo g a b → is_hedged a b ≡ false → HasFormula g a b
-  pub prints : text ≡ survey_text g.vertices (arrow_count g) (spouse_count g)
+  pub prints : told ≡ survey_told format seed g.vertices (arrow_count g) (spouse_count g)
       (count_of_pairs g.vertices (λ a b. not (is_hedged a b))) (count_of_pairs g.vertices is_hedged)
 
 -- the answer of a survey is always the survey of the graph that the seed draws
-abbrev pub SurveyAnswer : (seed : ℕ) → Outcome → List ℕ → Type 0
-SurveyAnswer seed Yes text = IsSurvey (drawn_graph seed) text
-SurveyAnswer seed o text = ⊥
+abbrev pub SurveyAnswer : Format → (seed : ℕ) → Outcome → Told → Type 0
+SurveyAnswer format seed Yes told = IsSurvey format seed (drawn_graph seed) told
+SurveyAnswer format seed o told = ⊥

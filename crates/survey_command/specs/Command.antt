@@ -5,4 +5,4 @@ use Rattle.survey_command.specs.Requests.{Request, IsRequest}
 
 -- its request and its answers
 abbrev pub survey_command : CommandForm
-survey_command = on_words Request IsRequest (λ q. SurveyAnswer q.seed)
+survey_command = on_words Request IsRequest (λ q. q.format) (λ q. SurveyAnswer q.format q.seed)

@@ -1,4 +1,5 @@
 pub mod Answers
+pub mod Objects
 pub mod Tallies
 pub mod Requests
 pub mod Command

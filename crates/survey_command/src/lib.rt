@@ -1,6 +1,7 @@
 //! The command `survey`.
 #![tactic(auto)]
 
+mod objects;
 pub mod random_graph;
 mod reply;
 mod request;

@@ -7,21 +7,23 @@ ghost use Rattle.command_words.specs.Gives.{HoldsCall};
 use command_words::forms::Entry;
 use command_words::typed::{RequestFault, number_word};
 use command_words::values::Values;
+use replies::Format;
 
-/// `survey N`
+/// `survey N [--json]`
 pub const ROW: Entry = Entry {
     name: "survey",
     positionals: &["number"],
     optional: &[],
     required: &[],
     options: &[],
-    flags: &[],
+    flags: &["json"],
 };
 
 /// What is asked for.
 #[derive(Clone, Copy, Debug, PartialEq, Eq)]
 pub struct Request {
     pub seed: u64,
+    pub format: Format,
 }
 
 impl Request {
@@ -35,6 +37,8 @@ impl Request {
         ensures none { (uses : List Use) → HoldsCall survey_row uses values.now → IsErrOf result RequestFault.NotUnderstood → AsksNothing survey_command uses }
     {
         let seed = number_word(values, "number", 0, u64::MAX)?;
-        Ok(Request { seed })
+        let json = values.flag("json");
+        let format = Format::of(json);
+        Ok(Request { seed, format })
     }
 }

@@ -6,15 +6,18 @@
 //! numbers), `repeats` (contents by name, as lists of pieces, each a text and how often it stands), `fails` (a name and the
 //! number of the read of it that fails), `most` (the most bytes that one write takes), `room` (the bytes that fit into `out`),
 //! `fails_out` and `fails_err` (the number of the write that fails), `cuts` (the name of a file; the case is run again with
-//! each shorter front of it) and `each_write` (true: it is run again with each write of `out` failing).
+//! each shorter front of it) and `each_write` (true: it is run again with each write of `out` failing). A byte that stands a
+//! thousand times in a row or more in an output is printed once, and behind it in braces how often it stands.
 #![tactic(auto)]
 
 mod endings;
 mod inputs;
+mod outputs;
 mod turns;
 
 use crate::endings::{Ending, ending_of};
 use crate::inputs::{number_of, shelf_of};
+use crate::outputs::shown;
 use crate::turns::{print_cuts, print_writes};
 use anyhow::{Context, Result};
 use serde_json::Value;
@@ -42,10 +45,12 @@ fn print_ending<W: Write>(alloc: Global, name: &str, ending: &Ending, print: &mu
     let code = ending.status;
     let head = format!(in alloc; "== {name}: {code}\n")?;
     print.write_all(head.as_bytes())?;
-    print.write_all(ending.out.bytes())?;
+    let out = shown(alloc, ending.out.bytes())?;
+    print.write_all(out.as_slice())?;
     if !ending.err.bytes().is_empty() {
+        let err = shown(alloc, ending.err.bytes())?;
         print.write_all(b"-- err\n")?;
-        print.write_all(ending.err.bytes())?;
+        print.write_all(err.as_slice())?;
     }
     Ok(())
 }

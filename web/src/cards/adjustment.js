@@ -1,11 +1,10 @@
 import { button, h } from "../dom.js";
-import { adjustmentLatex } from "../explain.js";
-import { readFault } from "../faults.js";
 import { DIAGRAM } from "../names.js";
-import { listWord, openPath, readSet } from "../text/printed.js";
+import { linesOf } from "../objects.js";
+import { listWord, nameText, pathText, setText } from "../text/printed.js";
 import { Ways } from "../ways.js";
 import { setsWith } from "./containing.js";
-import { formulaBox, isRefused, listed, pathMarks, printedOf, refused, source, verdict, withRole } from "./parts.js";
+import { formulaBox, listed, pathMarks, refused, sourceOf, verdict, withRole } from "./parts.js";
 
 const LIST = ["adjust", DIAGRAM];
 
@@ -13,42 +12,41 @@ const LIST = ["adjust", DIAGRAM];
 async function answer(ctx) {
   const { memory } = ctx, adjusted = withRole(ctx, "adjusted");
   const test = [...LIST, "--set", listWord(adjusted), ...(memory.backDoor ? ["--back-door"] : [])];
-  const [said, tested] = await Promise.all([ctx.ask(LIST), ctx.ask(test)]);
-  if (isRefused(said)) return refused(LIST, said);
-  const lines = said.out.trimEnd().split("\n"), sets = lines.filter((line) => line.startsWith("{"));
-  if (!sets.includes(memory.set)) memory.set = sets[0] ?? null;
-  const chosen = memory.set && [...LIST, "--set", listWord(readSet(memory.set))];
-  const [formula, tex] = chosen ? await Promise.all([ctx.ask(chosen), adjustmentLatex(ctx, chosen)]) : [null, []];
-  const forbidden = tested.out.match(/^forbidden: (.*)$/m)?.[1], name = forbidden?.replace(/^"|"$/g, "");
+  const [said, tested] = await Promise.all([ctx.read(LIST), ctx.read(test)]);
+  if (said.fault) return refused(LIST, said);
+  const { sets } = said.object, set = sets.find((other) => isSame(other, memory.set ?? [])) ?? sets[0] ?? null;
+  memory.set = set;
+  const chosen = set && [...LIST, "--set", listWord(set)], formula = chosen && (await ctx.read(chosen));
+  const { open: path, forbidden } = tested.object;
   const found = {
-    ctx, said, sets, hasMore: lines.includes("more"), adjusted, test, tested, chosen, formula, tex,
-    path: openPath(tested.out), forbidden,
-    isOnTheWay: name && (await new Ways(ctx.askAbout, ctx.graph).leadsToAny(name, withRole(ctx, "outcome"))),
+    ctx, said, sets, hasMore: said.object.more, adjusted, test, tested, chosen, formula, path, forbidden,
+    isOnTheWay: forbidden && (await new Ways(ctx.askAbout, ctx.graph).leadsToAny(forbidden, withRole(ctx, "outcome"))),
     containing: adjusted.length && tested.status === 1 && !forbidden ? await setsWith(ctx, adjusted) : [],
   };
   const isTestFirst = !sets.length || (adjusted.length && tested.status === 1);
   const isOnTest = memory.shows ? memory.shows === "test" : isTestFirst;
   return {
     dot: sets.length ? "yes" : "no", view: () => view(found, isOnTest),
-    marks: isOnTest ? testMarks(found) : setMarks(memory.set),
+    marks: isOnTest ? testMarks(found) : marksOf(set),
   };
 }
 
-const setMarks = (set) => ({ vertices: new Map(readSet(set).map((name) => [name, "chosen"])) });
+const isSame = (one, other) => setText(one) === setText(other);
+
+const marksOf = (set) => ({ vertices: new Map(set.map((name) => [name, "chosen"])) });
 
 function testMarks({ path, forbidden, adjusted }) {
-  if (path) return { edges: pathMarks(path), vertices: new Map(adjusted.map((name) => [name, "chosen"])) };
-  if (forbidden) return { vertices: new Map([[forbidden.replace(/^"|"$/g, ""), "bad"]]) };
-  return { vertices: new Map(adjusted.map((name) => [name, "chosen"])) };
+  if (path) return { edges: pathMarks(path), ...marksOf(adjusted) };
+  return forbidden ? { vertices: new Map([[forbidden, "bad"]]) } : marksOf(adjusted);
 }
 
 function view(found, isOnTest) {
-  const { said, chosen, formula, tex } = found;
+  const { ctx, said, chosen, formula } = found;
   return h("div", {},
     setsVerdict(found), chips(found),
-    source(LIST, said.out),
-    formula && formulaBox(tex, formula.out),
-    formula && source(chosen, formula.out),
+    sourceOf(ctx, LIST, said),
+    formula?.status === 0 && formulaBox(formula.object.latex.split("\n"), linesOf(formula.object)),
+    formula && sourceOf(ctx, chosen, formula),
     h("h3", {}, "The set that is marked adjusted"),
     tested(found, isOnTest));
 }
@@ -58,7 +56,7 @@ function setsVerdict({ sets, hasMore }) {
     return verdict("no", "No set meets the adjustment criterion", "There may still be a formula: see Effect.");
   }
   const title = sets.length === 1 ? "One minimal set" : `${sets.length}${hasMore ? " or more" : ""} minimal sets`;
-  return verdict("yes", title, sets[0] === "{}" ? "The empty set meets the criterion: nothing has to be adjusted for."
+  return verdict("yes", title, !sets[0].length ? "The empty set meets the criterion: nothing has to be adjusted for."
     : "Each meets the adjustment criterion, and no proper subset of it does. Its formula equals the effect in every "
       + "positive finite model that fits the diagram.");
 }
@@ -71,17 +69,17 @@ function chips({ ctx, sets }) {
     ctx.refresh();
   };
   const chip = (set) => h("button", {
-    type: "button", class: "chip", "aria-pressed": String(set === memory.set), data: { key: `set ${set}` },
-    onclick: () => choose(set), onpointerenter: () => ctx.mark(setMarks(set)), onpointerleave: () => ctx.mark(),
-    onfocus: () => ctx.mark(setMarks(set)), onblur: () => ctx.mark(),
-  }, set === "{}" ? "∅ (nothing)" : readSet(set).join(", "));
+    type: "button", class: "chip", "aria-pressed": String(set === memory.set), data: { key: `set ${setText(set)}` },
+    onclick: () => choose(set), onpointerenter: () => ctx.mark(marksOf(set)), onpointerleave: () => ctx.mark(),
+    onfocus: () => ctx.mark(marksOf(set)), onblur: () => ctx.mark(),
+  }, set.join(", ") || "∅ (nothing)");
   return h("div", { class: "chips", role: "group", "aria-label": "Minimal adjustment sets" }, sets.map(chip));
 }
 
 /** The set that is marked, tested. */
 function tested(found, isOnTest) {
   const { ctx, adjusted, chosen, test, tested: said } = found, { memory } = ctx;
-  const take = () => ctx.acts.setAdjusted(readSet(memory.set));
+  const take = () => ctx.acts.setAdjusted(memory.set);
   const show = () => {
     memory.shows = "test";
     ctx.refresh();
@@ -101,9 +99,9 @@ function tested(found, isOnTest) {
       " by the back-door criterion (one exposure)"),
     testVerdict(found),
     containingPart(found),
-    !isOnTest && said.status < 2
+    !isOnTest && !said.fault
       && h("p", {}, button("Show this in the drawing", show, { data: { key: "show test" } })),
-    source(test, printedOf(said)));
+    sourceOf(ctx, test, said));
 }
 
 /** Sets that contain what is marked, where that alone isn't admissible. */
@@ -121,16 +119,14 @@ function containingPart({ ctx, containing, adjusted, tested: said, forbidden }) 
     h("div", { class: "chips", role: "group", "aria-label": "Admissible sets that contain what is marked" }, containing.map(chip)));
 }
 
-const marksOf = (set) => ({ vertices: new Map(set.map((name) => [name, "chosen"])) });
-
-function testVerdict({ tested: said, path, forbidden, isOnTheWay }) {
-  if (said.status === 0) return verdict("yes", "Admissible");
-  if (said.status > 1) return verdict("ask", readFault(said.err).sentence);
+function testVerdict({ tested: { status, fault }, path, forbidden, isOnTheWay }) {
+  if (status === 0) return verdict("yes", "Admissible");
+  if (fault) return verdict("ask", fault.sentence);
   return forbidden
-    ? verdict("no", "Not admissible", h("b", {}, forbidden), isOnTheWay
+    ? verdict("no", "Not admissible", h("b", {}, nameText(forbidden)), isOnTheWay
       ? " lies on the way from the exposure to the outcome: adjusting for it takes away a part of the effect, or biases what is left."
       : " lies behind a vertex that is on the way from the exposure to the outcome: adjusting for it biases the effect.")
-    : verdict("no", "Not admissible", "This path stays open: ", h("code", {}, path));
+    : verdict("no", "Not admissible", "This path stays open: ", h("code", {}, pathText(path)));
 }
 
 /** @type {import("./parts.js").Card} */

@@ -1,28 +1,26 @@
 import { button, h, svg } from "../dom.js";
 import { Diagram } from "../diagram/diagram.js";
 import { summary } from "../diagram/describe.js";
-import { placeName, readFault } from "../faults.js";
 import { DIAGRAM, SECOND } from "../names.js";
-import { readDifference, readGraph } from "../text/printed.js";
-import { listed, printedOf, source, verdict } from "./parts.js";
+import { graphOf } from "../objects.js";
+import { listed, sourceOf, verdict } from "./parts.js";
 
 const WORDS = ["equivalent", DIAGRAM, SECOND];
 const PAUSE_MS = 150;
-const FIRST_OF_TEXT = 7; // graph faults below this number stand at a byte
 
 /** @param {import("./parts.js").Context} ctx */
 async function answer(ctx) {
   const { memory } = ctx;
   memory.second ??= ctx.text;
   if (memory.secondGiven !== memory.second) ctx.put(SECOND, (memory.secondGiven = memory.second));
-  const [said, read] = await Promise.all([ctx.ask(WORDS), ctx.ask(["graph", SECOND])]);
-  const second = read.status === 0 ? readGraph(read.out) : null, difference = readDifference(said.out);
+  const [said, read] = await Promise.all([ctx.read(WORDS), ctx.read(["graph", SECOND])]);
+  const second = read.fault ? null : graphOf(read.object), { difference } = said.object;
   const [own, other] = difference && second ? differenceMarks(difference, ctx.graph, second) : [{}, {}];
   const places = second && (await placesFor(ctx, second));
   return {
     dot: "", marks: own,
-    view: () => h("div", {}, judged(said, difference, memory.second), secondHead(ctx), secondText(ctx),
-      second && picture(second, places, other), source(WORDS, printedOf(said))),
+    view: () => h("div", {}, judged(said), secondHead(ctx), secondText(ctx),
+      second && picture(second, places, other), sourceOf(ctx, WORDS, said)),
   };
 }
 
@@ -34,7 +32,7 @@ async function placesFor(ctx, second) {
 }
 
 /** The first difference in each of the two drawings. */
-function differenceMarks({ kind, names, graph }, first, second) {
+function differenceMarks({ kind, vertices: names, in: graph }, first, second) {
   const vertices = new Map(names.map((name) => [name, "difference"]));
   const pairs = kind === "edge" ? [[names[0], names[1]]] : [[names[0], names[1]], [names[2], names[1]]];
   const shown = graph === "first" ? first : second;
@@ -43,13 +41,13 @@ function differenceMarks({ kind, names, graph }, first, second) {
   return [first, second].map((side) => ({ vertices, edges: side === shown ? edges : [] }));
 }
 
-function judged(said, difference, second) {
-  if (said.status === 0) {
+function judged({ status, object, fault }) {
+  if (status === 0) {
     return verdict("yes", "Equivalent", "Both join the same pairs and have the same unshielded colliders (Verma and "
       + "Pearl), and so imply the same separations.");
   }
-  if (difference) {
-    const { kind, names, graph, separatedIn, x, y, given } = difference;
+  if (status === 1) {
+    const { difference: { kind, vertices: names, in: graph }, separated_in: separatedIn, separation: { x, y, given } } = object;
     return verdict("no", "Not equivalent",
       kind === "edge" ? [`Only the ${graph} joins `, listed(names), ". "]
         : [`Only in the ${graph} do arrows meet at `, h("b", {}, names[1]), " from ",
@@ -57,9 +55,8 @@ function judged(said, difference, second) {
       listed(x), " and ", listed(y), given.length ? [" given ", listed(given)] : "",
       ` are separated in the ${separatedIn} alone.`);
   }
-  const fault = readFault(said.err), hasPlace = fault.graph && fault.detail && fault.number < FIRST_OF_TEXT;
-  return verdict("ask", `${fault.second ? "Second diagram: " : ""}${fault.sentence}`,
-    ...(hasPlace ? [`At ${placeName(Number(fault.detail), second)}.`] : []));
+  return verdict("ask", `${fault.stage?.startsWith("second") ? "Second diagram: " : ""}${fault.sentence}`,
+    ...(fault.line ? [`At line ${fault.line}, column ${fault.column}.`] : []));
 }
 
 function secondHead(ctx) {

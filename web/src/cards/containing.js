@@ -31,10 +31,10 @@ export async function setsWith(ctx, wanted) {
 const words = (set) => ["adjust", DIAGRAM, "--set", listWord(set)];
 
 async function isAdmissible(ctx, set) {
-  return (await ctx.ask(words(set))).status === 0;
+  return (await ctx.read(words(set))).status === 0;
 }
 
 /** Whether the criterion excludes a vertex from every set. */
 async function isForbidden(ctx, name) {
-  return /^forbidden: /m.test((await ctx.ask(words([name]))).out);
+  return (await ctx.read(words([name]))).object.forbidden !== undefined;
 }

@@ -10,7 +10,7 @@ const SOON_MS = 4000; // draws that take longer are made when they are asked for
 const SEED = 1;
 const YES = /=(1|yes|true|success)$/i; // the outcome that is looked at first
 
-/** @typedef {import("../text/printed.js").Cell} Cell */
+/** @typedef {import("../objects.js").Cell} Cell */
 /** @typedef {{ctx: import("./parts.js").Context, words: string[], name: string, table: import("../statistics/table.js").Table,
  *   count: string, cells: Cell[]}} Order the draws of a table, which the words name */
 

@@ -1,12 +1,12 @@
 import { button, h, save } from "../dom.js";
-import { readFault } from "../faults.js";
 import { DIAGRAM } from "../names.js";
+import { levelsIn, valuesOf } from "../objects.js";
 import { countName, tableOf } from "../statistics/table.js";
 import { headerOf, levelsOf, missingIn, readRows, tooFine } from "../text/csv.js";
-import { readCells } from "../text/printed.js";
+import { levelsText } from "../text/printed.js";
 import { contrastPart } from "./contrast.js";
 import { chosenFormula, withoutRecords, zeroPart } from "./formulas.js";
-import { fold, listed, printedOf, source, verdict } from "./parts.js";
+import { fold, listed, sourceOf, verdict } from "./parts.js";
 import { dotPlot } from "./plot.js";
 
 const COUNT_NAMES = /^(count|counts|n|freq|frequency|weight)$/i;
@@ -19,9 +19,9 @@ async function answer(ctx) {
   if (!ctx.memory.csv) return { dot: "", view: () => invitation(ctx) };
   const choice = await chosenFormula(ctx), { way } = choice;
   const words = wordsOf(ctx, way, tableName(ctx.memory.csv.name), countWords(ctx)), exactWords = [...words, "--exact"];
-  const [bounds, exact] = await Promise.all([ctx.ask(words), ctx.ask(exactWords)]);
-  const fault = readFault(bounds.err), hasValue = bounds.status === 0 || exact.status === 0;
-  const without = hasValue ? null : await withoutRecords(ctx, way, fault);
+  const [bounds, exact] = await Promise.all([ctx.read(words), ctx.read(exactWords)]), isExact = exact.status === 0;
+  const { fault } = bounds, hasValue = bounds.status === 0 || isExact;
+  const without = !fault || hasValue ? null : await withoutRecords(ctx, way, fault);
   const found = { ctx, choice, way, words, exactWords, bounds, exact, fault, without, other: without && !way.given.length && (await otherWay(ctx, choice)) };
   const view = bounds.status === 1 ? noFormula : hasValue ? values : noValue;
   const marks = { vertices: new Map([...(way.set ?? []), ...way.given].map((name) => [name, "chosen"])) };
@@ -31,7 +31,7 @@ async function answer(ctx) {
 /** The first way by another set whose formula has a value over the table; nothing where none has. */
 async function otherWay(ctx, { ways, way }) {
   const tried = ways.filter((other) => other.set && other !== way).slice(0, MOST_TRIED);
-  const said = await Promise.all(tried.map((other) => ctx.ask(wordsOf(ctx, other, tableName(ctx.memory.csv.name), countWords(ctx)))));
+  const said = await Promise.all(tried.map((other) => ctx.read(wordsOf(ctx, other, tableName(ctx.memory.csv.name), countWords(ctx)))));
   return tried.find((_, i) => said[i].status === 0);
 }
 
@@ -153,11 +153,11 @@ function levels(ctx) {
 const choices = ({ ctx, choice }) => [tableRow(ctx), choice.row()];
 
 function noFormula(found) {
-  const { way, words, bounds } = found;
+  const { ctx, way, words, bounds } = found;
   const told = way.set ? verdict("no", "Not admissible", "The table isn't read. See Adjust for what this set leaves open, or has too much.")
     : way.given.length ? verdict("no", "Not identifiable under this condition", "The table isn't read. See Effect, with the same condition.")
       : verdict("no", "Not identifiable", "The table isn't read. See Effect for the two models that differ.");
-  return h("div", {}, choices(found), told, source(words, bounds.out));
+  return h("div", {}, choices(found), told, sourceOf(ctx, words, bounds));
 }
 
 function noValue(found) {
@@ -174,7 +174,7 @@ function noValue(found) {
   zeroPart(ctx, without),
   other ? h("p", {}, "The formula of adjusting for ", other.set.length ? listed(other.set) : "nothing", " has a value over this table. ",
     button("Use it", useOther, { id: "use" })) : null,
-  source(words, printedOf(bounds)));
+  sourceOf(ctx, words, bounds));
 }
 
 // ---- The effect
@@ -186,20 +186,20 @@ function contrasts({ ctx, way }, cells) {
 }
 
 function values(found) {
-  const { ctx, way, words, exactWords, bounds, exact } = found;
-  const isExact = exact.status === 0, best = isExact ? exact : bounds, cells = readCells(best.out, way.given);
-  const pinned = [...best.out.matchAll(/^pinned (.*)$/gm)].map((m) => m[1]);
+  const { ctx, words, exactWords, bounds, exact } = found;
+  const isExact = exact.status === 0, { object } = isExact ? exact : bounds, cells = valuesOf(object);
+  const pinned = levelsIn(object.pinned).map((level) => levelsText([level])).join(", ");
   return h("div", {}, choices(found), zeroPart(ctx, false),
     verdict("warn", "Plug-in values", "The formula's value with the table's proportions in it, without sampling error. "
       + "A small table can be far from the truth."),
     dotPlot(cells),
-    pinned.length ? h("p", {}, "Pinned at its first level (in a population that fits the diagram the value doesn't "
-      + "depend on it; in a sample it may): ", h("code", {}, pinned.join(", "))) : null,
+    pinned ? h("p", {}, "Pinned at its first level (in a population that fits the diagram the value doesn't "
+      + "depend on it; in a sample it may): ", h("code", {}, pinned)) : null,
     h("div", { class: "scroll" }, valuesTable(cells, isExact)),
     contrasts(found, cells),
-    source(isExact ? exactWords : words, best.out),
-    isExact && bounds.status === 0 ? fold(ctx, "bounds", "Bounds of 18 digits", () => source(words, bounds.out)) : null,
-    isExact ? null : h("p", {}, readFault(exact.err).sentence));
+    isExact ? sourceOf(ctx, exactWords, exact) : sourceOf(ctx, words, bounds),
+    isExact && bounds.status === 0 ? fold(ctx, "bounds", "Bounds of 18 digits", () => sourceOf(ctx, words, bounds)) : null,
+    isExact ? null : h("p", {}, exact.fault.sentence));
 }
 
 /** A fraction of many digits stands in the printed text alone. */

@@ -1,11 +1,12 @@
 import { button, h } from "../dom.js";
 import { kindOf } from "../explain.js";
 import { DIAGRAM } from "../names.js";
-import { listWord, readNotes } from "../text/printed.js";
+import { boundIn, linesOf, textOf } from "../objects.js";
+import { listWord } from "../text/printed.js";
 import { derivation } from "./derivation.js";
-import { askedAhead, chosenForm, inChosenForm } from "./forms.js";
+import { askedAhead, chosenForm } from "./forms.js";
 import { hedge } from "./hedge.js";
-import { certificateRow, fold, formulaBox, isRefused, listed, refused, source, verdict, withRole } from "./parts.js";
+import { certificateRow, fold, formulaBox, listed, refused, source, verdict, withRole } from "./parts.js";
 import { Ways } from "../ways.js";
 import { chosenSet, howToChoose } from "./sets.js";
 
@@ -18,13 +19,12 @@ async function answer(ctx) {
   const isDirect = doing.length > xs.length;
   const asked = [...IDENTIFY, ...(isDirect ? ["--x", listWord(doing)] : []), ...(names.length ? ["--given", listWord(names)] : [])];
   const more = () => [directPart(ctx, also), condition(ctx, given)];
-  const [form, latex] = await Promise.all([chosenForm(ctx, asked), ctx.ask([...inChosenForm(ctx, asked), "--latex"])]), { said, words } = form;
-  if (isRefused(said)) return refused(words, said, () => (names.length || isDirect ? h("div", { class: "stack" }, more()) : null));
-  if (said.status === 1) return hedge(ctx, words, said, names.length ? await kindOf(ctx, words) : "", ...more());
-  const tex = latex.out.trimEnd().split("\n").filter((line) => !line.startsWith("free "));
+  const form = await chosenForm(ctx, asked), { words, said } = form;
+  if (said.fault) return refused(words, said, () => (names.length || isDirect ? h("div", { class: "stack" }, more()) : null));
+  if (said.status === 1) return hedge(ctx, words, said.object, names.length ? await kindOf(ctx, words) : "", ...more());
   const isUnchanged = !names.length && !isDirect && (await leavesUnchanged(ctx));
   return {
-    dot: "yes", view: () => view({ ctx, form, tex, given, doing, isDirect, isUnchanged, more }),
+    dot: "yes", view: () => view({ ctx, form, given, doing, isDirect, isUnchanged, more }),
     marks: { vertices: new Map([...names.map((name) => [name, "chosen"]), ...also.names.map((name) => [name, "from"])]) },
   };
 }
@@ -59,29 +59,29 @@ function condition(ctx, given) {
     h("div", { class: "pickers" }, given.row()), howToChoose()));
 }
 
-function view({ ctx, form, tex, given, doing: xs, isDirect, isUnchanged, more }) {
-  const { words, said: { out: printed } } = form, ys = withRole(ctx, "outcome");
-  const notes = [form.note && h("li", {}, form.note), ...notesOn(printed, xs, ys)].filter(Boolean);
-  const [effect] = printed.split(" = "), among = given.names.length ? [" given ", listed(given.names)] : "";
+function view({ ctx, form, given, doing: xs, isDirect, isUnchanged, more }) {
+  const { words, said: { object: formula } } = form, ys = withRole(ctx, "outcome");
+  const notes = [form.note && h("li", {}, form.note), ...notesOn(formula, xs, ys)].filter(Boolean);
+  const among = given.names.length ? [" given ", listed(given.names)] : "";
   const claim = xs.length
-    ? [isDirect ? "The effect of setting " : "The effect of ", listed(xs), " on ", listed(ys), among, ": ", h("code", {}, effect), " equals this formula at every "
+    ? [isDirect ? "The effect of setting " : "The effect of ", listed(xs), " on ", listed(ys), among, ": ", h("code", {}, formula.effect), " equals this formula at every "
       + "assignment in every positive finite model that fits the diagram."]
     : ["No exposure is marked, so this is the plain distribution of ", listed(ys), among, "."];
   return h("div", {},
     verdict("yes", "Identifiable", claim),
     isUnchanged ? h("p", { class: "reason" }, "No directed path leads from ", listed(xs), " to ", listed(ys), ", so ", listed(ys),
       ys.length > 1 ? " aren't" : " isn't", " changed by ", listed(xs), ".") : null,
-    formulaBox(tex, printed, form.choice()),
+    formulaBox(formula.latex.split("\n"), linesOf(formula), form.choice()),
     notes.length ? h("ul", { class: "notes" }, notes) : null,
-    source(words, printed),
+    source(words, textOf(formula)),
     fold(ctx, "derivation", "Derivation in the do-calculus", () => derivation(ctx, words)),
     ...more(),
     certificateRow(ctx, words));
 }
 
 /** What there is to say of a formula's signs. */
-function notesOn(printed, xs, ys) {
-  const { bound, parts, free } = readNotes(printed), notes = [];
+function notesOn(formula, xs, ys) {
+  const { free } = formula, bound = boundIn(formula), parts = formula.definitions.length, notes = [];
   const note = (...text) => notes.push(h("li", {}, ...text));
   if (xs.length) {
     note("P(… | do(…)) is the distribution when the exposure is ", h("i", {}, "set"),

@@ -1,8 +1,8 @@
 import { button, h } from "../dom.js";
-import { equationLatex } from "../expression.js";
 import { DIAGRAM } from "../names.js";
-import { experimentsWord, readNotes, readStopped } from "../text/printed.js";
-import { formulaBox, isRefused, listed, refused, source, verdict } from "./parts.js";
+import { linesOf, nodesIn, textOf } from "../objects.js";
+import { experimentsWord } from "../text/printed.js";
+import { formulaBox, listed, refused, source, sourceOf, verdict } from "./parts.js";
 import { chosenSet, howToChoose } from "./sets.js";
 
 const MOST = 8;
@@ -14,11 +14,11 @@ async function answer(ctx) {
   const chosen = sets.map((set) => set.names).filter((names) => names.length);
   const pickers = () => choice(ctx, sets, chosen.length);
   if (!chosen.length) return { dot: "", view: () => h("div", {}, invitation(), pickers()) };
-  const words = ["surrogate", DIAGRAM, "--experiments", experimentsWord(chosen)], said = await ctx.ask(words);
+  const words = ["surrogate", DIAGRAM, "--experiments", experimentsWord(chosen)], said = await ctx.read(words);
   const marks = { vertices: new Map(chosen.flat().map((name) => [name, "chosen"])) };
-  if (isRefused(said)) return { ...refused(words, said, pickers), marks };
-  if (said.status === 1) return stopped(words, said, pickers);
-  return { dot: "", marks, view: () => h("div", {}, pickers(), formulaView(words, said.out)) };
+  if (said.fault) return { ...refused(words, said, pickers), marks };
+  if (said.status === 1) return stopped(ctx, words, said, pickers);
+  return { dot: "", marks, view: () => h("div", {}, pickers(), formulaView(words, said.object)) };
 }
 
 const invitation = () => verdict("ask", "Were other variables set in a trial?",
@@ -35,21 +35,20 @@ function choice(ctx, sets, chosen) {
     canAdd ? h("p", {}, button("Another trial", add, { data: { key: "another trial" } })) : null, howToChoose());
 }
 
-function formulaView(words, printed) {
-  const lines = printed.trimEnd().split("\n").filter((line) => !line.startsWith("free ")), { free } = readNotes(printed);
-  const usesTrial = lines.some((line, i) => (i ? line : line.slice(line.indexOf(" = "))).includes("do("));
+function formulaView(words, formula) {
+  const { effect, latex, free } = formula, usesTrial = nodesIn(formula).some((node) => node.do?.length);
   return h("div", { class: "stack" },
-    verdict("yes", usesTrial ? "A formula from these trials" : "A formula from observations alone", h("code", {}, lines[0].split(" = ")[0]),
+    verdict("yes", usesTrial ? "A formula from these trials" : "A formula from observations alone", h("code", {}, effect),
       " equals it at every assignment in every positive finite model that fits the diagram. A term with do(…) is read "
       + "off the trial that sets these variables; the others are observed."),
-    formulaBox(lines.map(equationLatex), printed),
+    formulaBox(latex.split("\n"), linesOf(formula)),
     free.length ? h("p", {}, "The formula reads ", listed(free), ", yet in every positive model that fits its value doesn't "
       + "depend on it: take any one level.") : null,
-    source(words, printed));
+    source(words, textOf(formula)));
 }
 
-function stopped(words, said, pickers) {
-  const { district, big, small, effect } = readStopped(said.out);
+function stopped(ctx, words, said, pickers) {
+  const { district, effect, hedge: { larger: big, smaller: small } } = said.object;
   const classes = [[big, "hedge-big"], [small, "hedge-small"]];
   return {
     dot: "",
@@ -60,7 +59,7 @@ function stopped(words, said, pickers) {
         + "the effect isn't ruled out."),
       h("p", { class: "legendline" }, h("span", { class: "swatch hedge-big" }), "hedge ", listed(big),
         h("span", { class: "swatch hedge-small" }), "over ", listed(small)),
-      source(words, said.out)),
+      sourceOf(ctx, words, said)),
   };
 }
 

@@ -1,29 +1,30 @@
 // In which form a formula is shown and evaluated: a short one, or as the identification procedure gives it.
 import { h } from "../dom.js";
+import { linesOf } from "../objects.js";
 
 const SHORT = "--short";
 
-/** The words that ask for the form that is chosen. @param {import("./parts.js").Context} ctx */
-export const inChosenForm = ({ memory }, words) => (memory.procedure ? words : [...words, SHORT]);
-
 /** What a card will ask by the text alone that shows the formula of these words. */
-export const askedAhead = (words) => [words, [...words, SHORT], [...words, SHORT, "--latex"]];
+export const askedAhead = (words) => [words, [...words, SHORT]];
 
 /**
  * The form that is chosen of a formula: what was said, the words for it, and what these have more than the procedure's; and where the
  * two forms differ, the choice, with a sentence about it.
- * @typedef {{said: import("../runner.js").Answer, words: string[], more: string[], choice: () => Node | null, note: string | null}} Form
+ * @typedef {{said: import("../objects.js").Said, words: string[], more: string[], choice: () => Node | null, note: string | null}} Form
  */
 
 /** The form that is chosen of the formula that these words ask for. @param {import("./parts.js").Context} ctx @returns {Promise<Form>} */
 export async function chosenForm(ctx, words) {
-  const [said, short] = await Promise.all([ctx.ask(words), ctx.ask([...words, SHORT])]);
-  const isShorter = short.status === 0 && short.out !== said.out, more = isShorter && !ctx.memory.procedure ? [SHORT] : [];
+  const [said, short] = await Promise.all([ctx.read(words), ctx.read([...words, SHORT])]);
+  const isShorter = short.status === 0 && (said.status !== 0 || !isSame(short.object, said.object));
+  const more = isShorter && !ctx.memory.procedure ? [SHORT] : [];
   return {
     said: more.length ? short : said, words: [...words, ...more], more,
     choice: () => (isShorter ? tickBox(ctx) : null), note: isShorter ? noteOn(more) : null,
   };
 }
+
+const isSame = (one, other) => linesOf(one).join("\n") === linesOf(other).join("\n");
 
 function tickBox(ctx) {
   const { memory } = ctx;

@@ -3,7 +3,7 @@ import { h } from "../dom.js";
 import { isWithoutRecords } from "../faults.js";
 import { DIAGRAM } from "../names.js";
 import { missingOf } from "../support.js";
-import { listWord, readSet } from "../text/printed.js";
+import { listWord, setText } from "../text/printed.js";
 import { chosenForm } from "./forms.js";
 import { listed, withRole } from "./parts.js";
 import { chosenSet, howToChoose } from "./sets.js";
@@ -19,9 +19,8 @@ const EFFECT = "", MARKED = "marked", CONDITION = "condition"; // beside these, 
 
 /** The ways that there are, and the one that is chosen. @param {import("./parts.js").Context} ctx @returns {Promise<Choice>} */
 export async function chosenFormula(ctx) {
-  const { memory } = ctx, said = await ctx.ask(["adjust", DIAGRAM]);
-  const sets = said.out.split("\n").filter((line) => line.startsWith("{"));
-  const ways = [ofEffect, ...sets.map(ofSet), ...markedWays(ctx, sets.map(readSet)), conditional(ctx)];
+  const { memory } = ctx, { sets = [] } = (await ctx.read(["adjust", DIAGRAM])).object;
+  const ways = [ofEffect, ...sets.map(ofSet), ...markedWays(ctx, sets), conditional(ctx)];
   const way = ways.find(({ by }) => by === memory.by) ?? ofEffect, form = way.set ? null : await chosenForm(ctx, way.question);
   const picker = way.by === CONDITION ? chosenSet(ctx, "condition", "Given", []) : null;
   return { ways, way: form ? inForm(way, form) : way, row: () => row(ctx, ways, way, picker, form) };
@@ -38,7 +37,7 @@ function setWay(by, label, set, more = []) {
 }
 
 const adjusting = (set) => `of adjusting for ${set.join(", ") || "nothing"}`;
-const ofSet = (printed) => setWay(printed, adjusting(readSet(printed)), readSet(printed));
+const ofSet = (set) => setWay(setText(set), adjusting(set), set);
 
 /** The set that is marked adjusted, by the criterion of the card of adjustment, where it is none of the minimal sets. */
 function markedWays(ctx, minimal) {
@@ -73,7 +72,7 @@ function row(ctx, ways, way, picker, form) {
  */
 export async function withoutRecords(ctx, way, fault) {
   if (!isWithoutRecords(fault)) return null;
-  const { out } = await ctx.ask(way.question), missing = missingOf(fault.detail, out, ctx.observed);
+  const missing = missingOf(fault, (await ctx.read(way.question)).object);
   if (!missing) return [fault.sentence];
   const levels = listed(missing.at.map(({ name, level }) => `${name} = ${level || "(empty)"}`));
   return [

@@ -1,39 +1,44 @@
 import { h } from "../dom.js";
 import { route } from "../diagram/route.js";
-import { parse } from "../expression.js";
-import { readHedge, readSet } from "../text/printed.js";
+import { bitsOf, sumText } from "../objects.js";
+import { termText } from "../text/printed.js";
 import { certificateRow, listed, source, verdict } from "./parts.js";
 
 const MOST_DIGITS = 12;
 
 /**
  * A hedge in the drawing, with both models as tables and the two effects; below it further parts.
- * @param {string} kind under a condition, of which kind the answer is
+ * @param {any} object of `identify` @param {string} kind under a condition, of which kind the answer is
  */
-export function hedge(ctx, words, answer, kind, ...more) {
-  const found = readHedge(answer.out), hedgeEdge = (e) => ({ ...e, cls: "hedge" });
-  const classes = [[found.big, "hedge-big"], [found.small, "hedge-small"]];
+export function hedge(ctx, words, object, kind, ...more) {
+  const { larger, smaller, choices } = object.hedge, links = linksOf(object.hedge);
+  const classes = [[larger, "hedge-big"], [smaller, "hedge-small"]];
   const vertices = new Map(classes.flatMap(([names, cls]) => names.map((n) => [n, cls])));
+  const edges = [...choices.map(({ vertex, child }) => ({ a: vertex, b: child, both: false })), ...links];
   return {
-    dot: "no", view: () => view(ctx, words, answer.out, found, kind, more),
-    marks: { vertices, edges: [...found.choices, ...found.links].map(hedgeEdge) },
+    dot: "no", view: () => view(ctx, words, object, kind, more),
+    marks: { vertices, edges: edges.map((e) => ({ ...e, cls: "hedge" })) },
   };
 }
 
-function view(ctx, words, printed, found, kind, more) {
-  const { asked, effect, big, small, roots } = found;
+/** Its bidirected edges. @returns {import("../text/printed.js").Edge[]} */
+const linksOf = ({ links }) => links.map(([a, b]) => ({ a, b, both: true }));
+
+function view(ctx, words, object, kind, more) {
+  const { joint, models, hedge: { larger, smaller, roots } } = object, asked = object.given.length > 0;
+  const effect = termText({ term: joint.y, do: joint.x, given: [] });
   return h("div", {},
-    verdict("no", "Not identifiable", plainReason(ctx.graph, found), "What is observed doesn't settle ", h("code", {}, effect),
+    verdict("no", "Not identifiable", plainReason(ctx.graph, linksOf(object.hedge)), "What is observed doesn't settle ", h("code", {}, effect),
     ": two positive finite models fit the diagram, agree on all observations, and differ on it. So no formula over what is "
       + "observed equals it in both.",
-    asked ? [" Nor does any formula equal ", h("code", {}, asked), DIFFER[kind] ?? "", "."] : ""),
-    h("p", { class: "legendline" }, h("span", { class: "swatch hedge-big" }), "hedge ", listed(big),
-      h("span", { class: "swatch hedge-small" }), "over ", listed(small), "; roots ", listed(roots)),
-    eventTable(found, parse(effect).doing),
-    h("div", { class: "scroll" }, modelsTable(found)),
+    asked ? [" Nor does any formula equal ", h("code", {}, object.effect), DIFFER[kind] ?? "", "."] : ""),
+    h("p", { class: "legendline" }, h("span", { class: "swatch hedge-big" }), "hedge ", listed(larger),
+      h("span", { class: "swatch hedge-small" }), "over ", listed(smaller), "; roots ", listed(roots)),
+    eventTable(models.event, joint.x),
+    h("div", { class: "scroll" }, modelsTable(models)),
     h("p", { class: "small-print" }, "h and k are bits that a vertex carries; + is addition without carry (1 + 1 = 0). "
-      + "Hidden causes, each 0 or 1: ", found.causes.map(causeText), "."),
-    source(words, printed),
+      + "Hidden causes, each 0 or 1: ", models.causes.map(causeText), "."),
+    source(words, ctx.print(words)),
     certificateRow(ctx, words), ...more);
 }
 
@@ -43,7 +48,7 @@ const DIFFER = { settled: ": the same two models differ on it too", unsettled: "
 const MOST_NAMED = 3;
 
 /** Which hidden causes the hedge rests on, by the names that the drawing has for them. */
-function plainReason(graph, { links }) {
+function plainReason(graph, links) {
   if (!links.length) return null;
   const hidden = new Set(graph.vertices.filter((v) => v.role === "latent").map((v) => v.name));
   const named = (link) => [...new Set((route(graph, link) ?? []).flatMap((e) => [e.a, e.b]))].filter((name) => hidden.has(name));
@@ -63,24 +68,24 @@ function capital([first, ...rest]) {
   return [[join, [head[0].toUpperCase() + head.slice(1), ...more], ...end], ...rest];
 }
 
-const causeText = ([number, on, zero, one], i) => [
-  i ? "; " : "", h("code", {}, `c${number}`), ` acts on ${readSet(on).join(" and ")}, weights ${zero} to ${one}`,
+const causeText = ({ acts_on: on, weights }, i) => [
+  i ? "; " : "", h("code", {}, `c${i}`), ` acts on ${on.join(" and ")}, weights ${weights.join(" to ")}`,
 ];
 
-function eventTable({ event, power }, xs) {
-  const second = 0.5 + 0.5 ** power;
+function eventTable(event, xs) {
+  const power = Number(event.second.split("^")[1]), second = 0.5 + 0.5 ** power; // 1/2 + 1/2^power
   const row = (label, text, value) => h("tr", {}, h("th", { scope: "row" }, label), h("td", {}, text),
     h("td", {}, h("span", { class: "meter", "aria-hidden": "true" }, h("span", { style: `width:${100 * value}%` }))));
   return h("table", { class: "event" },
-    h("caption", {}, "Probability that ", h("code", {}, event), " is even, when ", listed(xs),
+    h("caption", {}, "Probability that ", h("code", {}, sumText(event.sum)), " is even, when ", listed(xs),
       xs.length > 1 ? " are set" : " is set"),
     h("tbody", {}, row("first model", "1/2", 0.5),
       row("second model", ["1/2 + 1/2", h("sup", {}, power), power < MOST_DIGITS ? ` = ${second}` : ""], second)));
 }
 
-function modelsTable({ bits }) {
+function modelsTable(models) {
   const head = ["bit", "first model", "second model"].map((text) => h("th", { scope: "col" }, text));
-  const rows = [...bits].map(([bit, { first, second }]) =>
+  const rows = [...bitsOf(models)].map(([bit, { first, second }]) =>
     h("tr", { class: first === second ? null : "differs" }, h("th", { scope: "row" }, bit), h("td", {}, first),
       h("td", {}, second)));
   return h("table", { class: "models" }, h("caption", {}, "The two models, bit by bit"),

@@ -1,10 +1,10 @@
 import { button, h } from "../dom.js";
-import { readFault } from "../faults.js";
 import { DIAGRAM } from "../names.js";
+import { impliedBy } from "../objects.js";
 import { holm, strataOf } from "../statistics/independence.js";
-import { readImplications } from "../text/printed.js";
+import { levelsText } from "../text/printed.js";
 import { asksForTable, cellsOf, countWords, tableName } from "./data.js";
-import { isRefused, refused, source, verdict } from "./parts.js";
+import { refused, source, sourceOf, verdict } from "./parts.js";
 
 const WORDS = ["implications", DIAGRAM];
 const MOST_ROWS = 200;
@@ -12,17 +12,17 @@ const SEED = 1;
 const PERMUTATIONS = 1000;
 const LEVEL = 0.05;
 
-/** @typedef {import("../text/printed.js").Implication} Implication */
+/** @typedef {import("../objects.js").Implication} Implication */
 
 /** @param {import("./parts.js").Context} ctx */
 async function answer(ctx) {
-  const said = await ctx.ask(WORDS);
-  if (isRefused(said)) return refused(WORDS, said);
-  const { csv } = ctx.memory, pairs = readImplications(said.out);
+  const said = await ctx.read(WORDS);
+  if (said.fault) return refused(WORDS, said);
+  const { csv } = ctx.memory, pairs = impliedBy(said.object);
   const words = csv && pairs.length ? ["implications", DIAGRAM, tableName(csv.name), ...countWords(ctx)] : null;
-  const counted = words && (await ctx.ask(words));
+  const counted = words && (await ctx.read(words));
   const isCounted = counted?.status === 0, tests = isCounted ? await testsOf(ctx, pairs.slice(0, MOST_ROWS)) : null;
-  const found = { ctx, said, pairs, words, counted, tests, told: counted?.status === 0 ? readImplications(counted.out) : pairs };
+  const found = { ctx, said, pairs, words, counted, tests, told: isCounted ? impliedBy(counted.object) : pairs };
   return { dot: "", view: () => view(found) };
 }
 
@@ -44,21 +44,21 @@ async function testsOf(ctx, pairs) {
 /** The records at each level of what is given, by which a difference of counts is one of probabilities. */
 function differenceOf(table, { a, b, given }) {
   const places = given.map((name) => table.names.indexOf(name));
-  const label = (levels) => levels.map((level, i) => `${given[i]}=${table.levels[places[i]][level]}`);
-  return strataOf(table, a, b, given).map((stratum) => ({ at: label(stratum.given), size: stratum.rows.flat().reduce((p, q) => p + q, 0) }));
+  const named = (levels) => new Map(levels.map((level, i) => [given[i], table.levels[places[i]][level]]));
+  return strataOf(table, a, b, given).map((stratum) => ({ at: named(stratum.given), size: stratum.rows.flat().reduce((p, q) => p + q, 0) }));
 }
 
 /** A difference of counts as one of probabilities: it is divided by the square of the records at its level. */
-function asProbability(difference, at, strata) {
-  const plain = at.replaceAll('"', ""), fits = strata.filter((s) => s.at.every((part) => `,${plain},`.includes(`,${part.replaceAll('"', "")},`)));
-  return fits.length === 1 ? Number(difference) / fits[0].size ** 2 : null;
+function asProbability({ difference, cell }, strata) {
+  const stratum = strata.find(({ at }) => cell.every(({ name, level }) => !at.has(name) || at.get(name) === level));
+  return stratum ? Number(difference) / stratum.size ** 2 : null;
 }
 
 function view(found) {
   const { ctx, said, pairs, words, counted, told, tests } = found;
   return h("div", {}, head(pairs),
     pairs.length ? h("div", { class: "scroll" }, table(ctx, told, tests)) : null,
-    source(counted?.status === 0 ? words : WORDS, counted?.status === 0 ? counted.out : said.out),
+    counted?.status === 0 ? sourceOf(ctx, words, counted) : sourceOf(ctx, WORDS, said),
     pairs.length ? dataPart(found) : null);
 }
 
@@ -86,11 +86,12 @@ function table(ctx, pairs, tests) {
 const part = (p) => (p === null || p === undefined ? "–" : p < 0.0001 ? "< 0.0001" : p.toFixed(4));
 
 /** A pair; it is shown in the drawing while it has the pointer or the focus. */
-function row(ctx, { a, b, given, difference, at }, hasData, test) {
+function row(ctx, pair, hasData, test) {
+  const { a, b, given, difference, cell } = pair, at = cell && levelsText(cell);
   const classes = [[[a], "from"], [[b], "to"], [given, "chosen"]];
   const marks = { vertices: new Map(classes.flatMap(([names, cls]) => names.map((name) => [name, cls]))) };
   const show = () => ctx.mark(marks), hide = () => ctx.mark();
-  const share = hasData && test ? asProbability(difference, at, test.shown) : null;
+  const share = hasData && test ? asProbability(pair, test.shown) : null;
   const statistic = test?.p !== null && test ? `G² = ${test.statistic.toFixed(3)}, ${test.degrees} degrees of freedom, ${test.method}` : null;
   return h("tr", {
     tabindex: 0, onpointerenter: show, onfocus: show, onpointerleave: hide, onblur: hide, class: test?.adjusted < LEVEL ? "differs" : null,
@@ -120,7 +121,7 @@ function dataPart({ ctx, words, counted }) {
   const change = h("p", {}, h("b", {}, csv.name), " ",
     button("Another file or column of counts", () => ctx.show("data"), { data: { key: "to data" } }));
   if (counted.status !== 0) {
-    return h("div", { class: "stack" }, title, change, verdict("ask", readFault(counted.err).sentence), source(words, ""));
+    return h("div", { class: "stack" }, title, change, verdict("ask", counted.fault.sentence), source(words, ""));
   }
   return h("div", { class: "stack" }, title, change,
     verdict("warn", "A small p speaks against the diagram; a large one doesn't speak for it", "p is the chance of counts at least as far "

@@ -1,18 +1,18 @@
 // What the cards have in common.
 
 import { button, copyButton, h, save } from "../dom.js";
-import { readFault } from "../faults.js";
+import { lacksMark } from "../faults.js";
 import { formula } from "../formula.js";
 import { CERTIFICATE, DIAGRAM } from "../names.js";
-import { readPath } from "../text/printed.js";
+import { edgesOf } from "../objects.js";
 
-/** @typedef {import("../diagram/diagram.js").Marks} Marks */
+/** @typedef {import("../diagram/diagram.js").Marks} Marks  @typedef {import("../objects.js").Said} Said */
 /**
  * What a card answers with: whether its tab says yes or no, its view, and what it shows in the drawing.
  * @typedef {{dot: "yes" | "no" | "", view: () => Node, marks?: Marks}} Shown
  */
 /**
- * A card asks the program and shows what it printed. `ahead` are the questions that it will ask by the text alone.
+ * A card asks the program and shows what it answers. `ahead` are the questions that it will ask by the text alone.
  * @typedef {{id: string, title: string, hasDot?: boolean, dotWords?: {yes: string, no: string}, ahead?: string[][],
  *   answer: (ctx: Context) => Promise<Shown>}} Card
  */
@@ -22,7 +22,9 @@ import { readPath } from "../text/printed.js";
  * @property {string} text its text
  * @property {string[]} observed the names of vertices that aren't hidden, in their order
  * @property {any} memory what the cards keep between answers
- * @property {(words: string[]) => Promise<import("../runner.js").Answer>} ask
+ * @property {(words: string[]) => Promise<import("../runner.js").Answer>} ask asks for an answer as text
+ * @property {(words: string[]) => Promise<Said>} read asks for it as an object
+ * @property {(words: string[]) => Promise<string>} print asks for what is printed, for a card that is shown
  * @property {(name: string, text: string) => void} put gives the program a second input
  * @property {(text: string, words: string[]) => Promise<import("../runner.js").Answer>} askAbout asks about another text
  * @property {(message: object) => Promise<any>} compute has the worker compute, beside the program
@@ -42,20 +44,28 @@ const shellWord = (word) => (/^[\w./,=-]+$/.test(word) ? word : `'${word.replace
 /** The words as a command line. */
 export const commandOf = (words) => ["causal", ...words].map(shellWord).join(" ");
 
-/** The command line that gives an answer, and the text as the program printed it; none where it's a fault that is told. */
-export function source(words, printed) {
-  const line = commandOf(words);
+/** The command line that gives an answer, and the text that is printed for it, or that will come; empty where there is none. */
+export function source(words, /** @type {string | Promise<string>} */ printed) {
+  const line = commandOf(words), box = h("div", { class: "printed" });
   const shown = line.split(" ").map((word, i) => [i ? " " : "", h("span", { class: "word" }, word)]);
+  const isThere = typeof printed === "string";
+  fillPrinted(box, isThere ? printed : "");
+  if (!isThere) printed.then((text) => fillPrinted(box, text));
   return h("div", { class: "source" },
     h("div", { class: "command" },
       h("code", {}, h("span", { class: "prompt", "aria-hidden": "true" }, "$ "), shown), copyButton(line, "command")),
-    printed && h("div", { class: "printed" },
-      h("pre", { tabindex: 0, role: "region", "aria-label": "Printed by the program" }, printed.trimEnd()),
-      copyButton(printed, "answer")));
+    printed && box);
 }
 
-/** What was printed; nothing where it's a fault, since a sentence tells that. */
-export const printedOf = ({ out, err }) => out + (readFault(err).number ? "" : err);
+function fillPrinted(box, text) {
+  box.replaceChildren(h("pre", { tabindex: 0, role: "region", "aria-label": "Printed by the program" }, text.trimEnd()),
+    copyButton(text, "answer"));
+}
+
+/** The same for an answer: what is printed is asked for when it is shown. A fault is told in a sentence. @param {Said} said */
+export const sourceOf = (ctx, words, { fault }) => source(words, fault ? lineOf(fault) : ctx.print(words));
+
+const lineOf = ({ number, told }) => (number ? "" : told);
 
 /** @param {"yes" | "no" | "ask" | "warn"} kind */
 export const verdict = (kind, title, ...text) =>
@@ -78,23 +88,23 @@ export const withRole = ({ graph }, role) => graph.vertices.filter((v) => v.role
 export const listed = (names) =>
   names.map((name, i) => [i ? (i === names.length - 1 ? " and " : ", ") : "", h("b", {}, name)]);
 
-/** What is shown where the program refuses the question, above it the choices that led to it. */
-export function refused(words, answer, choices = () => null) {
-  const fault = readFault(answer.err), mustMark = fault.number === 4 || fault.number === 5;
+/** What is shown where the program refuses the question, above it the choices that led to it. @param {Said} said */
+export function refused(words, { fault }, choices = () => null) {
   const help = "Click a vertex (or focus it and press e or o) to mark it as the exposure or the outcome.";
   return {
     dot: "",
-    view: () => h("div", {}, choices(), verdict("ask", fault.sentence, ...(mustMark ? [help] : [])),
-      source(words, printedOf(answer))),
+    view: () => h("div", {}, choices(), verdict("ask", fault.sentence, ...(lacksMark(fault) ? [help] : [])),
+      source(words, lineOf(fault))),
   };
 }
 
-/** Whether the program gave neither of its two answers. */
-export const isRefused = (answer) => answer.status > 1 || answer.status < 0;
+/** @param {import("../objects.js").Path} path */
+export const pathMarks = (path) => edgesOf(path).map((e) => ({ ...e, cls: "open" }));
 
-export const pathMarks = (printed) => readPath(printed).map((e) => ({ ...e, cls: "open" }));
-
-/** A formula with its ways out: its LaTeX, and a larger view; and beside them the choice of its form, where there is one. */
+/**
+ * A formula with its ways out: its LaTeX, and a larger view; and beside them the choice of its form, where there is one.
+ * @param {string[]} tex its lines @param {string[]} printed the same as text
+ */
 export function formulaBox(tex, printed, choice = null) {
   const enlarge = () => {
     const close = h("form", { method: "dialog" }, h("button", { class: "small" }, "Close"));

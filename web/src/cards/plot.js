@@ -8,7 +8,7 @@ const TICKS = [0, 0.25, 0.5, 0.75, 1];
 
 /**
  * Values between 0 and 1 as dots: a group per outcome, and per level of a condition, a row per value of the exposure.
- * @param {import("../text/printed.js").Cell[]} cells
+ * @param {import("../objects.js").Cell[]} cells
  */
 export function dotPlot(cells) {
   const groupOf = (c) => (c.given ? `${c.y} among ${c.given}` : c.y), groups = [...new Set(cells.map(groupOf))].slice(0, MOST_GROUPS);

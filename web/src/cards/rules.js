@@ -1,9 +1,8 @@
 import { h } from "../dom.js";
 import { lostEdges, ruleGraph } from "../explain.js";
-import { readFault } from "../faults.js";
-import { openPath } from "../text/printed.js";
+import { pathText } from "../text/printed.js";
 import { inGraph, ruleMarks, ruleWords } from "./derivation.js";
-import { pathMarks, printedOf, source, verdict, withRole } from "./parts.js";
+import { pathMarks, sourceOf, verdict, withRole } from "./parts.js";
 import { chosenSet, howToChoose } from "./sets.js";
 
 const RULES = [
@@ -17,8 +16,8 @@ async function answer(ctx) {
   const z = chosenSet(ctx, "rule z", "z", withRole(ctx, "exposure"));
   const doing = chosenSet(ctx, "rule do", "do", []), given = chosenSet(ctx, "rule given", "given", []);
   const rule = { n, y: y.names, z: z.names, doing: doing.names, given: given.names };
-  const words = ruleWords(rule), [said, graph] = await Promise.all([ctx.ask(words), ruleGraph(ctx, words)]);
-  const path = openPath(said.out), where = graph ? inGraph(await lostEdges(ctx, graph)) : "";
+  const words = ruleWords(rule), [said, graph] = await Promise.all([ctx.read(words), ruleGraph(ctx, words)]);
+  const { open: path } = said.object, where = graph ? inGraph(await lostEdges(ctx, graph)) : "";
   const choose = (e) => {
     ctx.memory.rule = Number(e.target.value);
     ctx.refresh();
@@ -31,19 +30,21 @@ async function answer(ctx) {
         h("select", { data: { key: "rule number" }, onchange: choose },
           RULES.map((text, i) => h("option", { value: i + 1, selected: i + 1 === n }, text)))),
       h("div", { class: "pickers" }, [y, z, doing, given].map((set) => set.row())), howToChoose(),
-      judged(said, path, where), source(words, printedOf(said))),
+      judged(said, where), sourceOf(ctx, words, said)),
   };
 }
 
-function judged(said, path, where) {
-  if (said.status > 1 || said.status < 0) return verdict("ask", readFault(said.err).sentence);
-  if (said.status === 1) {
-    return verdict("no", "The rule doesn't apply", `This path is open ${where}: `, h("code", {}, path));
+function judged({ status, object, fault }, where) {
+  if (fault) return verdict("ask", fault.sentence);
+  if (status === 1) {
+    return verdict("no", "The rule doesn't apply", "It doesn't give ", equationOf(object), `, since this path is open ${where}: `,
+      h("code", {}, pathText(object.open)));
   }
-  const [, equation] = said.out.trim().split(" holds: ");
-  return verdict("yes", "The rule applies", h("code", {}, equation ?? said.out.trim()),
+  return verdict("yes", "The rule applies", equationOf(object),
     ` in every positive finite model that fits the diagram, at every assignment: no path is open ${where}.`);
 }
+
+const equationOf = ({ left, right }) => h("code", {}, `${left} = ${right}`);
 
 /** @type {import("./parts.js").Card} */
 export const rules = { id: "rules", title: "Rules", answer };

@@ -1,5 +1,5 @@
 // What the worker computes beside the program's answers, in parts that are short enough for questions to come between.
-import { readCells } from "../text/printed.js";
+import { saidOf, valuesOf } from "../objects.js";
 import { drawn } from "./bootstrap.js";
 import { testOf } from "./independence.js";
 import { generator } from "./random.js";
@@ -16,7 +16,7 @@ export function drawValues({ table, count, from, draws, seed }, evaluate) {
   const counts = table.cells.map((cell) => cell.count);
   return Array.from({ length: draws }, (_, i) => {
     const said = evaluate(csvOf(table, count, drawn(generator(seed + from + i), counts)));
-    return said.status === 0 ? readCells(said.out).map((cell) => cell.value) : null;
+    return said.status === 0 ? valuesOf(saidOf(said).object).map((cell) => cell.value) : null;
   });
 }
 

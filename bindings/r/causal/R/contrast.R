@@ -96,22 +96,20 @@ values_without_one <- function(values, table, cells) {
 values_over <- function(asked, table, effects) {
   whole <- c(names(effects$x[[1]]), names(effects$y[[1]]), names(effects$given[[1]]), names(effects$pinned))
   words <- c(asked$words, "--count", count_name(table))
-  cells <- cells_of(effects$lines)
+  cells <- cells_of(effects$out)
   function(counts) {
     told <- ask_counts(asked$diagram, words, counts_text(table, counts, whole), hand_back = 5)
-    if (told$status == 0) cell_values(told$lines, cells) else rep(NA_real_, length(effects$from))
+    if (told$status != 0) return(rep(NA_real_, length(effects$from)))
+    if (!identical(cells_of(told$out), cells)) stop("a resample has other cells than the data")
+    (bounds_in(told$out, "from") + bounds_in(told$out, "to")) / 2
   }
 }
 
-cells_of <- function(lines) sub(" from [0-9.]+ to [0-9.]+$", "", lines)
+# There are thousands of resamples, and their answers have the same cells in the same order. So only their bounds are read, and
+# what stands around the bounds is compared.
+cells_of <- function(out) gsub('"(from|to)":"[0-9.]+"', "", out)
 
-# The middles of the bounds, of an answer that has the same cells in the same order.
-cell_values <- function(lines, cells) {
-  if (!identical(cells_of(lines), cells)) stop("a resample has other cells than the data")
-  lines <- lines[!startsWith(lines, "pinned ")]
-  bounds <- strsplit(sub("^.* from ([0-9.]+ to [0-9.]+)$", "\\1", lines), " to ", fixed = TRUE)
-  vapply(bounds, function(bound) mean(as.numeric(bound)), 0)
-}
+bounds_in <- function(out, key) as.numeric(sub('".*', "", strsplit(out, paste0('"', key, '":"'), fixed = TRUE)[[1]][-1]))
 
 # What is computed of the probabilities under both interventions.
 measures <- list(

@@ -1,6 +1,6 @@
 # Tables of counts. The levels of each column are numbered, so that no level of the data has to be read back from text.
 
-# What a command of the library answers over a text of counts; the caller looks at the status.
+# What a command of the library answers over a text of counts.
 ask_counts <- function(diagram, words, text, hand_back = integer(), command = "evaluate") {
   ask(command, diagram, c("counts", words), list(counts = text), hand_back)
 }
@@ -71,7 +71,8 @@ check_counts <- function(counts) {
   if (!is.numeric(counts)) stop("the column of counts has to hold numbers")
   bad <- which(!is.finite(counts) | counts < 0 | counts != round(counts) | counts > 1e15)
   if (length(bad)) {
-    fault <- list(stage = "counts", second = FALSE, number = 4L, sentence = sentences$counts[4], printed = "", status = 4L, row = bad[1])
+    sentence <- "the count of this record is no whole number up to 10^15"
+    fault <- list(stage = "counts", second = FALSE, number = 4L, sentence = sentence, printed = "", status = 4L, row = bad[1])
     stop(new_fault(fault, sentence_text(fault)))
   }
   as.numeric(counts)

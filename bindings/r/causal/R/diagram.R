@@ -23,13 +23,14 @@ read_diagram <- function(file, format = NULL, ...) {
   causal_diagram(text, format, ...)
 }
 
-diagram_of <- function(bytes, doubts = TRUE) {
+diagram_of <- function(bytes) {
   if (any(bytes == 0)) stop("the text of a diagram has a null byte in it, which R's texts can't hold")
-  told <- ask("graph", list(text = bytes))
-  diagram <- structure(c(list(text = as_text(bytes)), read_graph(told$lines)), class = "causal_diagram")
-  if (doubts) warn_of_doubts(diagram$text, diagram)
+  diagram <- new_diagram(as_text(bytes), object_of(ask("graph", list(text = bytes))))
+  warn_of_doubts(diagram$text, diagram)
   diagram
 }
+
+new_diagram <- function(text, object) structure(c(list(text = text), read_graph(object)), class = "causal_diagram")
 
 as_causal_diagram <- function(x, ...) UseMethod("as_causal_diagram")
 
@@ -89,14 +90,15 @@ graph_text <- function(names, edges, exposure = character(), outcome = character
 
 project <- function(diagram) {
   diagram <- as_causal_diagram(diagram)
-  diagram_of(as_bytes(ask("graph", diagram, "--project")$lines), doubts = FALSE)
+  object <- object_of(ask("graph", diagram, "--project"))
+  new_diagram(sub("\n$", "", object$text), object)
 }
 
 has_role <- function(diagram, role) diagram$vertices$name[diagram$vertices$role == role]
 
 as.character.causal_diagram <- function(x, ...) x$text
 
-format.causal_diagram <- function(x, ...) ask("graph", x)$lines
+format.causal_diagram <- function(x, ...) lines_of(object_of(ask("graph", x))$text)
 
 print.causal_diagram <- function(x, ...) {
   cat("causal diagram of ", counted(nrow(x$vertices), "vertex", "vertices"), "\n", sep = "")

@@ -1,11 +1,11 @@
 # Warnings of what in a text may be a typing error, though the library reads it: it may have cost an edge.
 
-bare_form <- "[^ \\t\\r\\n{}\\[\\]\";=,<>@()|*/-]+"
 white_form <- "[ \\t\\r\\n]*"
 
-# The statements `name = value` of a text that is read as a diagram, with the byte at which each begins. Attributes in brackets are none.
+# The statements `name = value` of a text that is read as a diagram, with what stands before each. Attributes in brackets are
+# none.
 dropped_in <- function(text) {
-  none <- frame_of(list(name = character(), text = character(), byte = numeric()))
+  none <- frame_of(list(name = character(), text = character(), before = character()))
   if (!grepl("=", text, fixed = TRUE)) return(none)
   name <- paste0("(?:\"[^\"\\r\\n]*\"|", bare_form, ")")
   statement <- paste0(name, white_form, "=", white_form, "(?:\"[^\"\\r\\n]*\"|[^ \\t\\r\\n,\\]};\"]+)")
@@ -16,8 +16,8 @@ dropped_in <- function(text) {
   is_statement <- grepl(paste0("^", statement, "$"), texts, perl = TRUE)
   if (!any(is_statement)) return(none)
   texts <- texts[is_statement]
-  names <- unquote(vapply(texts, function(it) all_of(paste0("^", name), it), "", USE.NAMES = FALSE))
-  frame_of(list(name = names, text = texts, byte = nchar(substring(text, 1, found[is_statement] - 1), "bytes")))
+  names <- vapply(texts, function(it) all_of(paste0("^", name), it), "", USE.NAMES = FALSE)
+  frame_of(list(name = gsub("\"", "", names, fixed = TRUE), text = texts, before = substring(text, 1, found[is_statement] - 1)))
 }
 
 # Whether a name has neither a letter nor a digit.
@@ -28,12 +28,11 @@ doubts_of <- function(text, graph) {
   edges <- "an edge is written ->, <- or <->"
   dropped <- dropped_in(text)
   dropped <- dropped[dropped$name != "bb", , drop = FALSE]
-  places <- lapply(dropped$byte, place_in_text, text = text)
-  where <- vapply(places, function(place) paste0("at line ", place$line, ", column ", place$column), "")
+  where <- vapply(strsplit(paste0(dropped$before, " ", recycle0 = TRUE), "\n", fixed = TRUE),
+                  function(lines) paste0("at line ", length(lines), ", column ", nchar(lines[length(lines)])), "")
   lone <- setdiff(graph$vertices$name[is_of_signs(graph$vertices$name)], c(graph$edges$from, graph$edges$to))
-  lone <- ifelse(grepl(paste0("^", bare_form, "$"), lone, perl = TRUE), lone, paste0("\"", lone, "\"", recycle0 = TRUE))
   c(paste0("'", dropped$text, "' ", where, " says nothing of the diagram, and was dropped; ", edges, recycle0 = TRUE),
-    paste0("the vertex ", lone, " has no edge, and its name is made of signs; ", edges, recycle0 = TRUE))
+    paste0("the vertex ", printed(lone), " has no edge, and its name is made of signs; ", edges, recycle0 = TRUE))
 }
 
 warn_of_doubts <- function(text, graph) {

@@ -71,14 +71,16 @@ not_identifiable <- function(hedge) {
 effects_of <- function(asked, table, exact = FALSE) {
   words <- c(asked$words, "--count", count_name(table), flag("exact", exact))
   told <- ask_counts(asked$diagram, words, counts_text(table), hand_back = 5)
-  if (told$status == 5) stop(with_levels(causal_fault(told, list(diagram = asked$diagram$text)), table, asked$formula))
-  c(read_effects(told$lines), list(lines = told$lines))
+  if (told$status == 5) stop(with_levels(causal_fault(told, list(diagram = asked$diagram$text)), table, asked$trees))
+  c(read_effects(object_of(told)), list(out = told$out))
 }
 
 # A fault's cell with the levels of the data in place of their numbers, and those of the condition that no record has.
-with_levels <- function(fault, table, formula) {
+with_levels <- function(fault, table, trees) {
   for (name in names(fault$cell)) fault$cell[[name]] <- as.character(level_of(table, name, fault$cell[[name]]))
-  divisor <- if (!is.null(fault$cell)) divisor_at(formula, fault)
+  hint <- switch(fault$number, "", "; bounds (exact = FALSE) may do", "; exact fractions (exact = TRUE) may do")
+  fault$sentence <- paste0(fault$sentence, hint)
+  divisor <- if (!is.null(fault$cell)) divisor_at(trees, fault)
   if (!is.null(divisor)) {
     fault$condition <- fault$cell[names(fault$cell) %in% divisor$names]
     without <- if (is.null(divisor$term)) "a divisor is 0" else paste("no record has what", divisor$term, "is given")
@@ -100,9 +102,7 @@ levels_at <- function(table, codes) {
 
 effects_frame <- function(effects, table) {
   columns <- c(columns_of(effects$x, table), columns_of(effects$given, table), columns_of(effects$y, table))
-  is_exact <- all(nzchar(effects$fraction))
-  columns <- c(columns, list(value = values_of(effects)),
-               if (is_exact) list(fraction = effects$fraction) else list(from = effects$from, to = effects$to))
+  columns <- c(columns, list(value = values_of(effects)), effects[names(effects) %in% c("fraction", "from", "to")])
   structure(frame_of(columns), class = c("causal_effects", "data.frame"), pinned = levels_at(table, effects$pinned), dropped = table$dropped)
 }
 
@@ -113,7 +113,7 @@ columns_of <- function(cells, table) {
 
 # The nearest number of R to a fraction, or to the middle of bounds.
 values_of <- function(effects) {
-  if (!all(nzchar(effects$fraction))) return((as.numeric(effects$from) + as.numeric(effects$to)) / 2)
+  if (is.null(effects$fraction)) return((as.numeric(effects$from) + as.numeric(effects$to)) / 2)
   sides <- strsplit(effects$fraction, "/", fixed = TRUE)
   vapply(sides, function(side) as.numeric(side[1]) / as.numeric(side[2]), 0)
 }

@@ -6,7 +6,7 @@ implications <- function(diagram, data = NULL, count = NULL, missing = c("error"
   table <- if (!is.null(data)) count_table(diagram, character(), data, count, missing, "implications")
   told <- if (is.null(table)) ask("implications", diagram)
           else ask_counts(diagram, c("--count", count_name(table)), counts_text(table), command = "implications")
-  implications_frame(read_implications(told$lines), table)
+  implications_frame(read_implications(object_of(told)), table)
 }
 
 implications_frame <- function(read, table) {

@@ -6,7 +6,7 @@ test_implications <- function(diagram, data, count = NULL, method = c("auto", "c
   method <- match.arg(method)
   if (length(permutations) != 1 || !isTRUE(permutations >= 1 && permutations == round(permutations))) stop("`permutations` is a whole number from 1")
   table <- count_table(diagram, character(), data, count, match.arg(missing), "implications")
-  pairs <- read_implications(ask("implications", diagram)$lines)
+  pairs <- read_implications(object_of(ask("implications", diagram)))
   tests <- with_seed(seed, lapply(seq_along(pairs$a), function(k) {
     independence_test(strata_of(table, pairs$a[k], pairs$b[k], pairs$given[[k]]), method, permutations)
   }))

@@ -5,7 +5,6 @@
 as_it_is <- function(lines) structure(paste(c("", lines, ""), collapse = "\n"), class = "knit_asis", knit_cacheable = NA)
 
 knit_formula <- function(x, ...) {
-  if (is.null(x$latex)) return(knit_text(x))
   free <- if (length(x$free)) paste0("Free: ", paste(x$free, collapse = ", "), ".")
   as_it_is(c("$$", "\\begin{gathered}", paste(x$latex, collapse = " \\\\\n"), "\\end{gathered}", "$$", "", free))
 }

@@ -1,9 +1,16 @@
-# The questions about a diagram alone. Each is a command of the library; its answer is read and kept beside its printed text.
+# The questions about a diagram alone. Each is a command of the library, and its answer what its object says.
 
-# An answer of a class: what was read, the printed text, and the diagram asked about.
+# An answer of a class: what was read, the question, and the diagram asked about.
 new_answer <- function(class, read, told, diagram) {
-  structure(c(read, list(text = sub("\n$", "", told$out), diagram = diagram)), class = c(class, "causal_answer"))
+  structure(c(read, list(asked = told$asked, diagram = diagram)), class = c(class, "causal_answer"))
 }
+
+# The text that the library prints for an answer is asked for where it is wanted.
+`$.causal_answer` <- function(x, name) {
+  if (identical(name, "text")) text_of(.subset2(x, "asked"), .subset2(x, "diagram")) else .subset2(x, name)
+}
+
+`[[.causal_answer` <- `$.causal_answer`
 
 print.causal_answer <- function(x, ...) {
   cat(x$text, "\n", sep = "")
@@ -33,7 +40,7 @@ as.character.causal_path <- function(x, ...) x$text
 separated <- function(diagram, x = NULL, y = NULL, given = NULL) {
   diagram <- as_causal_diagram(diagram)
   told <- ask("separate", diagram, c(option("x", x), option("y", y), option("given", given)))
-  new_answer("causal_separation", read_separation(told$lines), told, diagram)
+  new_answer("causal_separation", read_separation(object_of(told)), told, diagram)
 }
 
 rule_holds <- function(diagram, rule, y, z, do = NULL, given = NULL) {
@@ -41,7 +48,7 @@ rule_holds <- function(diagram, rule, y, z, do = NULL, given = NULL) {
   if (length(rule) != 1 || !rule %in% 1:3) stop("`rule` is 1, 2 or 3")
   words <- c("--rule", as.character(as.integer(rule)), option("y", y), option("z", z), option("do", do), option("given", given))
   told <- ask("rule", diagram, words)
-  new_answer("causal_rule", read_rule(told$lines), told, diagram)
+  new_answer("causal_rule", read_rule(object_of(told)), told, diagram)
 }
 
 # A method for the interactive call of the package graphics, whose first argument has the name `x` too.
@@ -50,20 +57,19 @@ identify.causal_diagram <- function(x, ...) identify_effect(x, ...)
 identify_effect <- function(diagram, x = NULL, y = NULL, given = NULL, short = FALSE) {
   diagram <- as_causal_diagram(diagram)
   words <- c(option("x", x), option("y", y), option("given", given), flag("short", short))
-  told <- ask("identify", diagram, words)
-  certificate <- sub("\n$", "", ask("identify", diagram, c(words, "--certificate"))$out)
-  if (!told$yes) return(new_hedge(told, certificate, diagram, words))
-  latex <- ask("identify", diagram, c(words, "--latex"))$lines
-  read <- c(list(identifiable = TRUE), read_formula(told$lines))
-  read$latex <- if (length(read$free)) latex[-length(latex)] else latex
-  read$certificate <- certificate
+  told <- ask("identify", diagram, words, certificate = TRUE)
+  object <- object_of(told)
+  if (told$yes) new_formula(object, told, diagram) else new_hedge(object, told, diagram)
+}
+
+new_formula <- function(object, told, diagram) {
+  read <- c(list(identifiable = TRUE), read_formula(object), list(certificate = object$certificate))
   new_answer("causal_formula", read, told, diagram)
 }
 
-# The hedge that `identify` gives for these words.
-new_hedge <- function(told, certificate, diagram, words) {
-  read <- c(list(identifiable = FALSE), read_hedge(told$lines), list(certificate = certificate))
-  if (!is.null(read$conditional)) read$settled <- is_settled(diagram, words)
+new_hedge <- function(object, told, diagram) {
+  read <- c(list(identifiable = FALSE), read_hedge(object), list(certificate = object$certificate))
+  if (!is.null(read$conditional)) read$settled <- is_settled(diagram, told$asked$words)
   new_answer("causal_hedge", read, told, diagram)
 }
 
@@ -75,31 +81,32 @@ is_settled <- function(diagram, words) {
   told$status == 0
 }
 
-toLatex.causal_formula <- function(object, ...) {
-  if (is.null(object$latex)) stop("this formula has no LaTeX form: only those of `identify_effect` have one")
-  structure(object$latex, class = "Latex")
-}
+toLatex.causal_formula <- function(object, ...) structure(object$latex, class = "Latex")
 
 summary.causal_hedge <- function(object, ...) structure(object, class = c("summary.causal_hedge", class(object)))
 
 # The hedge without the two models.
 print.summary.causal_hedge <- function(x, ...) {
-  lines <- strsplit(x$text, "\n", fixed = TRUE)[[1]]
+  lines <- lines_of(x$text)
   writeLines(lines[grepl("^(P|district|hedge|choice|link|event)", lines)])
   invisible(x)
 }
 
-# With `models` the two models that exclude every formula, where there are such.
+# With `models` the two models that exclude every formula, where there are such. They come with the certificate, so that without
+# `models` the answer is another one.
 surrogate <- function(diagram, x = NULL, y = NULL, experiments, models = FALSE) {
   diagram <- as_causal_diagram(diagram)
   words <- c(option("x", x), option("y", y), "--experiments", experiments_word(experiments))
-  told <- ask("surrogate", diagram, c(words, if (models) "--models"))
-  if (!told$yes && !is_stopped_hedge(told$lines))
-    return(new_answer("causal_stopped", c(list(identifiable = FALSE), read_stopped(told$lines)), told, diagram))
-  certificate <- sub("\n$", "", ask("surrogate", diagram, c(words, "--certificate"))$out)
-  read <- if (told$yes) read_formula(told$lines) else read_stopped_hedge(told$lines)
-  read <- c(list(identifiable = told$yes), read, list(certificate = certificate))
-  new_answer(if (told$yes) "causal_formula" else "causal_hedge", read, told, diagram)
+  told <- ask("surrogate", diagram, words, certificate = TRUE)
+  object <- object_of(told)
+  if (object$answer == "hedge" && !models) {
+    told <- ask("surrogate", diagram, words)
+    object <- object_of(told)
+  }
+  told$asked$words <- c(words, flag("models", models))
+  if (told$yes) return(new_formula(object, told, diagram))
+  if (object$answer == "hedge") return(new_hedge(object, told, diagram))
+  new_answer("causal_stopped", c(list(identifiable = FALSE), read_stopped(object)), told, diagram)
 }
 
 check_certificate <- function(diagram, certificate, experiments = NULL) {
@@ -108,15 +115,15 @@ check_certificate <- function(diagram, certificate, experiments = NULL) {
   if (is.null(certificate)) stop("this answer has no certificate: only those of `identify_effect` and `surrogate` have one")
   words <- c("certificate", if (length(experiments)) c("--experiments", experiments_word(experiments)))
   told <- ask("check", diagram, words, list(certificate = as_bytes(certificate)))
-  read <- read_judgement(told$lines)
-  new_answer("causal_judgement", c(list(holds = told$yes), read), told, diagram)
+  new_answer("causal_judgement", c(list(holds = told$yes), read_judgement(object_of(told))), told, diagram)
 }
 
 adjustment_sets <- function(diagram, x = NULL, y = NULL, most = 100) {
   diagram <- as_causal_diagram(diagram)
   if (length(most) != 1 || !is.numeric(most) || !most %in% 1:10000) stop("`most` is a whole number from 1 to 10000")
   told <- ask("adjust", diagram, c(option("x", x), option("y", y), "--most", format(most, scientific = FALSE)))
-  new_answer("causal_sets", read_sets(told$lines), told, diagram)
+  object <- object_of(told)
+  new_answer("causal_sets", list(sets = lapply(object$sets, texts), more = object$more), told, diagram)
 }
 
 as.list.causal_sets <- function(x, ...) x$sets
@@ -130,7 +137,7 @@ adjusts <- function(diagram, set, x = NULL, y = NULL, back_door = FALSE) {
   diagram <- as_causal_diagram(diagram)
   words <- c(option("x", x), option("y", y), option("set", as.character(set)), flag("back-door", back_door))
   told <- ask("adjust", diagram, words)
-  new_answer("causal_adjustment", read_adjustment(told$lines), told, diagram)
+  new_answer("causal_adjustment", read_adjustment(object_of(told)), told, diagram)
 }
 
 equivalent <- function(diagram, other, x = NULL, y = NULL, given = NULL) {
@@ -138,5 +145,5 @@ equivalent <- function(diagram, other, x = NULL, y = NULL, given = NULL) {
   other <- as_causal_diagram(other)
   words <- c("other", option("x", x), option("y", y), option("given", given))
   told <- ask("equivalent", diagram, words, list(other = other$text))
-  new_answer("causal_equivalence", read_equivalence(told$lines), told, diagram)
+  new_answer("causal_equivalence", read_equivalence(object_of(told)), told, diagram)
 }

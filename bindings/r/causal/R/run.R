@@ -35,15 +35,29 @@ as_text <- function(bytes) {
   if (validUTF8(text)) text else iconv(text, "UTF-8", "UTF-8", sub = "byte")
 }
 
-# Asks a question about a diagram. `yes` tells whether the status is 0; the status 1 is the answer no. Any other status is an
-# error of the class `causal_fault`. A fault of a value over counts (5) is handed back where the caller wants it.
-ask <- function(command, diagram, words = character(), inputs = list(), hand_back = integer()) {
+# What the library answers to a command about a diagram, which it keeps where it can.
+answer_to <- function(command, diagram, words, inputs) {
   kept <- if (inherits(diagram, "causal_diagram")) keep(diagram)
-  answer <- run_on(c(command, "diagram", words), c(if (is.null(kept)) list(diagram = diagram$text), inputs), kept)
+  run_on(c(command, "diagram", words), c(if (is.null(kept)) list(diagram = diagram$text), inputs), kept)
+}
+
+# Asks a question about a diagram, whose answer is an object of JSON (see `object_of`), with its certificate where that is
+# wanted. `yes` tells whether the status is 0; the status 1 is the answer no. Any other status is an error of the class
+# `causal_fault`, but for those that the caller wants handed back. `asked` is the question, by which `text_of` has the answer as
+# text.
+ask <- function(command, diagram, words = character(), inputs = list(), hand_back = integer(), certificate = FALSE) {
+  answer <- answer_to(command, diagram, c(words, flag("certificate", certificate), "--json"), inputs)
   if (answer$status > 1 && !answer$status %in% hand_back) stop(causal_fault(answer, c(list(diagram = diagram$text), inputs)))
   answer$yes <- answer$status == 0
-  answer$lines <- strsplit(answer$out, "\n", fixed = TRUE)[[1]]
+  answer$asked <- list(command = command, words = words, inputs = inputs)
   answer
+}
+
+# The text that the library prints for a question.
+text_of <- function(asked, diagram) {
+  answer <- answer_to(asked$command, diagram, asked$words, asked$inputs)
+  if (answer$status > 1) stop(causal_fault(answer, list(diagram = diagram$text)))
+  sub("\n$", "", answer$out)
 }
 
 # An option with a list of names: no word for NULL, so that the marks of the diagram count.

@@ -26,9 +26,10 @@ adjusts(diagram, set, x = NULL, y = NULL, back_door = FALSE)
 }
 \value{
   From \code{adjustment_sets} a list of the class \code{causal_sets}: \code{sets}, a list of character vectors (\code{as.list}
-  gives it too; \code{as.data.frame} a row for each \code{set} and \code{name}), and \code{more}, whether there are more than \code{most}. From \code{adjusts} a list of the class
-  \code{causal_adjustment}: \code{holds}, \code{set}, and the formula (\code{target}, \code{expression}) or one of
-  \code{forbidden} and \code{path}. Both have the printed \code{text}.
+  gives it too; \code{as.data.frame} a row for each \code{set} and \code{name}), and \code{more}, whether there are more than
+  \code{most}. From \code{adjusts} a list of the class \code{causal_adjustment}: \code{holds}, \code{set}, and the formula
+  (\code{target}, \code{expression}, \code{latex}) or one of \code{forbidden} and \code{path}. Both have the printed
+  \code{text}.
 }
 \examples{
 diagram <- causal_diagram("dag { A B D [outcome] E [exposure] Z

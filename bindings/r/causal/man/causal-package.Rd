@@ -20,7 +20,7 @@
   and drawings of \pkg{ggplot2} by \code{autoplot} (\code{\link{autoplot.causal_diagram}}).
 
   \strong{What is proved, and what isn't.} The status, the answer and the line that the library gives for its words and inputs
-  are proved. This package hands it text and reads its printed answers; that, the drawings, and all arithmetic with R's
+  are proved. This package hands it text and reads the JSON of its answers; that, the drawings, and all arithmetic with R's
   numbers (\code{value} columns, contrasts, means, intervals and tests) are only tested. An answer holds for the diagram: nothing can say
   whether the diagram is right.
 

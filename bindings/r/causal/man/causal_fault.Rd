@@ -19,7 +19,7 @@
   \describe{
     \item{\code{stage}, \code{number}}{the kind of fault and its number, as the program prints them.}
     \item{\code{second}}{whether it is the second of two diagrams.}
-    \item{\code{sentence}}{what is wrong, in plain words.}
+    \item{\code{sentence}}{what is wrong, in words: mostly those of the library.}
     \item{\code{byte}, \code{line}, \code{column}, \code{caret}}{the place in the text of a graph: the byte from 0, line and column
       from 1, and the line with a caret below it.}
     \item{\code{names}}{the names that the fault is about: vertices, or columns.}

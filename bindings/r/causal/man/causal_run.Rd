@@ -8,8 +8,9 @@
   \item{inputs}{a list named by the files that the words speak of, with texts or raw vectors; the first of a name counts.}
 }
 \details{
-  Text is handed over in UTF-8. Each call reads its inputs anew. The other functions of the package ask the same words of a
-  diagram that the library keeps; what is answered is the same. What is proved is the relation between the words, the inputs,
+  Text is handed over in UTF-8. With the word \code{--json} the answer, or what is refused, is an object of JSON on one line. Each
+  call reads its inputs anew. The other functions of the package ask the same words of a diagram that the library keeps; what is
+  answered is the same. What is proved is the relation between the words, the inputs,
   the status, the answer and the line.
 }
 \value{

@@ -20,8 +20,8 @@
   experiments its models may differ.
 }
 \value{
-  A list of the class \code{causal_judgement}: \code{accepted} (and \code{holds}, the same), with the \code{formula} or the
-  \code{hedge}; or, where it is refused, \code{fault}, \code{at} (\code{"main"} or a lemma, or a vertex), \code{step} and
+  A list of the class \code{causal_judgement}: \code{accepted} (and \code{holds}, the same), with the \code{formula} (a list of
+  \code{target}, \code{expression}, \code{definitions}, \code{free} and \code{latex}) or the \code{hedge}; or, where it is refused, \code{fault}, \code{at} (\code{"main"} or a lemma, or a vertex), \code{step} and
   \code{path}, or \code{hedge_fault}; and the printed \code{text}.
 }
 \examples{

@@ -32,8 +32,9 @@ is_separated(diagram, x, y, given = character())
 \value{
   A list of the class \code{causal_separation}: \code{holds}; the sets \code{x}, \code{y} and \code{given}; \code{path} with
   \code{vertices} and \code{marks} where \code{holds} is \code{FALSE}; and the printed \code{text}. All answers about a
-  diagram are lists of the class \code{causal_answer} with \code{text} and \code{diagram}; \code{print} shows the text, and
-  \code{as.logical} gives \code{holds}, for a formula \code{TRUE}, and \code{FALSE} for what stands in its place.
+  diagram are lists of the class \code{causal_answer} with \code{text} and \code{diagram}; the library is asked for the text where
+  it is looked at, and \code{print} shows it. \code{as.logical} gives \code{holds}, for a formula \code{TRUE}, and \code{FALSE}
+  for what stands in its place.
 }
 \examples{
 collider <- causal_diagram("dag { talent -> fame <- looks }")

@@ -23,9 +23,9 @@ surrogate(diagram, x = NULL, y = NULL, experiments, models = FALSE)
   observations and under each experiment, and differ on the effect: then no formula from these experiments exists.
 }
 \value{
-  For a formula a list of the class \code{causal_formula}, as \code{\link{identify_effect}} gives it, without \code{latex}. Its
-  \code{certificate} is judged by \code{\link{check_certificate}} with the same \code{experiments}. Else a list of the class \code{causal_stopped}: \code{identifiable} (\code{FALSE}), \code{target}, the
-  \code{district}, the sets \code{big}, \code{small} and \code{roots} of the hedge, and the printed \code{text}; or, with
+  For a formula a list of the class \code{causal_formula}, as \code{\link{identify_effect}} gives it. Its \code{certificate} is
+  judged by \code{\link{check_certificate}} with the same \code{experiments}. Else a list of the class \code{causal_stopped}:
+  \code{identifiable} (\code{FALSE}), \code{target}, the \code{district}, the sets \code{big}, \code{small} and \code{roots} of the hedge, and the printed \code{text}; or, with
   \code{models}, a list of the class \code{causal_hedge}, as \code{\link{identify_effect}} gives it, with the \code{district}.
 }
 \seealso{\code{\link{identify_effect}}, \code{\link{check_certificate}}}

@@ -30,7 +30,7 @@ refuses("have a cycle", dot("digraph { a -> b -> a }"))
 # Texts of another kind, and comments, are named
 for (wrong in list(c("digraph { a -> b }", "is DOT"), c("strict digraph { a -> b }", "is DOT"), c("pdag { a -- b }", "is a pdag"),
                    c("pag { a @-> b }", "is a pag"), c(" mag { a -> b }", "is a mag"), c("graph { a -- b }", "without directions"),
-                   c("tree { a }", "begin with the word dag"), c("// a comment\ndag { a }", "a comment stands here"),
+                   c("tree { a }", "does not begin with dag"), c("// a comment\ndag { a }", "a comment stands here"),
                    c("dag { a /* here */ }", "a comment stands here"), c("dag { a # here\n }", "a comment stands here"), c("dag { a \"b }", "no token")))
   refuses(wrong[2], causal_diagram(wrong[1]))
 

@@ -24,7 +24,8 @@ questions <- list(
   c("adjust", "diagram"), c("adjust", "diagram", "--most", "1"), c("adjust", "diagram", "--set={}"), c("implications", "diagram"),
   c("implications", "diagram", "counts"), c("evaluate", "diagram", "counts"), c("evaluate", "diagram", "counts", "--exact"),
   c("surrogate", "diagram", "--experiments=M"), c("equivalent", "diagram", "other"), c("equivalent", "diagram", "certificate"),
-  c("nothing", "diagram"), c("separate", "diagram", "--x")
+  c("nothing", "diagram"), c("separate", "diagram", "--x"), c("graph", "diagram", "--json"), c("separate", "diagram", "--x=U", "--y=Y", "--json"),
+  c("identify", "diagram", "--certificate", "--json"), c("evaluate", "diagram", "counts", "--json"), c("check", "diagram", "certificate", "--json")
 )
 inputs <- list(certificate = certificate, counts = counts, other = "dag { X -> M -> Y }")
 statuses <- integer()

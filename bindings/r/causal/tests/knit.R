@@ -10,7 +10,7 @@ stopifnot(inherits(shown, "knit_asis"), grepl("$$\n\\begin{gathered}\nP(R \\mid 
 napkin <- identify_effect("dag { W -> Z -> X -> Y W <-> X W <-> Y }", "X", "Y")
 stopifnot(grepl("\\\\\n", methods$causal_formula(napkin), fixed = TRUE), grepl("Free: Z.", methods$causal_formula(napkin), fixed = TRUE))
 surrogate <- surrogate("dag { X [exposure] Y [outcome] Z -> X -> Y Z <-> X Z <-> Y }", experiments = "Z")
-stopifnot(grepl("```\nP(Y|do(X)) = ", methods$causal_formula(surrogate), fixed = TRUE))
+stopifnot(grepl("P(Y \\mid \\mathrm{do}(X)) = P(Y \\mid \\mathrm{do}(Z), X)", methods$causal_formula(surrogate), fixed = TRUE))
 stopifnot(grepl("```\ncausal diagram of 3 vertices\ndag {", methods$causal_diagram(stones), fixed = TRUE))
 stopifnot(grepl("not separated: {T} from {S} given {}", methods$causal_answer(separated(stones, "T", "S")), fixed = TRUE))
 

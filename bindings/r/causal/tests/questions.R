@@ -17,9 +17,9 @@ file <- tempfile(fileext = ".dag")
 writeLines("dag { \"\u00c5 b\" -> C }", file, useBytes = TRUE)
 same(read_diagram(file)$vertices$name, c("\u00c5 b", "C"))
 
-# Many new diagrams
+# Many new diagrams, also on a machine that is busy
 taken <- system.time(for (k in 1:1000) causal_diagram(paste0("dag { A", k, " -> B -> C -> D E -> F -> D A", k, " <-> D G -> H -> D }")))
-stopifnot(taken[["user.self"]] < 3)
+stopifnot(taken[["user.self"]] < 15)
 for (wrong in list(3e9, NULL, NA_character_, list("dag {}"), TRUE)) stopifnot(grepl("an input has to be text", try(causal_diagram(wrong), silent = TRUE)))
 
 # Diagrams of other objects
@@ -97,6 +97,7 @@ bow <- "dag { X [exposure] Y [outcome] X -> Y X <-> Y"
 same(identify_effect(paste(bow, "Z -> Y }"), given = "Z")$settled, TRUE)
 joint <- identify_effect(paste(bow, "Z -> Y Z <-> Y }"), given = "Z")
 same(list(joint$target, joint$settled), list("P(Y,Z|do(X))", TRUE))
+same(check_certificate(joint$diagram, joint)$hedge$target, "P(Y,Z|do(X))")
 same(identify_effect(paste(bow, "Y -> Z }"), given = "Z")$settled, FALSE)
 same(identify_effect(paste(bow, "Y -> \"a; b\" U [latent] }"), "X", "Y", given = "a; b")$settled, FALSE)
 same(as.logical(surrogate("dag { X -> Y X <-> Y X -> Z }", "X", "Y", experiments = "Z")), FALSE)

@@ -2,7 +2,7 @@
 library(causal)
 set.seed(1)
 characters <- c("a", "b", "0", "q", "P", " ", "\t", ",", "{", "}", "[", "]", "(", ")", "|", "*", "/", "-", ">", "<", "@", "=", ";", "#",
-                "\\", "^", "%", "'", "+", ".", ":", "?", "\u00c5", "\u4e2d", "\U1F600", "\u00a0")
+                "\\", "^", "%", "'", "+", ".", ":", "?", "\u00c5", "\u4e2d", "\U1F600", "\u00a0", "\u2192")
 odd_name <- function() paste(sample(characters, sample(6, 1), TRUE), collapse = "")
 levels <- c("a,b", "P(x|do(y)) = 1", "\u00c5\n\"z")
 asked <- c(value = 0, none = 0, hedge = 0)
@@ -21,6 +21,7 @@ check_sets <- function(diagram, names, x, y, given) {
   if (!answer$holds) {
     path <- answer$path
     stopifnot(path$vertices[1] == x, path$vertices[length(path$vertices)] == y, all(path$vertices %in% names))
+    stopifnot(endsWith(answer$text, paste0("\nopen: ", path$text)))
     stopifnot(length(path$marks) + 1 == length(path$vertices), all(path$marks %in% c("->", "<-", "<->")))
   }
   sets <- as.list(adjustment_sets(diagram, x, y))
@@ -36,6 +37,7 @@ check_effect <- function(diagram, names, x, y) {
     stopifnot(identical(judged$formula$expression, answer$expression), identical(judged$formula$free, answer$free))
     stopifnot(length(answer$latex) == 1 + length(answer$definitions), all(answer$free %in% names))
   } else {
+    stopifnot(startsWith(answer$text, paste0(getFromNamespace("term_text", "causal")(y, x), " is not identifiable\n")))
     stopifnot(all(answer$big %in% names), all(answer$small %in% answer$big), all(answer$roots %in% answer$small), x %in% answer$big)
     stopifnot(all(unlist(answer[c("choice", "links")]) %in% names), all(unlist(answer$causes$on) %in% names), all(answer$event == y))
   }

@@ -1,19 +1,15 @@
 //! Separations asked of a kept diagram.
 
-ghost use Rattle.std.specs.Prelude.{◌≡◌, IfOk, IsErrOf};
+ghost use Rattle.std.specs.Prelude.{◌≡◌};
 ghost use Rattle.mixed_graph.specs.Bits.{has};
 ghost use Rattle.mixed_graph.specs.Shown.{graph_of};
 ghost use Rattle.m_separation.specs.Walks.{IsSeparated, HasOpenWalk};
-ghost use Rattle.dag_reader.specs.declared.graph.ReadGraph.{ReadGraph as Read};
-ghost use Rattle.caller_memory.specs.Kept.{AreAskable, Keeps, graph_in};
+ghost use Rattle.caller_memory.specs.Kept.{AreAskable, graph_in};
 
-use crate::kept::kept::{KeptDiagram, KeptGraph};
-use crate::kept::naming::{NamesFault, names_on};
-use dag_reader::ReadGraph;
+use crate::kept::kept::KeptGraph;
 use do_rules::are_three_sets;
 use m_separation::separated;
 use mixed_graph::{Graph, VSet};
-use std::alloc::Global;
 
 /// What is answered of a separation.
 #[derive(Clone, Copy, Debug, PartialEq, Eq)]
@@ -56,28 +52,6 @@ impl KeptGraph {
             Separation::Separated
         } else {
             Separation::Open
-        }
-    }
-}
-
-impl KeptDiagram {
-    /// The graph that was read, with its names, which stand on these lines, in order.
-    ///
-    /// `NotNames` where no graph with names on these lines is kept.
-    pub fn graph(&self, alloc: Global, lines: &[u8]) -> Result<ReadGraph, NamesFault>
-        ensures keeps { IfOk result (Keeps self.now lines.now) }
-        ensures refused { IsErrOf result NamesFault.NotNames → (g : Read) → Keeps self.now lines.now g → ⊥ }
-    {
-        match names_on(alloc, lines, self.read.vertices) {
-            Ok(names) => Ok(ReadGraph {
-                names,
-                graph: self.read.graph(),
-                exposures: VSet::of_bits(self.exposures),
-                outcomes: VSet::of_bits(self.outcomes),
-                adjusted: VSet::of_bits(self.adjusted),
-                latent: VSet::of_bits(self.latent),
-            }),
-            Err(fault) => Err(fault),
         }
     }
 }

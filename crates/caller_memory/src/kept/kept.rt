@@ -1,8 +1,10 @@
 //! A diagram in memory of the caller.
 
 ghost use Rattle.std.specs.Prelude.{◌≡◌, ◌≤◌};
+ghost use Rattle.mixed_graph.specs.Bits.{has};
 ghost use Rattle.mixed_graph.specs.Graphs.{Agree, IsMixedGraph, graph_from};
 ghost use Rattle.dag_reader.specs.RoleSets.{AreRoleSets};
+ghost use Rattle.latent_projection.specs.Renumbering.{IsObserved};
 
 use mixed_graph::Rows;
 
@@ -37,4 +39,6 @@ pub struct KeptDiagram {
     pub adjusted: u64,
     pub latent: u64,
     pub ghost marked: { AreRoleSets read.vertices exposures outcomes adjusted latent },
+    pub ghost projected: { ∥ IsObserved (graph_from read.vertices read.children read.spouses) (has latent)
+        (graph_from observed.vertices observed.children observed.spouses) ∥₁ },
 }

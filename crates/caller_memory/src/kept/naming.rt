@@ -51,7 +51,7 @@ fn split_line(bytes: &[u8]) -> Option<(&[u8], &[u8])>
 }
 
 /// Adds a name that isn't there.
-fn add_new(names: &mut Names, name: &[u8]) -> Result<(), NamesFault>
+pub fn add_new(names: &mut Names, name: &[u8]) -> Result<(), NamesFault>
     ensures added { OnOk result (names.new ≡ names.old ++ name.now ∷ []) }
     ensures refused { IsErrOf result NamesFault.NotNames → IsName name.now → is_named names.old name.now ≡ false → length names.old < 64 → ⊥ }
 {

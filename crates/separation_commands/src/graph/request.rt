@@ -7,15 +7,16 @@ ghost use Rattle.command_words.specs.Gives.{HoldsCall};
 use command_words::forms::Entry;
 use command_words::typed::{RequestFault, required_word};
 use command_words::values::Values;
+use replies::Format;
 
-/// `graph FILE [--project]`
+/// `graph FILE [--project] [--json]`
 pub const ROW: Entry = Entry {
     name: "graph",
     positionals: &["file"],
     optional: &[],
     required: &[],
     options: &[],
-    flags: &["project"],
+    flags: &["project", "json"],
 };
 
 /// What is asked for.
@@ -23,6 +24,7 @@ pub const ROW: Entry = Entry {
 pub struct Request<'a> {
     pub file: &'a str,
     pub project: bool,
+    pub format: Format,
 }
 
 impl<'a> Request<'a> {
@@ -37,6 +39,12 @@ impl<'a> Request<'a> {
     {
         let file = required_word(values, "file")?;
         let project = values.flag("project");
-        Ok(Request { file, project })
+        let json = values.flag("json");
+        let format = Format::of(json);
+        Ok(Request {
+            file,
+            project,
+            format,
+        })
     }
 }

@@ -10,16 +10,17 @@ use command_words::typed::{
 };
 use command_words::values::Values;
 use do_rules::Rule;
+use replies::Format;
 use std::alloc::Global;
 
-/// `rule FILE --rule N --y L --z L [--do L] [--given L]`
+/// `rule FILE --rule N --y L --z L [--do L] [--given L] [--json]`
 pub const ROW: Entry = Entry {
     name: "rule",
     positionals: &["file"],
     optional: &[],
     required: &["rule", "y", "z"],
     options: &["do", "given"],
-    flags: &[],
+    flags: &["json"],
 };
 
 /// What is asked for.
@@ -31,6 +32,7 @@ pub struct Request<'a> {
     pub x: Vec<Vec<u8>>,
     pub z: Vec<Vec<u8>>,
     pub given: Vec<Vec<u8>>,
+    pub format: Format,
 }
 
 impl<'a> Request<'a> {
@@ -49,6 +51,8 @@ impl<'a> Request<'a> {
         let x = names_or_empty(alloc, values, "do")?;
         let z = required_names(alloc, values, "z")?;
         let given = names_or_empty(alloc, values, "given")?;
+        let json = values.flag("json");
+        let format = Format::of(json);
         Ok(Request {
             file,
             rule: Rule::of(number),
@@ -56,6 +60,7 @@ impl<'a> Request<'a> {
             x,
             z,
             given,
+            format,
         })
     }
 }

@@ -1,14 +1,13 @@
 //! The texts of `rule`.
 
-ghost use Rattle.std.specs.Prelude.{◌≡◌, ◌++◌, ◌<◌, ◌≤◌, ℕ, OnOk, IfOk, length, codes, slice_index};
+ghost use Rattle.std.specs.Prelude.{◌≡◌, ◌++◌, ◌<◌, ◌≤◌, ℕ, OnOk, IfOk, length, slice_index};
 ghost use Rattle.mixed_graph.specs.Bits.{has};
 ghost use Rattle.mixed_graph.specs.Sets.{Within};
-ghost use Rattle.answer_text.specs.Texts.{term_text};
 ghost use Rattle.replies.specs.Lines.{open_text};
 ghost use Rattle.separation_commands.specs.RuleLines.{equation_text, rule_holds_text, rule_fails_text};
 
+use crate::rule::sides::{left_of, push_side, right_of};
 use answer_text::names::with_number;
-use answer_text::{Term, push_term};
 use do_rules::Rule;
 use m_separation::OpenPath;
 use mixed_graph::Names;
@@ -75,39 +74,8 @@ fn push_equation(
     requires given { Within (length names.now) (has sets.given.bits) }
     ensures { OnOk result (out.new.items ≡ out.old.items ++ equation_text rule names.now (has sets.x.bits) (has sets.y.bits) (has sets.z.bits) (has sets.given.bits)) }
 {
-    let plain = Term {
-        of: sets.y,
-        doing: sets.x,
-        given: sets.given,
-    };
-    let z_done = Term {
-        doing: sets.x.union(sets.z),
-        ..plain
-    };
-    let z_seen = Term {
-        given: sets.z.union(sets.given),
-        ..plain
-    };
-    match rule {
-        Rule::One => push_sides(out, names, z_seen, plain),
-        Rule::Two => push_sides(out, names, z_done, z_seen),
-        Rule::Three => push_sides(out, names, z_done, plain),
-    }
-}
-
-/// Appends two probabilities, with an equals sign between them.
-fn push_sides(out: &mut Vec<u8>, names: &Names, left: Term, right: Term) -> Result<(), AllocError>
-    requires left_of { Within (length names.now) (has left.of.bits) }
-    requires left_doing { Within (length names.now) (has left.doing.bits) }
-    requires left_given { Within (length names.now) (has left.given.bits) }
-    requires right_of { Within (length names.now) (has right.of.bits) }
-    requires right_doing { Within (length names.now) (has right.doing.bits) }
-    requires right_given { Within (length names.now) (has right.given.bits) }
-    ensures { OnOk result (out.new.items ≡ out.old.items ++ (term_text names.now (has left.of.bits) (has left.doing.bits) (has left.given.bits)
-        ++ (codes " = " ++ term_text names.now (has right.of.bits) (has right.doing.bits) (has right.given.bits)))) }
-{
-    push_term(out, names, left)?;
+    push_side(out, names, left_of(rule, sets))?;
     out.extend_from_slice(b" = ")?;
-    push_term(out, names, right)?;
+    push_side(out, names, right_of(rule, sets))?;
     Ok(())
 }

@@ -7,16 +7,17 @@ ghost use Rattle.command_words.specs.Gives.{HoldsCall};
 use command_words::forms::Entry;
 use command_words::typed::{RequestFault, Subject, listed_names};
 use command_words::values::Values;
+use replies::Format;
 use std::alloc::Global;
 
-/// `separate FILE [--x L] [--y L] [--given L]`
+/// `separate FILE [--x L] [--y L] [--given L] [--json]`
 pub const ROW: Entry = Entry {
     name: "separate",
     positionals: &["file"],
     optional: &[],
     required: &[],
     options: &["x", "y", "given"],
-    flags: &[],
+    flags: &["json"],
 };
 
 /// What is asked for.
@@ -26,6 +27,7 @@ pub struct Request<'a> {
     pub x: Option<Vec<Vec<u8>>>,
     pub y: Option<Vec<Vec<u8>>>,
     pub given: Option<Vec<Vec<u8>>>,
+    pub format: Format,
 }
 
 impl<'a> Request<'a> {
@@ -40,6 +42,14 @@ impl<'a> Request<'a> {
     {
         let Subject { file, x, y } = Subject::read(alloc, values)?;
         let given = listed_names(alloc, values, "given")?;
-        Ok(Request { file, x, y, given })
+        let json = values.flag("json");
+        let format = Format::of(json);
+        Ok(Request {
+            file,
+            x,
+            y,
+            given,
+            format,
+        })
     }
 }

@@ -5,6 +5,7 @@ use Rattle.targets.specs.Targets.{Lists}
 use Rattle.targets.proofs.Effects.{query_exposure, query_outcome}
 use Rattle.diagram.specs.Sets.{Names, lent, query_lists}
 use Rattle.diagram.proofs.Lent.{lent_owned}
+use Rattle.replies.specs.Told.{told_of}
 use Rattle.adjust_command.specs.Answers.{SetsAnswer, ListsAnswer, adjust_lists}
 use Rattle.adjust_command.specs.Queries.{query_of}
 use Rattle.adjust_command.specs.Requests.{request_of}
@@ -46,17 +47,17 @@ pub returns-in-Ok : goal.returns-in-Ok
 returns-in-Ok c =
     let at = (goal.at.returns-in-Ok c).After-asked_query in
     let q = graph_of c.args.diagram.now.observed.graph in
-    let query = query_of c.args.asked.now.query in
+    let query = query_of c.args.asked.now.query in let format = c.args.asked.now.format in
     let sets = c.in-Ok.sets in
-    subst (λ (l : Lists). IfOk c.decide.result (λ r. ListsAnswer query q l r.outcome r.text.items)) (same at)
-    (lists_answered (lists at) (SetsAnswer query q c.args.diagram.now.observed.names) sets.x.bits sets.y.bits sets.given.bits c.in-Ok.ensures.sets
+    subst (λ (l : Lists). IfOk c.decide.result (λ r. ListsAnswer format query q l r.outcome (told_of r))) (same at)
+    (lists_answered (lists at) (SetsAnswer format query q c.args.diagram.now.observed.names) sets.x.bits sets.y.bits sets.given.bits c.in-Ok.ensures.sets
     c.decide.result c.decide.ensures)
 
 pub returns-in-Err : goal.returns-in-Err
 returns-in-Err c =
     let at = (goal.at.returns-in-Err c).After-asked_query in
     let q = graph_of c.args.diagram.now.observed.graph in
-    let query = query_of c.args.asked.now.query in
-    subst (λ (l : Lists). IfOk c.refuse.result (λ r. ListsAnswer query q l r.outcome r.text.items)) (same at)
-    (lists_refused (lists at) (SetsAnswer query q c.args.diagram.now.observed.names) c.in-Err.fault c.in-Err.ensures.fault c.refuse.result
-    c.refuse.ensures.outcome c.refuse.ensures.line c.refuse.ensures.fault)
+    let query = query_of c.args.asked.now.query in let format = c.args.asked.now.format in
+    subst (λ (l : Lists). IfOk c.refuse.result (λ r. ListsAnswer format query q l r.outcome (told_of r))) (same at)
+    (lists_refused (lists at) (SetsAnswer format query q c.args.diagram.now.observed.names) c.in-Err.fault c.in-Err.ensures.fault c.refuse.result
+    c.refuse.ensures.outcome c.refuse.ensures.told c.refuse.ensures.fault)

@@ -25,5 +25,5 @@ returns-in_ok-refuse-in-Err c =
         named = subst (λ l. IsNameFault (experiments_fault all seen (map names_in l)) c.in-Err.fault) c.as_slice.ensures.value c.in-Err.ensures.fault;
         known = reply.ensures.fault;
       };
-      prints = reply.ensures.line;
+      prints = reply.ensures.told;
     })

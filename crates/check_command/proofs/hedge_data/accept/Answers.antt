@@ -1,6 +1,4 @@
-use Rattle.std.proofs.Common.{◌≡◌, ℕ, true, length, sym, subst}
-use Rattle.mixed_graph.specs.Bits.{has}
-use Rattle.mixed_graph.specs.Sets.{Within}
+use Rattle.std.proofs.Common.{◌≡◌, ◌∙◌, ℕ, true, length, ap, sym, subst}
 use Rattle.mixed_graph.specs.Shown.{graph_of}
 use Rattle.mixed_graph.proofs.MaskLaws.{below_from}
 use Rattle.finite_models.specs.Data.{meaning}
@@ -12,23 +10,24 @@ use Rattle.prob_expr.specs.View.{target_view}
 use Rattle.prob_expr.proofs.Excluded.{experiments_exclude_formula}
 use Rattle.counter_models.specs.Experiments.{IsHarmlessTo}
 use Rattle.counter_models.proofs.Excluded.{differ_on, no_formula}
+use Rattle.identify_text.specs.Below.{IsHedgeBelow}
 use Rattle.identify_text.proofs.Belows.{hedge_below}
+use Rattle.replies.specs.declared.outcome.Outcome.{Outcome}
+use Rattle.replies.specs.Told.{answer_of, told_of}
+use Rattle.check_command.specs.Answers.{HedgeAnswer}
 use Rattle.check_command.proofs.Harmless.{each_harmless, harmless_from}
 use Rattle.check_command.proofs.Using.{x_within, y_within, sets_apart}
 use Rattle.check_command.proofs.hedge_data.accept.Goals as goal
 
-pub heading_over-requires : goal.heading_over-requires
-heading_over-requires c =
+pub accepted_hedge-requires : goal.accepted_hedge-requires
+accepted_hedge-requires c =
     let g = c.args.seen.now.graph in
     let t = c.args.target.now in
-    let h = c.args.hedge.now in
-    let below = hedge_below (graph_of g) t.x.bits t.y.bits h g.small c.requires.hedge in
     record {
       x = x_within (length c.args.seen.now.names) (target_view t) c.requires.target;
       y = y_within (length c.args.seen.now.names) (target_view t) c.requires.target;
-      big = subst (λ n. Within n (has h.big.bits)) (sym c.args.seen.now.sized) below.big;
-      small = subst (λ n. Within n (has h.small.bits)) (sym c.args.seen.now.sized) below.small;
-      roots = subst (λ n. Within n (has h.roots.bits)) (sym c.args.seen.now.sized) below.roots;
+      hedge = subst (λ n. IsHedgeBelow n c.args.hedge.now) (sym c.args.seen.now.sized)
+          (hedge_below (graph_of g) t.x.bits t.y.bits c.args.hedge.now g.small c.requires.hedge);
     }
 
 pub returns : goal.returns
@@ -40,14 +39,15 @@ returns c =
     let y = t.y.bits in
     let zs = masks_of c.args.experiments.now in
     let apart = sets_apart (length c.args.seen.now.names) (target_view t) c.requires.target in
-    let text = rw (c.deref.ensures.value, c.in_ok-heading.ensures) at c.in_ok-accepted_text.ensures in
     let pair = c.laws.ensures.pairs (graph_of g) g.valid g.small x y h c.requires.hedge in
     let models = c.laws.ensures.counter (graph_of g) g.valid g.small x y h c.requires.hedge apart pair.0 pair.1 in
     let low = below_from g.n h.small.bits (λ v i. c.requires.hedge.sets.low v (c.requires.hedge.sets.small_inside v i)) in
     let harmless : (z : ℕ) → is_listed z zs ≡ true → IsHarmlessTo h z = λ z l. harmless_from h g.n g.small low z (each_harmless h zs c.requires.harmless z l) in
     let under : AgreeUnderAll zs (meaning (graph_of g) pair.0.first) (meaning (graph_of g) pair.0.second) = λ z l.
     c.laws.ensures.experiments (graph_of g) g.valid g.small x y h c.requires.hedge apart pair.0 pair.1 z (harmless z l) in
-    record {
+    subst (λ (o : Outcome). HedgeAnswer c.args.format (graph_of g) c.args.seen.now.names zs (target_view t) h o (told_of c.answer.result))
+    (sym c.answer.ensures.outcome)
+    (record {
       forms = sets_form_hedge (graph_of g) x y h g.valid g.small c.requires.hedge;
       evidence = c.requires.hedge;
       harmless = harmless;
@@ -58,5 +58,5 @@ returns c =
       no_formula_over = experiments_exclude_formula (graph_of g) g.valid (meaning (graph_of g) pair.0.first) (meaning (graph_of g) pair.0.second)
           models.first.fits models.second.fits models.first.positive models.second.positive models.observed zs under (record { x = x; y = y; given = 0 })
           (differ_on (graph_of g) g.valid x y pair.0 models);
-      prints = text;
-    }
+      prints = c.answer.ensures.told ∙ ap answer_of c.in_ok-text.ensures;
+    })

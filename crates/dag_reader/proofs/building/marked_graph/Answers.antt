@@ -1,5 +1,5 @@
 use Rattle.dag_reader.proofs.MarkLists.{all_inside_more}
 use Rattle.dag_reader.proofs.building.marked_graph.Goals as goal
 
-pub edges_in-edges-requires : goal.edges_in-edges-requires
-edges_in-edges-requires c = all_inside_more _ 64 c.args.marks.now c.count-count.ensures.names.few c.requires
+pub edges_and_roles-said-requires : goal.edges_and_roles-said-requires
+edges_and_roles-said-requires c = all_inside_more _ 64 c.args.marks.now c.count-count.ensures.names.few c.requires

@@ -30,5 +30,5 @@ returns-in_ok-refuse-in-Err c =
       is_fault = listed (subst (λ (q : Option Query). IsListsFault d (option_map query_of q) f) (sym c.in-Some.is)
           (not_memory (IsTargetFault (lists_on d (query_of q))) f c.in_ok-refuse-in-Err.ensures.fault
           (subst (λ (l : Lists). OrMemory (IsTargetFault l) f) same c.in-Err.ensures.fault)));
-      prints = c.in_ok-refuse-in-Err.ensures.line;
+      prints = c.in_ok-refuse-in-Err.ensures.told;
     }

@@ -7,5 +7,5 @@ returns-in_ok-refuse-in-Some c = λ query asked.
       outcome = c.in_ok-refuse-in-Some.ensures.outcome;
       fault = c.in-Some.fault;
       is_fault = bidirected c.args.sets asked (rw c.in-Some.is at c.in_ok-fault.ensures.found);
-      prints = c.in_ok-refuse-in-Some.ensures.line;
+      prints = c.in_ok-refuse-in-Some.ensures.told;
     }

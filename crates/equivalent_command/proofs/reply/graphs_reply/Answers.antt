@@ -1,3 +1,4 @@
+use Rattle.equivalent_command.proofs.Held.{target_refused}
 use Rattle.equivalent_command.proofs.reply.graphs_reply.Goals as goal
 
 pub compared_reply-requires-clause-comparable : goal.compared_reply-requires-clause-comparable
@@ -7,9 +8,6 @@ compared_reply-requires-clause-comparable c = record {
   names = rw c.in-None.is at c.in_ok-fault.ensures.names;
 }
 
-pub returns-in_ok-second_line-in-Some : goal.returns-in_ok-second_line-in-Some
-returns-in_ok-second_line-in-Some c = record {
-  fault = c.in-Some.fault;
-  is_fault = rw c.in-Some.is at c.in_ok-fault.ensures.found;
-  prints = c.in_ok-second_line-in-Some.ensures.line;
-}
+pub returns-in-Some : goal.returns-in-Some
+returns-in-Some c = target_refused c.args.format c.args.first.now c.args.sets c.args.second.now c.in-Some.fault (rw c.in-Some.is at c.in_ok-fault.ensures.found)
+    c.refuse_second_target.result c.refuse_second_target.ensures.outcome c.refuse_second_target.ensures.told

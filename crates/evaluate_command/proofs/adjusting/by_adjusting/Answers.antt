@@ -21,5 +21,5 @@ returns-in-Ok c = c.find_adjusted.ensures (lent c.args.x) (lent c.args.y) (texts
 pub returns-in_ok-refuse-in-Err : goal.returns-in_ok-refuse-in-Err
 returns-in_ok-refuse-in-Err c =
     let r = c.in_ok-refuse-in-Err in
-    set_refused c.args.diagram.now (lent c.args.x) (lent c.args.y) c.in-Err.fault r.field-0 r.ensures.outcome r.ensures.line r.ensures.fault
+    set_refused c.args.format c.args.diagram.now (lent c.args.x) (lent c.args.y) c.in-Err.fault r.field-0 r.ensures.outcome r.ensures.told r.ensures.fault
     c.args.by_back_door (texts c.args.set.now) c.in-Err.ensures.fault

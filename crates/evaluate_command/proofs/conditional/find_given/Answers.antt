@@ -1,4 +1,4 @@
-use Rattle.std.proofs.Common.{◌≤◌, ℕ, length, refl, sym, subst}
+use Rattle.std.proofs.Common.{◌≤◌, ℕ, length, refl, sym, subst, ap, ◌∙◌}
 use Rattle.mixed_graph.specs.Bits.{has}
 use Rattle.mixed_graph.specs.Sets.{Within}
 use Rattle.mixed_graph.specs.Shown.{graph_of}
@@ -12,6 +12,10 @@ use Rattle.conditional_id.specs.Answers.{IsRight, IsJointEffect, IsJointShown, I
 use Rattle.identify_text.specs.Below.{IsHedgeBelow, ArePairBelow}
 use Rattle.identify_text.proofs.Belows.{hedge_below}
 use Rattle.effect_answers.proofs.Belows.{pair_below}
+use Rattle.replies.specs.declared.outcome.Outcome.{Outcome}
+use Rattle.replies.specs.Told.{answer_of, told_of}
+use Rattle.evaluate_command.specs.Answers.{EvaluateFirst}
+use Rattle.evaluate_command.specs.Ways.{by_condition}
 use Rattle.evaluate_command.proofs.RightFormulas.{found_by_condition}
 use Rattle.evaluate_command.proofs.conditional.find_given.Goals as goal
 
@@ -24,8 +28,8 @@ shortened_if-requires-clause-usable c =
     (subst (λ a. IfFormula a IsShallowGiven) c.in-Formula.is c.in_ok-formula.ensures.shallow)
     (subst (λ a. IfFormula a (λ f d. length f.defs ≤ 4096)) c.in-Formula.is c.in_ok-formula.ensures.few)
 
-pub joint_answer-requires : goal.joint_answer-requires
-joint_answer-requires c =
+pub joint_in-requires : goal.joint_in-requires
+joint_in-requires c =
     let seen = c.args.diagram.now.observed in
     let g = graph_of seen.graph in
     let t = target_view c.args.target in
@@ -34,11 +38,9 @@ joint_answer-requires c =
     let shown = subst (λ a. IfJoint a (IsJointShown g t)) c.in-Joint.is c.in_ok-formula.ensures.shown in
     let on_names : (P : ℕ → Type 0) → P seen.graph.n → P (length seen.names) = λ P. subst P (sym seen.sized) in
     record {
-      target = record {
-        what = on_names (λ n. Within n (has c.args.target.y.bits)) sets.y_within;
-        doing = on_names (λ n. Within n (has c.args.target.x.bits)) sets.x_within;
-        given = on_names (λ n. Within n (has c.args.target.given.bits)) sets.w_within;
-      };
+      what = on_names (λ n. Within n (has c.args.target.y.bits)) sets.y_within;
+      doing = on_names (λ n. Within n (has c.args.target.x.bits)) sets.x_within;
+      given = on_names (λ n. Within n (has c.args.target.given.bits)) sets.w_within;
       x = on_names (λ n. Within n (has c.in-Joint.x.bits)) effect.target.sets.x_within;
       y = on_names (λ n. Within n (has c.in-Joint.y.bits)) effect.target.sets.y_within;
       hedge = on_names (λ n. IsHedgeBelow n c.in-Joint.hedge) (hedge_below g c.in-Joint.x.bits c.in-Joint.y.bits c.in-Joint.hedge seen.graph.small
@@ -61,12 +63,15 @@ returns-in_ok-shown-in-Formula c = λ x y given asked.
     c.in_ok-shown-in-Formula.ensures.first (subst (λ a. IfFormula a (IsConditionalBySteps g t)) c.in-Formula.is c.in_ok-formula.ensures.derived)) in
     record { names = refl; graph = refl; identified = found.0; found = (asked, found.1) }
 
-pub returns-in_ok-joint_answer-in-Joint : goal.returns-in_ok-joint_answer-in-Joint
-returns-in_ok-joint_answer-in-Joint c = λ x y given asked.
-    let g = graph_of c.args.diagram.now.observed.graph in
+pub returns-in_ok-text-in-Joint : goal.returns-in_ok-text-in-Joint
+returns-in_ok-text-in-Joint c = λ x y given asked.
+    let d = c.args.diagram.now in
+    let g = graph_of d.observed.graph in
     let t = target_view c.args.target in
+    let r = c.answer.result in
     let shown = subst (λ a. IfJoint a (IsJointShown g t)) c.in-Joint.is c.in_ok-formula.ensures.shown in
-    let right = subst (IsRight g t) c.in-Joint.is c.in_ok-formula.ensures.right in (
+    let right = subst (IsRight g t) c.in-Joint.is c.in_ok-formula.ensures.right in
+    subst (λ (o : Outcome). EvaluateFirst c.args.format (by_condition c.args.short given) d x y o (told_of r)) (sym c.answer.ensures.outcome) (
       λ yes. absurd (cc yes),
       record {
         target = t;
@@ -84,8 +89,8 @@ returns-in_ok-joint_answer-in-Joint c = λ x y given asked.
           differs = right.target;
           found = record { right = right.hedge; evidence = shown.hedge; stop = shown.stop; built = shown.built; models = shown.models };
           arrays = c.has_arrays.ensures;
-          prints = c.in_ok-joint_answer-in-Joint.ensures;
-          reads_back = λ certificate. absurd (cc certificate);
+          prints = c.answer.ensures.told ∙ ap answer_of c.in_ok-text-in-Joint.ensures;
+          reads_back = λ text certificate. absurd (cc certificate);
         };
       },
     )

@@ -1,19 +1,31 @@
-use Rattle.std.proofs.Common.{false, length, refl, subst}
+use Rattle.std.proofs.Common.{false, length, refl, subst, sym, ap, ◌∙◌}
+use Rattle.mixed_graph.specs.Bits.{has}
+use Rattle.mixed_graph.specs.Sets.{Within}
 use Rattle.mixed_graph.specs.Shown.{graph_of}
 use Rattle.identify.specs.Answers.{IsRightAlone}
 use Rattle.effect_answers.proofs.Found.{found_alone, hedge_named_alone, pair_named_alone}
 use Rattle.prob_expr.specs.View.{formula_view}
+use Rattle.replies.specs.declared.outcome.Outcome.{Outcome}
+use Rattle.replies.specs.Told.{answer_of, told_of}
+use Rattle.evaluate_command.specs.Answers.{EvaluateFirst}
+use Rattle.evaluate_command.specs.Ways.{by_procedure}
 use Rattle.evaluate_command.proofs.RightFormulas.{bare_sets, found_by_procedure}
 use Rattle.evaluate_command.proofs.procedure.first_formula.Goals as goal
 
-pub hedge_answer-requires-clause-hedge : goal.hedge_answer-requires-clause-hedge
-hedge_answer-requires-clause-hedge c =
+pub hedge_in-requires-clause-x : goal.hedge_in-requires-clause-x
+hedge_in-requires-clause-x c = subst (λ n. Within n (has c.args.sets.x.bits)) (sym c.args.diagram.now.observed.sized) c.requires.x
+
+pub hedge_in-requires-clause-y : goal.hedge_in-requires-clause-y
+hedge_in-requires-clause-y c = subst (λ n. Within n (has c.args.sets.y.bits)) (sym c.args.diagram.now.observed.sized) c.requires.y
+
+pub hedge_in-requires-clause-hedge : goal.hedge_in-requires-clause-hedge
+hedge_in-requires-clause-hedge c =
     let seen = c.args.diagram.now.observed in
     hedge_named_alone (graph_of seen.graph) c.args.sets.x.bits c.args.sets.y.bits c.in-Hedge.hedge c.in-Hedge.pair c.in-Hedge.is
     (length seen.names) seen.sized seen.graph.small c.in_ok-formula.ensures.hedge
 
-pub hedge_answer-requires-clause-models : goal.hedge_answer-requires-clause-models
-hedge_answer-requires-clause-models c =
+pub hedge_in-requires-clause-models : goal.hedge_in-requires-clause-models
+hedge_in-requires-clause-models c =
     let seen = c.args.diagram.now.observed in
     pair_named_alone (graph_of seen.graph) c.args.sets.x.bits c.args.sets.y.bits c.in-Hedge.hedge c.in-Hedge.pair c.in-Hedge.is
     (length seen.names) seen.sized seen.graph.valid c.requires.y c.in_ok-formula.ensures.pair c.in_ok-formula.ensures.counter
@@ -26,18 +38,18 @@ returns-in-Formula c = λ x y asked.
     (formula_view c.in-Formula.formula) right.derivation right.right right.derived in
     record { names = refl; graph = refl; identified = found.0; found = (asked, found.1) }
 
-pub returns-in_ok-hedge_answer-in-Hedge : goal.returns-in_ok-hedge_answer-in-Hedge
-returns-in_ok-hedge_answer-in-Hedge c = λ x y asked.
+pub returns-in_ok-text-in-Hedge : goal.returns-in_ok-text-in-Hedge
+returns-in_ok-text-in-Hedge c = λ x y asked.
     let e = c.in_ok-formula.ensures in let on = c.args.sets.x.bits in let of = c.args.sets.y.bits in
-    record {
+    let d = c.args.diagram.now in let r = c.answer.result in
+    subst (λ (o : Outcome). EvaluateFirst c.args.format (by_procedure false) d x y o (told_of r)) (sym c.answer.ensures.outcome) (record {
       x = on;
       y = of;
       sets = asked;
       answer = record {
         hedge = c.in-Hedge.hedge;
         pair = c.in-Hedge.pair;
-        found = found_alone (graph_of c.args.diagram.now.observed.graph) on of c.in-Hedge.hedge c.in-Hedge.pair c.in-Hedge.is e.right e.hedge e.stop e.data
-            e.pair;
-        prints = c.in_ok-hedge_answer-in-Hedge.ensures;
+        found = found_alone (graph_of d.observed.graph) on of c.in-Hedge.hedge c.in-Hedge.pair c.in-Hedge.is e.right e.hedge e.stop e.data e.pair;
+        prints = c.answer.ensures.told ∙ ap answer_of c.in_ok-text-in-Hedge.ensures;
       };
-    }
+    })

@@ -6,6 +6,7 @@ use Rattle.targets.proofs.Effects.{query_exposure, query_outcome}
 use Rattle.diagram.specs.Sets.{Names, lent, query_lists}
 use Rattle.diagram.proofs.Lent.{lent_owned}
 use Rattle.replies.specs.Observed.{AnswerForSets}
+use Rattle.replies.specs.Told.{told_of}
 use Rattle.adjust_command.proofs.Lists.{three_sets, lists_answered, lists_refused}
 use Rattle.explain_call.specs.Formulas.{FormulaFor}
 use Rattle.explain_call.specs.Requests.{formula_of}
@@ -43,13 +44,13 @@ returns-in-Ok c =
     let at = (goal.at.returns-in-Ok c).After-asked_query in
     let answer = FormulaFor c.args.asked.now.back_door (graph_of c.args.diagram.now.observed.graph) c.args.diagram.now.observed.names in
     let sets = c.in-Ok.sets in
-    subst (λ (l : Lists). IfOk c.decide.result (λ r. AnswerForSets l answer r.outcome r.text.items)) (same at)
+    subst (λ (l : Lists). IfOk c.decide.result (λ r. AnswerForSets l answer r.outcome (told_of r))) (same at)
     (lists_answered (lists at) answer sets.x.bits sets.y.bits sets.given.bits c.in-Ok.ensures.sets c.decide.result c.decide.ensures)
 
 pub returns-in-Err : goal.returns-in-Err
 returns-in-Err c =
     let at = (goal.at.returns-in-Err c).After-asked_query in
     let answer = FormulaFor c.args.asked.now.back_door (graph_of c.args.diagram.now.observed.graph) c.args.diagram.now.observed.names in
-    subst (λ (l : Lists). IfOk c.refuse.result (λ r. AnswerForSets l answer r.outcome r.text.items)) (same at)
+    subst (λ (l : Lists). IfOk c.refuse.result (λ r. AnswerForSets l answer r.outcome (told_of r))) (same at)
     (lists_refused (lists at) answer c.in-Err.fault c.in-Err.ensures.fault c.refuse.result
-    c.refuse.ensures.outcome c.refuse.ensures.line c.refuse.ensures.fault)
+    c.refuse.ensures.outcome c.refuse.ensures.told c.refuse.ensures.fault)

@@ -9,4 +9,4 @@ returns-in_ok-diagram-in-Ok c = on_file (request_of c.args.request.now) c.args.f
 
 pub returns-in-Err : goal.returns-in-Err
 returns-in-Err c = refused (request_of c.args.request.now) c.args.file.now c.args.second.now c.in-Err.fault (search rules)
-    c.in-Err.ensures c.refuse_graph.result c.refuse_graph.ensures.outcome c.refuse_graph.ensures.line c.refuse_graph.ensures.fault
+    c.in-Err.ensures c.refuse_graph.result c.refuse_graph.ensures.outcome c.refuse_graph.ensures.told c.refuse_graph.ensures.fault

@@ -27,4 +27,4 @@ returns-in-Err c =
     let fault = rw (c.deref.ensures.value, c.deref-2.ensures.value, c.deref-3.ensures.value, c.deref-4.ensures.value) at c.in-Err.ensures.fault in
     refused_lists (IsRuleFault lists) (RuleGraphIn q.rule (graph_of d.observed.graph) lists) c.in-Err.fault fault
     (λ is line prints. record { fault = c.in-Err.fault; is_fault = is; prints = prints })
-    c.refuse.result c.refuse.ensures.outcome c.refuse.ensures.line c.refuse.ensures.fault
+    c.refuse.result c.refuse.ensures.outcome c.refuse.ensures.told c.refuse.ensures.fault

@@ -6,6 +6,7 @@ use Rattle.targets.specs.Targets.{Lists, IsListFault}
 use Rattle.targets.proofs.Effects.{listed_outcome}
 use Rattle.diagram.specs.Sets.{Names, lent, query_lists}
 use Rattle.diagram.proofs.Lent.{lent_owned}
+use Rattle.replies.specs.Told.{told_of}
 use Rattle.identify_command.proofs.Lists.{three_sets}
 use Rattle.explain_call.specs.Requests.{settled_of}
 use Rattle.explain_call.specs.Settled.{KindIn}
@@ -43,14 +44,14 @@ returns-in-Ok c =
     let q = graph_of c.args.diagram.now.observed.graph in
     let s = c.in-Ok.sets in
     let target : PlainTarget = record { x = s.x.bits; y = s.y.bits; given = s.given.bits } in
-    subst (λ (l : Lists). IfOk c.tell_kind.result (λ r. KindIn q l r.outcome r.text.items)) (same at)
+    subst (λ (l : Lists). IfOk c.tell_kind.result (λ r. KindIn q l r.outcome (told_of r))) (same at)
     (on_target q (lists at) target c.in-Ok.ensures.sets c.tell_kind.result c.tell_kind.ensures)
 
 pub returns-in-Err : goal.returns-in-Err
 returns-in-Err c =
     let at = (goal.at.returns-in-Err c).After-asked_condition in
     let q = graph_of c.args.diagram.now.observed.graph in
-    subst (λ (l : Lists). IfOk c.refuse.result (λ r. KindIn q l r.outcome r.text.items)) (same at)
+    subst (λ (l : Lists). IfOk c.refuse.result (λ r. KindIn q l r.outcome (told_of r))) (same at)
     (refused_lists (IsListFault (lists at)) (KindIn q (lists at)) c.in-Err.fault c.in-Err.ensures.fault
     (λ is line prints. record { fault = c.in-Err.fault; is_fault = is; prints = prints })
-    c.refuse.result c.refuse.ensures.outcome c.refuse.ensures.line c.refuse.ensures.fault)
+    c.refuse.result c.refuse.ensures.outcome c.refuse.ensures.told c.refuse.ensures.fault)

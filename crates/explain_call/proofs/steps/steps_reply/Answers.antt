@@ -1,13 +1,14 @@
-use Rattle.std.proofs.Common.{rules}
+use Rattle.std.proofs.Common.{codes, refl, rules}
 use Rattle.mixed_graph.specs.Shown.{graph_of}
 use Rattle.prob_expr.specs.View.{formula_view, target_view}
 use Rattle.do_derivation.specs.View.{derivation_view}
 use Rattle.certificate.specs.Plain.{hedge_view, formula}
-use Rattle.certificate.specs.Reading.{certificate_in}
-use Rattle.check_command.specs.Answers.{faulty}
+use Rattle.replies.specs.declared.outcome.Outcome.TheVariants.{No}
+use Rattle.replies.specs.Told.{answer_of}
 use Rattle.check_command.proofs.ReadFormulas.{read_sound}
-use Rattle.check_command.proofs.Using.{unread}
-use Rattle.explain_call.proofs.Telling.{tells, of_hedge}
+use Rattle.explain_call.specs.Steps.{StepsIn}
+use Rattle.explain_call.proofs.Replying.{replied_if}
+use Rattle.explain_call.proofs.Telling.{tells, of_hedge, unread_certificate}
 use Rattle.explain_call.proofs.steps.steps_reply.Goals as goal
 
 pub tell-requires : goal.tell-requires
@@ -23,14 +24,17 @@ returns-in-Ok-Formula c =
     tells c.args.graphs (graph_of c.args.seen.now.graph) c.args.seen.now.names c.args.certificate.now (search rules)
     (target_view c.in-Ok-Formula.target) (formula_view c.in-Ok-Formula.formula) (derivation_view c.in-Ok-Formula.derivation) reads c.tell.result c.tell.ensures
 
-pub returns-in_ok-from_slice-in-Ok-Hedge : goal.returns-in_ok-from_slice-in-Ok-Hedge
-returns-in_ok-from_slice-in-Ok-Hedge c =
+pub returns-in-Ok-Hedge : goal.returns-in-Ok-Hedge
+returns-in-Ok-Hedge c =
     let reads = rw c.in-Ok-Hedge.field-0-is at c.in-Ok-Hedge.ensures in
-    of_hedge c.args.graphs (graph_of c.args.seen.now.graph) c.args.seen.now.names c.args.certificate.now (search rules)
-    (target_view c.in-Ok-Hedge.target) (hedge_view c.in-Ok-Hedge.hedge) c.in_ok-from_slice-in-Ok-Hedge.field-0.items reads (search rules)
+    let seen = c.args.seen.now in let told = answer_of (codes "hedge\n") in
+    replied_if (StepsIn c.args.graphs (graph_of seen.graph) seen.names c.args.certificate.now) No told
+    (of_hedge c.args.graphs (graph_of seen.graph) seen.names c.args.certificate.now (search rules)
+    (target_view c.in-Ok-Hedge.target) (hedge_view c.in-Ok-Hedge.hedge) told reads refl)
+    c.word_reply.result c.word_reply.ensures.outcome c.word_reply.ensures.told
 
-pub returns-in_ok-line-in-Err : goal.returns-in_ok-line-in-Err
-returns-in_ok-line-in-Err c =
-    let line = c.in_ok-line-in-Err in
-    faulty c.in-Err.fault (search rules) line.ensures.memory
-    (unread c.in-Err.fault (certificate_in c.args.seen.now.names c.args.certificate.now) c.in-Err.ensures line.ensures.memory) line.ensures.line
+pub returns-in-Err : goal.returns-in-Err
+returns-in-Err c =
+    let refused = c.refuse_certificate in
+    unread_certificate c.args.graphs (graph_of c.args.seen.now.graph) c.args.seen.now.names c.args.certificate.now (search rules)
+    c.in-Err.fault c.in-Err.ensures refused.result refused.ensures.outcome refused.ensures.told refused.ensures.memory

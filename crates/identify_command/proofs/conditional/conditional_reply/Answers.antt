@@ -6,6 +6,7 @@ use Rattle.targets.specs.Targets.{Lists}
 use Rattle.targets.proofs.Effects.{listed_outcome}
 use Rattle.diagram.specs.Sets.{Names, lent, query_lists}
 use Rattle.diagram.proofs.Lent.{lent_owned}
+use Rattle.replies.specs.Told.{told_of}
 use Rattle.identify_command.specs.Conditions.{ListsAnswer}
 use Rattle.identify_command.specs.Requests.{request_of}
 use Rattle.identify_command.proofs.Listed.{target_answered, target_refused}
@@ -41,7 +42,7 @@ returns-in-Ok c =
     let form = c.args.asked.now.form in
     let q = graph_of c.args.diagram.now.observed.graph in
     let t : PlainTarget = record { x = c.in-Ok.sets.x.bits; y = c.in-Ok.sets.y.bits; given = c.in-Ok.sets.given.bits } in
-    subst (λ (l : Lists). IfOk c.decide_given.result (λ r. ListsAnswer form q l r.outcome r.text.items)) (same at)
+    subst (λ (l : Lists). IfOk c.decide_given.result (λ r. ListsAnswer form q l r.outcome (told_of r))) (same at)
     (target_answered form q (lists at) t c.in-Ok.ensures.sets c.decide_given.result c.decide_given.ensures)
 
 pub returns-in-Err : goal.returns-in-Err
@@ -49,6 +50,6 @@ returns-in-Err c =
     let at = (goal.at.returns-in-Err c).After-asked_condition in
     let form = c.args.asked.now.form in
     let q = graph_of c.args.diagram.now.observed.graph in
-    subst (λ (l : Lists). IfOk c.refuse.result (λ r. ListsAnswer form q l r.outcome r.text.items)) (same at)
-    (target_refused form q (lists at) c.in-Err.fault c.in-Err.ensures.fault c.refuse.result c.refuse.ensures.outcome c.refuse.ensures.line
+    subst (λ (l : Lists). IfOk c.refuse.result (λ r. ListsAnswer form q l r.outcome (told_of r))) (same at)
+    (target_refused form q (lists at) c.in-Err.fault c.in-Err.ensures.fault c.refuse.result c.refuse.ensures.outcome c.refuse.ensures.told
     c.refuse.ensures.fault)

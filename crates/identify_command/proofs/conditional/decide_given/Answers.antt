@@ -1,4 +1,4 @@
-use Rattle.std.proofs.Common.{◌≡◌, ◌≤◌, ℕ, [], None, length, sym, subst}
+use Rattle.std.proofs.Common.{◌≡◌, ◌≤◌, ℕ, [], None, length, sym, ap, ◌∙◌, subst}
 use Rattle.mixed_graph.specs.Bits.{has}
 use Rattle.mixed_graph.specs.Sets.{Within}
 use Rattle.mixed_graph.specs.Shown.{graph_of}
@@ -16,23 +16,25 @@ use Rattle.identify_text.proofs.Belows.{hedge_below}
 use Rattle.certificate.specs.Plain.{hedge_view}
 use Rattle.certificate_writing.specs.Writable.{IsTargetWithin, IsBareTarget, IsDerivationWithin, IsHedgeWithin}
 use Rattle.effect_answers.proofs.Belows.{pair_below}
+use Rattle.replies.specs.Told.{told_of, answer_of}
+use Rattle.identify_command.specs.Conditions.{TargetAnswer}
 use Rattle.identify_command.proofs.Lists.{with_member}
 use Rattle.identify_command.proofs.Shallow.{readable_shallow}
 use Rattle.effect_answers.proofs.Within.{derivation_within}
 use Rattle.effect_answers.proofs.Writing.{target_within, bare_target, hedge_within}
 use Rattle.identify_command.proofs.conditional.decide_given.Goals as goal
 
-pub formula_text-requires-clause-what : goal.formula_text-requires-clause-what
-formula_text-requires-clause-what c = subst (λ n. Within n (has c.args.target.y.bits)) (sym c.args.seen.now.sized) c.requires.sets.y_within
+pub formula_shown-requires-clause-what : goal.formula_shown-requires-clause-what
+formula_shown-requires-clause-what c = subst (λ n. Within n (has c.args.target.y.bits)) (sym c.args.seen.now.sized) c.requires.sets.y_within
 
-pub formula_text-requires-clause-doing : goal.formula_text-requires-clause-doing
-formula_text-requires-clause-doing c = subst (λ n. Within n (has c.args.target.x.bits)) (sym c.args.seen.now.sized) c.requires.sets.x_within
+pub formula_shown-requires-clause-doing : goal.formula_shown-requires-clause-doing
+formula_shown-requires-clause-doing c = subst (λ n. Within n (has c.args.target.x.bits)) (sym c.args.seen.now.sized) c.requires.sets.x_within
 
-pub formula_text-requires-clause-given : goal.formula_text-requires-clause-given
-formula_text-requires-clause-given c = subst (λ n. Within n (has c.args.target.given.bits)) (sym c.args.seen.now.sized) c.requires.sets.w_within
+pub formula_shown-requires-clause-given : goal.formula_shown-requires-clause-given
+formula_shown-requires-clause-given c = subst (λ n. Within n (has c.args.target.given.bits)) (sym c.args.seen.now.sized) c.requires.sets.w_within
 
-pub formula_text-requires-clause-target : goal.formula_text-requires-clause-target
-formula_text-requires-clause-target c = subst (λ n. IsTargetWithin n (target_view c.args.target)) (sym c.args.seen.now.sized)
+pub formula_shown-requires-clause-target : goal.formula_shown-requires-clause-target
+formula_shown-requires-clause-target c = subst (λ n. IsTargetWithin n (target_view c.args.target)) (sym c.args.seen.now.sized)
     (target_within c.args.seen.now.graph.n (target_view c.args.target) c.requires.sets c.requires.some)
 
 pub shortened_if-requires-clause-usable : goal.shortened_if-requires-clause-usable
@@ -44,12 +46,12 @@ shortened_if-requires-clause-usable c =
     (subst (λ a. IfFormula a IsShallowGiven) c.in-Formula.is c.in_ok-formula.ensures.shallow)
     (subst (λ a. IfFormula a (λ f d. length f.defs ≤ 4096)) c.in-Formula.is c.in_ok-formula.ensures.few)
 
-pub formula_text-requires-clause-formula : goal.formula_text-requires-clause-formula
-formula_text-requires-clause-formula c = subst (λ n. fault_in n (formula_view c.in_ok-shown-in-Formula.shown.formula) ≡ None) (sym c.args.seen.now.sized)
+pub formula_shown-requires-clause-formula : goal.formula_shown-requires-clause-formula
+formula_shown-requires-clause-formula c = subst (λ n. fault_in n (formula_view c.in_ok-shown-in-Formula.shown.formula) ≡ None) (sym c.args.seen.now.sized)
     c.in_ok-shown-in-Formula.ensures.usable.right.formed
 
-pub formula_text-requires-clause-derivation : goal.formula_text-requires-clause-derivation
-formula_text-requires-clause-derivation c =
+pub formula_shown-requires-clause-derivation : goal.formula_shown-requires-clause-derivation
+formula_shown-requires-clause-derivation c =
     let g = graph_of c.args.seen.now.graph in
     let t = target_view c.args.target in
     subst (λ n. IsDerivationWithin n (derivation_view c.in_ok-shown-in-Formula.shown.derivation)) (sym c.args.seen.now.sized)
@@ -57,15 +59,16 @@ formula_text-requires-clause-derivation c =
     (derivation_view c.in_ok-shown-in-Formula.shown.derivation)
     (target_within c.args.seen.now.graph.n t c.requires.sets c.requires.some) c.in_ok-shown-in-Formula.ensures.usable.right.accepted)
 
-pub formula_text-requires-clause-shallow : goal.formula_text-requires-clause-shallow
-formula_text-requires-clause-shallow c = readable_shallow (formula_view c.in_ok-shown-in-Formula.shown.formula)
+pub formula_shown-requires-clause-shallow : goal.formula_shown-requires-clause-shallow
+formula_shown-requires-clause-shallow c = readable_shallow (formula_view c.in_ok-shown-in-Formula.shown.formula)
     (derivation_view c.in_ok-shown-in-Formula.shown.derivation)
     c.in_ok-shown-in-Formula.ensures.usable.readable
 
-pub returns-in_ok-formula_text-in-Formula : goal.returns-in_ok-formula_text-in-Formula
-returns-in_ok-formula_text-in-Formula c =
+pub returns-in_ok-text-in-Formula : goal.returns-in_ok-text-in-Formula
+returns-in_ok-text-in-Formula c =
     let g = graph_of c.args.seen.now.graph in
-    let t = target_view c.args.target in record {
+    let t = target_view c.args.target in
+    subst (λ o. TargetAnswer c.args.form g c.args.seen.now.names t o (told_of c.answer.result)) (sym c.answer.ensures.outcome) (record {
       formula = formula_view c.in_ok-shown-in-Formula.shown.formula;
       derivation = derivation_view c.in_ok-shown-in-Formula.shown.derivation;
       right = c.in_ok-shown-in-Formula.ensures.usable.right;
@@ -73,12 +76,12 @@ returns-in_ok-formula_text-in-Formula c =
           (formula_view c.in_ok-shown-in-Formula.shown.formula) (derivation_view c.in_ok-shown-in-Formula.shown.derivation)
           c.in_ok-shown-in-Formula.ensures.first
           (subst (λ a. IfFormula a (IsConditionalBySteps g t)) c.in-Formula.is c.in_ok-formula.ensures.derived);
-      prints = c.in_ok-formula_text-in-Formula.ensures.text;
-      reads_back = c.in_ok-formula_text-in-Formula.ensures.reads_back;
-    }
+      prints = c.answer.ensures.told ∙ ap answer_of c.in_ok-text-in-Formula.ensures.text;
+      reads_back = c.in_ok-text-in-Formula.ensures.reads_back;
+    })
 
-pub joint_text-requires : goal.joint_text-requires
-joint_text-requires c =
+pub joint_shown-requires : goal.joint_shown-requires
+joint_shown-requires c =
     let g = graph_of c.args.seen.now.graph in
     let t = target_view c.args.target in
     let sets = c.requires.sets in
@@ -105,13 +108,13 @@ joint_text-requires c =
           (hedge_within g c.in-Joint.x.bits c.in-Joint.y.bits c.in-Joint.hedge c.has_arrays.ensures.links shown.hedge);
     }
 
-pub returns-in_ok-joint_text-in-Joint : goal.returns-in_ok-joint_text-in-Joint
-returns-in_ok-joint_text-in-Joint c =
+pub returns-in_ok-text-in-Joint : goal.returns-in_ok-text-in-Joint
+returns-in_ok-text-in-Joint c =
     let g = graph_of c.args.seen.now.graph in
     let t = target_view c.args.target in
     let shown = subst (λ a. IfJoint a (IsJointShown g t)) c.in-Joint.is c.in_ok-formula.ensures.shown in
     let right = subst (IsRight g t) c.in-Joint.is c.in_ok-formula.ensures.right in
-    record {
+    subst (λ o. TargetAnswer c.args.form g c.args.seen.now.names t o (told_of c.answer-in-Joint.result)) (sym c.answer-in-Joint.ensures.outcome) (record {
       x = c.in-Joint.x.bits;
       y = c.in-Joint.y.bits;
       settled = c.in-Joint.settled;
@@ -124,6 +127,6 @@ returns-in_ok-joint_text-in-Joint c =
       differs = right.target;
       found = record { right = right.hedge; evidence = shown.hedge; stop = shown.stop; built = shown.built; models = shown.models };
       arrays = c.has_arrays.ensures;
-      prints = c.in_ok-joint_text-in-Joint.ensures.text;
-      reads_back = c.in_ok-joint_text-in-Joint.ensures.reads_back;
-    }
+      prints = c.answer-in-Joint.ensures.told ∙ ap answer_of c.in_ok-text-in-Joint.ensures.text;
+      reads_back = c.in_ok-text-in-Joint.ensures.reads_back;
+    })

@@ -1,4 +1,4 @@
-use Rattle.std.proofs.Common.{◌≡◌, length, refl, sym, subst, ◌∙◌}
+use Rattle.std.proofs.Common.{◌≡◌, length, refl, sym, ap, subst, ◌∙◌}
 use Rattle.mixed_graph.specs.Bits.{has}
 use Rattle.mixed_graph.specs.Sets.{Within}
 use Rattle.mixed_graph.specs.Shown.{graph_of}
@@ -9,57 +9,73 @@ use Rattle.identify.specs.Answers.{IsRightAlone}
 use Rattle.identify_text.proofs.Free.{none_within}
 use Rattle.identify_text.specs.Answers.{answer_in}
 use Rattle.effect_answers.proofs.Found.{found_alone, hedge_named_alone, pair_named_alone}
+use Rattle.answer_json.specs.Progress.{json_line}
+use Rattle.replies.specs.Told.{told_of, text_in, answer_of}
+use Rattle.identify_command.specs.Answers.{SetsAnswer}
+use Rattle.identify_command.specs.Forms.{form_in}
+use Rattle.identify_command.specs.Objects.{formula_object}
 use Rattle.identify_command.proofs.Notations.{formula_in_form, hedge_in_form, no_certificate, of_procedure}
 use Rattle.identify_command.proofs.reply.decide_alone.Goals as goal
 
-pub answer_in-requires-clause-what : goal.answer_in-requires-clause-what
-answer_in-requires-clause-what c = subst (λ (t : PlainTarget). Within (length c.args.seen.now.names) (has t.y)) (sym c.target_of.ensures)
+pub formula_in-requires-clause-what : goal.formula_in-requires-clause-what
+formula_in-requires-clause-what c = subst (λ (t : PlainTarget). Within (length c.args.seen.now.names) (has t.y)) (sym c.target_of-target.ensures)
     (subst (λ n. Within n (has c.args.sets.y.bits)) (sym c.args.seen.now.sized) c.requires.y)
 
-pub answer_in-requires-clause-doing : goal.answer_in-requires-clause-doing
-answer_in-requires-clause-doing c = subst (λ (t : PlainTarget). Within (length c.args.seen.now.names) (has t.x)) (sym c.target_of.ensures)
+pub formula_in-requires-clause-doing : goal.formula_in-requires-clause-doing
+formula_in-requires-clause-doing c = subst (λ (t : PlainTarget). Within (length c.args.seen.now.names) (has t.x)) (sym c.target_of-target.ensures)
     (subst (λ n. Within n (has c.args.sets.x.bits)) (sym c.args.seen.now.sized) c.requires.x)
 
-pub answer_in-requires-clause-given : goal.answer_in-requires-clause-given
-answer_in-requires-clause-given c = subst (λ (t : PlainTarget). Within (length c.args.seen.now.names) (has t.given)) (sym c.target_of.ensures)
+pub formula_in-requires-clause-given : goal.formula_in-requires-clause-given
+formula_in-requires-clause-given c = subst (λ (t : PlainTarget). Within (length c.args.seen.now.names) (has t.given)) (sym c.target_of-target.ensures)
     (λ v i. none_within (length c.args.seen.now.names) 0 v refl i)
 
-pub hedge_answer-requires-clause-hedge : goal.hedge_answer-requires-clause-hedge
-hedge_answer-requires-clause-hedge c = hedge_named_alone (graph_of c.args.seen.now.graph)
+pub hedge_in-requires-clause-hedge : goal.hedge_in-requires-clause-hedge
+hedge_in-requires-clause-hedge c = hedge_named_alone (graph_of c.args.seen.now.graph)
     c.args.sets.x.bits c.args.sets.y.bits c.in-Hedge.hedge c.in-Hedge.pair c.in-Hedge.is
     (length c.args.seen.now.names) c.args.seen.now.sized c.args.seen.now.graph.small c.in_ok-formula.ensures.hedge
 
-pub hedge_answer-requires-clause-models : goal.hedge_answer-requires-clause-models
-hedge_answer-requires-clause-models c = pair_named_alone (graph_of c.args.seen.now.graph)
+pub hedge_in-requires-clause-models : goal.hedge_in-requires-clause-models
+hedge_in-requires-clause-models c = pair_named_alone (graph_of c.args.seen.now.graph)
     c.args.sets.x.bits c.args.sets.y.bits c.in-Hedge.hedge c.in-Hedge.pair c.in-Hedge.is
     (length c.args.seen.now.names) c.args.seen.now.sized c.args.seen.now.graph.valid c.requires.y c.in_ok-formula.ensures.pair c.in_ok-formula.ensures.counter
 
-pub returns-in_ok-answer_in-in-Formula : goal.returns-in_ok-answer_in-in-Formula
-returns-in_ok-answer_in-in-Formula c =
+pub returns-in_ok-text-in-Formula : goal.returns-in_ok-text-in-Formula
+returns-in_ok-text-in-Formula c =
+    let q = graph_of c.args.seen.now.graph in
     let x = c.args.sets.x.bits in
     let y = c.args.sets.y.bits in
     let names = c.args.seen.now.names in
     let f = formula_view c.in-Formula.formula in
-    let right = subst (IsRightAlone (graph_of c.args.seen.now.graph) x y) c.in-Formula.is c.in_ok-formula.ensures.right in record {
+    let n = c.args.notation in
+    let format = c.args.format in
+    let right = subst (IsRightAlone q x y) c.in-Formula.is c.in_ok-formula.ensures.right in
+    let printed = λ (t : PlainTarget). text_in format (answer_in n names t f) (json_line (formula_object names t f)) in
+    let text = subst (λ t. c.in_ok-text-in-Formula.text.items ≡ printed t) c.target_of-target.ensures c.in_ok-text-in-Formula.ensures
+    ∙ formula_in_form n format names (effect_on x y) f right.derivation in
+    subst (λ o. SetsAnswer (form_in n format) q names x y o (told_of c.answer.result)) (sym c.answer.ensures.outcome) (record {
       formula = f;
       derivation = right.derivation;
       right = right.right;
-      derived = of_procedure c.args.notation (IsDerived (graph_of c.args.seen.now.graph) x y) f right.derivation right.derived;
-      prints = subst (λ t. c.in_ok-answer_in-in-Formula.field-0.items ≡ answer_in c.args.notation names t f) c.target_of.ensures
-          c.in_ok-answer_in-in-Formula.ensures
-          ∙ formula_in_form c.args.notation names (effect_on x y) f right.derivation;
-      reads_back = λ e. absurd (no_certificate c.args.notation e);
-    }
+      derived = of_procedure n format (IsDerived q x y) f right.derivation right.derived;
+      prints = c.answer.ensures.told ∙ ap answer_of text;
+      reads_back = λ t e. absurd (no_certificate n format e);
+    })
 
-pub returns-in_ok-hedge_answer-in-Hedge : goal.returns-in_ok-hedge_answer-in-Hedge
-returns-in_ok-hedge_answer-in-Hedge c =
-    let e = c.in_ok-formula.ensures in record {
+pub returns-in_ok-text-in-Hedge : goal.returns-in_ok-text-in-Hedge
+returns-in_ok-text-in-Hedge c =
+    let e = c.in_ok-formula.ensures in
+    let q = graph_of c.args.seen.now.graph in
+    let x = c.args.sets.x.bits in
+    let y = c.args.sets.y.bits in
+    let names = c.args.seen.now.names in
+    let n = c.args.notation in
+    let format = c.args.format in
+    let text = c.in_ok-text-in-Hedge.ensures ∙ hedge_in_form n format names x y c.in-Hedge.hedge c.in-Hedge.pair in
+    subst (λ o. SetsAnswer (form_in n format) q names x y o (told_of c.answer-in-Hedge.result)) (sym c.answer-in-Hedge.ensures.outcome) (record {
       hedge = c.in-Hedge.hedge;
       pair = c.in-Hedge.pair;
-      found = found_alone (graph_of c.args.seen.now.graph) c.args.sets.x.bits c.args.sets.y.bits c.in-Hedge.hedge c.in-Hedge.pair c.in-Hedge.is e.right
-          e.hedge e.stop e.data e.pair;
+      found = found_alone q x y c.in-Hedge.hedge c.in-Hedge.pair c.in-Hedge.is e.right e.hedge e.stop e.data e.pair;
       arrays = c.has_arrays.ensures;
-      prints = c.in_ok-hedge_answer-in-Hedge.ensures
-          ∙ hedge_in_form c.args.notation c.args.seen.now.names c.args.sets.x.bits c.args.sets.y.bits c.in-Hedge.hedge c.in-Hedge.pair;
-      reads_back = λ e. absurd (no_certificate c.args.notation e);
-    }
+      prints = c.answer-in-Hedge.ensures.told ∙ ap answer_of text;
+      reads_back = λ t e. absurd (no_certificate n format e);
+    })

@@ -6,6 +6,7 @@ use Rattle.targets.specs.Targets.{EffectLists}
 use Rattle.targets.proofs.Effects.{effect_within_x, effect_within_y, effect_apart, effect_outcome}
 use Rattle.diagram.specs.Sets.{Names, lent, effect_lists}
 use Rattle.diagram.proofs.Lent.{lent_owned}
+use Rattle.replies.specs.Told.{told_of}
 use Rattle.identify_command.specs.Answers.{EffectAnswer}
 use Rattle.identify_command.specs.Requests.{request_of}
 use Rattle.identify_command.proofs.Listed.{effect_answered, effect_refused}
@@ -44,7 +45,7 @@ returns-in-Ok c =
     let at = (goal.at.returns-in-Ok c).After-asked_effect in
     let form = c.args.asked.now.form in
     let q = graph_of c.args.diagram.now.observed.graph in
-    subst (λ (l : EffectLists). IfOk c.decide.result (λ r. EffectAnswer form q l r.outcome r.text.items)) (same at)
+    subst (λ (l : EffectLists). IfOk c.decide.result (λ r. EffectAnswer form q l r.outcome (told_of r))) (same at)
     (effect_answered form q (lists at) c.in-Ok.sets.x.bits c.in-Ok.sets.y.bits c.in-Ok.ensures.sets c.decide.result c.decide.ensures)
 
 pub returns-in-Err : goal.returns-in-Err
@@ -52,6 +53,6 @@ returns-in-Err c =
     let at = (goal.at.returns-in-Err c).After-asked_effect in
     let form = c.args.asked.now.form in
     let q = graph_of c.args.diagram.now.observed.graph in
-    subst (λ (l : EffectLists). IfOk c.refuse.result (λ r. EffectAnswer form q l r.outcome r.text.items)) (same at)
-    (effect_refused form q (lists at) c.in-Err.fault c.in-Err.ensures.fault c.refuse.result c.refuse.ensures.outcome c.refuse.ensures.line
+    subst (λ (l : EffectLists). IfOk c.refuse.result (λ r. EffectAnswer form q l r.outcome (told_of r))) (same at)
+    (effect_refused form q (lists at) c.in-Err.fault c.in-Err.ensures.fault c.refuse.result c.refuse.ensures.outcome c.refuse.ensures.told
     c.refuse.ensures.fault)

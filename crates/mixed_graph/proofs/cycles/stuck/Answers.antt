@@ -3,7 +3,7 @@ use Rattle.std.proofs.lemmas.Bool.{eq-eqb}
 use Rattle.mixed_graph.specs.Bits.{has}
 use Rattle.mixed_graph.specs.Arrows.{arrows_only}
 use Rattle.mixed_graph.proofs.Masks.{lt_from_subset}
-use Rattle.mixed_graph.proofs.Peeling.{peeled_more}
+use Rattle.mixed_graph.proofs.Peeling.{without_childless}
 use Rattle.mixed_graph.proofs.cycles.stuck.Goals as goal
 use Rattle.mixed_graph.proofs.cycles.stuck.Goals.{After-difference-rest}
 
@@ -16,7 +16,7 @@ loop-v-smaller c = lt_from_subset _ _ c.in-Some.v (λ u h. let e = rest_is c u i
 
 pub loop-v-preserved : goal.loop-v-preserved
 loop-v-preserved c = (
-  peeled_more (arrows_only c.args.n c.args.children.now) c.in-Some.v c.loop-v.rest.bits c.difference-rest.result.bits
-      c.in-Some.ensures.found.1 c.in-Some.ensures.found.2 (rest_is c) c.loop-v.invariant.0,
+  without_childless (arrows_only c.args.n c.args.children.now) c.in-Some.v c.loop-v.rest.bits c.difference-rest.result.bits true
+      (λ taken. c.in-Some.ensures.found.2) (rest_is c) c.loop-v.invariant.0,
   omega arith,
 )

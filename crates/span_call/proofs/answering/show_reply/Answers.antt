@@ -11,10 +11,10 @@ small_code Yes = lit≤ tt
 small_code o = lit≤ tt
 
 pub returns-clause-known : goal.returns-clause-known
-returns-clause-known c = subst (λ k. k ≤ 8) (sym c.code.ensures) (small_code c.args.reply.now.outcome)
+returns-clause-known c = subst (λ k. k ≤ 8) (sym c.code.ensures) (small_code c.args.ready.now.reply.outcome)
 
 pub returns-clause-out : goal.returns-clause-out
-returns-clause-out c = subst (λ t. ShowsText t c.args.out.now c.show_both.new.out c.show_both.result.out) c.answer_in.ensures c.show_both.ensures.out
+returns-clause-out c = subst (λ t. ShowsText t c.args.out.now c.show_both.new.out c.show_both.result.out) c.shown-answer.ensures c.show_both.ensures.out
 
 pub returns-clause-err : goal.returns-clause-err
 returns-clause-err c = subst (λ t. ShowsText t c.args.err.now c.show_both.new.err c.show_both.result.err) c.line_in.ensures c.show_both.ensures.err

@@ -1,8 +1,8 @@
-use Rattle.std.proofs.Common.{◌≡◌, Some, Err, is_none, ap, map, refl, ◌∙◌, arith}
+use Rattle.std.proofs.Common.{◌≡◌, Some, Err, is_none, ap, map, refl, ◌∙◌, subst, arith}
 use Rattle.std.specs.Prelude.{string_bytes}
 use Rattle.caller_memory.specs.Parts.{place_named, content_named}
 use Rattle.caller_memory.specs.Words.{texts}
-use Rattle.replies.specs.Outcomes.{code_of}
+use Rattle.replies.specs.Outcomes.{code_of, IsAnswered}
 use Rattle.caller_memory.proofs.OneGraph.{kept_holds}
 use Rattle.command_run.proofs.Deliveries.{no_room}
 use Rattle.causal_cli.specs.Commands.{commands}
@@ -61,7 +61,8 @@ pub returns-clause-called : goal.returns-clause-called
 returns-clause-called c = λ small text kept.
     let bytes = c.args.arguments.now.bytes.now in
     let inputs = c.args.arguments.now.inputs.now in
-    called (Some text) bytes c.args.arguments.now.words.now inputs _ _ _ _ _ _ c.bare.result (texts bytes c.args.arguments.now.words.now)
+    called (Some text) bytes c.args.arguments.now.words.now inputs _ _ _ _ _ _ c.bare.result.format c.bare.result.reply
+    (texts bytes c.args.arguments.now.words.now)
     (λ name. content_named bytes inputs name) (λ name. is_none (place_named bytes inputs name)) (λ name. 0) (λ name. 0)
     (record {
       words_are = refl;
@@ -71,7 +72,8 @@ returns-clause-called c = λ small text kept.
       none_failed = λ name. refl;
       fails_lacked = λ name there. refl;
     })
-    (no_room commands lawful _ c.bare.result c.bare.ensures) c.show_reply.ensures.status c.show_reply.ensures.out c.show_reply.ensures.err
+    (no_room commands lawful _ c.bare.result.reply c.bare.ensures) (λ answered. absurd (subst IsAnswered c.bare.ensures answered))
+    c.show_reply.ensures.status c.show_reply.ensures.out c.show_reply.ensures.err
 
 pub returns-clause-lacked : goal.returns-clause-lacked
 returns-clause-lacked c = λ six text kept. lacks_input _ _ _ _ _ _ _ _ _ _
@@ -83,27 +85,27 @@ returns-clause-never_cut_short c = λ seven text kept. never_cut_short _ _ _ _ _
 
 pub returns-clause-kept : goal.returns-clause-kept
 returns-clause-kept c = λ small.
-    let eight : code_of c.bare.result.outcome ≡ 8 = ap code_of c.bare.ensures in
+    let eight : code_of c.bare.result.reply.outcome ≡ 8 = ap code_of c.bare.ensures in
     absurd (omega (arith, small, eight, c.show_reply.ensures.status))
 
 -- ---- the words are answered
 
-pub returns-in-Ok-diagram_kept-clause-end : goal.returns-in-Ok-diagram_kept-clause-end
-returns-in-Ok-diagram_kept-clause-end c = ended _ _ _ _ _ _ _ _ c.in-Ok.ensures.are_texts c.answer_words.ensures.known
+pub returns-in-Ok-diagram-clause-end : goal.returns-in-Ok-diagram-clause-end
+returns-in-Ok-diagram-clause-end c = ended _ _ _ _ _ _ _ _ c.in-Ok.ensures.are_texts c.answer_words.ensures.known
 
-pub returns-in-Ok-diagram_kept-clause-called : goal.returns-in-Ok-diagram_kept-clause-called
-returns-in-Ok-diagram_kept-clause-called c = λ small text kept.
+pub returns-in-Ok-diagram-clause-called : goal.returns-in-Ok-diagram-clause-called
+returns-in-Ok-diagram-clause-called c = λ small text kept.
     c.answer_words.ensures.called (Some text)
-    (kept_holds text c.args.kept.now c.args.lines.now c.in-Ok-diagram_kept.diagram.read kept c.in-Ok-diagram_kept.ensures.keeps)
+    (kept_holds text c.args.kept.now c.args.lines.now c.in-Ok-diagram.diagram.read kept c.in-Ok-diagram.ensures.keeps)
     (ap (map string_bytes) c.deref.ensures.value ∙ c.in-Ok.ensures.words)
 
-pub returns-in-Ok-diagram_kept-clause-lacked : goal.returns-in-Ok-diagram_kept-clause-lacked
-returns-in-Ok-diagram_kept-clause-lacked c = λ six text kept. lacks_input _ _ _ _ _ _ _ _ _ _
-    (returns-in-Ok-diagram_kept-clause-called c (omega (arith, six)) text kept) six
+pub returns-in-Ok-diagram-clause-lacked : goal.returns-in-Ok-diagram-clause-lacked
+returns-in-Ok-diagram-clause-lacked c = λ six text kept. lacks_input _ _ _ _ _ _ _ _ _ _
+    (returns-in-Ok-diagram-clause-called c (omega (arith, six)) text kept) six
 
-pub returns-in-Ok-diagram_kept-clause-never_cut_short : goal.returns-in-Ok-diagram_kept-clause-never_cut_short
-returns-in-Ok-diagram_kept-clause-never_cut_short c = λ seven text kept. never_cut_short _ _ _ _ _ _ _ _ _ _
-    (returns-in-Ok-diagram_kept-clause-called c (omega (arith, seven)) text kept) seven
+pub returns-in-Ok-diagram-clause-never_cut_short : goal.returns-in-Ok-diagram-clause-never_cut_short
+returns-in-Ok-diagram-clause-never_cut_short c = λ seven text kept. never_cut_short _ _ _ _ _ _ _ _ _ _
+    (returns-in-Ok-diagram-clause-called c (omega (arith, seven)) text kept) seven
 
-pub returns-in-Ok-diagram_kept-clause-kept : goal.returns-in-Ok-diagram_kept-clause-kept
-returns-in-Ok-diagram_kept-clause-kept c = λ small. (c.in-Ok-diagram_kept.diagram.read, c.in-Ok-diagram_kept.ensures.keeps)
+pub returns-in-Ok-diagram-clause-kept : goal.returns-in-Ok-diagram-clause-kept
+returns-in-Ok-diagram-clause-kept c = λ small. (c.in-Ok-diagram.diagram.read, c.in-Ok-diagram.ensures.keeps)

@@ -10,6 +10,7 @@ use Rattle.diagram.specs.Sets.{Names, lent}
 use Rattle.diagram.proofs.Lent.{lent_owned}
 use Rattle.experiment_lists.specs.Words.{Lists}
 use Rattle.experiment_lists.proofs.Filled.{one_set_each, sets_filled}
+use Rattle.replies.specs.Told.{told_of}
 use Rattle.surrogate_command.specs.Answers.{ListsAnswer}
 use Rattle.surrogate_command.specs.Requests.{request_of}
 use Rattle.surrogate_command.specs.Sets.{SurrogateLists, surrogate_lists, AreSurrogateSets}
@@ -63,7 +64,7 @@ returns-in-Ok c =
     let at = (goal.at.returns-in-Ok c).After-asked_sets in
     let form = c.args.asked.now.form in
     let q = graph_of c.args.diagram.now.observed.graph in
-    subst (λ (l : SurrogateLists). IfOk c.decide.result (λ r. ListsAnswer form q l r.outcome r.text.items)) (same at)
+    subst (λ (l : SurrogateLists). IfOk c.decide.result (λ r. ListsAnswer form q l r.outcome (told_of r))) (same at)
     (lists_answered form q (lent_lists at) c.in-Ok.sets.x.bits c.in-Ok.sets.y.bits (masks_of c.in-Ok.sets.experiments.items) c.in-Ok.ensures.sets
     c.decide.result c.decide.ensures)
 
@@ -72,6 +73,6 @@ returns-in-Err c =
     let at = (goal.at.returns-in-Err c).After-asked_sets in
     let form = c.args.asked.now.form in
     let q = graph_of c.args.diagram.now.observed.graph in
-    subst (λ (l : SurrogateLists). IfOk c.refuse.result (λ r. ListsAnswer form q l r.outcome r.text.items)) (same at)
-    (lists_refused form q (lent_lists at) c.in-Err.fault c.in-Err.ensures.fault c.refuse.result c.refuse.ensures.outcome c.refuse.ensures.line
+    subst (λ (l : SurrogateLists). IfOk c.refuse.result (λ r. ListsAnswer form q l r.outcome (told_of r))) (same at)
+    (lists_refused form q (lent_lists at) c.in-Err.fault c.in-Err.ensures.fault c.refuse.result c.refuse.ensures.outcome c.refuse.ensures.told
     c.refuse.ensures.fault)

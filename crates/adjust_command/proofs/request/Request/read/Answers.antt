@@ -1,7 +1,8 @@
-use Rattle.std.proofs.Common.{◌≡◌, Some, sym, refl, subst, codes, option_map, rules}
+use Rattle.std.proofs.Common.{◌≡◌, ◌∙◌, Some, sym, ap, refl, subst, codes, option_map, rules}
 use Rattle.std.specs.Prelude.{is_some}
 use Rattle.command_words.specs.Form.{value_of, has_flag}
 use Rattle.command_words.specs.ListViews.{names_in}
+use Rattle.replies.specs.Told.{format_of}
 use Rattle.adjust_command.specs.Queries.{query_of, query_for}
 use Rattle.adjust_command.specs.Requests.{adjust_row}
 use Rattle.adjust_command.proofs.NoQueries.{no_query}
@@ -48,4 +49,5 @@ returns-clause-ok c = λ uses g. let s = c.in_ok-file.ensures.ok adjust_row uses
       (c.has_most-counted.ensures uses g)
       (subst (λ b. query_for (option_map names_in c.in_ok-set.set) b c.has_most-counted.result c.in_ok-most.most ≡ Some (query_of c.in-Some.query))
       (c.flag-back_door.ensures adjust_row uses g refl) (sym c.in-Some.ensures.query));
+  format = c.of-format.ensures ∙ ap format_of (c.flag-json.ensures adjust_row uses g refl);
 }

@@ -1,5 +1,6 @@
-use Rattle.std.proofs.Common.{refl, rules}
+use Rattle.std.proofs.Common.{refl, rules, ap, ◌∙◌}
 use Rattle.command_words.proofs.Inputs.{with_file}
+use Rattle.replies.specs.Told.{format_of}
 use Rattle.check_command.specs.Requests.{check_row}
 use Rattle.check_command.proofs.request.Request.read.Goals as goal
 
@@ -22,4 +23,5 @@ returns-clause-ok c = λ uses g. record {
   certificate = c.in_ok-certificate.ensures.ok check_row uses g refl;
   inputs = c.in_ok-certificate.ensures.inputs;
   experiments = c.in_ok-experiments.ensures.ok check_row uses g refl;
+  format = c.of-format.ensures ∙ ap format_of (c.flag.ensures check_row uses g refl);
 }

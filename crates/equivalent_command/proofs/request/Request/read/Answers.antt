@@ -1,5 +1,6 @@
-use Rattle.std.proofs.Common.{refl, rules}
+use Rattle.std.proofs.Common.{refl, rules, ap, ◌∙◌}
 use Rattle.command_words.proofs.Inputs.{with_file}
+use Rattle.replies.specs.Told.{format_of}
 use Rattle.equivalent_command.specs.Requests.{equivalent_row}
 use Rattle.equivalent_command.proofs.request.Request.read.Goals as goal
 
@@ -21,4 +22,5 @@ returns-clause-ok c = λ uses g. record {
   second = c.in_ok-second.ensures.ok equivalent_row uses g refl;
   inputs = c.in_ok-second.ensures.inputs;
   query = c.in_ok-query.ensures.ok uses g;
+  format = c.of-format.ensures ∙ ap format_of (c.flag-json.ensures equivalent_row uses g refl);
 }

@@ -1,7 +1,8 @@
-use Rattle.std.proofs.Common.{◌≡◌, Some, codes, option_map, subst, sym, refl, rules}
+use Rattle.std.proofs.Common.{◌≡◌, ◌∙◌, Some, codes, option_map, ap, subst, sym, refl, rules}
 use Rattle.command_words.specs.Form.{value_of, has_flag}
 use Rattle.command_words.specs.ListViews.{names_in}
 use Rattle.command_words.proofs.Inputs.{with_file}
+use Rattle.replies.specs.Told.{format_of}
 use Rattle.evaluate_command.specs.Requests.{evaluate_row}
 use Rattle.evaluate_command.specs.Ways.{way_of, way_for}
 use Rattle.evaluate_command.proofs.NoWays.{no_way}
@@ -60,4 +61,5 @@ returns-clause-ok c = λ uses g. let s = c.in_ok-file.ensures.ok evaluate_row us
   count = sym (c.value_bytes-count.ensures evaluate_row uses g refl);
   exact = sym (c.flag-exact.ensures evaluate_row uses g refl);
   zero = sym (c.flag-zero.ensures evaluate_row uses g refl);
+  format = c.of-format.ensures ∙ ap format_of (c.flag.ensures evaluate_row uses g refl);
 }

@@ -1,5 +1,6 @@
-use Rattle.std.proofs.Common.{sym, refl, subst, codes, rules}
+use Rattle.std.proofs.Common.{sym, refl, ap, ◌∙◌, subst, codes, rules}
 use Rattle.command_words.specs.Form.{has_flag}
+use Rattle.replies.specs.Told.{format_of}
 use Rattle.identify_command.specs.Forms.{IsWriting}
 use Rattle.identify_command.specs.Requests.{identify_row}
 use Rattle.identify_command.proofs.request.Request.read.Goals as goal
@@ -7,9 +8,11 @@ use Rattle.identify_command.proofs.request.Request.read.Goals as goal
 pub returns-in_default-clause-none : goal.returns-in_default-clause-none
 returns-in_default-clause-none c = λ uses g e. record {
   nothing = λ r is.
-      c.in_default.ensures.none r.form.writing (subst (λ b. IsWriting b c.flag-latex.result r.form.writing)
+      c.in_default.ensures.none r.form.writing (subst (λ b. IsWriting b c.flag-latex.result c.flag-json.result r.form.writing)
       (sym (c.flag-certificate.ensures identify_row uses g refl))
-      (subst (λ b. IsWriting (has_flag uses (codes "certificate")) b r.form.writing) (sym (c.flag-latex.ensures identify_row uses g refl)) is.form.writing));
+      (subst (λ b. IsWriting (has_flag uses (codes "certificate")) b c.flag-json.result r.form.writing) (sym (c.flag-latex.ensures identify_row uses g refl))
+      (subst (λ b. IsWriting (has_flag uses (codes "certificate")) (has_flag uses (codes "latex")) b r.form.writing)
+      (sym (c.flag-json.ensures identify_row uses g refl)) is.form.writing)));
 }
 
 pub returns-in_err-file-clause-none : goal.returns-in_err-file-clause-none
@@ -33,8 +36,12 @@ returns-clause-ok c = λ uses g. let s = c.in_ok-file.ensures.ok identify_row us
   y = s.is_y;
   given = c.in_ok-given.ensures.ok identify_row uses g refl;
   form = record {
-    writing = subst (λ b. IsWriting b (has_flag uses (codes "latex")) c.in-Some.writing) (c.flag-certificate.ensures identify_row uses g refl)
-        (subst (λ b. IsWriting c.flag-certificate.result b c.in-Some.writing) (c.flag-latex.ensures identify_row uses g refl) c.in-Some.ensures.some);
+    writing = subst (λ b. IsWriting b (has_flag uses (codes "latex")) (has_flag uses (codes "json")) c.in-Some.writing)
+        (c.flag-certificate.ensures identify_row uses g refl)
+        (subst (λ b. IsWriting c.flag-certificate.result b (has_flag uses (codes "json")) c.in-Some.writing) (c.flag-latex.ensures identify_row uses g refl)
+        (subst (λ b. IsWriting c.flag-certificate.result c.flag-latex.result b c.in-Some.writing) (c.flag-json.ensures identify_row uses g refl)
+        c.in-Some.ensures.some));
     short = c.flag-short.ensures identify_row uses g refl;
+    format = c.of-format.ensures ∙ ap format_of (c.flag-json.ensures identify_row uses g refl);
   };
 }

@@ -1,6 +1,7 @@
-use Rattle.std.proofs.Common.{◌≡◌, ◌∙◌, Option, Some, sym, refl, subst, rules}
+use Rattle.std.proofs.Common.{◌≡◌, ◌∙◌, Option, Some, sym, ap, refl, subst, rules}
 use Rattle.std.proofs.lemmas.Option.{same_Some}
 use Rattle.command_words.specs.Form.{Text}
+use Rattle.replies.specs.Told.{format_of}
 use Rattle.implications_command.specs.Requests.{implications_row, AreInputs}
 use Rattle.implications_command.proofs.request.Request.read.Goals as goal
 
@@ -27,4 +28,5 @@ returns-clause-ok c = λ uses g. record {
   counts = sym (c.word-counts.ensures implications_row uses g refl);
   count = sym (c.value_bytes-count.ensures implications_row uses g refl);
   inputs = c.are_inputs.ensures.yes c.if-not-are_inputs.false;
+  format = c.of-format.ensures ∙ ap format_of (c.flag-json.ensures implications_row uses g refl);
 }

@@ -19,7 +19,7 @@ grown : (c : In-Ok) → AreNames (cut c.append.new.bytes.items c.append.new.ends
 grown c =
     let n = many (goal.at.In-Ok c).After-self in
     subst AreNames (sym (names_are c))
-    (AreNames-append c.args.self.now c.args.name.now (subst AreNames c.self.view_is c.self.invariant.0) (c.is_name.ensures.0 c.if-not-is_name.false)
+    (AreNames-append c.args.self.now c.args.name.now (subst AreNames c.self.view_is c.self.invariant.0) c.requires.formed
     (sym c.in_default.ensures.has) (omega (arith, n, c.if-count-ge64.false)))
 
 pub invariant_of-self-2 : goal.invariant_of-self-2
@@ -29,9 +29,9 @@ invariant_of-self-2 c =
       grown (goal.at.invariant_of-self-2 c).In-Ok,
       c.in-Ok.ensures.block,
       subst (AreKeys (set c.self.inside.keys c.self.inside.count c.args.key)) (sym (names_are (goal.at.invariant_of-self-2 c).In-Ok))
-          (subst (λ k. AreKeys (set c.self.inside.keys c.self.inside.count k) (c.args.self.now ++ c.args.name.now ∷ [])) (sym c.requires.key)
+          (subst (λ k. AreKeys (set c.self.inside.keys c.self.inside.count k) (c.args.self.now ++ c.args.name.now ∷ [])) (sym c.requires.keyed.same)
           (keys-more c.self.inside.keys c.args.self.now c.args.name.now c.self.inside.count n (omega (arith, c.if-count-ge64.false)) keys
-          (λ some. c.requires.bytes (λ z. some (sym c.requires.key ∙ z))))),
+          (λ some. c.requires.keyed.bytes (λ z. some (sym c.requires.keyed.same ∙ z))))),
     )
 
 pub returns-clause-index : goal.returns-clause-index
@@ -48,9 +48,9 @@ returns-clause-names c = grown (goal.at.returns-clause-names c).In-Ok
 pub returns-in_default-append-clause-full : goal.returns-in_default-append-clause-full
 returns-in_default-append-clause-full c =
     let n = many (goal.at.returns-in_default-append-clause-full c).After-self in
-    (λ e. absurd (cc), λ full. absurd (let l = full.2 in omega (arith, n, l, c.if-count-ge64.false)))
+    (λ e. absurd (cc), λ full. absurd (let l = full.1 in omega (arith, n, l, c.if-count-ge64.false)))
 
 pub returns-clause-full : goal.returns-clause-full
 returns-clause-full c =
     let n = many (goal.at.returns-clause-full c).After-self in
-    (λ e. absurd (cc), λ full. absurd (let l = full.2 in omega (arith, n, l, c.if-count-ge64.false)))
+    (λ e. absurd (cc), λ full. absurd (let l = full.1 in omega (arith, n, l, c.if-count-ge64.false)))

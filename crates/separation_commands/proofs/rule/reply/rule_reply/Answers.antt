@@ -19,5 +19,5 @@ returns-in-Err c =
     let d = c.args.diagram.now in
     let q = request_of c.args.asked.now in
     let fault = rw (c.deref.ensures.value, c.deref-2.ensures.value, c.deref-3.ensures.value, c.deref-4.ensures.value) at c.in-Err.ensures.fault in
-    rule_refused q.rule (graph_of d.observed.graph) (rule_lists d.read d.observed.names q.y q.x q.z q.given) c.in-Err.fault fault c.refuse.result
-    c.refuse.ensures.outcome c.refuse.ensures.line c.refuse.ensures.fault
+    rule_refused q.format q.rule (graph_of d.observed.graph) (rule_lists d.read d.observed.names q.y q.x q.z q.given) c.in-Err.fault fault c.refuse.result
+    c.refuse.ensures.outcome c.refuse.ensures.told c.refuse.ensures.fault

@@ -1,17 +1,21 @@
-use Rattle.separation_commands.proofs.Equations.{first_rule, second_rule, third_rule}
+use Rattle.std.proofs.Common.{length, ap}
+use Rattle.mixed_graph.specs.Bits.{has}
+use Rattle.do_rules.specs.Rules.{left_of, right_of}
+use Rattle.separation_commands.specs.RuleLines.{side_text, side_of}
+use Rattle.separation_commands.proofs.Equations.{equation_in}
 use Rattle.separation_commands.proofs.rule.texts.push_equation.Goals as goal
 
-pub returns-in-One : goal.returns-in-One
-returns-in-One c = first_rule c.push_sides.result c.args.names.now c.args.out.now.items c.push_sides.new.out.items
-    c.args.sets.x.bits c.args.sets.y.bits c.args.sets.z.bits c.args.sets.given.bits c.args.rule c.union-2.result.bits c.in-One.is c.union-2.ensures.members
-    c.push_sides.ensures
+pub push_side-requires : goal.push_side-requires
+push_side-requires c = c.left_of.ensures.within (length c.args.names.now) c.requires.x c.requires.y c.requires.z c.requires.given
 
-pub returns-in-Two : goal.returns-in-Two
-returns-in-Two c = second_rule c.push_sides-in-Two.result c.args.names.now c.args.out.now.items c.push_sides-in-Two.new.out.items
-    c.args.sets.x.bits c.args.sets.y.bits c.args.sets.z.bits c.args.sets.given.bits c.args.rule c.union.result.bits c.union-2.result.bits c.in-Two.is
-    c.union.ensures.members c.union-2.ensures.members c.push_sides-in-Two.ensures
+pub push_side-requires-2 : goal.push_side-requires-2
+push_side-requires-2 c = c.right_of.ensures.within (length c.args.names.now) c.requires.x c.requires.y c.requires.z c.requires.given
 
-pub returns-in-Three : goal.returns-in-Three
-returns-in-Three c = third_rule c.push_sides-in-Three.result c.args.names.now c.args.out.now.items c.push_sides-in-Three.new.out.items
-    c.args.sets.x.bits c.args.sets.y.bits c.args.sets.z.bits c.args.sets.given.bits c.args.rule c.union.result.bits c.in-Three.is c.union.ensures.members
-    c.push_sides-in-Three.ensures
+pub returns : goal.returns
+returns c =
+    let names = c.args.names.now in let r = c.args.rule in
+    let x = has c.args.sets.x.bits in let y = has c.args.sets.y.bits in let z = has c.args.sets.z.bits in let w = has c.args.sets.given.bits in
+    equation_in c.args.out.now.items (side_text names (side_of c.left_of.result)) (side_text names (side_of c.right_of.result))
+    (side_text names (left_of r x y z w)) (side_text names (right_of r x y z w))
+    (ap (side_text names) c.left_of.ensures.side) (ap (side_text names) c.right_of.ensures.side)
+    c.in_ok-push_side.ensures c.in_ok-extend_from_slice.ensures.items c.in_ok-push_side-2.ensures

@@ -3,6 +3,7 @@ use Rattle.mixed_graph.specs.Shown.{graph_of}
 use Rattle.targets.specs.Targets.{Lists}
 use Rattle.diagram.specs.Sets.{Names, lent, query_lists}
 use Rattle.diagram.proofs.Lent.{lent_owned}
+use Rattle.replies.specs.Told.{told_of}
 use Rattle.separation_commands.specs.SeparateAnswers.{ListsAnswer}
 use Rattle.separation_commands.specs.SeparateRequests.{request_of}
 use Rattle.separation_commands.proofs.SeparateListed.{lists_answered, lists_refused}
@@ -33,12 +34,14 @@ pub returns-in-Ok : goal.returns-in-Ok
 returns-in-Ok c =
     let at = (goal.at.returns-in-Ok c).After-asked_query in
     let q = graph_of c.args.diagram.now.observed.graph in
-    subst (λ (l : Lists). IfOk c.decide.result (λ r. ListsAnswer q l r.outcome r.text.items)) (same at)
-    (lists_answered q (lists at) c.in-Ok.sets.x.bits c.in-Ok.sets.y.bits c.in-Ok.sets.given.bits c.in-Ok.ensures.sets c.decide.result c.decide.ensures)
+    subst (λ (l : Lists). IfOk c.decide.result (λ r. ListsAnswer c.args.asked.now.format q l r.outcome (told_of r))) (same at)
+    (lists_answered c.args.asked.now.format q (lists at) c.in-Ok.sets.x.bits c.in-Ok.sets.y.bits c.in-Ok.sets.given.bits c.in-Ok.ensures.sets
+    c.decide.result c.decide.ensures)
 
 pub returns-in-Err : goal.returns-in-Err
 returns-in-Err c =
     let at = (goal.at.returns-in-Err c).After-asked_query in
     let q = graph_of c.args.diagram.now.observed.graph in
-    subst (λ (l : Lists). IfOk c.refuse.result (λ r. ListsAnswer q l r.outcome r.text.items)) (same at)
-    (lists_refused q (lists at) c.in-Err.fault c.in-Err.ensures.fault c.refuse.result c.refuse.ensures.outcome c.refuse.ensures.line c.refuse.ensures.fault)
+    subst (λ (l : Lists). IfOk c.refuse.result (λ r. ListsAnswer c.args.asked.now.format q l r.outcome (told_of r))) (same at)
+    (lists_refused c.args.asked.now.format q (lists at) c.in-Err.fault c.in-Err.ensures.fault c.refuse.result c.refuse.ensures.outcome
+    c.refuse.ensures.told c.refuse.ensures.fault)

@@ -1,14 +1,16 @@
-use Rattle.std.proofs.Common.{sym, refl, subst, codes, rules}
+use Rattle.std.proofs.Common.{sym, refl, ap, ◌∙◌, subst, codes, rules}
 use Rattle.command_words.specs.Form.{has_flag}
-use Rattle.surrogate_command.specs.Forms.{IsForm}
+use Rattle.replies.specs.Told.{format_of}
+use Rattle.surrogate_command.specs.Forms.{IsWriting}
 use Rattle.surrogate_command.specs.Requests.{surrogate_row}
 use Rattle.surrogate_command.proofs.request.Request.read.Goals as goal
 
 pub returns-in_default-clause-none : goal.returns-in_default-clause-none
 returns-in_default-clause-none c = λ uses g e. record {
   nothing = λ r is.
-      c.in_default.ensures.none r.form (subst (λ b. IsForm b c.flag-certificate.result r.form) (sym (c.flag-models.ensures surrogate_row uses g refl))
-      (subst (λ b. IsForm (has_flag uses (codes "models")) b r.form) (sym (c.flag-certificate.ensures surrogate_row uses g refl)) is.form));
+      c.in_default.ensures.none r.form.writing (subst (λ b. IsWriting b c.flag-certificate.result r.form.writing)
+      (sym (c.flag-models.ensures surrogate_row uses g refl))
+      (subst (λ b. IsWriting (has_flag uses (codes "models")) b r.form.writing) (sym (c.flag-certificate.ensures surrogate_row uses g refl)) is.form.writing));
 }
 
 pub returns-in_err-file-clause-none : goal.returns-in_err-file-clause-none
@@ -31,6 +33,9 @@ returns-clause-ok c = λ uses g. let s = c.in_ok-file.ensures.ok surrogate_row u
   x = s.is_x;
   y = s.is_y;
   experiments = c.in_ok-experiments.ensures.ok surrogate_row uses g refl;
-  form = subst (λ b. IsForm b (has_flag uses (codes "certificate")) c.in-Some.form) (c.flag-models.ensures surrogate_row uses g refl)
-      (subst (λ b. IsForm c.flag-models.result b c.in-Some.form) (c.flag-certificate.ensures surrogate_row uses g refl) c.in-Some.ensures.some);
+  form = record {
+    writing = subst (λ b. IsWriting b (has_flag uses (codes "certificate")) c.in-Some.writing) (c.flag-models.ensures surrogate_row uses g refl)
+        (subst (λ b. IsWriting c.flag-models.result b c.in-Some.writing) (c.flag-certificate.ensures surrogate_row uses g refl) c.in-Some.ensures.some);
+    format = c.of-format.ensures ∙ ap format_of (c.flag-json.ensures surrogate_row uses g refl);
+  };
 }

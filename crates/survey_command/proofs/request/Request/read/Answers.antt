@@ -1,4 +1,5 @@
-use Rattle.std.proofs.Common.{refl, rules}
+use Rattle.std.proofs.Common.{refl, rules, ap, ◌∙◌}
+use Rattle.replies.specs.Told.{format_of}
 use Rattle.survey_command.specs.Requests.{survey_row}
 use Rattle.survey_command.proofs.request.Request.read.Goals as goal
 
@@ -8,4 +9,5 @@ returns-in_err-seed-clause-none c = λ uses g e. record { nothing = λ r is. c.i
 pub returns-clause-ok : goal.returns-clause-ok
 returns-clause-ok c = λ uses g. record {
   seed = c.in_ok-seed.ensures.ok survey_row uses g refl;
+  format = c.of-format.ensures ∙ ap format_of (c.flag-json.ensures survey_row uses g refl);
 }

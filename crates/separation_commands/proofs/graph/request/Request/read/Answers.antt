@@ -1,4 +1,5 @@
-use Rattle.std.proofs.Common.{sym, refl, rules}
+use Rattle.std.proofs.Common.{sym, refl, rules, ap, ◌∙◌}
+use Rattle.replies.specs.Told.{format_of}
 use Rattle.separation_commands.specs.GraphRequests.{graph_row}
 use Rattle.separation_commands.proofs.graph.request.Request.read.Goals as goal
 
@@ -9,4 +10,5 @@ pub returns-clause-ok : goal.returns-clause-ok
 returns-clause-ok c = λ uses g. record {
   file = c.in_ok-file.ensures.ok graph_row uses g refl;
   project = sym (c.flag-project.ensures graph_row uses g refl);
+  format = c.of-format.ensures ∙ ap format_of (c.flag-json.ensures graph_row uses g refl);
 }

@@ -1,7 +1,8 @@
-use Rattle.std.proofs.Common.{sym, refl, subst, codes, rules}
+use Rattle.std.proofs.Common.{sym, refl, subst, codes, rules, ap, ◌∙◌}
 use Rattle.command_words.specs.Form.{value_of}
 use Rattle.command_words.specs.Values.{IsRequiredNumber}
 use Rattle.do_rules.specs.Rules.{number_of}
+use Rattle.replies.specs.Told.{format_of}
 use Rattle.separation_commands.specs.RuleRequests.{rule_row}
 use Rattle.separation_commands.proofs.rule.request.Request.read.Goals as goal
 
@@ -32,4 +33,5 @@ returns-clause-ok c = λ uses g. record {
   x = c.in_ok-x.ensures.ok rule_row uses g refl;
   z = c.in_ok-z.ensures.ok rule_row uses g refl;
   given = c.in_ok-given.ensures.ok rule_row uses g refl;
+  format = c.of-format.ensures ∙ ap format_of (c.flag-json.ensures rule_row uses g refl);
 }

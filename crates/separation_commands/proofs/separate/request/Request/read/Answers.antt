@@ -1,4 +1,5 @@
-use Rattle.std.proofs.Common.{refl, rules}
+use Rattle.std.proofs.Common.{refl, rules, ap, ◌∙◌}
+use Rattle.replies.specs.Told.{format_of}
 use Rattle.separation_commands.specs.SeparateRequests.{separate_row}
 use Rattle.separation_commands.proofs.separate.request.Request.read.Goals as goal
 
@@ -22,4 +23,5 @@ returns-clause-ok c = λ uses g. let s = c.in_ok-file.ensures.ok separate_row us
   x = s.is_x;
   y = s.is_y;
   given = c.in_ok-given.ensures.ok separate_row uses g refl;
+  format = c.of-format.ensures ∙ ap format_of (c.flag-json.ensures separate_row uses g refl);
 }

@@ -1,7 +1,0 @@
-use Rattle.std.proofs.Common.{take}
-use Rattle.mixed_graph.specs.Shown.{graph_of}
-use Rattle.implications_command.specs.Answers.{AreMeasured}
-use Rattle.implications_command.proofs.differences.difference_lines.Given as goal
-
-abbrev pub invariant-loop-i : goal.invariant-loop-i
-invariant-loop-i l = AreMeasured l.seen.names (graph_of l.seen.graph) l.counts (take l.i-index l.list) l.text.items

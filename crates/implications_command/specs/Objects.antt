@@ -1,0 +1,46 @@
+-- The objects of the answers of `implications`.
+use Rattle.std.specs.Prelude.{ℕ, List, [], ◌∷◌, ◌++◌, map, codes}
+use Rattle.std.specs.Fmt.{signed_decimal}
+use Rattle.json.specs.Json.{Json, string}
+use Rattle.count_rows.specs.Rows.{Table}
+use Rattle.count_eval.specs.Programs.{cell_of}
+use Rattle.implications.specs.declared.pairs.Implication.{Implication}
+use Rattle.implied_differences.specs.declared.largest.Difference.{Difference}
+use Rattle.answer_json.specs.Progress.{array_of, object_of}
+use Rattle.answer_json.specs.Values.{vertex_json, set_json}
+use Rattle.count_json.specs.Cells.{cell_json}
+use Rattle.implications_command.specs.declared.differences.Measured.{Measured}
+use Rattle.implications_command.specs.Lines.{vertices_of}
+
+-- the answer in a word, and pairs
+abbrev pub listed_json : (word : List ℕ) → List Json → Json
+listed_json word pairs = object_of ((codes "answer", string word) ∷ (codes "pairs", array_of pairs) ∷ [])
+
+-- no set separates any two vertices
+abbrev pub none_json : Json
+none_json = listed_json (codes "none") []
+
+-- the two vertices of a pair, and what is given
+abbrev pub pair_members : List (List ℕ) → Implication → List (List ℕ × Json)
+pair_members names i = (codes "x", vertex_json names i.a) ∷ (codes "y", vertex_json names i.b) ∷ (codes "given", set_json names i.given.bits) ∷ []
+
+-- a pair
+abbrev pub pair_json : List (List ℕ) → Implication → Json
+pair_json names i = object_of (pair_members names i)
+
+-- the pairs
+abbrev pub pairs_json : List (List ℕ) → List Implication → Json
+pairs_json names list = listed_json (codes "implications") (map (pair_json names) list)
+
+-- the largest difference of the counts for a pair, as a text of its digits, and the cell where it is
+abbrev pub difference_members : List (List ℕ) → Table → Implication → Difference → List (List ℕ × Json)
+difference_members names t i d =
+    (codes "difference", string (signed_decimal d.value)) ∷ (codes "cell", cell_json names t (cell_of d.cell) (vertices_of i)) ∷ []
+
+-- a pair with its difference
+abbrev pub measured_json : List (List ℕ) → Table → Measured → Json
+measured_json names t m = object_of (pair_members names m.pair ++ difference_members names t m.pair m.difference)
+
+-- the pairs with their differences
+abbrev pub differences_json : List (List ℕ) → Table → List Measured → Json
+differences_json names t measured = listed_json (codes "implications") (map (measured_json names t) measured)

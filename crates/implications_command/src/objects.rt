@@ -1,0 +1,229 @@
+//! The objects of the answers of `implications`.
+
+ghost use Rattle.std.specs.Prelude.{◌≡◌, ◌≤◌, [], All, length, map, OnOk, IfOk, codes};
+ghost use Rattle.std.specs.Fmt.{signed_decimal};
+ghost use Rattle.json.specs.Json.{string};
+ghost use Rattle.count_eval.specs.Programs.{cell_of};
+ghost use Rattle.answer_json.specs.Progress.{with_value, with_values, with_member, with_members, array_of, json_line};
+ghost use Rattle.count_json.specs.Cells.{level_json, cell_json};
+ghost use Rattle.implications_command.specs.Pairs.{IsNamed};
+ghost use Rattle.implications_command.specs.Lines.{vertices_of};
+ghost use Rattle.implications_command.specs.Objects.{none_json, pair_members, pair_json, pairs_json, difference_members, measured_json, differences_json};
+
+use crate::differences::Measured;
+use answer_json::Object;
+use count_answers::entries;
+use count_json::{push_level, push_levels};
+use count_table::Counts;
+use implications::Implication;
+use implied_differences::Difference;
+use mixed_graph::Names;
+use std::alloc::{AllocError, Global};
+
+/// That no set separates any two vertices, as a line of JSON.
+pub fn none_object(alloc: Global) -> Result<Vec<u8>, AllocError>
+    ensures { IfOk result (λ v. v.items ≡ json_line none_json) }
+{
+    let mut object = Object::new(alloc)?;
+    object.word_at("answer", "none")?;
+    object.key("pairs")?;
+    object.begin_array()?;
+    object.end_array()?;
+    object.line()
+}
+
+/// The members of a pair: its two vertices, and what is given.
+fn push_members(object: &mut Object, names: &Names, i: &Implication) -> Result<(), AllocError>
+    requires { IsNamed (length names.now) i.now }
+    ensures { OnOk result (object.new ≡ with_members (pair_members names.now i.now) object.old) }
+{
+    object.vertex_at("x", names, i.a)?;
+    object.vertex_at("y", names, i.b)?;
+    object.set_at("given", names, i.given)?;
+    Ok(())
+}
+
+/// A pair.
+fn push_pair(object: &mut Object, names: &Names, i: &Implication) -> Result<(), AllocError>
+    requires { IsNamed (length names.now) i.now }
+    ensures { OnOk result (object.new ≡ with_value (pair_json names.now i.now) object.old) }
+{
+    object.begin_object()?;
+    push_members(object, names, i)?;
+    object.end_object()?;
+    Ok(())
+}
+
+/// Pairs, in their order.
+fn push_pairs(object: &mut Object, names: &Names, list: &[Implication]) -> Result<(), AllocError>
+    requires { All (IsNamed (length names.now)) list.now }
+    ensures { OnOk result (object.new ≡ with_values (map (pair_json names.now) list.now) object.old) }
+{
+    for i in list {
+        push_pair(object, names, i)?;
+    }
+    Ok(())
+}
+
+/// The member of the pairs.
+#[tactic(auto, using(answer_json::proofs::Arrays::array_written))]
+fn pairs_at(object: &mut Object, names: &Names, list: &[Implication]) -> Result<(), AllocError>
+    requires { All (IsNamed (length names.now)) list.now }
+    ensures { OnOk result (object.new ≡ with_member (codes "pairs") (array_of (map (pair_json names.now) list.now)) object.old) }
+{
+    object.key("pairs")?;
+    object.begin_array()?;
+    push_pairs(object, names, list)?;
+    object.end_array()?;
+    Ok(())
+}
+
+/// Pairs as a line of JSON.
+pub fn pairs_object(
+    alloc: Global,
+    names: &Names,
+    list: &[Implication],
+) -> Result<Vec<u8>, AllocError>
+    requires { All (IsNamed (length names.now)) list.now }
+    ensures { IfOk result (λ v. v.items ≡ json_line (pairs_json names.now list.now)) }
+{
+    let mut object = Object::new(alloc)?;
+    object.word_at("answer", "implications")?;
+    pairs_at(&mut object, names, list)?;
+    object.line()
+}
+
+/// A difference, as a text of its digits.
+fn push_value(object: &mut Object, value: i128) -> Result<(), AllocError>
+    ensures { OnOk result (object.new ≡ with_value (string (signed_decimal value)) object.old) }
+{
+    let text = format!(in object.alloc(); "{value}")?;
+    object.string(text.as_str())
+}
+
+/// The levels of a pair and of what is given in a cell, in their order.
+fn push_all_levels(
+    object: &mut Object,
+    names: &Names,
+    counts: &Counts,
+    i: &Implication,
+    cell: &[u32],
+) -> Result<(), AllocError>
+    requires named { IsNamed (length names.now) i.now }
+    requires entries { IsNamed (length cell.now) i.now }
+    ensures { OnOk result (object.new ≡ with_values (map (λ v. level_json names.now counts.now v (cell_of cell.now v)) (vertices_of i.now)) object.old) }
+{
+    let given = i.given.members(object.alloc())?;
+    push_level(object, names, counts, i.a, cell[i.a as usize])?;
+    push_level(object, names, counts, i.b, cell[i.b as usize])?;
+    push_levels(object, names, counts, given.as_slice(), cell)?;
+    Ok(())
+}
+
+/// A cell: the levels of a pair and of what is given.
+fn push_cell(
+    object: &mut Object,
+    names: &Names,
+    counts: &Counts,
+    i: &Implication,
+    cell: &[u32],
+) -> Result<(), AllocError>
+    requires named { IsNamed (length names.now) i.now }
+    requires entries { IsNamed (length cell.now) i.now }
+    ensures { OnOk result (object.new ≡ with_value (cell_json names.now counts.now (cell_of cell.now) (vertices_of i.now)) object.old) }
+{
+    object.begin_array()?;
+    push_all_levels(object, names, counts, i, cell)?;
+    object.end_array()?;
+    Ok(())
+}
+
+/// The members of a difference: its value, and the cell where it is.
+fn push_difference(
+    object: &mut Object,
+    names: &Names,
+    counts: &Counts,
+    i: &Implication,
+    d: Difference,
+) -> Result<(), AllocError>
+    requires named { IsNamed (length names.now) i.now }
+    requires few { length names.now ≤ 64 }
+    ensures { OnOk result (object.new ≡ with_members (difference_members names.now counts.now i.now d) object.old) }
+{
+    object.key("difference")?;
+    push_value(object, d.value)?;
+    object.key("cell")?;
+    push_cell(object, names, counts, i, entries(&d.cell))?;
+    Ok(())
+}
+
+/// A pair with its difference.
+fn push_measured(
+    object: &mut Object,
+    names: &Names,
+    counts: &Counts,
+    m: &Measured,
+) -> Result<(), AllocError>
+    requires named { IsNamed (length names.now) m.now.pair }
+    requires few { length names.now ≤ 64 }
+    ensures { OnOk result (object.new ≡ with_value (measured_json names.now counts.now m.now) object.old) }
+{
+    object.begin_object()?;
+    push_members(object, names, &m.pair)?;
+    push_difference(object, names, counts, &m.pair, m.difference)?;
+    object.end_object()?;
+    Ok(())
+}
+
+/// Pairs with their differences, in their order.
+fn push_all(
+    object: &mut Object,
+    names: &Names,
+    counts: &Counts,
+    measured: &[Measured],
+) -> Result<(), AllocError>
+    requires named { All (λ m. IsNamed (length names.now) m.pair) measured.now }
+    requires few { length names.now ≤ 64 }
+    ensures { OnOk result (object.new ≡ with_values (map (measured_json names.now counts.now) measured.now) object.old) }
+{
+    for m in measured {
+        push_measured(object, names, counts, m)?;
+    }
+    Ok(())
+}
+
+/// The member of the pairs with their differences.
+#[tactic(auto, using(answer_json::proofs::Arrays::array_written))]
+fn differences_at(
+    object: &mut Object,
+    names: &Names,
+    counts: &Counts,
+    measured: &[Measured],
+) -> Result<(), AllocError>
+    requires named { All (λ m. IsNamed (length names.now) m.pair) measured.now }
+    requires few { length names.now ≤ 64 }
+    ensures { OnOk result (object.new ≡ with_member (codes "pairs") (array_of (map (measured_json names.now counts.now) measured.now)) object.old) }
+{
+    object.key("pairs")?;
+    object.begin_array()?;
+    push_all(object, names, counts, measured)?;
+    object.end_array()?;
+    Ok(())
+}
+
+/// Pairs with their differences as a line of JSON.
+pub fn differences_object(
+    alloc: Global,
+    names: &Names,
+    counts: &Counts,
+    measured: &[Measured],
+) -> Result<Vec<u8>, AllocError>
+    requires named { All (λ m. IsNamed (length names.now) m.pair) measured.now }
+    requires few { length names.now ≤ 64 }
+    ensures { IfOk result (λ v. v.items ≡ json_line (differences_json names.now counts.now measured.now)) }
+{
+    let mut object = Object::new(alloc)?;
+    object.word_at("answer", "implications")?;
+    differences_at(&mut object, names, counts, measured)?;
+    object.line()
+}

@@ -1,0 +1,32 @@
+-- The object of a graph.
+use Rattle.std.specs.Prelude.{ℕ, [], ◌∷◌, map, Option, Some, None, codes}
+use Rattle.json.specs.Json.{Json, null, string}
+use Rattle.dag_reader.specs.declared.graph.ReadGraph.{ReadGraph}
+use Rattle.dag_reader.specs.declared.marks.Role.{Role}
+use Rattle.dag_reader.specs.declared.marks.Role.TheVariants.{Exposure, Outcome, Adjusted, Latent}
+use Rattle.dag_reader.specs.Rows.{count_up}
+use Rattle.dag_reader.specs.Written.{role_at, drawn_of, written}
+use Rattle.answer_json.specs.Progress.{array_of, object_of}
+use Rattle.answer_json.specs.Values.{text_json, vertex_json, pairs_json}
+
+-- a role, or null
+abbrev pub role_json : Option Role → Json
+role_json None = null
+role_json (Some Exposure) = string (codes "exposure")
+role_json (Some Outcome) = string (codes "outcome")
+role_json (Some Adjusted) = string (codes "adjusted")
+role_json (Some Latent) = string (codes "latent")
+
+-- a vertex: its name and its role
+abbrev pub named_vertex_json : ReadGraph → ℕ → Json
+named_vertex_json g v = object_of ((codes "name", vertex_json g.names v) ∷ (codes "role", role_json (role_at g v)) ∷ [])
+
+-- all vertices, in index order
+abbrev pub named_vertices_json : ReadGraph → Json
+named_vertices_json g = array_of (map (named_vertex_json g) (count_up g.graph.n))
+
+-- a graph: its vertices, each kind of edges sorted, and its text
+abbrev pub graph_json : ReadGraph → Json
+graph_json g = object_of ((codes "answer", string (codes "graph")) ∷ (codes "vertices", named_vertices_json g)
+    ∷ (codes "directed", pairs_json g.names (drawn_of g).arrows) ∷ (codes "bidirected", pairs_json g.names (drawn_of g).doubles)
+    ∷ (codes "text", text_json (written (drawn_of g))) ∷ [])

@@ -1,0 +1,31 @@
+-- The objects of the answers of `rule`.
+use Rattle.std.specs.Prelude.{ℕ, List, [], ◌∷◌, ◌++◌, codes, decimal}
+use Rattle.json.specs.Json.{Json, string, number}
+use Rattle.mixed_graph.specs.Bits.{has}
+use Rattle.m_separation.specs.declared.paths.OpenPath.{OpenPath}
+use Rattle.answer_json.specs.Progress.{object_of}
+use Rattle.answer_json.specs.Values.{text_json, set_json, path_json}
+use Rattle.do_rules.specs.Rules.{left_of, right_of, number_of}
+use Rattle.do_rules.specs.declared.rules.Rule.{Rule}
+use Rattle.separation_commands.specs.RuleLines.{side_text}
+
+-- the rule and its sets
+abbrev pub rule_members : Rule → List (List ℕ) → (y x z given : ℕ) → List (List ℕ × Json)
+rule_members r names y x z given = (codes "rule", number (decimal (number_of r)))
+    ∷ (codes "y", set_json names y) ∷ (codes "do", set_json names x) ∷ (codes "z", set_json names z) ∷ (codes "given", set_json names given) ∷ []
+
+-- both sides of a rule
+abbrev pub side_members : Rule → List (List ℕ) → (y x z given : ℕ) → List (List ℕ × Json)
+side_members r names y x z given = (codes "left", text_json (side_text names (left_of r (has x) (has y) (has z) (has given))))
+    ∷ (codes "right", text_json (side_text names (right_of r (has x) (has y) (has z) (has given)))) ∷ []
+
+-- the object where a rule holds
+abbrev pub rule_holds_json : Rule → List (List ℕ) → (y x z given : ℕ) → Json
+rule_holds_json r names y x z given = object_of ((codes "answer", string (codes "holds"))
+    ∷ (rule_members r names y x z given ++ side_members r names y x z given))
+
+-- the object where this path is open
+abbrev pub rule_fails_json : Rule → List (List ℕ) → (y x z given : ℕ) → OpenPath → Json
+rule_fails_json r names y x z given path = object_of ((codes "answer", string (codes "does not hold"))
+    ∷ (rule_members r names y x z given ++ (side_members r names y x z given
+    ++ (codes "open", path_json names path.vertices path.marks path.count) ∷ [])))

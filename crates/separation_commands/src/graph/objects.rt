@@ -1,0 +1,107 @@
+//! The object of a graph.
+
+ghost use Rattle.std.specs.Prelude.{◌≡◌, ◌<◌, IfOk, OnOk, length, map, codes};
+ghost use Rattle.dag_reader.specs.Rows.{count_up};
+ghost use Rattle.dag_reader.specs.Written.{role_at, drawn_of};
+ghost use Rattle.answer_json.specs.Progress.{with_value, with_values, with_member, json_line};
+ghost use Rattle.answer_json.specs.Values.{pairs_json};
+ghost use Rattle.separation_commands.specs.GraphObjects.{role_json, named_vertex_json, named_vertices_json, graph_json};
+
+use crate::graph::edges::{push_bidirected, push_directed};
+use answer_json::Object;
+use dag_reader::{ReadGraph, write_graph};
+use std::alloc::{AllocError, Global};
+
+/// The role of vertex v, or null.
+fn push_role(object: &mut Object, g: &ReadGraph, v: u8) -> Result<(), AllocError>
+    requires { v < 64 }
+    ensures { OnOk result (object.new ≡ with_value (role_json (role_at g.now v)) object.old) }
+{
+    if g.exposures.has(v) {
+        return object.string("exposure");
+    }
+    if g.outcomes.has(v) {
+        return object.string("outcome");
+    }
+    if g.adjusted.has(v) {
+        return object.string("adjusted");
+    }
+    if g.latent.has(v) {
+        return object.string("latent");
+    }
+    object.null()
+}
+
+/// Vertex v: its name and its role.
+fn push_vertex(object: &mut Object, g: &ReadGraph, v: u8) -> Result<(), AllocError>
+    requires below { v < 64 }
+    requires named { v < length g.now.names }
+    ensures { OnOk result (object.new ≡ with_value (named_vertex_json g.now v) object.old) }
+{
+    object.begin_object()?;
+    object.vertex_at("name", &g.names, v)?;
+    object.key("role")?;
+    push_role(object, g, v)?;
+    object.end_object()?;
+    Ok(())
+}
+
+/// All vertices, in index order.
+fn push_vertices(object: &mut Object, g: &ReadGraph) -> Result<(), AllocError>
+    ensures { OnOk result (object.new ≡ with_values (map (named_vertex_json g.now) (count_up g.now.graph.n)) object.old) }
+{
+    for v in 0..g.graph.n {
+        push_vertex(object, g, v as u8)?;
+    }
+    Ok(())
+}
+
+/// The member `vertices`.
+#[tactic(auto, using(answer_json::proofs::Arrays::array_written))]
+fn push_vertices_at(object: &mut Object, g: &ReadGraph) -> Result<(), AllocError>
+    ensures { OnOk result (object.new ≡ with_member (codes "vertices") (named_vertices_json g.now) object.old) }
+{
+    object.key("vertices")?;
+    object.begin_array()?;
+    push_vertices(object, g)?;
+    object.end_array()?;
+    Ok(())
+}
+
+/// The member `directed`.
+#[tactic(auto, using(answer_json::proofs::Arrays::array_written))]
+fn push_directed_at(object: &mut Object, g: &ReadGraph) -> Result<(), AllocError>
+    ensures { OnOk result (object.new ≡ with_member (codes "directed") (pairs_json g.now.names (drawn_of g.now).arrows) object.old) }
+{
+    object.key("directed")?;
+    object.begin_array()?;
+    push_directed(object, g)?;
+    object.end_array()?;
+    Ok(())
+}
+
+/// The member `bidirected`.
+#[tactic(auto, using(answer_json::proofs::Arrays::array_written))]
+fn push_bidirected_at(object: &mut Object, g: &ReadGraph) -> Result<(), AllocError>
+    ensures { OnOk result (object.new ≡ with_member (codes "bidirected") (pairs_json g.now.names (drawn_of g.now).doubles) object.old) }
+{
+    object.key("bidirected")?;
+    object.begin_array()?;
+    push_bidirected(object, g)?;
+    object.end_array()?;
+    Ok(())
+}
+
+/// The object of a graph, as a line.
+pub fn graph_object(alloc: Global, g: &ReadGraph) -> Result<Vec<u8>, AllocError>
+    ensures { IfOk result (λ v. v.items ≡ json_line (graph_json g.now)) }
+{
+    let text = write_graph(alloc, g)?;
+    let mut object = Object::new(alloc)?;
+    object.word_at("answer", "graph")?;
+    push_vertices_at(&mut object, g)?;
+    push_directed_at(&mut object, g)?;
+    push_bidirected_at(&mut object, g)?;
+    object.text_at("text", text.as_slice())?;
+    object.line()
+}

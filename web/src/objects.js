@@ -1,0 +1,91 @@
+// The program's answers as objects of JSON (docs/formats.md), and what the page makes of their members.
+import { nodesOf } from "./expression.js";
+import { faultOf } from "./faults.js";
+import { levelsText, nameText, setText } from "./text/printed.js";
+
+/** @typedef {import("./text/printed.js").Graph} Graph  @typedef {import("./text/printed.js").Edge} Edge */
+/** @typedef {{vertices: string[], marks: ("->" | "<-" | "<->")[]}} Path */
+/** @typedef {{name: string, level: string}} Level */
+/**
+ * An answer: its object, which is empty where there is none, and what is refused, or null.
+ * @typedef {{status: number, object: any, fault: import("./faults.js").Fault | null}} Said
+ */
+
+/** The answer to a question with `--json`. @param {import("./runner.js").Answer} answer @returns {Said} */
+export function saidOf({ status, out, err }) {
+  const object = out ? JSON.parse(out) : {}, isAnswer = status === 0 || status === 1;
+  return { status, object, fault: isAnswer ? null : faultOf(object.fault, err) };
+}
+
+/** The graph of an object of `graph`. @returns {Graph} */
+export function graphOf({ vertices, directed, bidirected }) {
+  const edges = (pairs, both) => pairs.map(([a, b]) => ({ a, b, both }));
+  return { vertices, edges: [...edges(directed, false), ...edges(bidirected, true)] };
+}
+
+/** The edges of a path. @param {Path} path @returns {Edge[]} */
+export const edgesOf = ({ vertices, marks }) => marks.map((mark, i) => {
+  const [a, b] = [vertices[i], vertices[i + 1]];
+  return mark === "<-" ? { a: b, b: a, both: false } : { a, b, both: mark === "<->" };
+});
+
+// ---- Formulas
+
+/** A formula as the program prints it: its equation, and a line for each definition. @returns {string[]} */
+export const linesOf = ({ effect, formula, definitions }) =>
+  [`${effect} = ${formula}`, ...definitions.map((text, i) => `q${i} = ${text}`)];
+
+/** All that it prints of a formula. */
+export function textOf(formula) {
+  const free = formula.free.length ? [`free ${setText(formula.free)}`] : [];
+  return [...linesOf(formula), ...free].map((line) => `${line}\n`).join("");
+}
+
+/** The nodes of a formula and of its definitions. */
+export const nodesIn = ({ tree, definition_trees: trees }) => [tree, ...trees].flatMap(nodesOf);
+
+/** The names that sums run over, in their order. */
+export const boundIn = (formula) => [...new Set(nodesIn(formula).flatMap((node) => node.sum ?? []))];
+
+// ---- Models of a hedge
+
+const bitText = ({ bit, vertex }) => `${bit}(${nameText(vertex)})`;
+
+/** What a bit is the parity of, or an event is of. */
+export const sumText = (terms) => terms.map((term) => (term.bit ? bitText(term) : `c${term.cause}`)).join(" + ");
+
+/** The bits of two models, with what each is the parity of in the first and in the second. */
+export function bitsOf({ first, second }) {
+  const bits = new Map(), put = (model) => (bit) => bits.set(bitText(bit), { ...bits.get(bitText(bit)), [model]: sumText(bit.sum) });
+  first.forEach(put("first"));
+  second.forEach(put("second"));
+  return bits;
+}
+
+// ---- Counts
+
+const decoder = new TextDecoder();
+
+/** The levels of a cell; one that isn't UTF-8 comes as a list of bytes. @returns {Level[]} */
+export const levelsIn = (cell) =>
+  cell.map(([name, level]) => ({ name, level: typeof level === "string" ? level : decoder.decode(Uint8Array.from(level)) }));
+
+/** @typedef {{y: string, x: string, given: string, text: string, value: number}} Cell levels as they are printed, `T=A`; none is "" */
+
+/** The values of an effect. @returns {Cell[]} */
+export const valuesOf = ({ cells }) => cells.map(({ y, x, given, value, from, to }) => {
+  const [yLevels, xLevels, among] = [y, x, given].map((part) => levelsText(levelsIn(part)));
+  const number = value ? fraction(value) : (Number(from) + Number(to)) / 2;
+  return { y: yLevels, x: xLevels, given: among, text: value ?? `${from} … ${to}`, value: number };
+});
+
+function fraction(text) {
+  const [p, q] = text.split("/").map(Number);
+  return q === undefined ? p : p / q;
+}
+
+/** @typedef {{a: string, b: string, given: string[], difference?: string, cell?: Level[]}} Implication */
+
+/** The pairs, and their largest differences where counts were given. @returns {Implication[]} */
+export const impliedBy = ({ pairs }) =>
+  pairs.map(({ x, y, given, difference, cell }) => ({ a: x, b: y, given, ...(cell ? { difference, cell: levelsIn(cell) } : {}) }));
