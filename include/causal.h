@@ -42,7 +42,8 @@ typedef struct causal_sizes {
     size_t out, err;
 } causal_sizes;
 
-/* What a call gives. 0 to 5 and 8 are those of the program `causal`, as its README says, and so are the texts. */
+/* What a call gives. 0 to 5 and 8 are those of the program `causal`, as docs/formats.md says, and so are the texts. With the word
+ * `--json` the answer is an object; at 3 to 5 `out` has the object of the refusal then, beside the line in `err`. */
 enum causal_status {
     CAUSAL_YES = 0,        /* the answer is yes; it is in `out` */
     CAUSAL_NO = 1,         /* the answer is no; it is in `out` */
@@ -63,7 +64,7 @@ enum causal_status {
  * bytes, length        what the spans are parts of
  * words, word_count    the words of the command, as the program `causal` takes them, without its own name
  * inputs, input_count  the inputs that the words may name
- * out, out_room        room for the answer
+ * out, out_room        room for the answer, or with `--json` for the object of a refusal
  * err, err_room        room for the line
  * sizes                receives how many bytes the answer and the line have, whole
  *
