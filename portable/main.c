@@ -67,7 +67,7 @@ static int begin(question *q, char **arguments, size_t count) {
   for (size_t i = 0; i < count; i++) {
     size_t size = strlen(arguments[i]);
     if (!has_room(q, size)) return 0;
-    memcpy(q->bytes + q->length, arguments[i], size);
+    if (size) memcpy(q->bytes + q->length, arguments[i], size);
     q->words[i].start = q->length;
     q->words[i].end = q->length += size;
   }

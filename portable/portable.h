@@ -60,6 +60,16 @@
 #define HIDDEN
 #endif
 
+/* --- a part of the code: with -DPART=n only the n-th of its parts is compiled, and its functions are seen from the other parts */
+
+#ifdef PART
+#define IS_IN(part) (PART == (part))
+#define PRIVATE HIDDEN
+#else
+#define IS_IN(part) 1
+#define PRIVATE static
+#endif
+
 /* --- the types: numbers of 32 and 64 bits, the same signed, and doubles; vectors are below */
 
 typedef uint32_t I;

@@ -59,4 +59,5 @@ def main(cases_file, stdout_file, flat_file, expected_file):
     print(f"{len(kept)} cases; {len(cases) - len(kept)} that a caller has no inputs or outputs for are left out")
 
 
-main(*sys.argv[1:])
+if __name__ == "__main__":
+    main(*sys.argv[1:])

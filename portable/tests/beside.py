@@ -1,8 +1,9 @@
 #!/usr/bin/env python3
 """beside.py [--runs N] [--seed N] NATIVE PROGRAM..: runs with random inputs, of each program beside the native one.
 
-A run is a command on a random diagram, for some commands with random counts, a certificate or a second diagram. The programs have to
-end with the status of the native one, and to write the same. The runs are shared out among as many processes as there are processors.
+A run is a command on a random diagram, for some commands with random counts, a certificate or a second diagram; with
+--words most are of any words. The programs have to end with the status of the native one, and to write the same. The runs are shared
+out among as many processes as there are processors.
 """
 from __future__ import annotations
 
@@ -31,12 +32,14 @@ def ending(program: str, words: list[str]) -> Ending:
 class Run:
     """The words and files of one run, by its seed. Files are written into the current folder."""
 
-    def __init__(self, seed: int, native: str) -> None:
+    def __init__(self, seed: int, native: str, of_words: float) -> None:
         self.random, self.native = random.Random(seed), native
         self.names = [f"v{i}" for i in range(self.random.randint(2, 10))]
         self.hidden = {name for name in self.names[1:-1] if self.random.random() < 0.25}
         self.write("g", self.diagram())
         self.command, words = self.random.choice(list(COMMANDS.items()))
+        if of_words and self.random.random() < of_words:
+            self.command, words = "words", any_words
         self.words = words(self)
 
     @staticmethod
@@ -101,6 +104,14 @@ class Run:
         return ["equivalent", "g", "h", *(self.names_for("--x", "--y", "--given") if self.random.random() < 0.5 else [])]
 
 
+def any_words(run: Run) -> list[str]:
+    """Words of which few are understood: empty ones, long ones, options and names."""
+    r = run.random
+    known = ["", "g", "-", "--", "--x", "--y", "--given", "--x=v0", "--json", "--most", "0", "-1", "v0", "v0,v1", "{}", "é", "nothing", ".",
+             *(words.split()[0] for words in COMMANDS), "a" * r.choice([200, 4096, 65536, 70000, 131071])]
+    return [r.choice(known) for _ in range(r.randrange(1, 6))]
+
+
 COMMANDS: dict[str, Callable[[Run], list[str]]] = {
     "graph": lambda it: ["graph", "g", *it.some("--project")],
     "separate": lambda it: ["separate", "g", *it.names_for("--x", "--y", "--given")],
@@ -118,14 +129,14 @@ COMMANDS: dict[str, Callable[[Run], list[str]]] = {
 }
 
 
-def try_runs(native: str, programs: list[str], seeds: range) -> tuple[Counter[str], list[str]]:
+def try_runs(native: str, programs: list[str], of_words: float, seeds: range) -> tuple[Counter[str], list[str]]:
     """How often each command was run with which status, and what differs."""
     met: Counter[str] = Counter()
     wrong = []
     with tempfile.TemporaryDirectory() as folder:
         os.chdir(folder)
         for seed in seeds:
-            run = Run(seed, native)
+            run = Run(seed, native, of_words)
             wanted = ending(native, run.words)
             met[f"{run.command} {wanted.status}"] += 1
             for program in programs:
@@ -140,16 +151,18 @@ def main() -> int:
     parser = argparse.ArgumentParser(description=__doc__, formatter_class=argparse.RawDescriptionHelpFormatter)
     parser.add_argument("--runs", type=int, default=2000)
     parser.add_argument("--seed", type=int, default=0)
+    parser.add_argument("--words", action="store_true", help="most runs of words that aren't understood")
     parser.add_argument("native", metavar="NATIVE")
     parser.add_argument("programs", metavar="PROGRAM", nargs="+")
     options = parser.parse_args()
     native, *programs = map(os.path.abspath, [options.native, *options.programs])
-    size = 50
+    size = 20
     batches = [range(at, min(at + size, options.seed + options.runs)) for at in range(options.seed, options.seed + options.runs, size)]
+    of_words = 0.8 if options.words else 0.0
     met: Counter[str] = Counter()
     wrong: list[str] = []
     with concurrent.futures.ProcessPoolExecutor() as pool:
-        for of_batch, faults in pool.map(try_runs, [native] * len(batches), [programs] * len(batches), batches):
+        for of_batch, faults in pool.map(try_runs, [native] * len(batches), [programs] * len(batches), [of_words] * len(batches), batches):
             met += of_batch
             wrong += faults
     print(*wrong[:20], sep="\n")

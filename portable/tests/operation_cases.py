@@ -5,6 +5,7 @@ A function takes numbers of 64 bits and gives one. Operands of other types are m
 from __future__ import annotations
 
 import itertools
+import math
 import os
 import sys
 from typing import Iterator, NamedTuple
@@ -31,6 +32,9 @@ HALVES = [0, 0xFFFFFFFFFFFFFFFF, 0x8000000000000000, 0x8080808080808080, 0x7F7F7
 CONSTANTS = [0, 1, 5, 63, 127, -1, -2, -16, -(1 << 29), -(1 << 30), -(1 << 30) - 1, 1 << 30, -(1 << 31), (1 << 31) - 1, 1 << 31,
              1 - (1 << 31), (1 << 31) + 1]
 
+# For what doesn't turn on edge values.
+FEW = 60
+
 
 def scrambled(count: int, seed: int) -> list[int]:
     """Numbers of 64 bits that look random and are the same everywhere."""
@@ -52,10 +56,11 @@ def tiny(numbers: list[int]) -> list[int]:
 
 
 class Case(NamedTuple):
-    """A function: its name, the types of its operands, and its body."""
+    """A function: its name, the types of its operands, its body, and at most how many edge values it is called with."""
     name: str
     takes: str
     body: str
+    most: int = 1500
 
     @property
     def width(self) -> int:
@@ -72,18 +77,29 @@ class Case(NamedTuple):
         if "V" in self.takes:
             return self.calls_with_vectors()
         edges = [DOUBLES if letter == "W" else EDGES[BITS[letter]] for letter in self.takes]
-        rows = [list(row) for row in itertools.product(*edges)]
-        if len(rows) > 1500:
-            rows = [rows[i * 7919 % len(rows)] for i in range(300)]
+        count = math.prod(map(len, edges))
+        if count > self.most:
+            rows = [row_of(edges, i * 7919 % count) for i in range(min(300, self.most))]
+        else:
+            rows = [list(row) for row in itertools.product(*edges)]
         if self.takes == "WW":
             numbers = scrambled(6000, len(self.name))
             rows += [list(pair) for how in (near, tiny) for pair in zip(*[iter(how(numbers))] * 2)]
-        return rows + in_rows(scrambled(40 * self.width, len(self.name)), self.width)
+        return rows + in_rows(scrambled((40 if self.most > FEW else 10) * self.width, len(self.name)), self.width)
 
     def calls_with_vectors(self) -> list[list[int]]:
         count = 60 if self.width > 3 else 30
         edges = [[HALVES[(i * 7 + j * (i // 10 + 1)) % len(HALVES)] for j in range(self.width)] for i in range(count)]
         return edges + in_rows(scrambled(count * self.width, self.width), self.width)
+
+
+def row_of(edges: list[list[int]], number: int) -> list[int]:
+    """One of the rows that have an edge value in each place."""
+    row = []
+    for values in edges:
+        number, at = divmod(number, len(values))
+        row.append(values[at])
+    return row
 
 
 def in_rows(numbers: list[int], width: int) -> list[list[int]]:
@@ -151,7 +167,8 @@ def cases() -> list[Case]:
     for _, instruction in sorted(INSTRUCTIONS.items()):
         if instruction.c is not None:
             found += accesses(instruction) if instruction.behind.startswith("memory") else calculations(instruction)
-    return [*found, *with_constants(), *nested(), *copies(), *of_128_bits(), *runs(), *orders(), *jumps()]
+    return [*found, *with_constants(), *nested(), *copies(), *of_128_bits(), *runs(), *orders(), *waiting(),
+            *updates(), *constants_within(), *vector_constants(), *jumps(), *more_jumps()]
 
 
 def accesses(instruction: Instruction) -> Iterator[Case]:
@@ -213,8 +230,8 @@ def nested() -> Iterator[Case]:
             return f"(i64.extend_i32_u {text})" if bits == 64 and operator in ("eq", "lt_s", "lt_u") else text
         x, y, z = (into(letter, at) for at in range(3))
         for p, q in itertools.product(operators, repeat=2):
-            yield Case(f"i{bits} ({p}) {q}", letter * 3, out_of(letter, number(q, number(p, x, y), z)))
-            yield Case(f"i{bits} {q} ({p})", letter * 3, out_of(letter, number(q, x, number(p, y, z))))
+            yield Case(f"i{bits} ({p}) {q}", letter * 3, out_of(letter, number(q, number(p, x, y), z)), 150)
+            yield Case(f"i{bits} {q} ({p})", letter * 3, out_of(letter, number(q, x, number(p, y, z))), 150)
 
 
 def copies() -> Iterator[Case]:
@@ -297,3 +314,131 @@ def jumps() -> list[Case]:
              "(block $a (if (i64.eqz (local.get 0)) (then (local.set 1 (i64.const 4)) (br $a) (local.set 1 (i64.const 5))"
              "(block (loop (br 0))))) (local.set 1 (i64.add (local.get 1) (i64.const 1)))) (local.get 1)"),
     ]
+
+
+# An expression that waits on the stack, with each thing that may change it before it is used. In it `read` stands for what it reads:
+# the local 0, or the 8 bytes at $l.
+WAITING = {
+    "itself": "{read}",
+    "a choice's first": "(select {read} (i64.const 77) (i32.wrap_i64 (local.get 1)))",
+    "a choice's second": "(select (i64.const 77) {read} (i32.wrap_i64 (local.get 1)))",
+    "a choice's condition": "(select (local.get 1) (i64.const 77) (i32.wrap_i64 {read}))",
+    "a choice by a comparison": "(select (local.get 1) (i64.const 77) (i64.lt_u {read} (i64.const 1000)))",
+    "a comparison": "(i64.extend_i32_u (i64.lt_u {read} (local.get 1)))",
+    "a comparison turned": "(i64.extend_i32_u (i64.lt_u (local.get 1) {read}))",
+    "a comparison as a number": "(i64.extend_i32_u (i32.add (i64.lt_u {read} (local.get 1)) (i32.const 3)))",
+    "two comparisons": "(i64.extend_i32_u (i32.and (i64.ne {read} (i64.const 3)) (i64.lt_u (i64.const 8) {read})))",
+    "no zero": "(i64.extend_i32_u (i64.eqz {read}))",
+    "a sum with a constant": "(i64.add {read} (i64.const -5))",
+    "bits by a constant": "(i64.and {read} (i64.const -16))",
+    "bits turned": "(i64.xor {read} (i64.const -1))",
+    "the left of a product": "(i64.mul {read} (local.get 1))",
+    "the right of a product": "(i64.mul (local.get 1) {read})",
+    "a number of places": "(i64.shl (local.get 1) {read})",
+    "the left of a function": "(i64.rotl {read} (local.get 1))",
+    "the right of a function": "(i64.rotl (local.get 1) {read})",
+    "32 bits of it": "(i64.extend_i32_s (i32.sub (i32.wrap_i64 {read}) (i32.const 9)))",
+    "an address": "(i64.load (i64.add (local.get $l) (i64.and {read} (i64.const 8))))",
+    "an address with an offset": "(i64.load offset=4 (i64.add (local.get $l) (i64.and {read} (i64.const 4))))",
+    "a byte of it": "(i64.load8_s (i64.add (local.get $l) (i64.and {read} (i64.const 7))))",
+    "a double": "(i64.reinterpret_f64 (f64.neg (f64.reinterpret_i64 {read})))",
+    "a lane": "(i64x2.extract_lane 1 (i64x2.add (i64x2.splat {read}) (i64x2.splat (local.get 1))))",
+    "a lane that is put": "(i64x2.extract_lane 1 (i64x2.replace_lane 1 (i64x2.splat (local.get 1)) {read}))",
+    "a slide": "(i64x2.extract_lane 0 (i8x16.shuffle 5 6 7 8 9 10 11 12 13 14 15 16 17 18 19 20 (i64x2.splat {read})"
+               "(i64x2.splat (local.get 1))))",
+    "16 bytes": "(i64x2.extract_lane 0 RUN)",
+}
+CHANGES = {
+    "a set": "(local.set 0 (i64.const 5))",
+    "a tee": "(drop (local.tee 0 (i64.const 5)))",
+    "a store": "(i64.store (local.get $l) (i64.const 9))",
+    "a store of a byte": "(i64.store8 offset=3 (local.get $l) (i64.const 9))",
+    "a call": "(drop (call $poke (local.get $l)))",
+    "a call that is set": "(local.set 0 (call $poke (local.get $l)))",
+    "a fill": "(memory.fill (local.get $l) (i32.const 3) (i64.const 8))",
+    "a copy": "(memory.copy (local.get $l) (i64.add (local.get $l) (i64.const 8)) (i64.const 8))",
+    "a block": "(block (br_if 0 (i64.eqz (local.get 1))) (local.set 0 (i64.const 5)) (i64.store (local.get $l) (i64.const 9)))",
+    "a loop": "(loop (local.set 0 (i64.const 5)) (i64.store (local.get $l) (i64.const 9)))",
+    "a loop that runs twice": "(loop (local.set 0 (i64.add (local.get 0) (i64.const 5))) (i64.store (local.get $l) (local.get 0))"
+                              "(local.set 1 (i64.extend_i32_u (i64.eqz (local.get 1)))) (br_if 0 (i32.wrap_i64 (local.get 1))))",
+    "a branch": "(if (i64.eqz (local.get 1)) (then (local.set 0 (i64.const 5))) (else (i64.store (local.get $l) (i64.const 9))))",
+}
+
+
+def waiting() -> Iterator[Case]:
+    run = "(v128.load8_splat (local.get $l))"
+    for lane in range(1, 16):
+        run = f"(v128.load8_lane offset={lane} {lane} (local.get $l) {run})"
+    for (what, text), (change, then) in itertools.product(WAITING.items(), CHANGES.items()):
+        for source, read in (("a local", "(local.get 0)"), ("memory", "(i64.load (local.get $l))")):
+            value = text.replace("RUN", run).format(read=read)
+            yield Case(f"{what} of {source}, and {change} behind it", "LL", in_frame(
+                f"{value} {then} (i64.const 31) (i64.mul) (local.get 0) (i64.add) (i64.load (local.get $l)) (i64.add)"), FEW)
+
+
+def vector_constants() -> Iterator[Case]:
+    for k, lanes in enumerate((range(16), range(15, -1, -1), [255, *[0] * 15], [*[0] * 15, 255])):
+        text = "(v128.const i8x16 " + " ".join(map(str, lanes)) + ")"
+        yield Case(f"v128.const {k}", "LL", out_of("V", f"(i64x2.add {text} (i64x2.splat (local.get 0)))"), FEW)
+
+
+def updates() -> Iterator[Case]:
+    """A local that receives what is calculated with it."""
+    operators = ["add", "sub", "mul", "and", "or", "xor", "shl", "shr_u"]
+    for letter, kind, name in (("I", "i32", "$i"), ("L", "i64", "0")):
+        first = "(local.set $i (i32.wrap_i64 (local.get 0)))" if letter == "I" else ""
+        x, y, z = f"(local.get {name})", into(letter, 1), into(letter, 2)
+        for p, q in itertools.product(operators, repeat=2):
+            shapes = {"(xpy)qz": f"({kind}.{q} ({kind}.{p} {x} {y}) {z})", "xp(yqz)": f"({kind}.{p} {x} ({kind}.{q} {y} {z}))",
+                      "(xpy)qx": f"({kind}.{q} ({kind}.{p} {x} {y}) {x})", "xp(yqx)": f"({kind}.{p} {x} ({kind}.{q} {y} {x}))"}
+            for shape, text in shapes.items():
+                yield Case(f"x={shape} of {kind} {p} {q}", letter * 3, f"{first} (local.set {name} {text}) {out_of(letter, x)}", FEW)
+
+
+def constants_within() -> Iterator[Case]:
+    """An operation with a constant as an operand of another one, and one of two constants."""
+    inner, outer = ["add", "sub", "mul", "and", "or", "xor"], ["add", "sub", "mul", "and", "shl", "shr_u", "shr_s", "lt_u", "lt_s", "rotl"]
+    for letter, bits in BITS.items():
+        most = 1 << (bits - 1)
+        numbers = sorted({n % (1 << bits) for n in (1, -1, -5, -(1 << 30) - 1, -(1 << 31), (1 << 31) - 1, 1 << 31, -most, -(3 << 30))})
+        constants = {number: f"(i{bits}.const {number if number < most else number - 2 * most})" for number in numbers}
+        for (number, constant), p, q in itertools.product(constants.items(), inner, outer):
+            for pair in (into(letter, 0), constant), (constant, into(letter, 0)):
+                whole = f"(i{bits}.{q} (i{bits}.{p} {' '.join(pair)}) {into(letter, 1)})"
+                yield Case(f"i{bits}.{p} with {number:#x} in {q}", letter * 2, out_of("B" if q.startswith("lt") else letter, whole), FEW)
+        for (a, first), (b, second), p in itertools.product(constants.items(), constants.items(), inner):
+            text = f"(i{bits}.add (i{bits}.{p} {first} {second}) {into(letter, 0)})"
+            yield Case(f"i{bits}.{p} of {a:#x} and {b:#x}", letter, out_of(letter, text), FEW)
+
+
+def more_jumps() -> list[Case]:
+    """Jumps that leave values behind, and stores that the others don't have."""
+    return [
+        Case("a br out of the function", "LL",
+             "(block (br_if 1 (local.get 0) (i64.eqz (local.get 1))) (drop) (local.set 0 (i64.const 4)))"
+             "(i64.add (i64.add (local.get 0) (local.get 1)) (i64.const 7))"),
+        Case("a value under a block that a br leaves", "LL",
+             "(i64.mul (local.get 0) (i64.const 3)) (block (result i64) (local.get 1) (i64.const 9) (br 0)) (i64.sub)"),
+        Case("code behind a br that takes more than there is", "LL",
+             "(local.get 1) (block $a (result i64) (local.get 0) (br $a) (i64.add)) (i64.sub)"),
+        Case("a br in a loop to the block around it", "LL",
+             "(block $out (loop $in (br_if $out (i64.lt_u (local.get 0) (i64.const 100))) (local.set 0 (i64.shr_u (local.get 0) (i64.const 3)))"
+             "(br $in))) (local.get 0)"),
+        Case("an address in the frame's words by |", "LL", in_frame(f"(i64.store (i64.or (local.get $l) (i64.const 8)) (local.get 0)) {READ}")),
+        *(Case(f"a store of {number}", "LL", in_frame(f"({kind}.store (local.get $l) ({kind}.const {number})) {READ}"), FEW)
+          for kind, number in (("i64", -1), ("i64", 1 << 31), ("i64", (1 << 63) - 1), ("i32", -1), ("i32", -(1 << 31)))),
+    ]
+
+
+def traps() -> list[tuple[Case, list[int]]]:
+    """Calls that have to end the program, each with its arguments."""
+    found = [(Case("unreachable", "L", "(if (i64.eqz (local.get 0)) (then (unreachable))) (local.get 0)"), [0])]
+    for letter, bits in BITS.items():
+        a, b = operands(letter * 2)
+        for name in ("div_s", "div_u", "rem_s", "rem_u"):
+            case = Case(f"i{bits}.{name} by 0", letter * 2, out_of(letter, f"(i{bits}.{name} {a} {b})"))
+            found += [(case, [7, 0]), (case, [0, 0])]
+        least = 1 << (bits - 1)
+        text = out_of(letter, f"(i{bits}.div_s {a} {b})")
+        found.append((Case(f"i{bits}.div_s of the least number by -1", letter * 2, text), [least, 2 * least - 1]))
+    return found

@@ -3,7 +3,8 @@
 
 operation_cases.py has a function for each instruction and for what else the translation has to keep. wabt's wat2wasm makes one
 object of all; wasm_to_c makes C of it, and node runs the same object. Each function is called with edge values and others, and the
-results have to be the same bit for bit, on each target (targets.py) that is here. Without a target all are tested.
+results have to be the same bit for bit, on each target (targets.py) that is here. What has to end the program does so on both.
+Without a target all are tested. Before them gcc looks at the C with its warnings as errors, where it is here.
 
 Status 77 where wat2wasm or node isn't here.
 """
@@ -17,8 +18,8 @@ import subprocess
 import sys
 import tempfile
 
-from operation_cases import Case, cases
-from targets import PORTABLE, TARGETS, Failed, Target
+from operation_cases import Case, cases, traps
+from targets import PORTABLE, TARGETS, WARNINGS, Failed, Target, why_missing
 
 HEAD = """(module (import "env" "memory" (memory i64 1)) (import "env" "__stack_pointer" (global $sp (mut i64)))
 (import "env" "__multi3" (func $multi3 (param i64 i64 i64 i64 i64)))
@@ -32,7 +33,7 @@ HEAD = """(module (import "env" "memory" (memory i64 1)) (import "env" "__stack_
 # Runs the object in node: run.js OBJECT CALLS RESULTS. The three functions are those that the C has in portable.h.
 SCRIPT = """
 const fs = require("fs");
-const [object, calls, results] = process.argv.slice(2);
+const [object, calls, results, ...traps] = process.argv.slice(2);
 function memory64() {
   try { return new WebAssembly.Memory({ initial: 1n, address: "i64" }); }
   catch { return new WebAssembly.Memory({ initial: 1, index: "i64" }); }
@@ -56,9 +57,16 @@ for (let at = 0; at < numbers.length;) {
   for (let i = 0; i < count; i++, at += width) out.push(BigInt.asUintN(64, call(...numbers.subarray(at, at + width))));
 }
 fs.writeFileSync(results, new Uint8Array(new BigUint64Array(out).buffer));
+for (const words of traps) {
+  const [number, ...row] = words.split(" ");
+  let ended = false;
+  try { made["causal_t" + number](...row.map(BigInt)); } catch { ended = true; }
+  if (!ended) throw new Error("no trap in " + words);
+}
 """
 
-# The same in C: the program reads calls from its input, and writes results to its output, all with the least byte first.
+# The same in C: the program reads calls from its input, and writes results to its output, all with the least byte first. With
+# words it makes the one call that they say.
 CALLER = """#include "portable.h"
 #include <stdio.h>
 %(heads)s
@@ -72,14 +80,18 @@ static int get(L *x) {
   }
   return 1;
 }
-static L call(L number, const L *a) {
-  switch (number) {
+%(calls)s
+static L (*const calls[])(const L *) = {
 %(rows)s
-  }
-  abort();
-}
-int main(void) {
+};
+static L call(L number, const L *a) { return calls[number](a); }
+int main(int words, char **word) {
   L number, width, count, a[8], x;
+  if (words > 1) {
+    for (int i = 2; i < words; i++) a[i - 2] = strtoull(word[i], NULL, 10);
+    printf("%%d\\n", (int)call(strtoull(word[1], NULL, 10), a));
+    return 0;
+  }
   while (get(&number)) {
     get(&width);
     get(&count);
@@ -99,29 +111,54 @@ def write(path: str, text: str) -> None:
         file.write(text)
 
 
-def make_files(tested: list[Case], calls: list[list[list[int]]]) -> None:
-    """Writes the object, the calls, the translation and its caller into the current folder."""
-    write("ops.wat", HEAD + "\n".join(case.text(number) for number, case in enumerate(tested)) + ")\n")
-    subprocess.run(["wat2wasm", "--enable-memory64", "-r", "-o", "ops.o", "ops.wat"], check=True)
-    with open("calls", "wb") as file:
-        for number, (case, rows) in enumerate(zip(tested, calls)):
-            words = [number, case.width, len(rows), *(word for row in rows for word in row)]
-            file.write(struct.pack(f"<{len(words)}Q", *words))
-    heads, rows_of_c = [], []
-    for number, case in enumerate(tested):
+def is_as_it_stands(name: str, content: bytes) -> bool:
+    """Writes a file where it doesn't stand there already; whether it did."""
+    if os.path.exists(name):
+        with open(name, "rb") as file:
+            if file.read() == content:
+                return True
+    with open(name, "wb") as file:
+        file.write(content)
+    return False
+
+
+def make_object(tested: list[Case], calls: list[list[list[int]]]) -> None:
+    """Writes the object, the calls and what node gives, into the current folder, where an earlier run hasn't left them."""
+    functions = [*tested, *(case for case, _ in traps())]
+    text = HEAD + "\n".join(case.text(number) for number, case in enumerate(functions)) + ")\n"
+    packed = []
+    for number, (case, rows) in enumerate(zip(tested, calls)):
+        words = [number, case.width, len(rows), *(word for row in rows for word in row)]
+        packed.append(struct.pack(f"<{len(words)}Q", *words))
+    is_kept = [is_as_it_stands("ops.wat", text.encode()), is_as_it_stands("calls", b"".join(packed))]
+    if not all(is_kept) or not os.path.exists("expected"):
+        subprocess.run(["wat2wasm", "--enable-memory64", "-r", "-o", "ops.o", "ops.wat"], check=True)
+        run_in_node(len(tested))
+
+
+def make_files(tested: list[Case]) -> None:
+    """Writes the translation and its caller into the current folder."""
+    functions = [*tested, *(case for case, _ in traps())]
+    heads, calls_of_c = [], []
+    for number, case in enumerate(functions):
         heads.append(f"L causal_t{number}_code({','.join(['L'] * case.width)});")
-        rows_of_c.append(f"case {number}: return causal_t{number}_code({','.join(f'a[{i}]' for i in range(case.width))});")
-    write("caller.c", CALLER % {"heads": "\n".join(heads), "rows": "\n".join(rows_of_c)})
+        arguments = ",".join(f"a[{i}]" for i in range(case.width))
+        calls_of_c.append(f"static L call{number}(const L *a) {{ return causal_t{number}_code({arguments}); }}")
+    rows = ",\n".join(f"call{number}" for number in range(len(functions)))
+    write("caller.c", CALLER % {"heads": "\n".join(heads), "calls": "\n".join(calls_of_c), "rows": rows})
     subprocess.run([sys.executable, f"{PORTABLE}/wasm_to_c", "ops.o", "ops.c"], check=True, stdout=subprocess.DEVNULL)
 
 
-def results_of_node() -> bytes:
+def trapping(first: int) -> list[str]:
+    """The calls that have to end the program: the number of a function and its arguments, each call as words."""
+    return [" ".join(map(str, [first + number, *row])) for number, (_, row) in enumerate(traps())]
+
+
+def run_in_node(count: int) -> None:
     write("run.js", SCRIPT)
-    words = ["run.js", "ops.o", "calls", "expected"]
+    words = ["run.js", "ops.o", "calls", "expected", *trapping(count)]
     if subprocess.run(["node", "--experimental-wasm-memory64", *words], stderr=subprocess.DEVNULL).returncode:
         subprocess.run(["node", *words], check=True)  # a later node has it without an option
-    with open("expected", "rb") as file:
-        return file.read()
 
 
 def differences(expected: bytes, got: bytes, tested: list[Case], calls: list[list[list[int]]]) -> list[str]:
@@ -138,6 +175,18 @@ def differences(expected: bytes, got: bytes, tested: list[Case], calls: list[lis
     return found
 
 
+def has_warnings() -> bool:
+    """Whether gcc warns of something in the C: a constant that its type doesn't hold, a shift by more than there is."""
+    if not shutil.which("gcc"):
+        print("skipped: warnings of operations: no gcc")
+        return False
+    # (parentheses for readers, and comparisons with constants that are always true)
+    words = ["gcc", "-fsyntax-only", *WARNINGS, "-Wno-parentheses", "-Wno-type-limits", "-I", PORTABLE, "ops.c"]
+    ran = subprocess.run(words, stderr=subprocess.PIPE, text=True)
+    print(ran.stderr[:2000], end="")
+    return ran.returncode != 0
+
+
 def test(name: str, target: Target, expected: bytes, tested: list[Case], calls: list[list[list[int]]]) -> bool:
     """Whether the target's results are those of node."""
     try:
@@ -149,13 +198,17 @@ def test(name: str, target: Target, expected: bytes, tested: list[Case], calls: 
     with open("calls", "rb") as file:
         ran = subprocess.run([*target.runs, f"./{name}"], stdin=file, capture_output=True)
     wrong = differences(expected, ran.stdout, tested, calls)
+    for words in trapping(len(tested)):
+        # (what a signal leaves is written to nowhere)
+        if subprocess.run([*target.runs, f"./{name}", *words.split()], stdout=subprocess.DEVNULL, stderr=subprocess.DEVNULL).returncode == 0:
+            wrong.append(f"{words}: no end")
     print(f"{name}: {len(wrong)} functions differ, status {ran.returncode}", *wrong[:12], sep="\n  ", flush=True)
     return not wrong and not ran.returncode and len(ran.stdout) == len(expected)
 
 
 def main() -> int:
     parser = argparse.ArgumentParser(description=__doc__, formatter_class=argparse.RawDescriptionHelpFormatter)
-    parser.add_argument("--keep", metavar="FOLDER", help="where to leave what is made")
+    parser.add_argument("--keep", metavar="FOLDER", help="where to leave what is made; what node gives is taken from there")
     parser.add_argument("targets", nargs="*", metavar="TARGET", help=", ".join(TARGETS))
     options = parser.parse_args()
     for tool in ("wat2wasm", "node"):
@@ -167,16 +220,17 @@ def main() -> int:
     os.chdir(folder)
     tested = cases()
     calls = [case.calls() for case in tested]
-    make_files(tested, calls)
-    expected = results_of_node()
+    make_object(tested, calls)
+    make_files(tested)
+    with open("expected", "rb") as file:
+        expected = file.read()
     print(f"{len(tested)} functions, {len(expected) // 8} calls")
-    wrong = 0
+    wrong = int(has_warnings())
     for name in options.targets or TARGETS:
-        target = TARGETS[name]
-        if target.lacking():
-            print(f"skipped: operations on {name}: no {target.lacking()[0]}")
+        if why_missing(name):
+            print(f"skipped: operations on {name}: {why_missing(name)}")
         else:
-            wrong += not test(name, target, expected, tested, calls)
+            wrong += not test(name, TARGETS[name], expected, tested, calls)
     if not options.keep:
         shutil.rmtree(folder)
     return 1 if wrong else 0

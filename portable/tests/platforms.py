@@ -12,13 +12,14 @@ from __future__ import annotations
 import argparse
 import concurrent.futures
 import os
+import re
 import shutil
 import subprocess
 import sys
 import tempfile
 import time
 
-from targets import PORTABLE, TARGETS, TOP, Failed, Target
+from targets import PORTABLE, TARGETS, TOP, Failed, Target, why_missing
 
 C = f"{TOP}/bindings/c"
 INCLUDE = ["-I", f"{TOP}/include"]
@@ -34,11 +35,22 @@ ASKED = [
 ]
 
 
+def parts() -> int:
+    """In how many parts the code may be compiled, by its first lines."""
+    with open(f"{PORTABLE}/causal_code.c", encoding="ascii") as file:
+        found = re.search(r"^ \* parts: (\d+)$", file.read(1000), re.M)
+    if not found:
+        raise Failed("causal_code.c doesn't say of how many parts it is")
+    return int(found[1])
+
+
 def make(folder: str, target: Target) -> None:
     """Compiles the library once, and three programs over it."""
-    for source in ("causal", "causal_code"):
-        target.compile(f"{folder}/{source}.o", *INCLUDE, "-c", f"{PORTABLE}/{source}.c")
-    library = [f"{folder}/causal.o", f"{folder}/causal_code.o"]
+    library = [f"{folder}/causal.o"]
+    target.compile(library[0], *INCLUDE, "-c", f"{PORTABLE}/causal.c")
+    for part in range(1, parts() + 1) if target.in_parts else [0]:
+        library.append(f"{folder}/code{part}.o")
+        target.compile(library[-1], *INCLUDE, *([f"-DPART={part}"] if part else []), "-c", f"{PORTABLE}/causal_code.c")
     programs = {"main": f"{PORTABLE}/main.c", "cases": f"{C}/cases.c"}
     if target.has_edges:
         programs["edges"] = f"{C}/edges.c"
@@ -104,8 +116,8 @@ def main() -> int:
     options = parser.parse_args()
     here = []
     for name in options.targets or TARGETS:
-        if TARGETS[name].lacking():
-            print(f"skipped: the C on {name}: no {TARGETS[name].lacking()[0]}")
+        if why_missing(name):
+            print(f"skipped: the C on {name}: {why_missing(name)}")
         else:
             here.append(name)
     folder = os.path.abspath(options.keep or tempfile.mkdtemp())

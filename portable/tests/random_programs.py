@@ -2,11 +2,11 @@
 """random_programs.py [--keep FOLDER] [--seed N] COUNT: random programs, compiled natively and by way of WebAssembly and wasm_to_c.
 
 Each is a program in C with structs, arrays, constant tables, pointers, loops, switches, recursion, numbers of 128 bits and doubles
-(program_maker.py), which gives one number for each of some calls. The toolchain's clang makes an object of wasm64 of it, at a level
-that turns with the seed, and its translation is compiled by gcc, clang and tcc in turn. A program with an instruction that wasm_to_c
+(program_maker.py), which gives one number for each of some calls. A clang that has wasm64 makes an object of it, at a level that
+turns with the seed, and its translation is compiled by gcc, clang and tcc in turn. A program with an instruction that wasm_to_c
 doesn't know is passed over, and counted. Where the two differ, the program, its object and its translation are kept.
 
-Status 77 where rt, whose clang has wasm64, or gcc isn't here.
+Status 77 where such a clang or gcc isn't here.
 """
 from __future__ import annotations
 
@@ -18,7 +18,7 @@ import sys
 import tempfile
 
 from program_maker import Maker
-from targets import PORTABLE
+from targets import PORTABLE, wasm_clang
 
 PLAIN = ["-fno-vectorize", "-fno-slp-vectorize"]
 LEVELS = [["-O0"], ["-O1"], ["-O2"], ["-Os"], ["-Oz"], ["-O3"], ["-Os", "-msimd128", *PLAIN], ["-O2", *PLAIN]]
@@ -57,7 +57,7 @@ def try_program(seed: int, clang: str, compilers: list[list[str]]) -> str:
     with open("p.c", "w", encoding="ascii") as file:
         file.write(Maker(seed).program())
     run(["gcc", "-O1", *QUIET, "-DNAME=causal_t", "-o", "native", "p.c", "caller.c"])
-    target = ["--target=wasm64-unknown-unknown", "-mcpu=lime1", "-ffreestanding", *LEVELS[seed % len(LEVELS)]]
+    target = ["--target=wasm64-unknown-unknown", "-mbulk-memory", "-msign-ext", "-ffreestanding", *LEVELS[seed % len(LEVELS)]]
     run([clang, *target, *QUIET, "-c", "p.c", "-o", "p.o"])
     made = subprocess.run([sys.executable, f"{PORTABLE}/wasm_to_c", "p.o", "t.c"], capture_output=True, text=True)
     if made.returncode:
@@ -73,11 +73,9 @@ def main() -> int:
     parser.add_argument("--seed", type=int, default=0)
     parser.add_argument("count", type=int)
     options = parser.parse_args()
-    for tool in ("rt", "gcc"):
-        if not shutil.which(tool):
-            print(f"skipped: random programs: no {tool}")
-            return 77
-    kit = os.path.dirname(subprocess.run(["rt", "doc"], capture_output=True, text=True, check=True).stdout.strip())
+    if not shutil.which("gcc") or not wasm_clang():
+        print(f"skipped: random programs: no {'clang with wasm64' if shutil.which('gcc') else 'gcc'}")
+        return 77
     folder = options.keep or tempfile.mkdtemp()
     os.makedirs(folder, exist_ok=True)
     os.chdir(folder)
@@ -86,7 +84,7 @@ def main() -> int:
     compilers = [it for it in COMPILERS if shutil.which(it[0])]
     results: dict[str, int] = {}
     for seed in range(options.seed, options.seed + options.count):
-        result = try_program(seed, f"{kit}/toolchain/bin/clang", compilers)
+        result = try_program(seed, wasm_clang()[0], compilers)
         results[result] = results.get(result, 0) + 1
         if result == "different":
             print(f"{seed}: different")

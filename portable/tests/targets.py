@@ -1,9 +1,11 @@
 """The compilers and machines that the C is tested with."""
 from __future__ import annotations
 
+import functools
 import os
 import shutil
 import subprocess
+import tempfile
 from typing import NamedTuple
 
 HERE = os.path.dirname(os.path.abspath(__file__))
@@ -17,15 +19,13 @@ WINE = shutil.which("wine64") or shutil.which("wine") or "/usr/lib/wine/wine64"
 
 
 class Target(NamedTuple):
-    """A compiler with its options, what its programs are linked with, what runs them, and whether it compiles bindings/c/edges.c."""
+    """A compiler with its options, what its programs are linked with, what runs them, whether it compiles bindings/c/edges.c, and
+    whether it compiles the code in its parts."""
     compiler: list[str]
     links: list[str] = []
     runs: list[str] = []
     has_edges: bool = True
-
-    def lacking(self) -> list[str]:
-        """The tools that aren't here."""
-        return [tool for tool in [self.compiler[0], *self.runs] if not shutil.which(tool)]
+    in_parts: bool = False
 
     def compile(self, output: str, *words: str) -> None:
         """Compiles what the words name; what the compiler says is an error's text."""
@@ -44,6 +44,7 @@ STATIC = ["-static", "-pthread"]
 TARGETS = {
     "gcc": Target(["gcc", "-O1", *WARNINGS], THREADS),
     "gcc-O0": Target(["gcc", "-O0", *WARNINGS], THREADS),
+    "parts": Target(["gcc", "-O0", *WARNINGS], THREADS, in_parts=True),
     "gcc-O2": Target(["gcc", "-O2", *WARNINGS], THREADS),
     "gcc-words": Target(["gcc", "-O1", "-DWITHOUT_SSE2", *WARNINGS], THREADS),
     "gcc-plain": Target(["gcc", "-O1", "-DSOFT_DOUBLES", *PLAIN, *WARNINGS], THREADS),
@@ -54,6 +55,48 @@ TARGETS = {
     "aarch64": Target(["aarch64-linux-gnu-gcc", "-O1", *WARNINGS], STATIC, ["qemu-aarch64"]),
     "arm": Target(["arm-linux-gnueabihf-gcc", "-O1", *WARNINGS], STATIC, ["qemu-arm"]),
     "s390x": Target(["s390x-linux-gnu-gcc", "-O1", *WARNINGS], STATIC, ["qemu-s390x"]),
+    "x87": Target(["gcc", "-O1", "-mfpmath=387", *WARNINGS], THREADS),
     "i686": Target(["i686-linux-gnu-gcc", "-O1", *WARNINGS], STATIC),
     "windows": Target(["x86_64-w64-mingw32-gcc", "-O1", *WARNINGS], ["-static", "-pthread", "-lshell32"], [WINE]),
 }
+
+
+def can(words: list[str], folder: str) -> bool:
+    """Whether words end with status 0."""
+    try:
+        ran = subprocess.run(words, cwd=folder, stdin=subprocess.DEVNULL, stdout=subprocess.DEVNULL, stderr=subprocess.DEVNULL, timeout=120)
+    except (OSError, subprocess.TimeoutExpired):
+        return False
+    return ran.returncode == 0
+
+
+@functools.lru_cache(maxsize=None)
+def why_missing(name: str) -> str:
+    """What a target lacks here, if it lacks something: a tool, its C library, or a machine that runs what it makes."""
+    target = TARGETS[name]
+    for tool in [target.compiler[0], *target.runs]:
+        if not shutil.which(tool):
+            return f"no {tool}"
+    with tempfile.TemporaryDirectory() as folder:
+        with open(f"{folder}/try.c", "w", encoding="ascii") as file:
+            file.write('#include <stdio.h>\n#include <stdlib.h>\n#include <string.h>\nint main(void) { return puts("") < 0; }\n')
+        options = [word for word in target.compiler if not word.startswith("-D")]
+        if not can([*options, "-w", "try.c", "-o", "try.exe", *target.links], folder):
+            return f"{target.compiler[0]} makes no program (its C library isn't here?)"
+        if not can([*target.runs, "./try.exe"], folder):
+            return f"what {target.compiler[0]} makes doesn't run here"
+    return ""
+
+
+@functools.lru_cache(maxsize=None)
+def wasm_clang() -> tuple[str, ...]:
+    """A clang that makes objects of wasm64: the toolchain's, or the machine's."""
+    rt = shutil.which("rt")
+    page = subprocess.run([rt, "doc"], capture_output=True, text=True).stdout.strip() if rt else ""
+    with tempfile.TemporaryDirectory() as folder:
+        with open(f"{folder}/try.c", "w", encoding="ascii") as file:
+            file.write("int x;\n")
+        for clang in f"{os.path.dirname(page)}/toolchain/bin/clang", "clang":
+            if shutil.which(clang) and can([clang, "--target=wasm64-unknown-unknown", "-c", "try.c"], folder):
+                return (clang,)
+    return ()

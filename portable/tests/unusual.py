@@ -1,5 +1,5 @@
 #!/usr/bin/env python3
-"""unusual.py NATIVE PROGRAM..: unusual words, inputs and outputs, of each program beside the native one.
+"""unusual.py [--more] NATIVE PROGRAM..: unusual words, inputs and outputs, of each program beside the native one.
 
 Each use is a line of bash, with @ for the program, run in a fresh folder with the files of examples/. The programs have to end with
 the same status, and to write the same to standard output, to standard error and into the file `out`. Where this runs as root, all of
@@ -137,6 +137,27 @@ ulimit -s 1024; @ identify napkin.dag
 ulimit -s 1024; @ evaluate kidney_stones.dag kidney_stones.csv --count count
 """
 
+# With --more.
+MORE = r"""
+@ identify --help
+@ identify front_door.dag --help
+@ identify front_door.dag --version
+@ identify front_door.dag --x "$(printf 'a%.0s' {1..300})"
+@ identify front_door.dag --x "$(printf 'a%.0s' {1..5000})" --y "$(printf 'b%.0s' {1..300})"
+@ identify front_door.dag --x "$(head -c 70000 /dev/zero | tr '\0' a)" --y Y
+@ identify front_door.dag --unknown "$(head -c 70000 /dev/zero | tr '\0' a)"
+@ identify "$(head -c 131071 /dev/zero | tr '\0' a)"
+@ "$(head -c 131071 /dev/zero | tr '\0' a)" "$(head -c 131071 /dev/zero | tr '\0' b)" "$(head -c 131071 /dev/zero | tr '\0' c)"
+d=$(printf 'a%.0s' {1..100}); mkdir -p $d/$d/$d; cp front_door.dag $d/$d/$d/; @ identify $d/$d/$d/front_door.dag
+{ printf 'dag { A }'; head -c 1300000 /dev/zero | tr '\0' ' '; } | { @ graph - >/dev/null; wc -c; }
+{ printf 'dag { A }'; head -c 1300000 /dev/zero | tr '\0' ' '; } | { @ evaluate - kidney_stones.csv --count count >/dev/null; wc -c; }
+{ printf '{'; head -c 1300000 /dev/zero | tr '\0' ' '; } | { @ check front_door.dag - >/dev/null; wc -c; }
+mkfifo pipe; @ evaluate nothing.dag pipe
+mkfifo pipe; @ equivalent . pipe
+(printf 'dag {'; for i in {1..40}; do printf 'v%s%01000d ' $i 0; done; printf '}') | @ implications - | md5sum
+(printf 'dag {'; for i in {1..40}; do printf 'v%s%01000d ' $i 0; done; printf '}') | @ implications - --json | md5sum
+"""
+
 
 class Ending(NamedTuple):
     """The status of a use, and what it wrote."""
@@ -187,8 +208,8 @@ def cut_off(folder: str, program: str, words: list[str], text: bytes) -> Ending:
     return Ending(running.returncode, out, err, b"")
 
 
-def main(native: str, programs: list[str]) -> int:
-    uses = [line for line in USES.strip().splitlines() if not line.startswith("#")]
+def main(text: str, native: str, programs: list[str]) -> int:
+    uses = [line for line in text.strip().splitlines() if not line.startswith("#")]
     readings = [(["graph", "-"], b"dag { A -> B }"), (["check", "front_door.dag", "-"], b"{"), (["check", "-", "front_door.dag"], b"dag {")]
     wrong = 0
     with tempfile.TemporaryDirectory() as room:
@@ -216,6 +237,9 @@ def main(native: str, programs: list[str]) -> int:
 
 
 if __name__ == "__main__":
+    has_more = sys.argv[1:2] == ["--more"]
+    if has_more:
+        del sys.argv[1]
     if len(sys.argv) < 3:
         sys.exit(__doc__)
-    sys.exit(main(os.path.abspath(sys.argv[1]), [os.path.abspath(it) for it in sys.argv[2:]]))
+    sys.exit(main(USES + MORE * has_more, os.path.abspath(sys.argv[1]), [os.path.abspath(it) for it in sys.argv[2:]]))

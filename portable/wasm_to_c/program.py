@@ -14,6 +14,7 @@ CALLED = {"rattle_alloc", "rattle_realloc", "rattle_dealloc", "__multi3", "__lsh
 MOST_ALIGNED = 16
 WRITABLE = 2  # a flag of a segment
 WIDTH = 118
+PARTS = 8  # of the functions; portable/make says it in the first lines of the C
 GENERIC = re.compile(r"::<.*")
 
 
@@ -61,7 +62,7 @@ class Program:
     def head(self, index: int, named: bool) -> str:
         takes, gives = self.module.signatures[index]
         inside = ",".join(f"{letter} {local_name(at)}" if named else letter for at, letter in enumerate(takes)) or "void"
-        storage = "" if index in self.exported else "static "
+        storage = "" if index in self.exported else "PRIVATE "
         return f"{storage}{gives or 'void'} {self.name(index)}({inside})"
 
     # --- what is reached
@@ -144,6 +145,20 @@ class Program:
     def text(self) -> str:
         order = sorted(self.functions)
         heads = "".join(self.head(index, named=False) + ";\n" for index in order)
-        bodies = "".join(self.with_places(self.functions[index].text()) for index in order)
+        bodies = [self.with_places(self.functions[index].text()) for index in order]
         return (f"#define WORDS {len(self.data) // 8}\n#include \"portable.h\"\n"
-                f"DATA = {{\n{self.data_text()}\n}};\nDATA_END\n{heads}{bodies}")
+                f"#if IS_IN(1)\nDATA = {{\n{self.data_text()}\n}};\nDATA_END\n#endif\n{heads}{in_parts(bodies)}")
+
+
+def in_parts(bodies: list[str]) -> str:
+    """The functions in parts of nearly even size, each of which can be compiled by itself."""
+    total, done, last = sum(map(len, bodies)), 0, 0
+    rows = []
+    for body in bodies:
+        part = done * PARTS // total + 1
+        if part != last:
+            rows.append("#endif\n" * (last > 0) + f"#if IS_IN({part})\n")
+            last = part
+        rows.append(body)
+        done += len(body)
+    return "".join(rows) + "#endif\n" * (last > 0)

@@ -1,11 +1,11 @@
 import { CARDS } from "./cards/index.js";
-import { tableName } from "./cards/data.js";
+import { tableName } from "./cards/table.js";
 import { byId, h, speak } from "./dom.js";
 import { AS_JSON } from "./names.js";
 import { saidOf } from "./objects.js";
 import { toast } from "./page/notices.js";
 import { forgetGone } from "./seen.js";
-import { howToRead, rewritten } from "./text/csv.js";
+import { Table } from "./table.js";
 
 const MOST_BYTES = 1 << 26; // what the program reads of a table
 
@@ -35,9 +35,9 @@ export class Answers {
     this.show(this.active.id);
   }
 
-  #tab({ id, title, hasDot }) {
+  #tab({ id, title, about, hasDot }) {
     return h("button", {
-      type: "button", role: "tab", id: `tab-${id}`, "aria-controls": "panel", onclick: () => this.show(id),
+      type: "button", role: "tab", id: `tab-${id}`, "aria-controls": "panel", title: about, onclick: () => this.show(id),
     }, hasDot ? h("span", { class: "dot", "aria-hidden": "true" }) : null, title,
     hasDot ? h("span", { class: "unseen dot-words" }) : null);
   }
@@ -74,7 +74,7 @@ export class Answers {
   /** Forgets what was chosen for another diagram: the way to the formula and its form, the condition of the effect, and the trials. */
   forgetChoices() {
     const { sets } = this.#memory;
-    Object.assign(this.#memory, { by: "", procedure: false, zero: false });
+    Object.assign(this.#memory, { by: "", procedure: false, zero: false, direct: false, wish: {} });
     for (const key of Object.keys(sets)) if (/^(condition|also set|experiment \d+)$/.test(key)) delete sets[key];
     this.#memory.experiments = 1;
   }
@@ -97,7 +97,7 @@ export class Answers {
     this.around.drawing.pick = null;
     const { ctx, asked } = this.#context(), shown = await active.answer(ctx);
     if (turn !== this.#turn) return;
-    this.#setDot(active, shown.dot);
+    this.#setDot(active, shown);
     this.#marks = shown.marks ?? {};
     const key = JSON.stringify([active.id, this.#graph, asked]);
     if (key !== this.#shown) this.#fill(shown.view());
@@ -106,13 +106,13 @@ export class Answers {
     this.around.drawing.sayWaiting();
     for (const card of CARDS) {
       if (card === active || !card.hasDot) continue;
-      const { dot } = await card.answer(this.#context().ctx);
+      const other = await card.answer(this.#context().ctx);
       if (turn !== this.#turn) return;
-      this.#setDot(card, dot);
+      this.#setDot(card, other);
     }
   }
 
-  #setDot({ id, hasDot, dotWords }, dot) {
+  #setDot({ id, hasDot, dotWords: usual }, { dot, dotWords = usual }) {
     if (!hasDot) return;
     const tab = byId(`tab-${id}`);
     tab.querySelector(".dot").className = `dot ${dot}`;
@@ -134,28 +134,29 @@ export class Answers {
   /** Takes a table of counts, and shows what it gives for the effect, or for what is implied. @param {File} file */
   async take(file) {
     if (file.size > MOST_BYTES) return toast(`${file.name} has ${Math.ceil(file.size / 2 ** 20)} MB. A table has 64 MB at most.`);
-    const bytes = new Uint8Array(await file.arrayBuffer()), text = new TextDecoder().decode(bytes);
-    Object.assign(this.#memory, { table: { name: file.name, bytes, text, how: "" }, count: undefined, zero: false });
+    const table = new Table(file.name, new Uint8Array(await file.arrayBuffer()));
+    Object.assign(this.#memory, { table, csv: null, count: undefined, zero: false });
     this.#readTable();
     this.show(this.active.id === "implications" ? "implications" : "data");
   }
 
-  /** Gives the program the table; with commas and the diagram's names where the file has others. */
+  /** Gives the program the table, as it is read for the diagram. */
   #readTable() {
-    const { table } = this.#memory;
+    const { table, csv: had } = this.#memory;
     if (!table) return;
-    const how = howToRead(table.text, this.#observed()), key = JSON.stringify(how);
-    if (table.how === key) return;
-    table.how = key;
-    const isAsItIs = how.mark === "," && !how.renamed.length;
-    const csv = isAsItIs ? { name: table.name, text: table.text, how: null }
-      : { name: table.name.replace(/(\.\w+)?$/, ".read.csv"), text: rewritten(table.text, how), how };
+    const csv = table.read(this.#observed());
+    if (csv === had) return;
     this.#memory.csv = csv;
-    this.program.put(tableName(csv.name), isAsItIs ? table.bytes : csv.text);
+    this.program.put(tableName(csv.name), csv.content);
   }
 
   #observed() {
     return (this.#graph?.vertices ?? []).filter((v) => v.role !== "latent").map((v) => v.name);
+  }
+
+  /** What a report asks with. */
+  context() {
+    return this.#context().ctx;
   }
 
   /** Ends the choosing of a set by clicks. @returns {boolean} whether there was one */
@@ -189,6 +190,10 @@ export class Answers {
       show: (id) => this.show(id),
       mark: (marks) => diagram.mark(marks ?? this.#marks),
       take: (file) => this.take(file),
+      readAgain: () => {
+        this.#readTable();
+        this.refresh();
+      },
     };
     return { ctx, asked };
   }

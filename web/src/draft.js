@@ -7,6 +7,7 @@ import { graphOf } from "./objects.js";
  * @property {boolean} [fit] the drawing is fitted to its window
  * @property {boolean} [record] it's a step that can be taken back
  * @property {boolean} [typed] it was typed
+ * @property {boolean} [act] it was made by an act in the drawing, where all else stays where it is
  */
 /**
  * @typedef {object} DraftListeners
@@ -85,12 +86,12 @@ export class Draft {
     this.#busy = false;
   }
 
-  /** Takes a text that an act in the drawing makes. @returns {Promise<string | null>} why it was refused */
-  async propose(text) {
+  /** Takes a text that an act in the drawing makes. @param {Shown} how @returns {Promise<string | null>} why it was refused */
+  async propose(text, how = {}) {
     if (this.isFaulty) return "The text has a fault; mend it first, or undo.";
     const { fault } = await this.program.of(text).read(GRAPH);
     if (fault) return fault.sentence;
-    await this.show(text);
+    await this.show(text, how);
     return null;
   }
 

@@ -1,5 +1,6 @@
 import { button, byId, h } from "./dom.js";
 import { placesOf } from "./faults.js";
+import { adviceOn } from "./text/advice.js";
 import { ROLES } from "./text/printed.js";
 import { taken } from "./text/taken.js";
 import { isEdgeMark, isMark, tokens } from "./text/tokens.js";
@@ -14,7 +15,7 @@ export class Editor {
   #lines = []; // as they are painted
   #saying;
 
-  /** @param {{typed: (text: string) => void, pasted: (text: string) => void, opened: () => void, judged: () => void}} on */
+  /** @param {{typed: (text: string) => void, pasted: (text: string) => void, mended: (text: string) => void, opened: () => void, judged: () => void}} on */
   constructor(on) {
     this.on = on;
     this.#area.addEventListener("input", (e) => {
@@ -51,19 +52,23 @@ export class Editor {
     this.on.judged();
     if (!fault) return this.paint();
     if (!fault.number) return line.replaceChildren(fault.sentence);
-    const marks = placesOf(fault, text), other = taken(text);
+    const marks = placesOf(fault, text), other = taken(text), advice = adviceOn(fault, text, marks[0].start);
     line.title = fault.told;
-    line.replaceChildren(this.#placeButton(marks[0], text), ` ${fault.sentence} `,
-      other ? button("Write it as the program reads it", () => this.on.pasted(text), { data: { key: "take text" } }) : "");
+    line.replaceChildren(...[
+      text.trim() && this.#placeButton(marks[0], text), ` ${advice?.sentence ?? fault.sentence} `,
+      other && button("Write it as the program reads it", () => this.on.pasted(text), { data: { key: "take text" } }),
+      !other && advice?.fixed && button(advice.label, () => this.on.mended(advice.fixed), { data: { key: "mend" } }),
+    ].filter(Boolean));
     this.paint(marks);
   }
 
-  /** Says what else there is to say of the text; an empty list ends it. @param {(string | Node)[]} sentences */
-  note(sentences) {
+  /** Says what else there is to say of the text; an empty list ends it. @param {import("./text/warnings.js").Note[]} notes */
+  note(notes) {
     const list = byId("text-notes");
-    list.replaceChildren(...sentences.map((sentence) => h("li", {}, sentence)));
-    list.hidden = !sentences.length;
-    document.body.classList.toggle("warned", sentences.length > 0);
+    list.replaceChildren(...notes.map(({ sentence, fixed, label }) => h("li", {}, sentence,
+      fixed && [" ", button(label, () => this.on.mended(fixed), { data: { key: "mend" } })])));
+    list.hidden = !notes.length;
+    document.body.classList.toggle("warned", notes.length > 0);
   }
 
   /** A button that tells a place of the text, and goes there. */

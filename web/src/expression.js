@@ -20,16 +20,17 @@ function escape(name) {
   return nameText(name).replace(/[\\_#&$%{}^~]/g, (c) => named[c] ?? `\\${c}`);
 }
 
-export function latex(/** @type {Expr} */ e) {
-  const names = (list) => list.map(escape).join(", ");
-  const wrap = (x) => (x.sum || x.product || x.quotient ? `\\left( ${latex(x)} \\right)` : latex(x));
+/** An expression in LaTeX. @param {Expr} e @param {(name: string) => string} [named] how a name is written */
+export function latex(e, named = escape) {
+  const names = (list) => list.map(named).join(", "), inner = (x) => latex(x, named);
+  const wrap = (x) => (x.sum || x.product || x.quotient ? `\\left( ${inner(x)} \\right)` : inner(x));
   if (e.term) {
-    const conditions = [...(e.do.length ? [`\\mathrm{do}(${names(e.do)})`] : []), ...e.given.map(escape)];
+    const conditions = [...(e.do.length ? [`\\mathrm{do}(${names(e.do)})`] : []), ...e.given.map(named)];
     return `P(${names(e.term)}${conditions.length ? ` \\mid ${conditions.join(", ")}` : ""})`;
   }
-  if (e.sum) return `\\sum_{${names(e.sum)}} ${latex(e.of)}`;
+  if (e.sum) return `\\sum_{${names(e.sum)}} ${inner(e.of)}`;
   if (e.product) return e.product.map(wrap).join(" ");
-  if (e.quotient) return `\\frac{${latex(e.quotient[0])}}{${latex(e.quotient[1])}}`;
+  if (e.quotient) return `\\frac{${inner(e.quotient[0])}}{${inner(e.quotient[1])}}`;
   return `q_{${e.definition}}`;
 }
 

@@ -15,10 +15,14 @@ export function faultOf(object, err) {
 }
 
 /** The program's message, and behind it what it is about. The names x, y and z stay small: they are no vertices. */
-function sentenceOf({ stage, message, name, names, row }) {
+function sentenceOf({ stage, number, message, name, names, row }) {
+  if (lacksMark({ stage, number })) return LACKING[message[0]] ?? LACKING.x;
   const about = names ? (stage.endsWith("graph") ? [...names, names[0]].join(" → ") : names.join(" ↔ ")) : name ?? (row && `row ${row}`);
   return `${message.replace(/^(?![xyz]\b)[a-z]/, (letter) => letter.toUpperCase())}${about ? `: ${about}` : ""}.`;
 }
+
+/** What to do where a list is empty: y, x, or z of a rule. */
+const LACKING = { y: "Mark an outcome", x: "Mark an exposure", z: "Choose z, or mark an exposure" };
 
 /** Whether the lists lack an outcome, or an exposure. */
 export const lacksMark = ({ stage, number }) => stage === "target" && (number === 4 || number === 5);

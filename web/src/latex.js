@@ -13,7 +13,7 @@ const ROW = 8; // names under a sum, in a row of so many letters
 const ROW_LETTERS = 40;
 const WIDE_LETTERS = 20; // of a sum behind which a line may break
 
-const lettersOf = (name) => name.replace(/\\htmlClass\{bound\}\{|\\textit\{|\}/g, "").length;
+const lettersOf = (name) => name.replace(/\\htmlClass\{bound\}\{|\\text\{|\}/g, "").length;
 const lettersIn = (names) => names.reduce((sum, name) => sum + lettersOf(name), 0);
 
 /** For a formula that is too wide for one line. @type {Manner} */
@@ -35,7 +35,7 @@ const BROKEN = {
 /** A name set as a word, without quotes where it can't be mistaken. */
 function nice(tex) {
   if ([...tex].length === 1) return tex;
-  return `\\textit{${/[,()|]/.test(tex) ? tex.replace(/^"(.*)"$/, "“$1”") : tex.replace(/^"|"$/g, "")}}`;
+  return `\\text{${/[,()|]/.test(tex) ? tex.replace(/^"(.*)"$/, "“$1”") : tex.replace(/^"|"$/g, "")}}`;
 }
 
 /** The parts of a list of names or conditions. */

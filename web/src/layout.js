@@ -1,10 +1,14 @@
 import dagre from "dagre";
+import { bend, runsBehind } from "./diagram/geometry.js";
 
 /** @typedef {{x: number, y: number}} Point  @typedef {{width: number, height: number}} Size */
 
 const SIDEWAYS_FIRST = 1.2; // how much larger a drawing from top to bottom is, where it is taken
 const QUICK_MS = 400; // a layout that took longer isn't computed the other way as well
 const MOST_STRETCH = 2.2;
+const MOST_EDGES = 150; // beyond it edges may run behind vertices
+const WIDER = 1.15; // how much a layout grows at once, so that no edge does
+const MOST_ROUNDS = 8;
 
 /**
  * Places for a graph by dagre: from left to right, or from top to bottom where that shows it clearly larger in its room.
@@ -17,7 +21,20 @@ export function arrange(outline) {
   const down = arrangeBy("TB", outline), isDown = scaleIn(room, down) > SIDEWAYS_FIRST * scaleIn(room, sideways);
   const chosen = isDown ? down : sideways;
   stretch(chosen, room);
+  widen(chosen, outline.edges);
   return listed(chosen);
+}
+
+/** Widens a layout until each edge can be bent round the vertices that aren't its ends. */
+function widen(placed, edges) {
+  const by = new Map(placed.map((p) => [p.name, p]));
+  const meets = ([a, b]) => {
+    const others = placed.filter(({ name }) => name !== a && name !== b).map((p) => ({ ...p, half: p.width / 2 })), [p, q] = [by.get(a), by.get(b)];
+    return runsBehind(p, bend(p, q, false, others, []), q, others);
+  };
+  for (let round = 0; round < MOST_ROUNDS && edges.length <= MOST_EDGES && edges.some(meets); round++) {
+    for (const p of placed) Object.assign(p, { x: p.x * WIDER, y: p.y * WIDER });
+  }
 }
 
 const listed = (placed) => placed.map(({ name, x, y }) => [name, { x, y }]);

@@ -6,27 +6,31 @@ import { Draft } from "./draft.js";
 import { Editor } from "./editor.js";
 import { Acts } from "./page/acts.js";
 import { Drawing } from "./page/drawing.js";
-import { openMenu } from "./page/menu.js";
+import { closeMenu, openMenu } from "./page/menu.js";
 import { toast } from "./page/notices.js";
-import { Kept, titleOf } from "./page/kept.js";
+import { Diagrams } from "./page/diagrams.js";
+import { fileName, Kept } from "./page/kept.js";
 import { resizePanes } from "./page/panes.js";
 import { followLink, partOf, readLink, writeLink } from "./page/link.js";
 import { pathClasses } from "./paths.js";
 import { Places } from "./places.js";
 import { Program } from "./program.js";
 import { Runner } from "./runner.js";
+import { gather } from "./report/gather.js";
+import { htmlOf, latexOf } from "./report/write.js";
 import { taken } from "./text/taken.js";
 import { warningsOf } from "./text/warnings.js";
 import { Ways } from "./ways.js";
 
 const inlined = (id) => byId(id).textContent.trim();
-const examples = JSON.parse(inlined("examples"));
+const examples = JSON.parse(inlined("examples")), exampleGraphs = examples.fields.flatMap(({ graphs }) => graphs);
 
 const program = new Program(new Runner(inlined("worker-source"), inlined("module")));
 const drawing = new Drawing(), { diagram } = drawing;
 const places = new Places(new Runner(inlined("arranger-source")), diagram);
 
 const kept = new Kept();
+const nameOf = (kind) => fileName(kept.shown.name, kind);
 const askAbout = (text, words) => program.ask(text, words);
 let turnOfPaths = null;
 let drawn = null; // when the drawing is right; nothing else waits for it
@@ -36,18 +40,20 @@ const draft = new Draft(program, {
   asking: (reading) => answers.askAhead(reading),
   judged: (fault, text, { typed }) => {
     editor.judge(fault, text, typed);
-    kept.keep(text);
-    listKept();
+    if (fault) keep(text, kept.shown.scale);
+    if (fault) editor.note([]); // what was said of an earlier text isn't said of this one
     if (!fault) followLink(text, answers.active.id);
     byId("undo").disabled = !draft.canUndo;
     byId("redo").disabled = !draft.canRedo;
   },
-  accepted: async (graph, text, { fit }) => {
+  accepted: async (graph, text, how) => {
     byId("drawing").setAttribute("aria-label",
       `Diagram of ${summary(graph)}. Tab goes through the vertices, Enter opens a vertex's menu`);
     sayOrigin(graph);
-    editor.note([...(text === rewritten.text ? [rewritten.words] : []), ...warningsOf(text, graph)]);
-    drawn = places.draw(graph, text, fit);
+    editor.note([...(text === rewritten.text ? [{ sentence: rewritten.words }] : []), ...warningsOf(text, graph)]);
+    byId("welcome").hidden = graph.vertices.length > 0;
+    drawn = places.draw(graph, text, how);
+    keep(text, places.scaleOf(text));
     drawing.follow(graph);
     drawing.ways = new Ways(askAbout, graph);
     await answers.update(graph, text);
@@ -55,35 +61,33 @@ const draft = new Draft(program, {
   },
 });
 const editor = new Editor({
-  typed: (text) => draft.follow(text), pasted: (text) => take(text), opened: () => toggleText(true),
+  typed: (text) => draft.follow(text), pasted: (text) => take(text), mended: (text) => draft.show(text), opened: () => toggleText(true),
   judged: () => drawing.sayWaiting(),
 });
 const acts = new Acts(draft, places, diagram);
 drawing.use(acts);
-const answers = new Answers(program, { drawing, acts, places, samples: examples.data });
+const answers = new Answers(program, { drawing, acts, places, samples: examples.data, nameOf });
 
 // ---- The head
 
 const menu = byId("examples-menu");
 menu.append(h("option", { value: "" }, "Examples"));
-menu.append(...examples.graphs.map((e) => h("option", { value: e.name }, e.title)));
-const own = menu.appendChild(h("optgroup", { label: "Your last diagrams, kept in this browser" }));
+menu.append(...examples.fields.map(({ field, graphs }) => h("optgroup", { label: field }, graphs.map((e) => h("option", { value: e.name }, e.title)))));
 menu.addEventListener("change", () => {
-  const found = examples.graphs.find((e) => e.name === menu.value), number = /^kept (\d+)$/.exec(menu.value)?.[1];
-  if (found) open(found.text, found.source);
-  else if (number) open(kept.list()[number]);
-  else if (menu.value === "forget") kept.forget();
+  const found = exampleGraphs.find((e) => e.name === menu.value);
+  if (found) open(found.text, { name: found.title, source: found.source });
   menu.value = "";
-  listKept();
 });
 
-function listKept() {
-  const items = kept.list().map((text, i) => h("option", { value: `kept ${i}` }, titleOf(text)));
-  own.replaceChildren(...items, ...(items.length ? [h("option", { value: "forget" }, "Forget these")] : []));
-  own.hidden = !items.length;
+const diagrams = new Diagrams(kept, (entry) => open(entry.text, entry));
+
+/** Keeps what is shown. */
+function keep(text, scale) {
+  kept.keep(text, scale);
+  diagrams.tell();
 }
 
-byId("new").onclick = () => open("dag {\n}\n");
+byId("new").onclick = () => open(EMPTY);
 addEventListener("beforeunload", (e) => kept.isSafe || e.preventDefault());
 byId("undo").onclick = () => draft.undo();
 byId("redo").onclick = () => draft.redo();
@@ -101,6 +105,8 @@ byId("licences-box").ontoggle = () => (byId("licences-text").textContent = inlin
 
 // ---- The text
 
+const OTHER_KINDS = /\.(xlsx?|ods|sav|dta|sas7bdat|rds|rda|rdata|pdf|docx?|png|jpe?g|gif|svg|zip|gz)$/i;
+const EMPTY = "dag {\n}\n";
 const MOST_BYTES = 2e6; // the program says the fault of a text that is only a little too long
 let origin = { source: "", graph: "" };
 let rewritten = { text: null, words: "" };
@@ -114,12 +120,16 @@ async function take(text) {
   await draft.show(found.text, { fit: true });
 }
 
-/** Shows another diagram. */
-function open(text, source = "") {
-  places.reset();
+/** Shows another diagram, when what was begun with the one before is done. @param {Partial<import("./page/kept.js").Shown>} what */
+async function open(text, what = {}) {
+  closeMenu();
+  await acts.settled();
+  drawing.endEdge();
+  places.reset(what.scale);
   answers.forgetChoices();
-  origin = { source, graph: "" };
-  kept.begin(text);
+  origin = { source: what.source ?? "", graph: "" };
+  kept.begin({ ...what, text });
+  diagrams.tell();
   return taken(text) ? take(text) : draft.show(text, { fit: true });
 }
 
@@ -138,8 +148,10 @@ function toggleText(isOn = document.body.classList.contains("no-text")) {
 
 /** Opens a file's text. What is far longer than a diagram's text may be isn't read. */
 async function openFile(file) {
-  if (file.size > MOST_BYTES) toast(`${file.name} has ${Math.ceil(file.size / 1e6)} MB. A diagram's text has 1 MB at most.`);
-  else open(await file.text());
+  if (OTHER_KINDS.test(file.name) || (await file.slice(0, 4096).text()).includes("\0")) {
+    toast(`${file.name} can't be read here. Read are diagrams as text (.dag, .txt, .R, .gv) and tables with commas, semicolons or tabs (.csv, .tsv, .tab).`);
+  } else if (file.size > MOST_BYTES) toast(`${file.name} has ${Math.ceil(file.size / 1e6)} MB. A diagram's text has 1 MB at most.`);
+  else open(await file.text(), { name: file.name.replace(/\.\w+$/, "") });
 }
 
 byId("fold").onclick = () => toggleText();
@@ -148,7 +160,7 @@ byId("open-text").onchange = async (e) => {
   if (file) openFile(file);
   e.target.value = "";
 };
-byId("save-text").onclick = () => save("diagram.dag", draft.text, "text/plain");
+byId("save-text").onclick = () => save(nameOf("dag"), draft.text, "text/plain");
 document.addEventListener("dragover", (e) => e.preventDefault());
 document.addEventListener("drop", (e) => {
   e.preventDefault();
@@ -166,11 +178,26 @@ byId("in").onclick = () => diagram.zoomBy(1.3);
 byId("out").onclick = () => diagram.zoomBy(1 / 1.3);
 byId("export").onclick = (e) => {
   const { left, bottom } = e.currentTarget.getBoundingClientRect();
-  if (diagram.graph.vertices.length) openMenu({ x: left, y: bottom + 6 }, "Save as", waysToSave(diagram, draft.accepted.text), e.currentTarget);
+  if (diagram.graph.vertices.length) openMenu({ x: left, y: bottom + 6 }, "Save as", [...reports(), ...waysToSave(diagram, draft.accepted.text, nameOf)], e.currentTarget);
   else toast("There is nothing to save yet.");
 };
+/** A report of all answers, as a file. */
+function reports() {
+  const made = (kind, type, write) => async () => {
+    toast("The report is being made …");
+    const report = await gather(answers.context(), kept.shown.name || "A causal diagram");
+    save(nameOf(kind), write(report, diagram), type);
+    toast(`The report is saved as ${nameOf(kind)}.`);
+  };
+  return [
+    { text: "Report, to print (HTML)", act: made("report.html", "text/html", htmlOf) },
+    { text: "Report, as LaTeX", act: made("report.tex", "text/plain", latexOf) },
+  ];
+}
+
 byId("paths").onclick = () => {
-  const isOn = byId("paths").getAttribute("aria-pressed") !== "true";
+  const isOn = byId("paths").getAttribute("aria-pressed") !== "true", has = (role) => draft.accepted.graph.vertices.some((v) => v.role === role);
+  if (isOn && !(has("exposure") && has("outcome"))) return toast("Mark an exposure and an outcome first: paths lead from the one to the other.");
   byId("paths").setAttribute("aria-pressed", String(isOn));
   colourPaths(draft.accepted.graph);
 };
@@ -193,7 +220,7 @@ addEventListener("afterprint", () => diagram.fit());
 // ---- Keys and links
 
 document.addEventListener("keydown", (e) => {
-  if (e.key === "Escape") drawing.endEdge() || answers.disarm() || drawing.endSelection();
+  if (e.key === "Escape") drawing.endEdge() || drawing.endJoining() || answers.disarm() || drawing.endSelection() || drawing.unpin();
   handToHovered(e);
   const key = e.key.toLowerCase();
   if (!(e.ctrlKey || e.metaKey) || (key !== "z" && key !== "y") || e.target.closest("#panel textarea")) return;
@@ -213,12 +240,14 @@ function handToHovered(e) {
   vertex.dispatchEvent(new KeyboardEvent("keydown", { key: e.key, shiftKey: e.shiftKey }));
 }
 
+/** Shows the diagram of the link, or else what this tab showed, or else what was changed last. */
 async function start() {
   const { text, card } = readLink();
   if (card) answers.show(card);
-  const [first] = examples.graphs, [last] = kept.list();
-  if (text !== null) await open(text);
-  else await (last === undefined ? open(first.text, first.source) : open(last));
+  const [first] = exampleGraphs, left = kept.left() ?? kept.list()[0];
+  if (text !== null) await open(text, left?.text === text ? left : {});
+  else if (left) await open(left.text, left);
+  else await open(first.text, { name: first.title, source: first.source });
 }
 
 addEventListener("hashchange", () => readLink().text !== null && start());

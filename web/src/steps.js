@@ -7,8 +7,8 @@ import { readGraph, readSet } from "./text/told.js";
  * @typedef {{n: 1 | 2 | 3, y: string[], z: string[], doing: string[], given: string[]}} Rule
  * @typedef {{word: string, arg: any, path: number[]}} Move a step at its place, as a certificate has it
  * @typedef {{number: number, word: string, set: string[], part: number | null, before: string, after: string,
- *   whole: string | null, rule: Rule | null, graph: import("./text/printed.js").Graph | null}} Step its expressions in
- *   LaTeX, `whole` where it has more than `after`; and the rule for which it asks, with the graph in which it is asked
+ *   whole: string | null, rule: Rule | null, trees: [Expr, Expr], graph: import("./text/printed.js").Graph | null}} Step its expressions in
+ *   LaTeX and as `trees`, `whole` where it has more than `after`; and the rule for which it asks, with the graph in which it is asked
  * @typedef {{lemma: number | null, start: string, steps: Step[]}} Derived
  */
 
@@ -70,5 +70,6 @@ function stepOf({ word, arg, path }, number, before, after) {
   return {
     number, word, set: Array.isArray(arg) ? arg : [], part: word === "cite" ? arg : null,
     before: latex(partAt(before, path)), after: latex(partAt(after, path)), whole: path.length ? latex(after) : null,
+    trees: [partAt(before, path), partAt(after, path)],
   };
 }

@@ -95,7 +95,7 @@ def reads_other_tables(s):
     s.soon("many levels are to be grouped", lambda: "Group S first" in s.panel(), s.panel)
     s.check("no raw code is seen", " node " not in s.panel(), s.panel())
     drop(s, "mine.csv", table + ",".join("1" if name == "count" else "NA" for name in header) + "\n")
-    s.soon("missing values are told", lambda: "Missing values: NA" in s.panel(), s.panel)
+    s.soon("missing values are told", lambda: "Missing values in 1 of 9 rows" in s.panel(), s.panel)
     s.run("""const data = new DataTransfer(), file = new File(["X"], "large.csv");
         Object.defineProperty(File.prototype, "size", { configurable: true, get() { return 90000000; } });
         data.items.add(file);
@@ -243,7 +243,126 @@ def evaluates_the_marked_set(s):
     s.tab("effect")
 
 
+SMOKING = "dag { Smoking [exposure] Cancer [outcome] Age -> Smoking Age -> Cancer Smoking -> Tar -> Cancer }"
+
+
+def dirty_table():
+    """Records with missing values, levels in several spellings, and ages in years."""
+    rows, state = [], 7
+    for i in range(600):
+        state = (state * 1103515245 + 12345) % 2**31
+        age, smoking = 30 + (state >> 8) % 40, ("yes", "no")[(state >> 16) % 2]
+        tar = ("low", "high")[(state >> 18) % 2 if smoking == "no" else 1 - ((state >> 18) % 4 == 0)]
+        cancer = ("no", "yes")[int((state >> 20) % 10 < (5 if tar == "high" else 2) + (age > 50))]
+        if i % 50 == 0:
+            smoking = ("NA", "", ".", " ")[i // 50 % 4]
+        if i % 40 == 1:
+            smoking = smoking.title() + " "
+        rows.append(f"{age},{smoking},{tar},{cancer}")
+    return "age_,Smoking,Tar,Cancer\n" + "\n".join(rows) + "\n"
+
+
+def press(s, key):
+    s.one(f"#panel [data-key='{key}']").click()
+
+
+def cleans_a_table(s):
+    """Missing values are left out by one button, levels joined, numbers cut; Implies says the same."""
+    s.example("fork")
+    s.write(SMOKING)
+    s.tab("data")
+    drop(s, "dirty.csv", dirty_table())
+    notes = lambda: s.one("#read-notes").text
+    s.soon("one line tells of missing values", lambda: notes().count("Missing values") == 1 and "in 12 of 600 rows" in notes(), s.panel)
+    s.check("a column is guessed, and that is shown", "age_ as Age" in notes(), notes())
+    s.check("spellings are told", "“no”, “No ”" in notes() or "“yes”, “Yes ”" in notes(), notes())
+    s.check("many values are to be cut", "Age has 40 different values" in notes(), notes())
+    s.tab("implications")
+    s.soon("the same under Implies", lambda: s.all("table.pairs") and "Missing values in 12 of 600 rows" in notes(), s.panel)
+    press(s, "missing")
+    s.soon("left out there", lambda: "12 of 600 rows are left out" in notes(), s.panel)
+    s.tab("data")
+    s.soon("and here", lambda: "12 of 600 rows are left out" in notes(), s.panel)
+    press(s, "join")
+    s.soon("levels are joined", lambda: "Joined are levels" in notes(), notes)
+    s.one("#panel [data-key='points Age']").send_keys("45, 60")
+    press(s, "cut at Age")
+    s.soon("ages are cut", lambda: "Age is cut at 45, 60" in notes(), notes)
+    s.soon("then there are values", lambda: len(values(s)) == 4, s.panel)
+    s.check("of two groups alone", {row[0] for row in values(s)} == {"Smoking=yes", "Smoking=no"}, values(s))
+    s.check("without a word that reads as a comparison", "below" not in s.panel(), s.panel())
+    press(s, "uncut Age")
+    press(s, "cut Age")
+    s.soon("or cut into groups of equal size", lambda: "Age is cut at" in notes() and notes().count(",") > 2, notes)
+    rows = lambda: contrasts(s)
+    s.soon("the odds ratio", lambda: rows()[4][0] == "odds ratio" and float(rows()[4][1]) > 0, rows)
+    crude = rows()[2][3]
+    s.check("the crude value beside it", float(crude) != float(rows()[2][1]) and "Crude:" in s.panel(), rows())
+
+
+def matches_columns(s):
+    """Columns are matched by hand; without one the tests that can be done are done."""
+    s.example("fork")
+    s.write("dag { Smoking [exposure] Cancer [outcome] Age -> Smoking Age -> Cancer Smoking -> Tar -> Cancer Tar -> Cough Age -> Sex }")
+    s.tab("data")
+    head, rest = dirty_table().split("\n", 1)
+    drop(s, "other.csv", head.replace("Tar", "V3").replace("age_", "Age") + ",Sex,Cough\n"
+         + "\n".join(f"{line},{'mf'[i % 2]},{i % 2}" for i, line in enumerate(rest.strip().split("\n"))) + "\n")
+    s.soon("a column is missing", lambda: "No column for Tar" in s.panel(), s.panel)
+    s.tab("implications")
+    tested = lambda: [row.text for row in s.all("table.pairs tbody tr")]
+    s.soon("some are tested", lambda: any("Holm" in row for row in tested()) and any("no column" in row for row in tested()), tested)
+    s.check("and it is said how many aren't", "more name a variable without a column" in s.panel(), s.panel())
+    press(s, "match")
+    s.soon("columns are matched", lambda: s.all("[data-key='column Tar']"), s.panel)
+    s.run("const el = document.querySelector('[data-key=\"column Tar\"]'); el.value = 'V3'; el.dispatchEvent(new Event('change'))")
+    s.soon("by hand", lambda: "V3 as Tar" in s.panel() and "No column" not in s.one("#read-notes").text, s.panel)
+    s.tab("implications")
+    s.soon("then all are tested", lambda: tested() and all("Holm" in row for row in tested()), tested)
+    p = [float(row.split("Holm")[0].split()[-1].replace("<", "")) for row in tested() if "Holm –" not in row]
+    s.check("in the order of p", p == sorted(p), p)
+    wide = s.run("const t = document.querySelector('table.pairs').parentElement; return t.scrollWidth - t.clientWidth")
+    s.check("no column is cut off", wide <= 0, wide)
+
+
+def tells_what_is_rejected(s):
+    """The headline says how many tests are rejected, and the drawing shows them."""
+    s.example("fork")
+    s.write("dag { A -> B C -> D E -> F }")
+    s.tab("implications")
+    drop(s, "six.csv", "A,B,C,D,E,F\n" + "".join(f"{i % 2},{i % 2},{i % 2},{i // 2 % 2},{i // 4 % 2},{i // 8 % 2}\n" for i in range(64)))
+    s.soon("how many are rejected", lambda: "of 12 tested independences are rejected" in s.panel(), s.panel)
+    s.check("as a finding that isn't green", s.one("#panel .verdict").get_attribute("class") == "verdict no", s.panel())
+    s.soon("they are marked in the drawing", lambda: len(s.all("#drawing .over path.rejected")) == int(s.one("#panel .verdict").text.split()[0]),
+           lambda: len(s.all("#drawing .over path.rejected")))
+    s.tab("effect")
+
+
+def stops_the_draws(s):
+    """Draws that take long show how far they are, and can be stopped."""
+    s.example("fork")
+    names = [f"W{i}" for i in range(6)]
+    s.write("dag { X [exposure] Y [outcome] X -> Y " + " ".join(f"{w} -> X {w} -> Y" for w in names) + " }")
+    s.tab("data")
+    rows = [",".join(f"{i % 256:08b}") for i in range(20000)]
+    drop(s, "long.csv", "X,Y," + ",".join(names) + "\n" + "\n".join(rows) + "\n")
+    if not wait(lambda: s.all("#zero") or s.all(".contrasts"), 30):
+        s.check("a table with many cells", False, s.panel())
+    if s.all("#zero") and not s.all(".contrasts"):
+        s.one("#zero").click()
+    s.soon("the values", lambda: s.all(".contrasts"), s.panel)
+    wait(lambda: s.all("#draw") or s.all("#stop") or " to " in contrasts(s)[2][2], 30)
+    if s.all("#draw"):
+        s.one("#draw").click()
+    if wait(lambda: s.all("#stop"), 2):
+        s.check("progress is shown", "of 1000 draws" in s.panel() and s.all("#panel progress"), s.panel())
+        s.one("#stop").click()
+        s.soon("and can be stopped", lambda: s.all("#draw") or " to " in contrasts(s)[2][2], s.panel)
+    s.example("fork")
+    s.tab("effect")
+
+
 PARTS = [
-    drops_a_table, reads_other_tables, contrasts_with_intervals, adjusts_for_less, counts_zero_cells_for_nothing,
+    cleans_a_table, matches_columns, tells_what_is_rejected, stops_the_draws, drops_a_table, reads_other_tables, contrasts_with_intervals, adjusts_for_less, counts_zero_cells_for_nothing,
     evaluates_under_a_condition, evaluates_the_marked_set,
 ]

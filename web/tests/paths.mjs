@@ -5,7 +5,8 @@ import { keyOf } from "../src/diagram/geometry.js";
 import { load } from "../src/causal.mjs";
 import { DIAGRAM } from "../src/names.js";
 import { pathClasses } from "../src/paths.js";
-import { Ways } from "../src/ways.js";
+import { pathsBetween, Walks } from "../src/walks.js";
+import { plainText, Ways } from "../src/ways.js";
 
 const causal = await load(readFileSync(process.argv[2]));
 const GRAPHS = Number(process.argv[3] ?? 300);
@@ -61,12 +62,40 @@ function expected(graph) {
   const all = (g) => xs.flatMap((x) => ys.flatMap((y) => pathsOf(g, x, y)));
   const directed = all(graph).filter((path) => path.every(({ e, from }) => !e.both && e.a === from));
   const firsts = new Set(directed.map((path) => path[0].e)), rest = { ...graph, edges: graph.edges.filter((e) => !firsts.has(e)) };
-  const put = (paths, cls) => paths.flat().forEach(({ e }) => classes.set(keyOf(e), cls));
-  put(directed, "causal blocked");
-  put(all(rest).filter((path) => isOpen(rest, path, [])), "biasing blocked");
-  put(directed.filter((path) => path.every(({ from, to }) => !set.includes(from) && !set.includes(to))), "causal");
-  put(all(rest).filter((path) => isOpen(rest, path, set)), "biasing");
+  const keys = (paths) => new Set(paths.flat().map(({ e }) => keyOf(e))), isLeft = (path) => path.every(({ from, to }) => !set.includes(from) && !set.includes(to));
+  const causal = keys(directed), left = keys(directed.filter(isLeft)), before = keys(all(rest).filter((path) => isOpen(rest, path, [])));
+  const now = keys(all(rest).filter((path) => isOpen(rest, path, set)));
+  for (const key of graph.edges.map(keyOf)) {
+    const [isCausal, isBiasing] = [causal.has(key), before.has(key) || now.has(key)];
+    const main = isCausal ? `causal${left.has(key) ? "" : " blocked"}` : `biasing${now.has(key) ? "" : " blocked"}`;
+    if (isCausal || isBiasing) classes.set(key, isCausal && isBiasing ? `${main} also${now.has(key) ? "" : "-blocked"}` : main);
+  }
   return classes;
+}
+
+/** The paths that the page lists, and what blocks them, beside all paths and the program's own answer. */
+async function comparePaths(graph) {
+  const marked = (role) => graph.vertices.filter((v) => v.role === role).map((v) => v.name), [[x], ys, set] = ["exposure", "outcome", "adjusted"].map(marked);
+  if (!x || !ys.length) return;
+  const { paths, isAll } = pathsBetween(graph, x, ys, 1000, { tries: 1e6 }), wanted = ys.flatMap((y) => pathsOf(graph, x, y))
+    .filter((path) => path.slice(0, -1).every(({ to }) => !ys.includes(to)));
+  const text = (path) => path.map(({ from, to }) => `${from} ${to}`).join(), walks = new Walks(graph, set, await new Ways(ask, graph).before(set));
+  if (!isAll || paths.map(text).sort().join(";") !== wanted.map(text).sort().join(";")) {
+    wrong++;
+    console.log(`differs: the paths of ${JSON.stringify(graph)}`);
+  }
+  for (const path of wanted) {
+    const blocks = walks.blocks(path.map(({ e, from, to }) => ({ edge: e, from, to })));
+    if ((blocks.length === 0) !== isOpen(graph, path, set)) {
+      wrong++;
+      console.log(`differs: what blocks ${text(path)} in ${JSON.stringify(graph)}`);
+    }
+  }
+  const plain = plainText(graph), said = await ask(plain, ["separate", DIAGRAM, "--x", x, "--y", ys.join(","), "--given", set.join(",") || "{}"]);
+  if ((said.status === 1) !== wanted.some((path) => isOpen(graph, path, set))) {
+    wrong++;
+    console.log(`differs: the program on ${JSON.stringify(graph)}`);
+  }
 }
 
 const listed = (classes) => JSON.stringify([...classes].sort());
@@ -74,17 +103,22 @@ let wrong = 0, edges = 0, compared = 0;
 for (let k = 0; k < GRAPHS; k++) {
   const graph = randomGraph(), { classes, isAll } = await pathClasses(ask, graph), wanted = expected(graph);
   edges += wanted.size;
+  await comparePaths(graph);
   if (isAll) compared++;
-  if (isAll && listed(classes) !== listed(wanted)) {
+  if (listed(classes) !== listed(wanted)) {
     wrong++;
     console.log(`differs: ${JSON.stringify(graph)}: ${listed(classes)}, wanted ${listed(wanted)}`);
   }
-  if ([...classes.keys()].some((key) => !wanted.has(key))) wrong++;
   const ways = new Ways(ask, graph), [{ name }] = graph.vertices, found = [...(await ways.behind([name]))].sort().join();
   if (found !== [...behind(graph, [name])].sort().join()) {
     wrong++;
     console.log(`differs: behind ${name} in ${JSON.stringify(graph)}: ${found}`);
   }
 }
+const large = { vertices: Array.from({ length: 64 }, (_, i) => ({ name: `v${i}`, role: i === 20 ? "exposure" : i === 50 ? "outcome" : i === 40 ? "adjusted" : null })), edges: [] };
+for (let i = 0; i < 64; i++) for (let j = i + 1; j < 64; j++) if (!random(4)) large.edges.push({ a: `v${i}`, b: `v${j}`, both: !random(9) });
+const began = performance.now(), whole = await pathClasses(ask, large), took = Math.round(performance.now() - began);
+if (!whole.isAll) wrong++;
+console.log(`64 vertices and ${large.edges.length} edges: ${whole.classes.size} edges on paths, in ${took} ms${whole.isAll ? "" : ", cut off"}`);
 console.log(`${edges} edges on paths of ${GRAPHS} random diagrams (${compared} with all paths), ${wrong} wrong`);
 process.exit(wrong ? 1 : 0);

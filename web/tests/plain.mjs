@@ -1,10 +1,12 @@
 // What the page does without the program: fitting of places, layouts.
 import { apart, circle, scaleFor } from "../src/diagram/fitting.js";
 import { arrange } from "../src/layout.js";
-import { howToRead, levelsOf, missingIn, readRows, rewritten, tooFine } from "../src/text/csv.js";
+import { markOf, readRows, written } from "../src/text/csv.js";
+import { columnsOf, prepared } from "../src/text/prepare.js";
 import { annotatePieces } from "../src/latex.js";
 import { codeOfR } from "../src/diagram/code.js";
-import { Kept, titleOf } from "../src/page/kept.js";
+import { bend, curve, freePlace } from "../src/diagram/geometry.js";
+import { fileName, Kept, titleOf } from "../src/page/kept.js";
 import { intervalOf } from "../src/statistics/bootstrap.js";
 import { chiSquaredTail, deviance, holm, testOf } from "../src/statistics/independence.js";
 import { csvOf, tableOf } from "../src/statistics/table.js";
@@ -61,42 +63,102 @@ function testLayout() {
   check("without a room it lies", span(arrange(chain(3)), "x") > 0, "");
 }
 
+const memoryStore = () => {
+  const memory = new Map();
+  return { memory, getItem: (k) => memory.get(k) ?? null, setItem: (k, v) => memory.set(k, v) };
+};
+
+function testBends() {
+  let seed = 11;
+  const random = () => (seed = (seed * 1103515245 + 12345) % 2147483648) / 2147483648;
+  let behind = 0, edgesSeen = 0;
+  for (let k = 0; k < 60; k++) {
+    const vertices = Array.from({ length: 4 + Math.floor(14 * random()) }, (_, i) => ({ name: `v${i}`, width: 44 + 160 * random(), height: HEIGHT }));
+    const part = 0.15 + 0.25 * random(), pairs = vertices.flatMap((a, i) => vertices.slice(i + 1).map((b) => [a.name, b.name]));
+    const edges = pairs.filter(() => random() < part), places = new Map(arrange({ vertices, edges, room: { width: 700, height: 700 } }));
+    const all = vertices.map(({ name, width }) => ({ name, ...places.get(name), half: width / 2 }));
+    for (const [a, b] of edges) {
+      const [p, q] = [places.get(a), places.get(b)], others = all.filter(({ name }) => name !== a && name !== b), c = bend(p, q, false, others, []);
+      const at = Array.from({ length: 201 }, (_, i) => curve(p, c, q, i / 200));
+      edgesSeen++;
+      if (at.some(({ x, y }) => others.some((o) => Math.abs(x - o.x) < o.half && Math.abs(y - o.y) < HEIGHT / 2))) behind++;
+    }
+  }
+  check("no edge of a layout runs behind a vertex of which it is no end", !behind && edgesSeen > 500, [behind, edgesSeen]);
+}
+
 function testKept() {
-  const memory = new Map(), store = { getItem: (k) => memory.get(k) ?? null, setItem: (k, v) => memory.set(k, v) };
-  const kept = new Kept(store);
-  kept.begin("example");
+  const store = memoryStore(), tab = memoryStore(), kept = new Kept(store, tab), texts = () => kept.list().map(({ text }) => text).join();
+  kept.begin({ text: "example", name: "Napkin" });
   kept.keep("example");
   check("an example isn't kept", !kept.list().length, kept.list());
   kept.keep("changed");
   kept.keep("changed again");
-  check("what is changed is one entry", kept.list().join() === "changed again", kept.list());
-  for (let i = 0; i < 12; i++) {
-    kept.begin("");
+  check("what is changed is one entry", texts() === "changed again" && kept.list()[0].name === "Napkin", kept.list());
+  for (let i = 0; i < 30; i++) {
+    kept.begin({ text: "" });
     kept.keep(`text ${i}`);
   }
-  check("the last ten", kept.list().length === 10 && kept.list()[0] === "text 11", kept.list());
-  kept.begin("text 5");
+  check("none falls out", kept.list().length === 31 && kept.list()[0].text === "text 29", texts());
+  const fifth = kept.list().find(({ text }) => text === "text 5");
+  kept.begin(fifth);
   kept.keep("text 5 changed");
-  check("one that is opened again stays too", kept.list().slice(0, 2).join() === "text 5 changed,text 11", kept.list());
-  memory.set("causal.diagrams", "no list");
-  check("what can't be read is none", !kept.list().length && new Kept(undefined).list().length === 0, kept.list());
-  const refused = new Kept({ getItem: () => null, setItem: () => { throw new Error("full"); } });
-  refused.begin("a");
+  check("one that is opened again is changed", texts().startsWith("text 5 changed,text 29") && !kept.list().some(({ text }) => text === "text 5"), texts());
+  const other = new Kept(store, memoryStore());
+  other.begin(kept.list()[0]);
+  other.keep("of another tab");
+  kept.keep("of this tab");
+  check("what two tabs make of one diagram stays beside", texts().startsWith("of this tab,of another tab"), texts());
+  check("a tab knows what it showed", new Kept(store, tab).left().text === "of this tab", new Kept(store, tab).left());
+  kept.rename("A name");
+  const [entry] = kept.list();
+  kept.remove(entry.id);
+  check("one is taken out", entry.name === "A name" && !kept.list().some(({ id }) => id === entry.id), kept.list());
+  kept.restore(entry);
+  check("and put back", kept.list()[0].name === "A name", kept.list());
+  store.memory.set("causal.named", "no list");
+  check("what can't be read is none", !kept.list().length && new Kept(undefined, undefined).list().length === 0, kept.list());
+  const old = memoryStore();
+  old.setItem("causal.diagrams", '["dag { A }"]');
+  check("what an earlier page kept is there", new Kept(old, tab).list()[0].text === "dag { A }", new Kept(old, tab).list());
+  const refused = new Kept({ getItem: () => null, setItem: () => { throw new Error("full"); } }, undefined);
+  refused.begin({ text: "a" });
   refused.keep("b");
   check("what isn't kept is known", !refused.isSafe, "");
   check("a title", titleOf('dag {\nbb="0,0,1,1"\nX [exposure,pos="0,1"]\nX -> Y\n}\n') === "X X -> Y", titleOf("dag { }"));
+  check("a file's name", fileName("a/b: c?", "dag") === "a b c.dag" && fileName(" ", "svg") === "diagram.svg", fileName("a/b: c?", "dag"));
 }
 
+function testRoom() {
+  const seen = { left: 0, right: 600, top: 0, bottom: 400 }, others = [], half = 70;
+  for (let i = 0; i < 40; i++) others.push({ ...freePlace(half, { x: 300, y: 200 }, others, seen), half });
+  const places = new Map(others.map((p, i) => [`v${i}`, p]));
+  check("there is room for each", !overlaps(places, new Map(others.map((_, i) => [`v${i}`, half]))).length, others);
+  check("in view, as long as there is", others.slice(0, 15).every((p) => p.x >= half && p.x <= 600 - half && p.y >= 18 && p.y <= 382), others.slice(0, 15));
+}
+
+const reading = (more = {}) => ({ matched: new Map(), leavesOut: false, joins: false, cuts: new Map(), ...more });
+
 function testTables() {
-  const text = 'hrt;"a ;b";Y\n1;"2,5";0\n', how = howToRead(text, ["HRT", "Y"]);
-  check("how a table is read", JSON.stringify(how) === '{"mark":";","renamed":[["hrt","HRT"]]}', how);
-  check("a table with commas", rewritten(text, how) === 'HRT,a ;b,Y\n1,"2,5",0\n', rewritten(text, how));
-  const tabs = howToRead("A\tB\n0\t1\n", ["A", "B"]);
-  check("tabs", tabs.mark === "\t" && rewritten("A\tB\n0\t1\n", tabs) === "A,B\n0,1\n", tabs);
-  check("what is in doubt stays", !howToRead("hrt,Hrt\n", ["HRT"]).renamed.length && !howToRead("hrt,HRT\n", ["HRT"]).renamed.length, "");
-  const rows = readRows(`A,B\nNA,1\n,2\n${Array.from({ length: 20 }, (_, i) => `0,${i}.5\n`).join("")}`), levels = levelsOf(rows, ["A", "B"], "");
-  check("missing values", JSON.stringify(missingIn(levels)) === '[["A","NA",1],["A","",1]]', missingIn(levels));
-  check("many levels", JSON.stringify(tooFine(levels)) === '[["B",22]]', tooFine(levels));
+  const text = 'hrt;"a ;b";Y\n1;"2,5";0\n', rows = readRows(text, markOf(text));
+  check("the mark of a table", markOf(text) === ";" && markOf("A\tB\n") === "\t" && markOf("A,B\n") === ",", markOf(text));
+  const made = prepared(rows, ["HRT", "Y"], reading());
+  check("a table with commas", written(made.rows) === 'HRT,a ;b,Y\n1,"2,5",0\n', written(made.rows));
+  const columns = (header, names, matched) => JSON.stringify([...columnsOf(header, names, matched)]);
+  check("what is in doubt stays", columns(["hrt", "Hrt"], ["HRT"]) === "[]" && columns(["hrt", "HRT"], ["HRT"]) === '[["HRT","HRT"]]', columns(["hrt", "Hrt"], ["HRT"]));
+  check("names of R and with underscores", columns(["Birth.Defects", "Low_Birth_Weight", "X2nd.visit"], ["Birth Defects", "Low Birth Weight", "2nd visit"])
+    === '[["Birth Defects","Birth.Defects"],["Low Birth Weight","Low_Birth_Weight"],["2nd visit","X2nd.visit"]]', columns(["Birth.Defects"], ["Birth Defects"]));
+  check("by hand", columns(["a", "b", "A"], ["A", "B"], new Map([["A", "b"], ["B", ""]])) === '[["A","b"]]', columns(["a", "b", "A"], ["A", "B"], new Map([["A", "b"]])));
+  const dirty = readRows("A,B\nNA,1\n,2\nyes,3\n Yes,4\nyes,5\nno, \n"), all = prepared(dirty, ["A", "B"], reading());
+  check("missing values", all.incomplete === 3 && all.notes[0].missing === 2 && all.rows.length === 7, all);
+  check("spellings", JSON.stringify(all.notes[0].spellings) === '[["yes"," Yes"]]', all.notes[0].spellings);
+  const clean = prepared(dirty, ["A", "B"], reading({ leavesOut: true, joins: true }));
+  check("rows left out and levels joined", written(clean.rows) === "A,B\nyes,3\nyes,4\nyes,5\n", written(clean.rows));
+  const fine = readRows(`A,B\n${Array.from({ length: 20 }, (_, i) => `0,${i}.5\n`).join("")}`);
+  check("many levels", prepared(fine, ["A", "B"], reading()).notes[1].isFine, "");
+  const groups = (cut) => [...new Set(prepared(fine, ["A", "B"], reading({ cuts: new Map([["B", cut]]) })).rows.slice(1).map(([, level]) => level))].join("; ");
+  check("cut into groups", groups({ groups: 2, points: [] }) === "< 10.5; >= 10.5", groups({ groups: 2, points: [] }));
+  check("cut at points", groups({ groups: 0, points: [5, 12] }) === "< 5; 5 to < 12; >= 12", groups({ groups: 0, points: [5, 12] }));
 }
 
 function testWideSums() {
@@ -119,7 +181,17 @@ function testTaken() {
   same("what the program reads stays", 'dag {\nbb="0,0,1,1"\nX [pos="1,2"]\nX -> "# b"\n}\n', null);
   const graph = { vertices: ["X", "Y", "~>", "A"].map((name) => ({ name })), edges: [{ a: "X", b: "Y" }] };
   const told = warningsOf('dag { bb="0,0,1,1" X -> Y note = a ~> A }', graph);
-  check("warnings", told.length === 2 && told[0].startsWith("note = a ") && told[1].startsWith("~> is read as a vertex"), told);
+  check("warnings", told.length === 2 && told[0].sentence.startsWith("note = a ") && told[1].sentence.startsWith("~> is read as a variable"), told);
+  same("curly quotes", "dag { “Body mass” -> Y }", 'dag { "Body mass" -> Y }');
+  same("short marks", 'dag { X [e] Y [o,pos="1,2"] U [unobserved] "[u]" X -> Y }', 'dag { X [exposure] Y [outcome,pos="1,2"] U [latent] "[u]" X -> Y }');
+  same("dagify", 'ggdag::dagify(y ~ x + u, x ~ u,\n  exposure = "x", outcome = "y", latent = c("u"), coords = list(x = c(x = 1), y = c(x = 2)))',
+    "dag {\nx [exposure]\ny [outcome]\nu [latent]\nx -> y\nu -> y\nu -> x\n}\n");
+  same("lavaan", "model <- '\n # one\n y ~ b*x + z\n x ~~ z\n f =~ i\n'", "dag {\nx\ny\nz\nf [latent]\ni\nx -> y\nz -> y\nz <-> x\nf -> i\n}\n");
+  same("Graphviz", 'digraph "G" {\n rankdir=LR; node [shape=box];\n "a b" -> c [label="x"]\n c -> d [dir=both]\n}', 'dag {\n"a b" -> c\nc <-> d\n}\n');
+  const parts = warningsOf("dag { Body mass [exposure]\nBody mass -> Y\nmass -> Z }", { vertices: [{ name: "Body" }, { name: "mass", role: "exposure" }, { name: "Y" }, { name: "Z" }],
+    edges: [{ a: "mass", b: "Y" }, { a: "mass", b: "Z" }] });
+  check("a parted name", parts.length === 1 && parts[0].fixed === 'dag { "Body mass" [exposure]\n"Body mass" -> Y\n"Body mass" -> Z }', parts);
+  check("no parted name", !warningsOf("dag { A B\nC -> D }", { vertices: ["A", "B", "C", "D"].map((name) => ({ name })), edges: [{ a: "C", b: "D" }] }).length, "");
 }
 
 function testStatistics() {
@@ -141,6 +213,8 @@ testStatistics();
 testWideSums();
 testTables();
 testKept();
+testRoom();
+testBends();
 testFitting();
 testLayout();
 console.log(`${done} checks without the program, ${wrong} wrong`);

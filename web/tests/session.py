@@ -18,6 +18,8 @@ from selenium.webdriver.common.keys import Keys
 
 import browser
 import firefox
+import in_the_drawing
+import leaves_the_page
 import over_tables
 from browser import wait
 
@@ -120,6 +122,8 @@ class Session:
     def reset(self):
         """Ends what an earlier part left open."""
         self.run("""document.getElementById('menu')?.remove();
+            document.querySelector('dialog[open]')?.close();
+            document.getElementById('tab-effect').click();
             for (let i = 0; i < 3; i++) document.dispatchEvent(new KeyboardEvent('keydown', { key: 'Escape' }));""")
 
     def lacks(self, what):
@@ -145,7 +149,7 @@ def reads_a_formula(s):
     s.check("typeset, with its text as a label", s.all(".formula .mfrac") and labels == lines, labels)
     s.check("a part is explained", s.one(".formula .part").get_attribute("title").startswith("q0 = sum{W}"))
     s.check("a bound name is explained", "bound name" in s.one(".formula .bound").get_attribute("title"))
-    s.check("the claim", "in every positive finite model that fits the diagram" in s.panel(), s.panel())
+    s.check("the claim", "equals this formula, if the diagram is right" in s.panel(), s.panel())
     s.check("the source", "Book of Why" in s.one("#source").text)
 
 
@@ -241,7 +245,7 @@ def draws_large_texts(s):
     s.write(f"dag {{\n{dense}\n}}\n")
     s.check("a drawing that isn't right yet is dimmed", s.run("return window.sawLate"))
     area = s.one("#text")
-    s.soon("the answers don't wait for it", lambda: "y is empty" in s.panel(), s.panel)
+    s.soon("the answers don't wait for it", lambda: "Mark an outcome" in s.panel(), s.panel)
     drawn = "return document.querySelectorAll('#drawing .vertex').length === 64 && !document.querySelector('#drawing.late')"
     s.soon("at the latest after two seconds it is there", lambda: s.run(drawn), lambda: len(s.names()))
     s.check("the text can be written in", area.is_enabled())
@@ -333,7 +337,7 @@ def uses_keys_alone(s):
     s.example("front_door")
     s.run("arguments[0].focus()", s.vertex("Y"))
     s.keys("0")
-    s.soon("a mark goes", lambda: "y is empty" in s.panel(), s.panel)
+    s.soon("a mark goes", lambda: "Mark an outcome" in s.panel(), s.panel)
     s.keys("o")
     s.soon("and comes", lambda: "Identifiable" in s.panel(), s.panel)
     before = s.text()
@@ -354,7 +358,7 @@ def uses_keys_alone(s):
     s.check("the focus comes back", s.run("return document.activeElement.classList.contains('vertex')"))
     s.run("document.getElementById('tab-effect').focus()")
     s.keys(Keys.ARROW_RIGHT)
-    s.soon("tabs by arrows", lambda: s.one("#tab-adjustment").get_attribute("aria-selected") == "true")
+    s.soon("tabs by arrows", lambda: s.one("#tab-paths").get_attribute("aria-selected") == "true")
     s.tab("effect")
 
 
@@ -367,7 +371,7 @@ def names_and_deletes(s):
     ActionChains(s.driver).move_to_element(s.one("#undo")).move_to_element(s.vertex("M")).perform()
     s.keys("0")
     s.soon("a key is for the vertex under the pointer", lambda: "M [adjusted" not in s.text(), s.text)
-    for fresh, why in (("", "a character at least"), ('a"b', "quotation mark")):
+    for fresh, why in (("", "can't be empty"), ('a"b', "quotation mark")):
         s.click("M")
         s.item("Rename")
         s.one("#menu input").send_keys(Keys.CONTROL, "a")
@@ -407,7 +411,7 @@ def saves_a_certificate(s):
     s.one("#check").click()
     s.soon("check accepts", lambda: "accepted" in s.one(".checked").text, lambda: s.one(".checked").text)
     s.one("#save").click()
-    path = s.saved("certificate.json")
+    path = s.saved("Napkin.certificate.json")
     s.check("the certificate is saved", path)
     script = """import { readFileSync } from "node:fs";
         const [loader, module, ...files] = process.argv.slice(1);
@@ -427,9 +431,9 @@ def says_it_plainly(s):
     s.check("the tab says what is so", s.one("#tab-effect").get_attribute("textContent") == "Effect: identifiable",
             s.one("#tab-effect").get_attribute("textContent"))
     s.write("dag { X [exposure] Y X -> Y }")
-    s.soon("no raw code", lambda: "y is empty" in s.panel() and "fault" not in s.panel(), s.panel)
+    s.soon("no raw code", lambda: "Mark an outcome" in s.panel() and "fault" not in s.panel(), s.panel)
     s.example("bow")
-    s.soon("the plain reason first", lambda: s.panel().split("\n")[1].startswith(
+    s.soon("the plain reason first", lambda: s.one("#panel .verdict p").text.startswith(
         "An unmeasured cause acts on both X and Y, and nothing that is measured breaks it. What is observed doesn't settle"), s.panel)
 
 
@@ -491,11 +495,12 @@ def lists_what_is_implied(s):
     s.run(drop, "A,B,C,count\n0,0,0,4\n0,0,1,2\n1,0,0,2\n1,0,1,1\n0,1,0,1\n0,1,1,3\n1,1,0,2\n1,1,1,1\n")
     s.soon("the largest difference", lambda: "A=0,C=0,B=1" in s.one("table.pairs").text, s.panel)
     s.check("with its command line", s.command() == "$ causal implications diagram.dag fork.csv --count=count", s.command())
-    s.check("as a probability beside the counts", "(" in s.all("table.pairs tbody td")[3].text, s.all("table.pairs tbody td")[3].text)
+    s.check("as a probability, and in counts", "0." in s.all("table.pairs tbody td")[3].text
+            and "in counts" in s.all("table.pairs tbody td")[3].get_attribute("title"), s.all("table.pairs tbody td")[3].text)
     s.check("with a test", "0." in s.all("table.pairs tbody td")[2].text, s.panel())
     s.check("and what it is worth", "speaks against the diagram" in s.panel() and "not proved" in s.panel(), s.panel())
     s.run(drop, "A,C\n0,1\n")
-    s.soon("a table that lacks a column", lambda: "no column of this name: B" in s.panel(), s.panel)
+    s.soon("a table that lacks a column", lambda: "No column for B" in s.panel(), s.panel)
     s.soon("the pairs stay", lambda: s.printed() == "A from C given {B}", s.printed)
     s.example("front_door")
     s.soon("nothing to test", lambda: "No independence to test" in s.panel(), s.panel)
@@ -537,7 +542,7 @@ def asks_under_a_condition(s):
     s.soon("check accepts", lambda: "accepted" in s.one(".checked").text, lambda: s.one(".checked").text)
     s.write("dag { X [exposure] Y [outcome] X -> Y X <-> Y Y -> Z }")
     s.soon("not identified", lambda: "P(Y|do(X),Z) not identified" in s.printed(), s.panel)
-    s.check("by other models", "two other models, which aren't shown, differ on it" in s.panel(), s.panel())
+    s.check("without models of its own", "no two models that differ on it are shown" in s.panel(), s.panel())
     s.write("dag { X [exposure] Y [outcome] X -> Y X <-> Y Z -> Y Z <-> Y }")
     s.soon("by the same models", lambda: "the same two models differ on it too" in s.panel(), s.panel)
     s.keys(Keys.ESCAPE)
@@ -552,20 +557,21 @@ def saves_the_drawing_and_a_link(s):
         for _ in range(4):
             s.one("#export").click()
             s.item(item)
-            if s.saved(f"diagram.{name}"):
+            if s.saved(f"Napkin.{name}"):
                 break
             time.sleep(1)
-    path = s.saved("diagram.svg")
+    path = s.saved("Napkin.svg")
     s.check("the drawing is saved", path and "<svg" in path.read_text() and ">X</text>" in path.read_text())
-    path = s.saved("diagram.png")
+    path = s.saved("Napkin.png")
     s.check("as a picture", path and path.read_bytes().startswith(b"\x89PNG"), path)
-    path = s.saved("diagram.pdf")
+    path = s.saved("Napkin.pdf")
     pdf = path.read_bytes() if path else b""
     s.check("as PDF", pdf.startswith(b"%PDF-1.4") and b"(X) Tj" in pdf and pdf.rstrip().endswith(b"%%EOF"), pdf[:80])
-    path = s.saved("diagram.tex")
+    path = s.saved("Napkin.tex")
     s.check("as TikZ", path and r"\node[exposure]" in path.read_text() and r"\draw[<->, dashed]" in path.read_text(), path)
-    path = s.saved("diagram.R")
+    path = s.saved("Napkin.R")
     s.check("as R code", path and 'text <- r"(dag {' in path.read_text() and "identify_effect" in path.read_text(), path)
+    s.check("files are called by the diagram's name", s.downloads.joinpath("Napkin.svg").exists())
     text = s.text()
     s.one("#share").click()
     time.sleep(0.3)
@@ -602,7 +608,7 @@ def takes_other_texts(s):
     told = lambda: s.one("#text-notes").text + s.one("#fault").text
     s.soon("a dropped edge is told", lambda: "Z = > says nothing" in told() or s.one("#fault").is_displayed(), told)
     s.write('dag { bb="0,0,1,1"\n X [exposure] Y [outcome] X -> Y "=>" note="a" }')
-    s.soon("a name of signs is told", lambda: "=> is read as a vertex" in told(), told)
+    s.soon("a name of signs is told", lambda: "=> is read as a variable" in told(), told)
     s.check("and each statement that is dropped", "note = " in told() and "bb" not in told(), told())
     s.write("dag { X [exposure] Y [outcome] X -> Y }")
     s.soon("else nothing is", lambda: not told().strip(), told)
@@ -612,16 +618,22 @@ def asks_for_a_direct_effect(s):
     s.tab("effect")
     s.write("dag { X [exposure] Y [outcome] X -> M -> Y X -> Y C -> M C -> Y M -> K }")
     s.soon("the effect", lambda: s.command() == "$ causal identify diagram.dag --short", s.command)
-    s.one("summary[data-key='direct']").click()
-    s.soon("more may be set", lambda: s.all("[data-key='take mediators']"), s.panel)
-    s.one("[data-key='take mediators']").click()
+    s.one("#panel [data-key='direct']").click()
     s.soon("what is on the way is set too", lambda: s.command() == "$ causal identify diagram.dag --x X,M", s.command)
     s.check("its formula", s.printed().startswith("P(Y|do(X,M)) = sum{C} P(C) * P(Y|"), s.printed())
+    s.check("the choice stands above the answer", s.run("""const [kind, verdict] = ['.kind', '.verdict'].map((css) =>
+        document.querySelector(`#panel ${css}`).getBoundingClientRect().top); return kind < verdict"""))
     s.one("#check").click()
     s.soon("check accepts", lambda: "accepted" in s.one(".checked").text, lambda: s.one(".checked").text)
+    s.tab("adjustment")
+    s.soon("the sets for it", lambda: s.command() == "$ causal adjust diagram.dag --x X,M" and "{C}" in s.printed(), s.panel)
+    s.tab("effect")
     s.one("[data-key='also set M']").click()
-    s.soon("and left again", lambda: s.command() == "$ causal identify diagram.dag --short", s.command)
-    s.one("summary[data-key='direct']").click()
+    s.soon("one is left out", lambda: s.command() == "$ causal identify diagram.dag --short", s.command)
+    s.one("[data-key='take mediators']").click()
+    s.soon("and taken again", lambda: s.command() == "$ causal identify diagram.dag --x X,M", s.command)
+    s.one("#panel [data-key='total']").click()
+    s.soon("the total effect", lambda: s.command() == "$ causal identify diagram.dag --short", s.command)
 
 
 def adjusts_with_what_is_marked(s):
@@ -631,14 +643,79 @@ def adjusts_with_what_is_marked(s):
     s.soon("sets that contain what is marked", lambda: sorted(sets()) == ["M, A", "M, B"], sets)
     s.all("[data-key^='with ']")[0].click()
     s.soon("one is taken", lambda: s.text().count("adjusted") == 2 and "Admissible" in s.panel(), s.panel)
+    s.check("the marked set is judged first", s.all("#panel .verdict")[0].text == "Admissible", s.panel())
+    s.write("dag { A [exposure] E [exposure] D [outcome] Z [adjusted] A -> E A -> Z B -> D B -> Z E -> D }")
+    s.soon("so is one that isn't admissible", lambda: s.all("#panel .verdict")[0].text.startswith("Not admissible"), s.panel)
+    s.check("also by the tab's dot", "no" in s.one("#tab-adjustment .dot").get_attribute("class").split(), s.one("#tab-adjustment").get_attribute("textContent"))
+    s.example("warm_up")
+    chips = lambda: [chip.text for chip in s.all("[aria-label='Minimal adjustment sets'] .chip")]
+    s.soon("seven sets", lambda: len(chips()) == 7, chips)
+    s.one("[data-key='wish Coach']").click()
+    s.soon("those with a variable", lambda: len(chips()) == 2 and all("Coach" in c for c in chips()), chips)
+    s.one("[data-key='wish Coach']").click()
+    s.soon("or without it", lambda: len(chips()) == 5 and not any("Coach" in c for c in chips()), chips)
     s.write("dag { X [exposure] Y [outcome] M [adjusted] X -> M -> Y M -> K }")
     s.soon("why a mediator isn't", lambda: "M lies on the way from" in s.panel(), s.panel)
     s.write("dag { X [exposure] Y [outcome] K [adjusted] X -> M -> Y M -> K }")
-    s.soon("why what is behind it isn't", lambda: "K lies behind a vertex that is on the way" in s.panel(), s.panel)
+    s.soon("why what is behind it isn't", lambda: "K lies behind a variable that is on the way" in s.panel(), s.panel)
     s.write("dag { X [exposure] Y [outcome] Frailty [latent] X -> Y Frailty -> X Frailty -> Y }")
     s.tab("effect")
-    s.soon("the plain reason", lambda: s.panel().split("\n")[1].startswith(
+    s.soon("the plain reason", lambda: s.one("#panel .verdict p").text.startswith(
         "Unmeasured Frailty acts on both X and Y, and nothing that is measured breaks it."), s.panel)
+
+
+def begins_well(s):
+    """What the page is for, what to do first, and faults that say what to do."""
+    s.one("#new").click()
+    s.soon("an empty drawing says what to do", lambda: "Draw your variables. Mark exposure and outcome. Read what to adjust for." in s.one("#welcome").text)
+    s.tab("adjustment")
+    s.soon("so do the answers", lambda: "Draw your variables" in s.panel() and "is empty" not in s.panel(), s.panel)
+    s.tab("rules")
+    s.soon("also of the rules", lambda: "is empty" not in s.panel(), s.panel)
+    s.tab("effect")
+    s.check("the page says what it is for", "what to adjust for" in s.one(".tagline").text, s.one("header").text)
+    s.check("adjustment comes first", s.all("#tabs button")[0].get_attribute("id") == "tab-adjustment")
+    s.check("each tab says what it is", all(tab.get_attribute("title") for tab in s.all("#tabs button")))
+    examples = s.run("return [...document.querySelectorAll('#examples-menu optgroup')].map((g) => [g.label, g.children.length])")
+    s.check("twenty examples and more, by field", len(examples) >= 4 and sum(n for _, n in examples) >= 25, examples)
+    first = s.run("return document.querySelector('#examples-menu optgroup option').value")
+    s.example(first)
+    s.tab("adjustment")
+    s.soon("the first is confounded", lambda: "Physical fitness" in s.panel() and "Hernán" in s.one("#source").text, s.panel)
+    s.check("without the models of logic", "positive finite" not in s.panel(), s.panel())
+    for text, told, fixed in (
+            ("dag { X-ray [exposure] Y [outcome] X-ray -> Y }", "hyphen needs quotation marks", '"X-ray" -> Y'),
+            ("dag { X [exposure] Y [outcome] X - > Y }", "An arrow is written ->", "X -> Y"),
+            ("dag { X [exposure] Y [outcome] X => Y }", "An arrow is written ->", "X -> Y"),
+            ("dag { X [exposure] Y [outcome] X -> Y", "closing brace", "X -> Y\n}"),
+            ("", "The text is empty", "dag {")):
+        s.write(text)
+        s.soon(f"{text!r} is answered", lambda: told in s.one("#fault").text, lambda: s.one("#fault").text)
+        s.one("#fault [data-key=mend]").click()
+        s.soon("and mended", lambda: fixed in s.text() and not s.one("#fault").is_displayed(), s.text)
+    for text, told in (("dag { X -> Y S [selected] X -> S }", "Selection isn't handled"), ("dag { S [latent,exposure] S -> Y }", "S has two marks"),
+                       ("pdag { A -- B }", "A pdag isn't read"), ("dag { A [foo] A -> B }", "[foo] isn't known here")):
+        s.write(text)
+        s.soon(f"{text!r} is answered", lambda: told in s.one("#fault").text, lambda: s.one("#fault").text)
+    s.write("dag {\nBody mass [exposure]\nY [outcome]\nBody mass -> Y\n}\n")
+    s.soon("a name that became two variables is noted", lambda: 'quotation marks: "Body mass"' in s.one("#text-notes").text, lambda: s.one("#text-notes").text)
+    s.one("#text-notes [data-key=mend]").click()
+    s.soon("and made one", lambda: sorted(s.names()) == ["Body mass", "Y"], s.text)
+    for text, told, names in (
+            ("dag { “Body mass” [e] Y [o] U [unobserved] “Body mass” -> Y U -> Y }", "quotation marks are straight", ["Body mass", "U", "Y"]),
+            ('g <- dagify(y ~ x + a, x ~ a, y ~~ x, exposure = "x", outcome = "y")', "dagify", ["a", "x", "y"]),
+            ("y ~ x + z\nx ~ z\nf =~ y + x\n", "lavaan", ["f", "x", "y", "z"]),
+            ('digraph G { rankdir=LR; node [shape=box]; a -> b [label="x"]; b -> c; a -> c [dir=both]; }', "Graphviz", ["a", "b", "c"])):
+        in_the_drawing.paste(s, text)
+        s.soon(f"{told} is rewritten", lambda: sorted(s.names()) == names and told in s.one("#text-notes").text, lambda: (s.text(), s.one("#text-notes").text))
+        s.check("Undo is named", "Undo brings the pasted text back" in s.one("#text-notes").text)
+    in_the_drawing.paste(s, "dag { X -> Y")
+    s.soon("a note goes with its text", lambda: s.one("#fault").is_displayed() and not s.one("#text-notes").is_displayed(), lambda: s.one("#text-notes").text)
+    s.undo()
+    s.run("""const data = new DataTransfer();
+        data.items.add(new File(["PK"], "study.xlsx"));
+        document.body.dispatchEvent(new DragEvent("drop", { dataTransfer: data, bubbles: true, cancelable: true }));""")
+    s.soon("a file of another kind says which are read", lambda: ".csv, .tsv" in s.one("#toast").text, lambda: s.one("#toast").text)
 
 
 def lists_separating_sets(s):
@@ -685,6 +762,74 @@ def colours_paths(s):
     s.soon("ancestors on hover", lambda: sorted(s.run(MARKED, "ancestor")) == ["A", "U"], lambda: s.run(MARKED, "ancestor"))
     ActionChains(s.driver).move_to_element(s.one("#undo")).perform()
     s.soon("and they go", lambda: not s.run(MARKED, "ancestor"))
+
+
+def tells_paths_apart(s):
+    """Paths differ by their lines; an edge on both kinds shows both; the list says what is open, and by what a path is closed."""
+    s.write("dag { X [exposure] Y [outcome] X -> I -> Y N -> I N -> W -> X C -> W C -> Y }")
+    s.one("#paths").click()
+    both = lambda: s.run("""return [...document.querySelectorAll('#drawing g.edge')].filter((e) => e.classList.contains('causal')
+        && e.classList.contains('also') && e.querySelector('.second').getAttribute('d')).map((e) => e.dataset.edge)""")
+    s.soon("an edge on both kinds shows both", lambda: both() == ["I→Y"], both)
+    dashes = lambda cls: s.run("return getComputedStyle(document.querySelector(`#drawing g.edge.${arguments[0]}:not(.also) .line`)).strokeDasharray", cls)
+    s.check("causal and biasing lines differ without colour", dashes("causal") == "none" and dashes("biasing") not in ("none", ""), (dashes("causal"), dashes("biasing")))
+    s.check("the legend covers nothing", s.run("""const svg = document.getElementById('drawing').getBoundingClientRect();
+        return document.querySelector('.below').getBoundingClientRect().top >= svg.bottom - 1"""))
+    s.one("#paths").click()
+    s.tab("paths")
+    rows = lambda: [row.text for row in s.all("table.paths tbody tr")]
+    s.soon("a list of paths", lambda: any("X -> I -> Y causal open" in row for row in rows()), rows)
+    s.check("with what closes them", any("X <- W <- N -> I -> Y not causal open" in row for row in rows()), rows())
+    s.run("arguments[0].focus()", s.vertex("W"))
+    s.keys("a")
+    s.soon("an adjusted variable closes", lambda: any("N -> I -> Y not causal closed by W (adjusted)" in row for row in rows()), rows)
+    s.write("dag { X [exposure] Y [outcome] X -> Y X -> S Y -> S }")
+    s.soon("a collider closes", lambda: any("closed by S (a collider)" in row for row in rows()), rows)
+    s.write("dag { X [exposure] Y X -> Y }")
+    s.one("#paths").click()
+    s.soon("without an outcome it is said what is missing", lambda: "Mark an exposure and an outcome first" in s.one("#toast").text
+           and s.one("#paths").get_attribute("aria-pressed") == "false", lambda: s.one("#toast").text)
+    s.write("dag { A -> B -> C D -> C }")
+    s.run("arguments[0].focus()", s.vertex("B"))
+    s.keys("m")
+    s.soon("causes and effects stay marked", lambda: s.run(MARKED, "ancestor") == ["A"] and s.run(MARKED, "descendant") == ["C"],
+           lambda: (s.run(MARKED, "ancestor"), s.run(MARKED, "descendant")))
+    s.check("and the legend tells", s.one("[data-for=ancestor]").is_displayed() and s.one("[data-for=descendant]").is_displayed())
+    ActionChains(s.driver).move_to_element(s.vertex("D")).move_to_element(s.one("#undo")).perform()
+    s.check("also when the pointer goes on", s.run(MARKED, "ancestor") == ["A"])
+    s.run("document.activeElement.blur()")
+    s.keys(Keys.ESCAPE)
+    s.soon("escape ends it", lambda: not s.run(MARKED, "ancestor"))
+    s.tab("effect")
+
+
+def shows_other_views(s):
+    """The correlation graph, the moral graph and the class of equivalent diagrams."""
+    s.write("dag { A -> B -> C D -> C C -> E }")
+    s.tab("views")
+    joined = lambda: len(s.all("#drawing .over path.joined"))
+    s.soon("what goes together", lambda: joined() == 8, joined)
+    s.one("[data-key='view moral']").click()
+    s.soon("given all others", lambda: joined() == 5, joined)
+    s.one("[data-key='view class']").click()
+    s.soon("arrows that may turn", lambda: joined() == 1 and "1 of 4 arrows" in s.panel(), s.panel)
+    s.tab("effect")
+    s.soon("the diagram comes back", lambda: not joined(), joined)
+
+
+def tells_what_would_help(s):
+    """Where there is no formula: which measurement or which trial would give one."""
+    s.write("dag { X [exposure] Y [outcome] U [latent] Z -> X -> Y U -> X U -> Y }")
+    s.tab("effect")
+    s.soon("no formula", lambda: s.all("summary[data-key=next]"), s.panel)
+    s.one("summary[data-key=next]").click()
+    told = lambda: s.one("#what-next").text
+    s.soon("a measurement", lambda: "Measure one of these" in told() and "U" in told(), told)
+    s.write("dag { X [exposure] Y [outcome] Z -> X -> Y Z <-> X Z <-> Y }")
+    s.soon("a trial", lambda: s.all("#what-next [data-key='trial Z']") or "identif" in s.panel(), told)
+    s.write("dag { X [exposure] Y [outcome] X -> Y X <-> Y }")
+    s.soon("a hidden cause without a name", lambda: "the common cause of X and Y" in told(), told)
+    s.one("summary[data-key=next]").click()
 
 
 def changes_several(s):
@@ -745,19 +890,17 @@ def keeps_the_work(s):
     s.check("the diagram is kept", "kept" in s.text(), s.text())
     s.one("#new").click()
     s.soon("an empty one", lambda: s.text() == "dag {\n}\n" and not s.names(), s.text)
-    own = s.run("return [...document.querySelectorAll('#examples-menu optgroup option')].map((el) => el.textContent)")
-    s.check("the last ones are listed", any("kept" in line for line in own), own)
-    browser.example(s.driver, "kept 0")
+    s.one("#diagrams").click()
+    s.check("the last ones are listed", "kept" in s.one("#diagrams-list").text, s.one("#diagrams-list").text)
+    s.all("#diagrams-list .open")[0].click()
     s.soon("and opened again", lambda: "kept" in s.names(), s.text)
-    browser.example(s.driver, "forget")
-    s.check("and forgotten", not s.all("#examples-menu optgroup option"))
 
 
 def is_accessible(s):
     """Whatever can be focused has a name, ids are unique, and one heading stands at the top."""
     s.example("napkin")
     s.driver.execute_cdp_cmd("Accessibility.enable", {})
-    for tab in ("effect", "adjustment", "separation", "rules", "implications", "experiments", "data", "compare"):
+    for tab in ("adjustment", "effect", "paths", "separation", "rules", "implications", "experiments", "data", "compare", "views"):
         s.tab(tab)
         s.run("document.querySelectorAll('#panel details').forEach((el) => (el.open = true))")
         time.sleep(0.3)
@@ -802,7 +945,7 @@ def is_served(s):
     with http.server.ThreadingHTTPServer(("127.0.0.1", 0), handler) as server:
         threading.Thread(target=server.serve_forever, daemon=True).start()
         browser.open_page(s.driver, f"http://127.0.0.1:{server.server_port}/causal.html")
-        s.check("the page is served", "Identifiable" in s.panel(), s.panel())
+        s.check("the page is served", "minimal set" in s.panel(), s.panel())
         server.shutdown()
     s.check("and asks for nothing more", paths == ["/causal.html"], paths)
 
@@ -835,7 +978,21 @@ def works_by_touch():
         touch("touchStart", *middle("W"))
         touch("touchEnd")
         s.soon("a finger opens the menu", lambda: s.one("#menu").is_displayed())
-        for tab in ("effect", "adjustment", "separation", "rules", "implications", "experiments", "data", "compare"):
+        s.keys(Keys.ESCAPE)
+        s.run("document.getElementById('arrow').click()")
+        for name in ("W", "Y"):
+            touch("touchStart", *middle(name))
+            touch("touchEnd")
+            time.sleep(0.3)
+        s.soon("two touches draw an arrow", lambda: "W -> Y" in s.text(), s.text)
+        touch("touchStart", *middle("Z"))
+        x, y = middle("Y")
+        touch("touchMove", (x + middle("Z")[0]) / 2, y + 30)
+        touch("touchMove", x, y)
+        touch("touchEnd")
+        s.soon("or one that is drawn", lambda: "Z -> Y" in s.text(), s.text)
+        s.run("document.getElementById('arrow').click()")
+        for tab in ("adjustment", "effect", "paths", "separation", "rules", "implications", "experiments", "data", "compare", "views"):
             s.run("document.getElementById('tab-' + arguments[0]).click()", tab)
             time.sleep(0.3)
             wide = s.run("return document.documentElement.scrollWidth - innerWidth")
@@ -860,8 +1017,8 @@ PARTS = [
     reads_a_formula, chooses_a_form, drags_and_takes_back, fits_places, draws_large_texts, breaks_the_text, chooses_sets, draws,
     uses_keys_alone, names_and_deletes, saves_a_certificate, says_it_plainly,
     adjusts_and_compares, shows_a_hedge, lists_what_is_implied, takes_trials, asks_under_a_condition,
-    *over_tables.PARTS, takes_other_texts, asks_for_a_direct_effect, adjusts_with_what_is_marked, lists_separating_sets,
-    colours_paths, changes_several, resizes_panes, saves_the_drawing_and_a_link, keeps_the_work, is_accessible, sends_nothing, is_served,
+    *in_the_drawing.PARTS, *leaves_the_page.PARTS, *over_tables.PARTS, begins_well, takes_other_texts, asks_for_a_direct_effect, adjusts_with_what_is_marked, lists_separating_sets,
+    colours_paths, tells_paths_apart, shows_other_views, tells_what_would_help, changes_several, resizes_panes, saves_the_drawing_and_a_link, keeps_the_work, is_accessible, sends_nothing, is_served,
 ]
 
 

@@ -41,7 +41,11 @@ VIEWS = {
     "several": ("napkin", "effect", """for (const v of [...document.querySelectorAll('#drawing .vertex')].slice(0, 2)) {
         v.dispatchEvent(new KeyboardEvent('keydown', {key: 's', bubbles: true})); }
         document.getElementById('selected').click()"""),
-    "direct": ("front_door", "effect", "document.querySelector('summary[data-key=direct]').click(); document.querySelector('summary[data-key=direct]').scrollIntoView()"),
+    "direct": ("front_door", "effect", "document.querySelector('#panel [data-key=direct]').click()"),
+    "first": ("firefighters", "adjustment", ""),
+    "pathlist": ("warm_up", "paths", "document.getElementById('paths').click()"),
+    "class": ("warm_up", "views", "document.querySelector('[data-key=\"view class\"]').click()"),
+    "next": ("bow", "effect", "document.querySelector('summary[data-key=next]').click()"),
     "warning": ("napkin", "effect", """const t = document.getElementById('text');
         t.value = t.value.replace('}', 'note = x\\n~\\n}'); t.dispatchEvent(new Event('input'))"""),
     "compare": ("chain", "compare", """const t = document.querySelector('textarea.second');
@@ -104,6 +108,8 @@ def tour():
     try:
         browser.open_page(driver)
         browser.example(driver, "napkin")
+        driver.execute_script("document.getElementById('tab-effect').click()")
+        time.sleep(0.7)
         driver.save_screenshot(str(TOP / "docs/page.png"))
     finally:
         driver.quit()
@@ -113,6 +119,8 @@ def on_paper(driver):
     """The page as it's printed."""
     browser.open_page(driver)
     browser.example(driver, "napkin")
+    driver.execute_script("document.getElementById('tab-effect').click()")
+    time.sleep(0.7)
     driver.find_element(By.CSS_SELECTOR, "#panel details summary").click()
     time.sleep(0.5)
     printed = driver.execute_cdp_cmd("Page.printToPDF", {"printBackground": False})

@@ -14,54 +14,110 @@ from importlib import import_module as _import_module
 from typing import TYPE_CHECKING, Any, List
 
 from causal._library import Reply, run
-from causal.answers import Adjustment, AdjustmentSets, Check, Equivalence, Path, Refusal, RuleAnswer, Separation
+from causal.answers import Adjustment, AdjustmentSets, CertificateRefusal, Check, Equivalence, Path, RuleAnswer, Separation
 from causal.diagram import Diagram
 from causal.errors import (
     CausalError,
     CertificateError,
     CountsError,
+    DataWarning,
     DiagramError,
     DiagramWarning,
     EvaluationError,
     LibraryMissing,
     MissingValues,
     NotIdentifiable,
+    PackageMissing,
+    Refusal,
     RequestError,
     TargetError,
     UnreadableAnswer,
+    WrongType,
 )
 from causal.formula import Formula, Hedge, HedgeSets, Term
 from causal.surrogates import Stopped, StoppedHedge
 from causal.version import VERSION
 
 if TYPE_CHECKING:
-    from causal.bootstrap import Bootstrap, ContrastInterval, Interval, MeanInterval
-    from causal.effects import Contrast, Effect, Effects, Mean, Spread, Value
+    from causal.bootstrap import Bootstrap, MeanInterval
+    from causal.comparison import Comparison
+    from causal.contrasts import Contrast, ContrastInterval, Contrasts
+    from causal.effects import Effect, Effects, Mean, Spread, Value
+    from causal.estimates import Estimate, Estimates
     from causal.forms import read
     from causal.implications import Difference, Implication, Implications
     from causal.independence import IndependenceTest, IndependenceTests
+    from causal.intervals import Interval
+    from causal.models import Fit
     from causal.queries import counts_query
+    from causal.report import Report
+    from causal.sensitivity import EValue, e_value
+    from causal.support import SupportTable
+    from causal.walks import Paths
+    from causal.weighting import Balance, Weighting
 
 __version__ = VERSION
+
+# What questions about data need is imported when it is asked for first.
+_LATER = {
+    "Balance": "causal.weighting",
+    "Bootstrap": "causal.bootstrap",
+    "Comparison": "causal.comparison",
+    "Contrast": "causal.contrasts",
+    "ContrastInterval": "causal.contrasts",
+    "Contrasts": "causal.contrasts",
+    "Difference": "causal.implications",
+    "EValue": "causal.sensitivity",
+    "Effect": "causal.effects",
+    "Effects": "causal.effects",
+    "Estimate": "causal.estimates",
+    "Estimates": "causal.estimates",
+    "Fit": "causal.models",
+    "Implication": "causal.implications",
+    "Implications": "causal.implications",
+    "IndependenceTest": "causal.independence",
+    "IndependenceTests": "causal.independence",
+    "Interval": "causal.intervals",
+    "Mean": "causal.effects",
+    "MeanInterval": "causal.bootstrap",
+    "Paths": "causal.walks",
+    "Report": "causal.report",
+    "Spread": "causal.effects",
+    "SupportTable": "causal.support",
+    "Value": "causal.effects",
+    "Weighting": "causal.weighting",
+    "counts_query": "causal.queries",
+    "e_value": "causal.sensitivity",
+    "read": "causal.forms",
+}
 
 __all__ = [
     "Adjustment",
     "AdjustmentSets",
+    "Balance",
     "Bootstrap",
     "CausalError",
     "CertificateError",
+    "CertificateRefusal",
     "Check",
+    "Comparison",
     "Contrast",
     "ContrastInterval",
+    "Contrasts",
     "CountsError",
+    "DataWarning",
     "Diagram",
     "DiagramError",
     "DiagramWarning",
     "Difference",
+    "EValue",
     "Effect",
     "Effects",
     "Equivalence",
+    "Estimate",
+    "Estimates",
     "EvaluationError",
+    "Fit",
     "Formula",
     "Hedge",
     "HedgeSets",
@@ -75,44 +131,30 @@ __all__ = [
     "MeanInterval",
     "MissingValues",
     "NotIdentifiable",
+    "PackageMissing",
     "Path",
+    "Paths",
     "Refusal",
     "Reply",
+    "Report",
     "RequestError",
     "RuleAnswer",
     "Separation",
     "Spread",
     "Stopped",
     "StoppedHedge",
+    "SupportTable",
     "TargetError",
     "Term",
     "UnreadableAnswer",
     "Value",
+    "Weighting",
+    "WrongType",
     "counts_query",
+    "e_value",
     "read",
     "run",
 ]
-
-# What questions about data need is imported when it is asked for first.
-_LATER = {
-    "Bootstrap": "causal.bootstrap",
-    "ContrastInterval": "causal.bootstrap",
-    "Interval": "causal.bootstrap",
-    "MeanInterval": "causal.bootstrap",
-    "Contrast": "causal.effects",
-    "Effect": "causal.effects",
-    "Effects": "causal.effects",
-    "Mean": "causal.effects",
-    "Spread": "causal.effects",
-    "Value": "causal.effects",
-    "Difference": "causal.implications",
-    "Implication": "causal.implications",
-    "Implications": "causal.implications",
-    "IndependenceTest": "causal.independence",
-    "IndependenceTests": "causal.independence",
-    "counts_query": "causal.queries",
-    "read": "causal.forms",
-}
 
 
 def __getattr__(name: str) -> Any:
@@ -122,4 +164,4 @@ def __getattr__(name: str) -> Any:
 
 
 def __dir__() -> List[str]:
-    return sorted({*globals(), *__all__})
+    return sorted([*__all__, "__version__"])

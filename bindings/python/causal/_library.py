@@ -8,7 +8,7 @@ from array import array
 from itertools import accumulate
 from typing import Any, Callable, Dict, Iterable, List, Mapping, NamedTuple, Optional, Tuple, Union
 
-from causal.errors import LibraryMissing
+from causal.errors import LibraryMissing, WrongType
 from causal.objects import Answer, Told, read_line
 
 Text = Union[str, bytes]
@@ -111,13 +111,13 @@ def as_bytes(text: Text) -> bytes:
     >>> as_bytes(3_000_000_000)
     Traceback (most recent call last):
         ...
-    TypeError: a text is a str or bytes, and no int
+    causal.errors.WrongType: a text is a str or bytes, and no int
     """
     if isinstance(text, str):
         return text.encode("utf-8", "surrogatepass")
     if isinstance(text, (bytes, bytearray, memoryview)):
         return bytes(text)
-    raise TypeError(f"a text is a str or bytes, and no {type(text).__name__}")
+    raise WrongType(f"a text is a str or bytes, and no {type(text).__name__}")
 
 
 class _Packed(NamedTuple):
@@ -284,6 +284,11 @@ class KeptDiagram:
         self._place = calls.ctypes.addressof(self._diagram)
         self._asked = functools.partial(calls.ask, self._place, self._names, len(self._names))
 
+    @property
+    def names(self) -> Tuple[str, ...]:
+        """The observed vertices, in order."""
+        return tuple(self._bits)
+
     def _mask(self, names: Iterable[str]) -> int:
         mask = 0
         for name in names:
@@ -337,5 +342,6 @@ def ask(
         from causal.faults import Sources, raise_refusal
 
         levels = {} if level_of is None else {"level_of": level_of}
-        raise_refusal(status, out, err, words, Sources(text, second or b"", formula=formula, **levels))
+        names = () if kept is None else kept.names
+        raise_refusal(status, out, err, words, Sources(text, second or b"", formula=formula, names=names, **levels))
     return read_line(read, out)

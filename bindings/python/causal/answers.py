@@ -4,8 +4,9 @@ from __future__ import annotations
 from dataclasses import dataclass, field
 from typing import Any, Dict, Iterator, List, Optional, Sequence, Tuple, Union, overload
 
+from causal.display import html_table
 from causal.formula import Formula, HedgeSets, Term
-from causal.framed import Framed
+from causal.framed import Shown
 from causal.names import printed_name, printed_set
 
 
@@ -47,7 +48,7 @@ class Path:
 
 
 @dataclass(frozen=True)
-class Separation(Framed):
+class Separation(Shown):
     """Whether two sets are separated given a third: it counts as true where they are. Else `path` is open.
 
     That it is separated is proved to say that no walk is open, and so that the sets are independent in every finite model that
@@ -72,13 +73,13 @@ class Separation(Framed):
 
 
 @dataclass(frozen=True)
-class RuleAnswer(Framed):
+class RuleAnswer(Shown):
     """Whether a rule of do-calculus applies: it counts as true where it does. Else `path` is open in the rule's cut graph.
 
     Where it applies it is proved that both sides are equal in every positive finite model that fits the diagram.
 
     >>> from causal import Diagram
-    >>> answer = Diagram("dag{ X -> M -> Y X <-> Y }").rule(2, y="M", z="X")
+    >>> answer = Diagram("dag{ X -> M -> Y X <-> Y }").rule_holds(2, y="M", z="X")
     >>> bool(answer), str(answer.left), str(answer.right)
     (True, 'P(M|do(X))', 'P(M|X)')
     """
@@ -98,7 +99,7 @@ class RuleAnswer(Framed):
 
 
 @dataclass(frozen=True)
-class Refusal:
+class CertificateRefusal:
     """Why a certificate is refused: the fault's number with a sentence, and where it is.
 
     `lemma` is the number of the lemma, or None for the main derivation; `step` is the number of the step, or None; `vertex` is a
@@ -127,7 +128,7 @@ class Refusal:
 
 
 @dataclass(frozen=True)
-class Check(Framed):
+class Check(Shown):
     """Whether a certificate is accepted: it counts as true where it is. Else `refusal` says why not.
 
     Where it is accepted with a `formula`, it is proved that the formula has no intervention and equals the effect in every
@@ -137,16 +138,16 @@ class Check(Framed):
     >>> from causal import Diagram
     >>> front_door = Diagram("dag{ X -> M -> Y X <-> Y }")
     >>> certificate = front_door.identify("X", "Y").certificate
-    >>> bool(front_door.check(certificate))
+    >>> bool(front_door.check_certificate(certificate))
     True
-    >>> refusal = front_door.check(certificate.replace('["rule2see",["M"]]', '["rule1out",["M"]]')).refusal
+    >>> refusal = front_door.check_certificate(certificate.replace('["rule2see",["M"]]', '["rule1out",["M"]]')).refusal
     >>> refusal.step, refusal.sentence
     (19, 'the sets of the step are wrong')
     """
 
     formula: Optional[Formula] = None
     hedge: Optional[HedgeSets] = None
-    refusal: Optional[Refusal] = None
+    refusal: Optional[CertificateRefusal] = None
 
     @property
     def accepted(self) -> bool:
@@ -161,7 +162,7 @@ class Check(Framed):
 
 
 @dataclass(frozen=True)
-class Adjustment(Framed):
+class Adjustment(Shown):
     """Whether a set may be adjusted for: it counts as true where it may, and then `formula` is the effect.
 
     Else `forbidden` is a member that may not be in the set, or `path` is one that the set leaves open against the criterion. Each
@@ -189,7 +190,7 @@ class Adjustment(Framed):
 
 
 @dataclass(frozen=True)
-class AdjustmentSets(Framed, Sequence[Tuple[str, ...]]):
+class AdjustmentSets(Shown, Sequence[Tuple[str, ...]]):
     """The minimal sets that may be adjusted for, and whether there are `more` than were asked for.
 
     It is proved that the sets are exactly the minimal admissible ones, each once: all of them, or as many as were asked for.
@@ -224,9 +225,13 @@ class AdjustmentSets(Framed, Sequence[Tuple[str, ...]]):
     def _table(self) -> Tuple[Sequence[str], List[List[Any]]]:
         return ("set", "term"), [[number, name] for number, members in enumerate(self.sets, 1) for name in members]
 
+    def _repr_html_(self) -> str:
+        rows = [[number, members] for number, members in enumerate(self.sets, 1)]
+        return html_table(["", "set"], rows, ["there are more"] if self.more else [] if rows else ["no set may be adjusted for"])
+
 
 @dataclass(frozen=True)
-class Equivalence(Framed):
+class Equivalence(Shown):
     """Whether two diagrams imply the same: it counts as true where they do. Else the first difference.
 
     `kind` is "edge" or "collider", `vertices` its two or three vertices, and `first` whether the first diagram has it;

@@ -9,6 +9,7 @@ from dataclasses import dataclass
 from typing import Any, Callable, Dict, Hashable, Iterable, List, Mapping, Optional, Sequence, Tuple, Union
 
 from causal.errors import CountsError, RequestError
+from causal.vocabulary import meant
 
 # A DataFrame or a table, a mapping of columns, the path of a CSV file, or a connection with the name of a table.
 Data = Union[str, "os.PathLike[str]", Mapping[str, Any], Any]
@@ -20,7 +21,8 @@ _BLANK = re.compile(rb'(?:\A|[,\r\n])(?:"")?(?=[,\r\n]|\Z)')
 
 @dataclass(frozen=True)
 class Column:
-    """A column: its values, which of them are missing, and the order of its levels where it has one.
+    """A column: its values, which of them are missing, and the order of its levels where it has one: the categories of a
+    `Categorical`, false before true.
 
     >>> from causal.columns import column_of
     >>> column_of("X", ["b", None, "a"]).missing
@@ -32,15 +34,24 @@ class Column:
     missing: Sequence[bool]
     order: Optional[Sequence[Any]] = None
     is_text: bool = False
+    # Whether it is an ordered `Categorical`.
+    is_ordered: bool = False
 
-    def factor(self, kept: Sequence[int]) -> Tuple[List[int], List[Hashable]]:
-        """The number of each kept value among the levels, and the levels."""
+    def factor(self, kept: Sequence[int], is_declared: bool = False) -> Tuple[List[int], List[Hashable]]:
+        """The number of each kept value among the levels, and the levels: those that occur, or all that are declared.
+
+        >>> from causal.columns import Column
+        >>> declared = Column("Y", [0, 0], [False] * 2, [0, 1])
+        >>> declared.factor(range(2)), declared.factor(range(2), is_declared=True)
+        (([0, 0], [0]), ([0, 0], [0, 1]))
+        """
         numbers: Dict[Hashable, int] = {}
         values = [None if self.missing[k] and not self.is_text else self.values[k] for k in kept]
         try:
             if self.order is not None:
                 occurring = set(values)
-                numbers = {level: k for k, level in enumerate(level for level in self.order if level in occurring)}
+                levels = [level for level in self.order if is_declared or level in occurring]
+                numbers = {level: k for k, level in enumerate(levels)}
             codes = [numbers.setdefault(value, len(numbers)) for value in values]
         except TypeError as cause:
             raise RequestError(f"the column {self.name} has a value that can't be a level: {cause}") from cause
@@ -104,10 +115,14 @@ def column_of(name: str, values: Any) -> Column:
     shape = getattr(values, "shape", (0,))
     if len(shape) != 1:
         raise RequestError(f"the column {name} is no list of values: it has {len(shape)} dimensions")
-    categories = getattr(getattr(values, "dtype", None), "categories", None)
+    kind = getattr(values, "dtype", None)
+    categories = getattr(kind, "categories", None)
     order = _listed(categories) if isinstance(categories, Iterable) else None
     held = _listed(values) or []
-    return Column(name, held, [is_missing(value) for value in held], order)
+    is_ordered = order is not None and bool(getattr(kind, "ordered", False))
+    if getattr(kind, "kind", "") == "b":
+        order = [False, True]
+    return Column(name, held, [is_missing(value) for value in held], order, is_ordered=is_ordered)
 
 
 def _listed(values: Any) -> Optional[List[Any]]:
@@ -147,7 +162,7 @@ def columns_of(data: Data, used: Sequence[str]) -> Dict[str, Column]:
     >>> columns_of(None, ["Y"])
     Traceback (most recent call last):
         ...
-    causal.errors.RequestError: data is a DataFrame, a mapping of columns, the path of a file or (connection, table), and no NoneType
+    causal.errors.RequestError: data is a DataFrame, a mapping of columns, a list of records, the path of a file or (connection, table), and no NoneType
     """
     path = path_of(data)
     if path is not None:
@@ -156,7 +171,7 @@ def columns_of(data: Data, used: Sequence[str]) -> Dict[str, Column]:
     places: Dict[str, List[int]] = {}
     for place, label in enumerate(names):
         places.setdefault(str(label), []).append(place)
-    columns = {name: column_of(name, column(_only(places.get(name, []), name))) for name in used}
+    columns = {name: column_of(name, column(only_place(places.get(name, []), name, places))) for name in used}
     if len({len(it.values) for it in columns.values()}) > 1:
         raise RequestError("the columns have different lengths")
     return columns
@@ -167,6 +182,12 @@ def _reader_of(data: Any) -> Tuple[List[Any], Callable[[int], Any]]:
     if isinstance(data, Mapping):
         labels = list(data)
         return labels, lambda place: data[labels[place]]
+    if isinstance(data, (list, tuple)) and data and all(isinstance(record, Mapping) for record in data):
+        heads = list(dict.fromkeys(label for record in data for label in record))
+        return heads, lambda place: [record.get(heads[place]) for record in data]
+    fields: Sequence[str] = getattr(getattr(data, "dtype", None), "names", None) or ()
+    if fields:
+        return list(fields), lambda place: data[fields[place]]
     if hasattr(data, "columns") and hasattr(data, "iloc"):
         return list(data.columns), lambda place: data.iloc[:, place]
     if hasattr(data, "columns") and hasattr(data, "to_series"):
@@ -175,13 +196,14 @@ def _reader_of(data: Any) -> Tuple[List[Any], Callable[[int], Any]]:
         return list(data.column_names), data.column
     hint = "; collect() gives the DataFrame of a lazy one" if hasattr(data, "collect") else ""
     hint = "; an array has no names of columns" if hasattr(data, "shape") and not hint else hint
-    kinds = "data is a DataFrame, a mapping of columns, the path of a file or (connection, table)"
+    kinds = "data is a DataFrame, a mapping of columns, a list of records, the path of a file or (connection, table)"
     raise RequestError(f"{kinds}, and no {type(data).__name__}{hint}")
 
 
-def _only(places: Sequence[int], name: str) -> int:
+def only_place(places: Sequence[int], name: str, names: Iterable[str]) -> int:
+    """The only place of a column; that it is there twice or not at all is refused."""
     if len(places) != 1:
-        sentence = f"the column {name} is there twice" if places else f"there is no column {name}"
+        sentence = f"the column {name} is there twice" if places else f"there is no column {name}{meant(name, names)}"
         raise CountsError(sentence, 3 if places else 2, name)
     return places[0]
 
@@ -209,7 +231,7 @@ def csv_columns(text: bytes, used: Sequence[str]) -> Dict[str, Column]:
     head = rows.pop(0) if rows else []
     columns = {}
     for name in used:
-        place = _only([k for k, label in enumerate(head) if label == name], name)
+        place = only_place([k for k, label in enumerate(head) if label == name], name, head)
         values = [row[place] for row in rows]
         columns[name] = Column(name, values, [not value for value in values], is_text=True)
     return columns

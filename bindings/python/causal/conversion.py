@@ -6,6 +6,7 @@ from typing import Any, Dict, Iterable, List, Mapping, Sequence, Tuple
 from causal.answers import GraphText
 from causal.errors import RequestError
 from causal.names import Name, Names, names_of, written_name
+from causal.vocabulary import meant, needed
 
 ROLES = ("exposure", "outcome", "adjusted", "latent")
 Pair = Tuple[str, str]
@@ -14,12 +15,16 @@ Pair = Tuple[str, str]
 def text_of_edges(
     edges: Iterable[Sequence[Name]], bidirected: Iterable[Sequence[Name]], vertices: Iterable[Name], roles: Mapping[str, Names]
 ) -> str:
-    """The text of a diagram: first the vertices in their order, then those that edges name. A vertex with
-    two marks is written so, for the library to refuse.
+    """The text of a diagram: first the vertices in their order, then those that edges name. A mark is one of such a vertex, so that
+    a typing error makes none. A vertex with two marks is written so, for the library to refuse.
 
     >>> from causal.conversion import text_of_edges
     >>> text_of_edges([("A", "B")], [], ["C"], {"exposure": "A"})
     'dag {\\nC\\nA [exposure]\\nB\\nA -> B\\n}\\n'
+    >>> text_of_edges([("statin", "mi")], [], [], {"exposure": "Statin"})
+    Traceback (most recent call last):
+        ...
+    causal.errors.RequestError: no vertex has the name Statin, which is marked exposure; did you mean statin?
     """
     directed, both = _pairs_of(edges), _pairs_of(bidirected)
     marks: Dict[str, List[str]] = {name: [] for name in names_of(vertices)}
@@ -28,7 +33,9 @@ def text_of_edges(
         if role not in ROLES:
             raise RequestError(f"a vertex can be {', '.join(ROLES)}, and not {role}")
         for name in names_of(names):
-            marks.setdefault(name, []).append(role)
+            if name not in marks:
+                raise RequestError(f"no vertex has the name {name}, which is marked {role}{meant(name, marks)}")
+            marks[name].append(role)
     lines = [written_name(name) + (f" [{','.join(dict.fromkeys(own))}]" if own else "") for name, own in marks.items()]
     lines += [f"{written_name(a)} -> {written_name(b)}" for a, b in directed]
     lines += [f"{written_name(a)} <-> {written_name(b)}" for a, b in both]
@@ -101,10 +108,7 @@ def text_of_pandas(adjacency: Any, bidirected: Iterable[Sequence[Name]], roles: 
 
 def to_networkx(content: GraphText, mixed: bool) -> Any:
     """The graph of networkx: a `DiGraph` with a latent vertex for each bidirected edge, or a `MultiDiGraph`."""
-    try:
-        import networkx
-    except ImportError as cause:
-        raise ImportError("a graph of networkx needs networkx") from cause
+    networkx = needed("networkx", "a graph of networkx")
     graph = networkx.MultiDiGraph() if mixed else networkx.DiGraph()
     for vertex in content.vertices:
         graph.add_node(vertex, **({"role": content.roles[vertex]} if vertex in content.roles else {}))

@@ -9,7 +9,7 @@ from dataclasses import dataclass
 from decimal import Decimal
 from typing import Any, Dict, List, Optional, Sequence, Tuple, Union
 
-from causal.columns import Column, column_of
+from causal.columns import Column, column_of, only_place
 from causal.errors import CountsError, RequestError
 
 # The name of a table, or that of a schema and further ones before it.
@@ -142,9 +142,7 @@ class DatabaseTable:
         """Refuses a column that isn't there or is there twice, and counts that aren't whole numbers."""
         there = self.columns()
         for name in [*names, *([] if count is None else [count])]:
-            if there.count(name) != 1:
-                sentence = f"the column {name} is there twice" if name in there else f"there is no column {name}"
-                raise CountsError(sentence, 3 if name in there else 2, name)
+            only_place([place for place, held in enumerate(there) if held == name], name, there)
         if count is None:
             return
         column, table = f"{_ALIAS}.{identifier(count)}", table_identifier(self.table)

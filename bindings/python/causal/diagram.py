@@ -1,18 +1,22 @@
 """Diagrams, and the questions about them."""
 from __future__ import annotations
 
-import warnings
+from dataclasses import replace
 from typing import TYPE_CHECKING, Any, Callable, Dict, Iterable, List, Mapping, Optional, Sequence, Tuple, Union
 
 from causal import answers, reading
 from causal._library import KeptDiagram, Text, as_bytes, ask
+from causal.data_questions import DataQuestions
 from causal.doubts import doubts_of
-from causal.errors import DiagramWarning, RequestError
+from causal.errors import DiagramWarning, RequestError, WrongType
 from causal.formula import Formula, Hedge, HedgeSets
+from causal.graph_questions import GraphQuestions
 from causal.names import Name, Names, list_word, names_of
 from causal.objects import Answer, Told, text_in
+from causal.positions import positions_in
 from causal.question import Question
 from causal.surrogates import Stopped, StoppedHedge, experiments_word
+from causal.vocabulary import Renamed, renamed, warn
 
 if TYPE_CHECKING:
     import os
@@ -21,11 +25,7 @@ if TYPE_CHECKING:
     import networkx
     import pandas
 
-    from causal.bootstrap import Bootstrap, Progress
-    from causal.columns import Data
-    from causal.effects import Contrast, Effects, Level, Spread
-    from causal.implications import Implications
-    from causal.independence import IndependenceTests
+    from causal.effects import Level
 
 
 def options(**lists: Optional[Names]) -> List[Text]:
@@ -38,7 +38,7 @@ def options(**lists: Optional[Names]) -> List[Text]:
     return [word for name, names in lists.items() if names is not None for word in (f"--{name}", list_word(names))]
 
 
-class Diagram:
+class Diagram(DataQuestions, GraphQuestions):
     """A causal diagram: vertices, directed edges, and bidirected edges for hidden common causes.
 
     The text is the `dag` text of DAGitty. A vertex may be marked `exposure`, `outcome`, `adjusted` or `latent`. Where a question
@@ -60,13 +60,17 @@ class Diagram:
     def __init__(self, text: Text) -> None:
         self._read(as_bytes(text))
         for doubt in doubts_of(self.source, self._content):
-            warnings.warn(doubt, DiagramWarning, stacklevel=2)
+            warn(doubt, DiagramWarning)
+
+    # The places that DAGitty's `pos` gives the vertices, where it gives one to each; drawings take them.
+    positions: Optional[Dict[str, Tuple[float, float]]]
 
     def _read(self, source: bytes) -> None:
         """Takes a text in."""
         self.source = source
         self._kept: Optional[KeptDiagram] = None
         self._content = ask(reading.read_graph, "graph", source)
+        self.positions = positions_in(source, self._content.vertices)
 
     def __getstate__(self) -> Dict[str, Any]:
         # (what is kept for the library belongs to this process)
@@ -257,6 +261,8 @@ class Diagram:
         """
         projected = Diagram.__new__(Diagram)
         projected._read(as_bytes(self._ask(reading.read_graph, "graph", "--project").text))
+        if self.positions is not None:
+            projected.positions = {name: self.positions[name] for name in projected.vertices}
         return projected
 
     def to_networkx(self, mixed: bool = False) -> "networkx.DiGraph":
@@ -281,13 +287,15 @@ class Diagram:
         *,
         path: Optional[answers.Path] = None,
         hedge: Optional[HedgeSets] = None,
+        set: Names = (),
         positions: Optional[Mapping[str, Tuple[float, float]]] = None,
         ax: Optional["matplotlib.axes.Axes"] = None,
     ) -> "matplotlib.axes.Axes":
-        """Draws the diagram with matplotlib: marks by colour, bidirected edges dashed, a path or a hedge drawn out.
+        """Draws the diagram with matplotlib: marks by colour, bidirected edges dashed, a path or a hedge drawn out, the vertices of a set
+        as adjusted.
 
-        Positions are found by layers unless they are given. Paths and hedges are about observed vertices: where some are latent,
-        draw them in `project()`.
+        Positions are those of DAGitty's `pos`, where each vertex has one, or else found by layers, unless they are given. Paths and hedges
+        are about observed vertices: where some are latent, draw them in `project()`.
 
         >>> import matplotlib
         >>> matplotlib.use("Agg")
@@ -297,12 +305,13 @@ class Diagram:
         """
         from causal.plotting import plot
 
-        return plot(self._content, path, hedge, positions, ax)
+        content = replace(self._content, roles={**self._content.roles, **dict.fromkeys(self._named(set), "adjusted")})
+        return plot(content, path, hedge, self.positions if positions is None else positions, ax)
 
     def _repr_svg_(self) -> Optional[str]:
         from causal.plotting import svg
 
-        return svg(self._content)
+        return svg(self._content, self.positions)
 
     # Questions about a diagram.
 
@@ -361,17 +370,27 @@ class Diagram:
 
         return self._ask(answer, command, *words, *form)
 
-    def rule(self, number: int, y: Names, z: Names, do: Names = (), given: Names = ()) -> answers.RuleAnswer:
+    def _need_exposure(self, x: Optional[Names]) -> None:
+        """Refuses an effect of nothing, unless it was said: it would be the outcome's distribution."""
+        if x is None and "exposure" not in self._content.roles.values():
+            raise RequestError("no vertex is marked exposure: give x, or x=[] for the distribution of the outcome as it is")
+
+    @renamed(number="rule")
+    def rule_holds(self, rule: int, y: Names, z: Names, do: Names = (), given: Names = ()) -> answers.RuleAnswer:
         """Whether a rule of do-calculus applies: the answer counts as true where it does, and else has an open path.
 
         Rule 1 leaves z out of what is observed, rule 2 observes z in place of doing it, rule 3 leaves z out of what is done.
 
         >>> from causal import Diagram
-        >>> print(Diagram("dag { X -> M -> Y X <-> Y }").rule(2, y="M", z="X"))
+        >>> print(Diagram("dag { X -> M -> Y X <-> Y }").rule_holds(2, y="M", z="X"))
         rule 2 holds: P(M|do(X)) = P(M|X)
         """
-        words = ["--rule", str(number), *options(y=y, z=z, do=do, given=given)]
+        if isinstance(rule, bool) or rule not in (1, 2, 3):
+            raise RequestError(f"the rules of do-calculus are 1, 2 and 3, and there is no rule {rule!r}")
+        words = ["--rule", str(rule), *options(y=y, z=z, do=do, given=given)]
         return self._ask(lambda told: reading.read_rule(told, self.vertices), "rule", *words)
+
+    rule = Renamed("rule_holds")
 
     def identify(
         self,
@@ -401,6 +420,7 @@ class Diagram:
         >>> print(Diagram("dag { Z -> X Z -> Y X -> Y }").identify("X", "Y", given="Z"))
         P(Y|do(X),Z) = P(Y|Z,X)
         """
+        self._need_exposure(x)
         words = [*options(x=x, y=y, given=given), *(["--short"] if short else [])]
         return self._ask_effect(reading.read_effect, "identify", words, *(["--certificate"] if certificate else []))
 
@@ -428,11 +448,15 @@ class Diagram:
         P(Y|do(X)) = P(Y|do(Z),X)
         free {Z}
         """
-        words = [*options(x=x, y=y), "--experiments", experiments_word(experiments)]
+        self._need_exposure(x)
+        word = experiments_word(experiments)
+        if not word:
+            raise RequestError("experiments names the variables that were set in trials, as in experiments=['Z']")
+        words = [*options(x=x, y=y), "--experiments", word]
         form = ["--certificate"] if certificate else ["--models"] if models else []
         return self._ask_effect(reading.read_surrogate, "surrogate", words, *form)
 
-    def check(
+    def check_certificate(
         self, certificate: Union[Text, Formula, Hedge], experiments: Union[str, Iterable[Names]] = ()
     ) -> answers.Check:
         """Whether a certificate is accepted, whoever wrote it: the answer counts as true where it is.
@@ -441,7 +465,7 @@ class Diagram:
 
         >>> from causal import Diagram
         >>> diagram = Diagram("dag { X -> Y X <-> Y }")
-        >>> print(diagram.check(diagram.identify("X", "Y")))
+        >>> print(diagram.check_certificate(diagram.identify("X", "Y")))
         accepted
         P(Y|do(X)) is not identifiable
         hedge {X,Y} over {Y} with roots {Y}
@@ -453,6 +477,8 @@ class Diagram:
         words = ["--experiments", word] if word else []
         return self._ask(lambda told: reading.read_check(told, bool(word)), "check", *words, second=as_bytes(text))
 
+    check = Renamed("check_certificate")
+
     def adjustment_sets(
         self, x: Optional[Names] = None, y: Optional[Names] = None, most: Optional[int] = None
     ) -> answers.AdjustmentSets:
@@ -462,11 +488,14 @@ class Diagram:
         >>> list(Diagram("dag { Z -> X Z -> Y X -> Y }").adjustment_sets("X", "Y"))
         [('Z',)]
         """
+        if most is not None and (isinstance(most, bool) or not hasattr(most, "__index__") or most < 1):
+            raise RequestError(f"most is a whole number from 1 on, and not {most!r}")
         limit = [] if most is None else ["--most", str(most)]
         return self._ask(reading.read_sets, "adjust", *options(x=x, y=y), *limit)
 
+    @renamed(members="set")
     def adjusts(
-        self, members: Names, x: Optional[Names] = None, y: Optional[Names] = None, back_door: bool = False
+        self, set: Names, x: Optional[Names] = None, y: Optional[Names] = None, back_door: bool = False
     ) -> answers.Adjustment:
         """Whether a set may be adjusted for, by the adjustment criterion or by the back-door criterion.
 
@@ -475,7 +504,7 @@ class Diagram:
         admissible: {Z}
         P(Y|do(X)) = sum{Z} P(Z) * P(Y|Z,X)
         """
-        words = [*options(x=x, y=y, set=members), *(["--back-door"] if back_door else [])]
+        words = [*options(x=x, y=y, set=set), *(["--back-door"] if back_door else [])]
         return self._ask(reading.read_adjustment, "adjust", *words)
 
     def equivalent(
@@ -495,276 +524,6 @@ class Diagram:
         open in the first: A -> B -> C
         open in the second: A <- B -> C
         """
+        if not isinstance(other, Diagram):
+            raise WrongType(f"a diagram is compared with another one, as Diagram(text), and not with a {type(other).__name__}")
         return self._ask(reading.read_equivalence, "equivalent", *options(x=x, y=y, given=given), second=other.source)
-
-    def implications(self, data: Optional[Data] = None, count: Optional[str] = None, *, missing: str = "error") -> Implications:
-        """The testable independences: each pair of variables that some set separates, with one such set.
-
-        A diagram may have other testable constraints, as the napkin's, which aren't listed.
-
-        With data, each pair has the largest difference of the counts from its independence, and the levels where it is. The data,
-        `count` and `missing` are as in `effects`, with a column for each variable of the pairs and their sets. A difference is no
-        test: the counts of a sample differ from 0 by chance too.
-
-        >>> from causal import Diagram
-        >>> data = {"A": [0, 0, 1, 1], "B": [0, 0, 0, 0], "C": [0, 0, 0, 1]}
-        >>> print(Diagram("dag { A <- B -> C }").implications(data))
-        A from C given {B}
-        largest difference 2 at A=0,C=0,B=0
-        """
-        from causal.implications import implications_of
-
-        return implications_of(self, data, count, missing)
-
-    def test_implications(
-        self,
-        data: Data,
-        count: Optional[str] = None,
-        *,
-        missing: str = "error",
-        method: str = "auto",
-        permutations: int = 1000,
-        seed: int = 0,
-    ) -> IndependenceTests:
-        """Tests of the pairs of `implications`: whether the data is farther from each than chance lets expect.
-
-        For each pair of `implications` G² is summed over the levels of its set, and compared with the chi-squared distribution of
-        its degrees of freedom (it needs scipy), or, where the tables are too thin or scipy isn't there, with tables that are drawn
-        with the same sums, as many as `permutations` says, from the seed. `method` may be "chi-squared" or "permutation" for all.
-        The pairs are proved, as `implications` says; the tests are computed, and nothing about them is proved.
-
-        >>> from causal import Diagram
-        >>> data = {"A": [0, 0, 0, 1, 1, 1] * 20, "B": [0] * 60 + [1] * 60, "C": ([0, 0, 1, 0, 1, 1]) * 20}
-        >>> tests = Diagram("dag { A <- B -> C }").test_implications(data, method="permutation", permutations=200)
-        >>> tests[0].a, tests[0].b, tests[0].given, tests[0].degrees, round(tests[0].statistic, 3)
-        ('A', 'C', ('B',), 2, 13.592)
-        >>> len(tests.rejected())
-        1
-        """
-        from causal.independence import tests_of
-
-        return tests_of(self, data, count, missing, method, permutations, seed)
-
-    # Effects in data.
-
-    def evaluate(
-        self,
-        data: Data,
-        x: Optional[Names] = None,
-        y: Optional[Names] = None,
-        *,
-        count: Optional[str] = None,
-        exact: bool = False,
-        missing: str = "error",
-        at: Optional[Mapping[str, Level]] = None,
-        adjust_for: Optional[Names] = None,
-        back_door: bool = False,
-        given: Optional[Names] = None,
-        zero: bool = False,
-        short: bool = False,
-    ) -> "pandas.DataFrame":
-        """The effects of x on y in the data, as a DataFrame (it needs pandas): see `effects`, which says what is proved, and
-        `Effects.frame` for the columns.
-
-        >>> import pandas
-        >>> from causal import Diagram
-        >>> data = pandas.DataFrame({"T": ["A", "A", "B", "B"], "R": ["good", "bad", "good", "good"]})
-        >>> print(Diagram("dag { T -> R }").evaluate(data, "T", "R", exact=True))
-           T     R  estimate exact
-        0  A  good       0.5   1/2
-        1  A   bad       0.5   1/2
-        2  B  good       1.0     1
-        3  B   bad       0.0     0
-        """
-        words: Dict[str, Any] = {"count": count, "exact": exact, "missing": missing, "at": at}
-        way: Dict[str, Any] = {"adjust_for": adjust_for, "back_door": back_door, "given": given, "zero": zero, "short": short}
-        return self.effects(data, x, y, **words, **way).frame()
-
-    def effects(
-        self,
-        data: Data,
-        x: Optional[Names] = None,
-        y: Optional[Names] = None,
-        *,
-        count: Optional[str] = None,
-        exact: bool = False,
-        missing: str = "error",
-        at: Optional[Mapping[str, Level]] = None,
-        adjust_for: Optional[Names] = None,
-        back_door: bool = False,
-        given: Optional[Names] = None,
-        zero: bool = False,
-        short: bool = False,
-    ) -> Effects:
-        """The effects of x on y in the data: the values of the formula of `identify` over the counts.
-
-        The data is a DataFrame (of pandas; or of Dask, polars or Spark, which count their own records), a table of pyarrow, a mapping of
-        columns, the path of a CSV file, or a pair of a connection of the DB-API and the name of a table, of which the database counts
-        the records (see `counts_query`). It has
-        a column for each variable of the formula; `count` names a column of counts, and without it each record counts 1. Values are
-        bounds of 18 digits, or with `exact` fractions. Each value is proved to be the formula's value over the counts, and so to
-        cover the effect in each positive model that fits the diagram and that the counts match. That the counts are those of the
-        data is tested: Python counts the records, but those of a plain file, which the library reads itself. Nothing is said of
-        sampling error: see `bootstrap`.
-
-        Levels are the values of a column, whatever they are, in order of first appearance; those of a `Categorical` in the order
-        of its categories, of which those without a record are left out; those that an engine counted in order. A variable that the formula
-        reads beside x and y is pinned at its first level in order (numbers by size, texts by their characters, a `Categorical` by
-        its categories), or at the one that `at` gives, as in `at={"Z": 1}`: see `spread`.
-
-        With `adjust_for` the formula is that of a set, which has to be admissible, or with `back_door` to meet the back-door criterion:
-        see `adjusts`. With `given` the effect is that among those with the same values of these variables, `P(y | do(x), given)`, by
-        the formula of `identify`. With `zero` a product with a factor 0 is 0 whatever its other factors are, also where one of them has
-        a condition that no record has; where there is a value without it, it is the same.
-
-        With `short` the formula is the one that `identify` gives with `short`, also with `given`. It often reads fewer columns, and
-        asks for fewer combinations of levels that have a record. In the population it has the same value as the one without; over a
-        sample it may have another, and one may have a value where the other has none.
-
-        A missing value in a used column, an empty field of a file too, is refused as `MissingValues`; with `missing="drop"` its
-        record is left out, and the answer's `dropped` counts these (which estimates the effect among complete records: whether
-        that is the effect wanted isn't decided here); with `missing="level"` it is a level.
-
-        `NotIdentifiable` is raised with a hedge where there is no formula, `EvaluationError` with a cell where a term has no
-        records.
-
-        >>> from causal import Diagram
-        >>> data = {"S": ["small", "small", "large", "large"] * 2, "T": ["A", "B"] * 4, "R": ["good"] * 5 + ["bad"] * 3}
-        >>> print(Diagram("dag { S -> T -> R <- S }").effects(data, "T", "R", exact=True))
-        P(R=good|do(T=A)) = 3/4
-        P(R=bad|do(T=A)) = 1/4
-        P(R=good|do(T=B)) = 1/2
-        P(R=bad|do(T=B)) = 1/2
-        >>> among = Diagram("dag { S -> T -> R <- S }").effects(data, "T", "R", given="S", exact=True)
-        >>> print(among.at({"R": "good"}, {"T": "A"}, {"S": "small"}))
-        = 1/1
-        >>> through = Diagram("dag { T -> S -> R <- T S <-> R }").effects(data, "T", "R", short=True, exact=True)
-        >>> print(through.formula, through.at({"R": "good"}, {"T": "A"}), sep="; ")
-        P(R|do(T)) = P(R|T); = 3/4
-        """
-        from causal.evaluation import Evaluation
-
-        way = Evaluation(self, x, y, count, missing, adjust_for=adjust_for, back_door=back_door, given=given, zero=zero, short=short)
-        return way.effects(data, exact, at)
-
-    def spread(
-        self,
-        data: Data,
-        x: Optional[Names] = None,
-        y: Optional[Names] = None,
-        *,
-        count: Optional[str] = None,
-        exact: bool = False,
-        missing: str = "error",
-        given: Optional[Names] = None,
-        zero: bool = False,
-        short: bool = False,
-    ) -> Spread:
-        """The effects of x on y at each level at which the formula's further variables may be pinned: a check of the diagram.
-
-        In the population each of these levels gives the same, where the diagram is right. The data is as in `effects`, and so are
-        `given`, `zero` and `short`. (The formula of a set to adjust for has no such variables.)
-
-        >>> from causal import Diagram
-        >>> napkin = Diagram("dag { W -> Z -> X -> Y  W <-> X  W <-> Y }")
-        >>> data = {name: [k >> bit & 1 for k in range(16)] for bit, name in enumerate("WZXY")}
-        >>> print(napkin.spread(data, "X", "Y", exact=True)[1])
-        pinned Z=1 (in the population every level gives the same)
-        P(Y=0|do(X=0)) = 1/2
-        P(Y=1|do(X=0)) = 1/2
-        P(Y=0|do(X=1)) = 1/2
-        P(Y=1|do(X=1)) = 1/2
-        """
-        from causal.evaluation import Evaluation
-
-        return Evaluation(self, x, y, count, missing, given=given, zero=zero, short=short).spread(data, exact)
-
-    def contrast(
-        self,
-        data: Data,
-        x: Optional[Names] = None,
-        y: Optional[Names] = None,
-        *,
-        treated: Any,
-        control: Any,
-        outcome: Any,
-        count: Optional[str] = None,
-        exact: bool = False,
-        missing: str = "error",
-        at: Optional[Mapping[str, Level]] = None,
-        adjust_for: Optional[Names] = None,
-        back_door: bool = False,
-        given: Optional[Mapping[str, Level]] = None,
-        zero: bool = False,
-        short: bool = False,
-    ) -> Contrast:
-        """The risk difference, the risk ratio and the odds ratio of two levels of x, for a level of y.
-
-        The levels are given as they stand in the data; where x or y has several variables, as a mapping or in the order of the
-        target. `given` is a mapping of variables to levels, as in `given={"sex": "f"}`, and `adjust_for`, `back_door`, `zero` and `short` are
-        as in `effects`. Both effects are proved, as `effects` says; the difference and the ratios are computed from them, outward where
-        they are bounds. For intervals see `bootstrap(..).contrast(..)`.
-
-        >>> from causal import Diagram
-        >>> data = {"T": ["A", "A", "B", "B"], "R": [1, 0, 1, 1]}
-        >>> contrast = Diagram("dag { T -> R }").contrast(data, "T", "R", treated="A", control="B", outcome=1)
-        >>> float(contrast.difference), float(contrast.ratio)
-        (-0.5, 0.5)
-        """
-        from causal.evaluation import levels_at
-
-        words: Dict[str, Any] = {"count": count, "exact": exact, "missing": missing, "at": at}
-        way: Dict[str, Any] = {"adjust_for": adjust_for, "back_door": back_door, "zero": zero, "short": short}
-        found = self.effects(data, x, y, given=None if given is None else list(given), **words, **way)
-        target = found.formula.target
-        treated, control = levels_at(target.x, treated), levels_at(target.x, control)
-        return found.contrast(levels_at(target.y, outcome), treated, control, given)
-
-    def bootstrap(
-        self,
-        data: Data,
-        x: Optional[Names] = None,
-        y: Optional[Names] = None,
-        *,
-        count: Optional[str] = None,
-        missing: str = "error",
-        at: Optional[Mapping[str, Level]] = None,
-        resamples: int = 1000,
-        level: float = 0.95,
-        seed: int = 0,
-        kind: str = "percentile",
-        progress: Optional[Progress] = None,
-        adjust_for: Optional[Names] = None,
-        back_door: bool = False,
-        given: Optional[Names] = None,
-        zero: bool = False,
-        short: bool = False,
-    ) -> Bootstrap:
-        """The effects with intervals by the bootstrap: percentiles of resampled tables of counts, or with `kind="bca"` percentiles
-        that are corrected for bias and accelerated, which asks once more for each cell of the table.
-
-        As many records as there are are drawn with replacement, `resamples` times, and the effects asked for again. What is
-        proved is each value over its counts; the interval is only computed. A draw has the levels of x, of y, of what is given and of
-        pinned variables that the data has; a level of another variable that isn't drawn is left out of that draw. A draw with a cell
-        that has no value is left out and counted (`without_value`): where these are many, the interval says little. With `zero` they
-        are fewer, and often with `short`. `adjust_for`, `back_door`, `given`, `zero` and `short` are as in `effects`.
-
-        The same data, seed and number of resamples give the same interval. `progress` is called after each table that was asked
-        about, with how many were and of how many: `lambda done, of: print(done, of)`, or what moves a bar. What it raises ends the
-        bootstrap.
-
-        >>> from causal import Diagram
-        >>> data = {"T": ["A", "B"] * 40, "R": [1, 0, 1, 1] * 20}
-        >>> answer = Diagram("dag { T -> R }").bootstrap(data, "T", "R", resamples=200, seed=3)
-        >>> contrast = answer.contrast({"R": 1}, {"T": "A"}, {"T": "B"})
-        >>> float(contrast.contrast.difference), contrast.difference.lower > 0, answer.without_value
-        (0.5, True, 0)
-        """
-        from causal.evaluation import Evaluation
-
-        if resamples < 1 or not 0 < level < 1:
-            raise RequestError("resamples is at least 1, and level lies between 0 and 1")
-        if kind not in ("percentile", "bca"):
-            raise RequestError(f"kind is 'percentile' or 'bca', and not {kind!r}")
-        way = Evaluation(self, x, y, count, missing, adjust_for=adjust_for, back_door=back_door, given=given, zero=zero, short=short)
-        return way.bootstrap(data, resamples, level, seed, at, kind, progress)

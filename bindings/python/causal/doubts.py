@@ -58,7 +58,8 @@ def is_of_signs(name: str) -> bool:
 
 
 def doubts_of(source: bytes, content: GraphText) -> List[str]:
-    """A sentence for each doubt: statements that were dropped, but those that DAGitty writes, and vertices that look like an edge.
+    """A sentence for each doubt: statements that were dropped, but those that DAGitty writes, vertices that look like an edge, and
+    an exposure or an outcome without an edge.
 
     >>> from causal.answers import GraphText
     >>> from causal.doubts import doubts_of
@@ -76,4 +77,6 @@ def doubts_of(source: bytes, content: GraphText) -> List[str]:
     for name in content.vertices:
         if name not in joined and is_of_signs(name):
             found.append(f"the vertex {printed_name(name)} has no edge, and its name is made of signs; {EDGES}")
+        elif name not in joined and content.roles.get(name) in ("exposure", "outcome"):
+            found.append(f"the {content.roles[name]} {printed_name(name)} has no edge: is its name written as in the edges?")
     return found

@@ -1,22 +1,25 @@
 """Effects computed from data: the values of a formula over counts, and contrasts of them."""
 from __future__ import annotations
 
+import datetime
 import math
 import numbers
 from dataclasses import dataclass, field
 from decimal import Decimal
 from fractions import Fraction
-from typing import TYPE_CHECKING, Any, Callable, Dict, Hashable, Iterator, List, Mapping, Optional, Sequence, Tuple, Union, overload
+from typing import TYPE_CHECKING, AbstractSet, Any, Callable, Dict, Hashable, Iterator, List, Mapping, Optional, Sequence, Tuple, Union, overload
 
 from causal.display import html_table
 from causal.errors import RequestError
 from causal.formula import Formula
-from causal.framed import Framed
-from causal.names import printed_name
+from causal.names import Names, names_of, printed_name
 from causal.objects import Told, name_in
+from causal.vocabulary import Renamed, meant, needed
 
 if TYPE_CHECKING:
     import pandas
+
+    from causal.contrasts import Contrast
 
 Level = Hashable
 # Finds the level of a variable for what is told for it.
@@ -25,7 +28,7 @@ LevelOf = Callable[[str, str], Level]
 
 @dataclass(frozen=True)
 class Value:
-    """A value between two fractions, which are equal where it is exact. The true value is proved to lie between them.
+    """A value between two fractions, which are equal where it is exact. `Effects` says what is proved to lie between them.
 
     >>> from fractions import Fraction
     >>> from causal.effects import Value
@@ -176,8 +179,57 @@ class Effect:
         return f"{self.cell} {self.value}"
 
 
+def level_text(level: Level) -> str:
+    """A level as it is printed: a day without its hour.
+
+    >>> import datetime
+    >>> from causal.effects import level_text
+    >>> level_text(datetime.datetime(2020, 4, 3)), level_text(1.5)
+    ('2020-04-03', '1.5')
+    """
+    text = str(level)
+    return text[:10] if isinstance(level, datetime.datetime) and text.endswith(" 00:00:00") else text
+
+
 def levels_text(cell: Mapping[str, Level]) -> str:
-    return ",".join(f"{printed_name(name)}={level}" for name, level in cell.items())
+    """Levels of variables, as they are printed."""
+    return ",".join(f"{printed_name(name)}={level_text(level)}" for name, level in cell.items())
+
+
+def typed_order(names: Optional[Names]) -> Optional[Tuple[str, ...]]:
+    """The names in the order in which they were typed, or None where they have none.
+
+    >>> from causal.effects import typed_order
+    >>> typed_order(["B", "A"]), typed_order({"B", "A"}), typed_order(None)
+    (('B', 'A'), None, None)
+    """
+    return None if names is None or isinstance(names, AbstractSet) else names_of(names)
+
+
+def levels_at(names: Sequence[str], levels: Any, typed: Optional[Sequence[str]] = None) -> Dict[str, Level]:
+    """Levels by name, from a mapping, from a single level, or from a list in the order in which the names were typed.
+
+    >>> from causal.effects import levels_at
+    >>> levels_at(["T"], "A"), levels_at(["S", "T"], ["A", "small"], typed=["T", "S"])
+    ({'T': 'A'}, {'S': 'small', 'T': 'A'})
+    >>> levels_at(["S", "T"], ["small", "A"])
+    Traceback (most recent call last):
+        ...
+    causal.errors.RequestError: levels of S, T are given by name, as in {'S': .., 'T': ..}: in a list their order isn't known
+    """
+    if isinstance(levels, Mapping):
+        if set(levels) != set(names):
+            raise RequestError(f"a level is needed for each of {', '.join(names)}, and was given for {', '.join(map(str, levels))}")
+        return {name: levels[name] for name in names}
+    if len(names) == 1:
+        return {names[0]: levels}
+    if isinstance(levels, (str, AbstractSet)) or not hasattr(levels, "__len__") or len(levels) != len(names):
+        raise RequestError(f"a level is needed for each of {', '.join(names)}")
+    if typed is None or set(typed) != set(names):
+        shown = ", ".join(f"{name!r}: .." for name in names)
+        raise RequestError(f"levels of {', '.join(names)} are given by name, as in {{{shown}}}: in a list their order isn't known")
+    given = dict(zip(typed, levels))
+    return {name: given[name] for name in names}
 
 
 def _cell_text(y: Mapping[str, Level], x: Mapping[str, Level], given: Mapping[str, Level]) -> str:
@@ -189,13 +241,14 @@ def _cell_text(y: Mapping[str, Level], x: Mapping[str, Level], given: Mapping[st
 class Effects(Sequence[Effect]):
     """The effects of a formula over counts, at each level of the exposures and the outcomes.
 
-    Each value is proved: it is the formula's value over the counts, exactly or within the bounds, and so covers the effect in
-    each positive model that fits the diagram and that the counts match. That the counts are those of the data is tested. How far
+    Each value is proved to be the formula's value over the counts, exactly or within the bounds, where the formula has one without
+    `zero`; where it hasn't, it is the formula's by that rule, and no more is proved of it. It covers the effect in each positive
+    model that fits the diagram and that the counts match. That the counts are those of the data is tested. How far
     the counts of a sample are from those of the population isn't in it: see `Diagram.bootstrap`.
 
     `formula` is the formula; `pinned` has the level at which each variable stands that the formula reads beside the target's
     sets; `exact` says whether exact fractions were asked for; `dropped` says how many records were left out since they lacked a
-    value.
+    value; `remarks` are further notes.
 
     >>> from causal import Diagram
     >>> effects = Diagram("dag{ X -> Y }").effects({"X": ["a", "a", "b"], "Y": [0, 1, 1]}, "X", "Y", exact=True)
@@ -213,6 +266,13 @@ class Effects(Sequence[Effect]):
     pinned: Dict[str, Level]
     exact: bool = False
     dropped: int = 0
+    remarks: Tuple[str, ...] = ()
+    # The exposures and the outcomes in the order in which they were typed, and the categories of ordered ones.
+    typed: Tuple[Optional[Tuple[str, ...]], Optional[Tuple[str, ...]]] = field(default=(None, None), repr=False, compare=False)
+    orders: Mapping[str, Sequence[Level]] = field(default_factory=dict, repr=False, compare=False)
+
+    def __hash__(self) -> int:
+        return hash(self.text)
 
     def __len__(self) -> int:
         return len(self.effects)
@@ -232,7 +292,7 @@ class Effects(Sequence[Effect]):
     @property
     def text(self) -> str:
         """The answer as the program prints it."""
-        pins = [f"pinned {printed_name(name)}={level}" for name, level in self.pinned.items()]
+        pins = [f"pinned {printed_name(name)}={level_text(level)}" for name, level in self.pinned.items()]
         return "\n".join([*pins, *map(str, self.effects)])
 
     def __str__(self) -> str:
@@ -241,10 +301,10 @@ class Effects(Sequence[Effect]):
     @property
     def notes(self) -> Tuple[str, ...]:
         """What the values rest on: the pinned levels, and how many records were left out."""
-        pins = [f"pinned {printed_name(name)}={level}" for name, level in self.pinned.items()]
+        pins = [f"pinned {printed_name(name)}={level_text(level)}" for name, level in self.pinned.items()]
         if pins:
             pins[-1] += " (in the population every level gives the same)"
-        return (*pins, *([f"{self.dropped} records left out that lack a value"] if self.dropped else []))
+        return (*pins, *([f"{self.dropped} records left out that lack a value"] if self.dropped else []), *self.remarks)
 
     @property
     def levels(self) -> Dict[str, List[Level]]:
@@ -260,25 +320,50 @@ class Effects(Sequence[Effect]):
                 found[name][level] = None
         return {name: list(levels) for name, levels in found.items()}
 
-    def place(self, y: Mapping[str, Level], x: Mapping[str, Level], given: Optional[Mapping[str, Level]] = None) -> int:
+    def place(self, y: Any, x: Any, given: Optional[Mapping[str, Level]] = None) -> int:
         """The number of the effect at these levels."""
+        target = self.formula.target
+        y, x = levels_at(target.y, y, self.typed[1]), levels_at(target.x, x, self.typed[0])
+        under = self._given(given)
         for k, effect in enumerate(self.effects):
-            if effect.y == dict(y) and effect.x == dict(x) and effect.given == dict(given or {}):
+            if effect.y == y and effect.x == x and effect.given == under:
                 return k
-        there = [f"{name} has {', '.join(map(repr, levels))}" for name, levels in self.levels.items()]
-        raise RequestError(f"there is no effect {_cell_text(y, x, given or {})} in the data, in which {'; '.join(there)}")
+        raise RequestError(f"there is no effect {_cell_text(y, x, under)} in the data; {self._levels_there({**y, **x, **under})}")
 
-    def at(self, y: Mapping[str, Level], x: Mapping[str, Level], given: Optional[Mapping[str, Level]] = None) -> Value:
-        """The value at these levels."""
+    def _given(self, given: Optional[Mapping[str, Level]]) -> Dict[str, Level]:
+        """The levels of what is given: where none are told, the only ones that there are."""
+        if given is None and self.effects and all(effect.given == self.effects[0].given for effect in self.effects):
+            return self.effects[0].given
+        return dict(given or {})
+
+    def _levels_there(self, asked: Mapping[str, Level]) -> str:
+        """What levels the variables have of which another one was asked for."""
+        levels = self.levels
+        wrong = [name for name in levels if name in asked and asked[name] not in levels[name]] or list(levels)
+        told = []
+        for name in wrong:
+            alike = [level for level in levels[name] if name in asked and str(level) == str(asked[name])]
+            told.append(f"{name} has {', '.join(map(repr, levels[name]))}" + (f" (did you mean {alike[0]!r}?)" if alike else ""))
+        return "; ".join(told)
+
+    def at(self, y: Any, x: Any, given: Optional[Mapping[str, Level]] = None) -> Value:
+        """The value at these levels, which are given as in `Diagram.contrast`.
+
+        >>> from causal import Diagram
+        >>> effects = Diagram("dag{ X -> Y }").effects({"X": ["a", "a", "b"], "Y": [0, 1, 1]}, "X", "Y", exact=True)
+        >>> effects.at(1, "a").exact
+        Fraction(1, 2)
+        """
         return self.effects[self.place(y, x, given)].value
 
-    def contrast(
-        self,
-        outcome: Mapping[str, Level],
-        treated: Mapping[str, Level],
-        control: Mapping[str, Level],
-        given: Optional[Mapping[str, Level]] = None,
-    ) -> "Contrast":
+    def only(self, given: Mapping[str, Level]) -> Tuple[int, ...]:
+        """The numbers of the effects under these levels of what is given."""
+        found = tuple(k for k, effect in enumerate(self.effects) if effect.given == dict(given))
+        if not found:
+            raise RequestError(f"no effect is given {levels_text(given)}; {self._levels_there(given)}")
+        return found
+
+    def contrast(self, outcome: Any, treated: Any, control: Any, given: Optional[Mapping[str, Level]] = None) -> "Contrast":
         """The contrast of two levels of the exposures, at levels of what is given.
 
         >>> from causal import Diagram
@@ -286,7 +371,10 @@ class Effects(Sequence[Effect]):
         >>> effects.contrast({"Y": 1}, {"X": "a"}, {"X": "b"}).difference.exact
         Fraction(-1, 2)
         """
-        return Contrast(self.at(outcome, treated, given), self.at(outcome, control, given))
+        from causal.contrasts import Contrast
+
+        first, second = self.effects[self.place(outcome, treated, given)], self.effects[self.place(outcome, control, given)]
+        return Contrast(first.value, second.value, (first.x, second.x), first.y, first.given, self.notes)
 
     @property
     def numbers(self) -> Dict[Level, Fraction]:
@@ -300,12 +388,12 @@ class Effects(Sequence[Effect]):
             raise RequestError(f"{name} has a level that is no number: {', '.join(others[:3])}")
         return {level: number for level, number in found.items() if number is not None}
 
-    def means(self) -> Tuple[Mean, ...]:
+    def effect_means(self) -> Tuple[Mean, ...]:
         """The mean of the outcome, which has numbers for levels, under each level of the exposures.
 
         >>> from causal import Diagram
         >>> effects = Diagram("dag{ X -> Y }").effects({"X": ["a", "a", "b"], "Y": [0, 5, 2]}, "X", "Y", exact=True)
-        >>> print(*effects.means(), sep="\\n")
+        >>> print(*effects.effect_means(), sep="\\n")
         mean at X=a = 5/2
         mean at X=b = 2/1
         """
@@ -317,20 +405,23 @@ class Effects(Sequence[Effect]):
             sums[key] = Mean(effect.x, sums[key].value.plus(term) if key in sums else term, effect.given)
         return tuple(sums.values())
 
-    def mean(self, x: Mapping[str, Level], given: Optional[Mapping[str, Level]] = None) -> Value:
+    means = Renamed("effect_means")
+
+    def mean(self, x: Any, given: Optional[Mapping[str, Level]] = None) -> Value:
         """The mean of the outcome under these levels of the exposures, and of what is given."""
-        for mean in self.means():
-            if mean.x == dict(x) and mean.given == dict(given or {}):
+        x, under = levels_at(self.formula.target.x, x, self.typed[0]), self._given(given)
+        for mean in self.effect_means():
+            if mean.x == x and mean.given == under:
                 return mean.value
-        raise RequestError(f"there is no mean at {levels_text({**x, **(given or {})})} in the data")
+        raise RequestError(f"there is no mean at {levels_text({**x, **under})} in the data; {self._levels_there({**x, **under})}")
 
     def frame(self) -> "pandas.DataFrame":
         """A DataFrame with a row for each effect (it needs pandas).
 
         Its columns are the pinned variables, the exposures, what is given and the outcomes, then `estimate`, a float, and either `exact`, a
         `Fraction`, or `from` and `to`, the bounds as floats that are rounded outward. These are bounds for rounding, and no
-        confidence interval. A value's column whose name a variable has is followed by `_`. What the values rest on stands in its
-        `attrs`: `pinned`, the pinned levels, and `dropped`, how many records were left out.
+        confidence interval. An ordered `Categorical` stays one. A value's column whose name a variable has is followed by `_`. What the values rest on stands in its
+        `attrs`: `pinned`, the pinned levels, `dropped`, how many records were left out, and `notes`, both in words.
 
         >>> import pandas
         >>> from causal import Diagram
@@ -346,13 +437,20 @@ class Effects(Sequence[Effect]):
         values = [(float(e.value), *((e.value.exact,) if self.exact else e.value.floats())) for e in self.effects]
         return self.frame_with(heads, values)
 
+    def to_frame(self) -> "pandas.DataFrame":
+        """The same as `frame`."""
+        return self.frame()
+
     def frame_with(self, heads: Sequence[str], values: Sequence[Sequence[Any]]) -> "pandas.DataFrame":
         """A DataFrame of the levels with further columns."""
-        pandas = _pandas()
+        pandas = needed("pandas", "a DataFrame")
         names = [*self.pinned, *self.names]
         rows = [[*self.pinned.values(), *e.under.values(), *e.y.values(), *value] for e, value in zip(self.effects, values)]
         frame = pandas.DataFrame(rows, columns=[*names, *(_apart(head, names) for head in heads)])
-        frame.attrs.update(pinned=dict(self.pinned), dropped=self.dropped)
+        for name, order in self.orders.items():
+            if name in names:
+                frame[name] = pandas.Categorical(frame[name], categories=list(order), ordered=True)
+        frame.attrs.update(pinned=dict(self.pinned), dropped=self.dropped, notes=list(self.notes))
         return frame
 
     @property
@@ -373,26 +471,18 @@ def _apart(head: str, names: Sequence[str]) -> str:
     return head
 
 
-def _pandas() -> Any:
-    try:
-        import pandas
-    except ImportError as cause:
-        raise ImportError("a DataFrame needs pandas; `effects` gives the same values without it") from cause
-    return pandas
-
-
 @dataclass(frozen=True)
 class Spread(Sequence[Effects]):
     """The effects at each level of what a formula reads beside x and y.
 
     In the population every level gives the same, where the diagram is right; over the counts of a sample they differ by chance.
-    Where they differ by more, as the intervals of `Diagram.bootstrap` tell, the data speaks against the diagram. Each value is
-    proved, as `Effects` says; `without_value` has the levels at which some term has no records.
+    Where they differ by more, as the intervals of `Diagram.bootstrap` tell, the data speaks against the diagram. `Effects` says what is
+    proved of each value; `without_value` has the levels at which some term has no records.
 
     >>> from causal import Diagram
     >>> napkin = Diagram("dag { W -> Z -> X -> Y  W <-> X  W <-> Y }")
     >>> data = {name: [k >> bit & 1 for k in range(16)] for bit, name in enumerate("WZXY")}
-    >>> spread = napkin.spread(data, "X", "Y")
+    >>> spread = napkin.pin_spread(data, "X", "Y")
     >>> [effects.pinned for effects in spread], spread.widest
     ([{'Z': 0}, {'Z': 1}], 0.0)
     """
@@ -428,7 +518,7 @@ class Spread(Sequence[Effects]):
 
     def frame(self) -> "pandas.DataFrame":
         """A DataFrame with the rows of each effect at each level (it needs pandas): see `Effects.frame`."""
-        return _pandas().concat([effects.frame() for effects in self.effects], ignore_index=True)
+        return needed("pandas", "a DataFrame").concat([effects.frame() for effects in self.effects], ignore_index=True)
 
     def _repr_html_(self) -> str:
         if not self.effects:
@@ -439,57 +529,20 @@ class Spread(Sequence[Effects]):
         return html_table([*free, *names, "estimate"], rows, [*notes, f"at most {self.widest:.6g} apart"])
 
 
-@dataclass(frozen=True)
-class Contrast(Framed):
-    """Two effects compared: the risk difference, the risk ratio and the odds ratio of `treated` and `control`.
-
-    Both effects are proved; the difference and the ratios are computed here from their fractions, exactly or outward.
-
-    >>> from fractions import Fraction
-    >>> from causal.effects import Contrast, Value
-    >>> contrast = Contrast(Value(Fraction(1, 2), Fraction(1, 2)), Value(Fraction(1, 4), Fraction(1, 4)))
-    >>> contrast.difference.exact, contrast.ratio.exact
-    (Fraction(1, 4), Fraction(2, 1))
-    """
-
-    treated: Value
-    control: Value
-
-    @property
-    def difference(self) -> Value:
-        """The risk difference: treated less control."""
-        return self.treated.minus(self.control)
-
-    @property
-    def ratio(self) -> Optional[Value]:
-        """The risk ratio: treated over control, or None where control may be 0."""
-        return self.treated.over(self.control)
-
-    @property
-    def odds_ratio(self) -> Optional[Value]:
-        """The odds ratio: the odds of treated over those of control, or None where one may have no odds or control's may be 0.
-
-        >>> from fractions import Fraction
-        >>> from causal.effects import Contrast, Value
-        >>> Contrast(Value(Fraction(1, 2), Fraction(1, 2)), Value(Fraction(1, 4), Fraction(1, 4))).odds_ratio.exact
-        Fraction(3, 1)
-        """
-        treated, control = self.treated.odds(), self.control.odds()
-        return treated.over(control) if treated and control else None
-
-    def _table(self) -> Tuple[Sequence[str], List[List[Any]]]:
-        measures = {"risk difference": self.difference, "risk ratio": self.ratio, "odds ratio": self.odds_ratio}
-        ends = [(name, (None, None) if value is None else value.floats(), value) for name, value in measures.items()]
-        return ("measure", "estimate", "from", "to"), [[name, None if value is None else float(value), *end] for name, end, value in ends]
-
-
 def _value(told: Told) -> Value:
     """The value of a cell: an exact fraction, or two bounds."""
     lower, upper = (told["value"],) * 2 if "value" in told else (told["from"], told["to"])
     return Value(Fraction(lower), Fraction(upper))
 
 
-def read_effects(told: Told, formula: Formula, level_of: LevelOf = lambda name, level: level, dropped: int = 0) -> Effects:
+def read_effects(
+    told: Told,
+    formula: Formula,
+    level_of: LevelOf = lambda name, level: level,
+    dropped: int = 0,
+    orders: Optional[Mapping[str, Sequence[Level]]] = None,
+    typed: Tuple[Optional[Tuple[str, ...]], Optional[Tuple[str, ...]]] = (None, None),
+) -> Effects:
     """Reads the answer of `evaluate` for a formula.
 
     >>> from causal.effects import read_effects
@@ -503,4 +556,4 @@ def read_effects(told: Told, formula: Formula, level_of: LevelOf = lambda name, 
         return {name: level_of(name, name_in(level)) for name, level in pairs}
 
     effects = [Effect(levels(cell["y"]), levels(cell["x"]), _value(cell), levels(cell["given"])) for cell in told["cells"]]
-    return Effects(formula, tuple(effects), levels(told["pinned"]), told["exact"], dropped)
+    return Effects(formula, tuple(effects), levels(told["pinned"]), told["exact"], dropped, typed=typed, orders=orders or {})

@@ -4,8 +4,8 @@ from __future__ import annotations
 from typing import Any, Dict, NamedTuple, Optional, Tuple
 
 
-class CausalError(Exception):
-    """A refusal.
+class Refusal(Exception):
+    """What all refusals of the package are: whatever it raises itself is one, of the class that says what was wrong.
 
     `number` is the fault's number, or None; `sentence` says it in words; `place` is where it is, of a kind that each
     subclass tells; `excerpt` is the line of the text with a caret, or empty; `printed` is the line that the library wrote.
@@ -40,6 +40,10 @@ class CausalError(Exception):
         return f"{text}\n{self.excerpt}" if self.excerpt else text
 
 
+class CausalError(Refusal):
+    """The refusals, by the name that their class had first. `Refusal` is above it."""
+
+
 class DiagramWarning(UserWarning):
     """A text that is read as a diagram, though something in it may be a typing error that has cost an edge.
 
@@ -50,6 +54,21 @@ class DiagramWarning(UserWarning):
     ...     diagram = Diagram("dag { X Y == Z }")
     >>> issubclass(caught[0].category, DiagramWarning), str(caught[0].message)
     (True, "'Y ==' at line 1, column 9 says nothing of the diagram, and was dropped; an edge is written ->, <- or <->")
+    """
+
+
+class DataWarning(UserWarning):
+    """A number that rests on less than it seems: resamples that have no value, an interval of width 0, few events, weights of a model
+    that are extreme. What it says stands in the answer's `notes` too.
+
+    >>> import warnings
+    >>> from causal import DataWarning, Diagram
+    >>> with warnings.catch_warnings(record=True) as caught:
+    ...     warnings.simplefilter("always")
+    ...     data = {"X": [0, 1] * 20, "Y": [0] * 39 + [1]}
+    ...     found = Diagram("dag { X -> Y }").contrast(data, "X", "Y", treated=1, control=0, outcome=1, resamples=100)
+    >>> issubclass(caught[0].category, DataWarning), str(caught[0].message)
+    (True, 'the interval of the risk under control has width 0: none of the records there has the outcome')
     """
 
 
@@ -83,7 +102,7 @@ class TargetError(CausalError):
     ...     Diagram("dag { X -> Y }").identify("X", "Q")
     ... except TargetError as error:
     ...     print(error)
-    target fault 1: the name is not in the graph: Q
+    target fault 1: the name is not in the graph: Q; the diagram has X, Y
     """
 
     stage = "target"
@@ -94,7 +113,7 @@ class CertificateError(CausalError):
 
     >>> from causal import CertificateError, Diagram
     >>> try:
-    ...     Diagram("dag { X -> Y }").check("{}")
+    ...     Diagram("dag { X -> Y }").check_certificate("{}")
     ... except CertificateError as error:
     ...     print(error)
     certificate fault 2: the value of this key is missing or has another form: version
@@ -111,7 +130,7 @@ class CountsError(CausalError):
     ...     Diagram("dag { X -> Y }").effects({"X": ["a"], "Z": ["b"]}, "X", "Y")
     ... except CountsError as error:
     ...     print(error)
-    counts fault 2: there is no column Y
+    counts fault 2: there is no column Y; there are X, Z
     """
 
     stage = "counts"
@@ -138,7 +157,7 @@ class EvaluationError(CausalError):
     ...     Diagram("dag { S -> T S -> R T -> R }").effects(data, "T", "R")
     ... except EvaluationError as error:
     ...     print(error)
-    evaluation fault 1: no record has S=t, T=b, which P(R|S,T) is given (node 3 of the formula)
+    evaluation fault 1: no record has S=t, T=b, which P(R|S,T) is given; support(data) shows the combinations that lack records, and estimate(data, ..) gives a value by models
     """
 
     stage = "evaluation"
@@ -168,6 +187,14 @@ class NotIdentifiable(CausalError):
 
 class RequestError(CausalError, ValueError):
     """What was asked isn't understood."""
+
+
+class WrongType(RequestError, TypeError):
+    """What was given is of a type that can't be asked about."""
+
+
+class PackageMissing(CausalError, ImportError):
+    """A package that an answer needs isn't there."""
 
 
 class UnreadableAnswer(CausalError):

@@ -2,24 +2,37 @@
 from __future__ import annotations
 
 import random
-from itertools import chain, product
-from typing import TYPE_CHECKING, Any, Dict, Iterable, Iterator, Mapping, Optional, Sequence, Tuple
+from collections import Counter
+from dataclasses import replace
+from itertools import chain, islice, product
+from typing import TYPE_CHECKING, Any, Dict, Iterable, Iterator, List, Mapping, Optional, Sequence, Tuple, Union
 
 from causal._library import Text
-from causal.bootstrap import Bootstrap, Progress, drawn
-from causal.columns import Data, may_have_blanks, path_of, read_bytes
-from causal.diagram import options
-from causal.effects import Effects, Level, LevelOf, Spread, read_effects
-from causal.errors import EvaluationError, NotIdentifiable, RequestError
+from causal.bootstrap import Bootstrap, Progress
+from causal.columns import Data, in_order, may_have_blanks, path_of, read_bytes
+from causal.contrasts import Support
+from causal.draws import drawn_numbers, seed_of
+from causal.effects import Effect, Effects, Level, LevelOf, Spread, read_effects, typed_order
+from causal.errors import CausalError, DataWarning, EvaluationError, NotIdentifiable, RequestError
 from causal.formula import Formula, Hedge
-from causal.names import Names
+from causal.intervals import check_asked
+from causal.names import Names, list_word
 from causal.objects import Told
+from causal.samples import Design, Sample, sample_of
 from causal.tables import Cell, Table, check_request, table_of, table_of_file
+from causal.values import Evaluator, evaluator_of
+from causal.vocabulary import warn
 
 if TYPE_CHECKING:
     from causal.diagram import Diagram
 
 Pins = Optional[Mapping[str, Level]]
+# Names where all levels are wanted, levels by name where one is.
+Given = Union[Names, Mapping[str, Level]]
+Values = Optional[Tuple[float, ...]]
+# So many of the minimal sets are tried where a formula has no value.
+MOST_TRIED = 12
+OTHERWISE = "support(data) shows the combinations that lack records, and estimate(data, ..) gives a value by models"
 
 
 class Evaluation:
@@ -30,9 +43,9 @@ class Evaluation:
     >>> from causal.evaluation import Evaluation
     >>> Evaluation(Diagram("dag { Z -> X Z -> Y X -> Y }"), "X", "Y").used
     ('Z', 'X', 'Y')
-    >>> Evaluation(Diagram("dag { W -> X -> Y W -> Z }"), "X", "Y", given="Z", zero=True).words
+    >>> Evaluation(Diagram("dag { W -> X -> Y W -> Z }"), "X", "Y", given="Z", short=False).words
     ['--x', '"X"', '--y', '"Y"', '--given', '"Z"', '--zero']
-    >>> Evaluation(Diagram("dag { X -> Z -> Y <- X Z <-> Y }"), "X", "Y", short=True).used
+    >>> Evaluation(Diagram("dag { X -> Z -> Y <- X Z <-> Y }"), "X", "Y").used
     ('X', 'Y')
     """
 
@@ -44,82 +57,125 @@ class Evaluation:
         count: Optional[str] = None,
         missing: str = "error",
         *,
-        adjust_for: Optional[Names] = None,
+        set: Optional[Names] = None,
         back_door: bool = False,
-        given: Optional[Names] = None,
-        zero: bool = False,
-        short: bool = False,
+        given: Optional[Given] = None,
+        zero: bool = True,
+        short: bool = True,
+        design: Design = Design(),
     ) -> None:
-        self.diagram = diagram
-        members: Optional[Names] = None
-        if adjust_for is None:
+        self.diagram, self.design, self.zero, self.short = diagram, design, zero, short
+        self.levels_given = dict(given) if isinstance(given, Mapping) else None
+        names = list(given) if isinstance(given, Mapping) else given
+        self.members: Optional[Tuple[str, ...]] = None
+        if set is None:
             if back_door:
-                raise RequestError("the back-door criterion is asked of a set: adjust_for names it")
-            self.formula = identified(diagram, x, y, given, short)
+                raise RequestError("the back-door criterion is asked of a set: set names it")
+            self.formula = identified(diagram, x, y, names, short)
         else:
-            if given:
+            if names:
                 raise RequestError("an effect is asked for by a set to adjust for, or under a condition, and not both")
-            if short:
-                raise RequestError("an effect is asked for by a set to adjust for, or by a short formula, and not both")
-            self.formula, members = adjusted(diagram, x, y, adjust_for, back_door)
+            self.short = False
+            self.formula, self.members = adjusted(diagram, x, y, set, back_door)
         target = self.formula.target
-        self.words = options(x=target.x, y=target.y, set=members, given=target.given or None)
-        self.words += [f"--{name}" for name, is_asked in (("back-door", back_door), ("zero", zero), ("short", short)) if is_asked]
+        self.typed = typed_order(x), typed_order(y)
+        self.words: List[Text] = []
+        for name, held in {"x": target.x, "y": target.y, "set": self.members, "given": target.given or None}.items():
+            self.words += [] if held is None else [f"--{name}", list_word(held)]
+        asked = ("back-door", back_door), ("zero", zero), ("short", self.short)
+        self.words += [f"--{name}" for name, is_asked in asked if is_asked]
         # The variables that the formula reads, in the order of the vertices, as answers list them.
         self.used = tuple(name for name in self.diagram.vertices if name in self.formula.variables)
         self.count = count
         self.missing = missing
         check_request(self.used, count, missing)
+        design.check(self.used, count)
 
     def effects(self, data: Data, exact: bool, at: Pins) -> Effects:
         """The effects over the data: see `Diagram.effects`."""
+        try:
+            return self.wanted(self.plain_effects(data, exact, at))
+        except EvaluationError as error:
+            raise self.remedied(error, data) from None
+
+    def plain_effects(self, data: Data, exact: bool, at: Pins) -> Effects:
+        """The effects over the data, or why there is no value, as the library tells it."""
         path = path_of(data)
-        if path is not None and not self.formula.free and not at:
+        if path is not None and not self.formula.free and not at and not self.design:
             text = read_bytes(path)
             if self.missing == "level" or not may_have_blanks(text):
-                return self.over_file(text, exact)
+                return in_order_of_levels(self.over_file(text, exact))
         return self.over_table(self.pinned(self.table(data), at), exact)
 
+    def wanted(self, effects: Effects) -> Effects:
+        """The effects at the levels of what is given, where these were told."""
+        if not self.levels_given:
+            return effects
+        return replace(effects, effects=tuple(effects[place] for place in effects.only(self.levels_given)))
+
     def spread(self, data: Data, exact: bool) -> Spread:
-        """The effects at each level of what is pinned: see `Diagram.spread`."""
+        """The effects at each level of what is pinned: see `Diagram.pin_spread`."""
         if not self.formula.free:
             raise RequestError("the formula reads no variable beside x and y that could have another level")
         table = self.table(data)
         found, without = [], []
         for pins in self.all_pins(table):
             try:
-                found.append(self.over_table(table.pinned(pins), exact))
+                found.append(self.wanted(self.over_table(table.pinned(pins), exact)))
             except EvaluationError:
                 without.append({name: table.levels_of(name)[place] for name, place in pins.items()})
         return Spread(tuple(found), tuple(without))
 
     def bootstrap(
-        self, data: Data, resamples: int, level: float, seed: int, at: Pins, kind: str, progress: Optional[Progress] = None
+        self,
+        data: Data,
+        resamples: int,
+        level: float,
+        seed: Optional[int],
+        at: Pins,
+        kind: str,
+        progress: Optional[Progress] = None,
+        exact: bool = False,
     ) -> Bootstrap:
         """The effects with intervals: see `Diagram.bootstrap`."""
-        table = self.pinned(self.table(data), at)
-        estimate = self.over_table(table, exact=False)
-        source = random.Random(seed)
-        cells = [cell for cell, count in table.counts.items() if count] if kind == "bca" else []
-        tables = chain((drawn(source, table.counts) for _ in range(resamples)), without_one(table.counts, cells))
-        values = []
-        for done, counts in enumerate(tables, 1):
-            values.append(self.over_counts(table, counts))
-            if progress is not None:
-                progress(done, resamples + len(cells))
-        left_out = [(table.counts[cell], value) for cell, value in zip(cells, values[resamples:])]
-        return Bootstrap(estimate, tuple(values[:resamples]), level, seed, kind, tuple(left_out))
+        check_asked(resamples, level, kind)
+        seed = seed_of(seed)
+        if self.design and kind == "bca":
+            raise RequestError("with weights, clusters or strata intervals are percentiles: interval='percentile'")
+        sample = self.sample(data) if self.design else None
+        table = self.pinned(sample.table if sample else self.table(data), at)
+        try:
+            whole = self.over_table(table, exact)
+        except EvaluationError as error:
+            raise self.remedied(error, data) from None
+        estimate = self.wanted(whole)
+        if sample is not None:
+            draws = self.over_sample(sample, table, estimate, resamples, seed, progress)
+            support = support_of(estimate, table, sample.records_in(table))
+            return told_doubts(Bootstrap(estimate, draws, level, seed, kind, (), support, f"; {self.design}"))
+        cells = [place for place, count in enumerate(table.counts.values()) if count] if kind == "bca" else []
+        counts, source = list(table.counts.values()), random.Random(seed)
+        numbers = chain((drawn_numbers(source, counts) for _ in range(resamples)), without_one(counts, cells))
+        values = tuple(self.over_numbers(table, whole, estimate, numbers, resamples + len(cells), progress))
+        left_out = tuple((counts[place], value) for place, value in zip(cells, values[resamples:]))
+        return told_doubts(Bootstrap(estimate, values[:resamples], level, seed, kind, left_out, support_of(estimate, table, table.counts)))
 
     # How data is read.
 
     def table(self, data: Data) -> Table:
         """The table of the data. The library reads a file itself too, and both readings have to give the same."""
+        if self.design:
+            return self.sample(data).table
         path = path_of(data)
         if path is None:
-            return table_of(data, self.used, self.count, self.missing)
+            return table_of(data, self.used, self.count, self.missing, self.formula.target.y)
         return table_of_file(
             read_bytes(path), self.used, self.count, self.missing, self.outcome_over_file, self.outcome_over_table
         )
+
+    def sample(self, data: Data) -> Sample:
+        """The records of the data, with their weights, clusters and strata."""
+        return sample_of(data, self.used, self.design, self.missing, self.formula.target.y)
 
     def outcome_over_file(self, text: bytes) -> object:
         """What the library makes of a text of counts: its values, or the place where there is none."""
@@ -169,26 +225,168 @@ class Evaluation:
 
     def over_table(self, table: Table, exact: bool, text: Optional[bytes] = None) -> Effects:
         """The effects over a table, or over another text of counts with the same levels."""
+        table.check_size()
         words = [f"--count={table.count_column}", *(["--exact"] if exact else [])]
-        return self.over_text(table.text() if text is None else text, words, table.level, table.dropped)
+        return self.over_text(table.text() if text is None else text, words, table.level, table.dropped, table.orders)
 
-    def over_text(self, text: bytes, words: Sequence[Text], level_of: LevelOf, dropped: int = 0) -> Effects:
+    def over_text(
+        self, text: bytes, words: Sequence[Text], level_of: LevelOf, dropped: int = 0, orders: Mapping[str, Sequence[Level]] = {}
+    ) -> Effects:
         """The effects over a text of counts."""
 
         def read(told: Told) -> Effects:
-            return read_effects(told, self.formula, level_of, dropped)
+            return read_effects(told, self.formula, level_of, dropped, orders, self.typed)
 
         return self.diagram._ask(read, "evaluate", *self.words, *words, second=text, level_of=level_of, formula=self.formula)
 
-    def over_counts(self, table: Table, counts: Mapping[Cell, int]) -> Optional[Tuple[float, ...]]:
+    def over_counts(self, table: Table, numbers: Sequence[int]) -> Optional[Effects]:
         """The effects over other counts of a table, or None where some cell has no value."""
         target = self.formula.target
         kept = {*target.x, *target.y, *target.given, *self.formula.free}
-        text = table.text({cell: count for cell, count in counts.items() if count}, kept)
+        text = table.text({cell: number for cell, number in zip(table.counts, numbers) if number}, kept)
         try:
-            return tuple(float(effect.value) for effect in self.over_table(table, exact=False, text=text))
+            return self.over_table(table, exact=False, text=text)
         except EvaluationError:
             return None
+
+    def over_numbers(
+        self,
+        table: Table,
+        whole: Effects,
+        wanted: Effects,
+        numbers: Iterator[List[int]],
+        total: int,
+        progress: Optional[Progress],
+    ) -> Iterator[Values]:
+        """The wanted values over other counts of a table, each in turn: many at once where that can be, and else by the library."""
+        evaluator = self.evaluator(table, wanted)
+        places = [whole.effects.index(effect) for effect in wanted] if evaluator is None and len(wanted) < len(whole) else None
+        done = 0
+        while done < total:
+            some = list(islice(numbers, evaluator.at_once if evaluator else 1))
+            if evaluator is not None:
+                found = over_many(evaluator, table, some)
+            else:
+                other = self.over_counts(table, some[0])
+                values = None if other is None else [float(effect.value) for effect in other]
+                found = [None if values is None else tuple(values if places is None else [values[place] for place in places])]
+            for value in found:
+                done += 1
+                if progress is not None:
+                    progress(done, total)
+                yield value
+
+    def evaluator(self, table: Table, effects: Effects) -> Optional[Evaluator]:
+        """What evaluates many tables at once; None where that can't be."""
+        size = 1
+        for levels in table.levels:
+            size *= max(len(levels), 1)
+        if size > 1 << 14:
+            return None
+        dense = [0.0] * size
+        for cell, count in table.counts.items():
+            dense[place_in(cell, table)] += count
+        return evaluator_of(effects, table.names, table.levels, dense, self.zero)
+
+    def over_sample(
+        self, sample: Sample, table: Table, effects: Effects, resamples: int, seed: int, progress: Optional[Progress]
+    ) -> Tuple[Values, ...]:
+        """The values over records that are drawn anew with their weights."""
+        evaluator = self.evaluator(table, effects)
+        if evaluator is None:
+            raise RequestError("an interval with weights, clusters or strata needs numpy, and at most 2^14 combinations of levels")
+        found: List[Values] = []
+        for counts in sample.draws(table, resamples, seed, evaluator.at_once):
+            values, known = evaluator.values(counts)
+            for row, is_known in zip(values.tolist(), known.all(axis=1).tolist()):
+                found.append(tuple(row) if is_known else None)
+                if progress is not None:
+                    progress(len(found), resamples)
+        return tuple(found)
+
+    # What helps where there is no value.
+
+    def remedied(self, error: EvaluationError, data: Data) -> EvaluationError:
+        """The error with what would answer, in the user's words."""
+        if error.number != 1:
+            return error
+        hint = next((words for words, way in self.other_ways() if self.answers(way, data)), None)
+        sentence = f"{error.sentence}; {OTHERWISE if hint is None else f'{hint} gives a value'}"
+        return EvaluationError(sentence, error.number, error.place, error.excerpt, error.printed)
+
+    def other_ways(self) -> Iterator[Tuple[str, Dict[str, Any]]]:
+        """Other ways to ask for the effect."""
+        target = self.formula.target
+        if not self.zero:
+            yield "zero=True", {"set": self.members, "given": target.given or None, "short": self.short}
+        if not self.short:
+            yield "short=True" if self.members is None else "the formula of identify (without set)", {"given": target.given or None}
+        if target.given or not target.x:
+            return
+        for members in self.diagram.adjustment_sets(target.x, target.y, most=MOST_TRIED):
+            if members != self.members:
+                yield f"set={list(members)}", {"set": members}
+
+    def answers(self, way: Mapping[str, Any], data: Data) -> bool:
+        """Whether another way of asking has a value."""
+        target = self.formula.target
+        try:
+            Evaluation(self.diagram, target.x, target.y, self.count, self.missing, design=self.design, **way).plain_effects(data, False, None)
+        except CausalError:
+            return False
+        return True
+
+
+def in_order_of_levels(effects: Effects) -> Effects:
+    """The effects over a file, whose levels are texts, in the order of the levels."""
+    ranks = {name: {level: rank for rank, level in enumerate(in_order(held, is_text=True))} for name, held in effects.levels.items()}
+
+    def key(effect: Effect) -> Tuple[int, ...]:
+        return tuple(ranks[name][level] for name, level in (*effect.under.items(), *effect.y.items()))
+
+    return replace(effects, effects=tuple(sorted(effects, key=key)))
+
+
+def place_in(cell: Cell, table: Table) -> int:
+    """The place of a cell among all combinations of a table's levels."""
+    place = 0
+    for code, levels in zip(cell, table.levels):
+        place = place * max(len(levels), 1) + code
+    return place
+
+
+def over_many(evaluator: Evaluator, table: Table, numbers: Sequence[Sequence[int]]) -> List[Values]:
+    """The values over several lists of counts of a table's cells."""
+    numpy = evaluator.numpy
+    dense = numpy.zeros((len(numbers), int(numpy.prod(evaluator.sizes))))
+    dense[:, [place_in(cell, table) for cell in table.counts]] = numbers
+    values, known = evaluator.values(dense)
+    return [tuple(row) if is_known else None for row, is_known in zip(values.tolist(), known.all(axis=1).tolist())]
+
+
+def support_of(effects: Effects, table: Table, records: Mapping[Cell, int]) -> Tuple[Support, ...]:
+    """How many records there are with the exposures and the condition of each effect, and with its outcome."""
+    under: Counter[Tuple[Level, ...]] = Counter()
+    events: Counter[Tuple[Level, ...]] = Counter()
+    target = effects.formula.target
+    names, outcomes = [*target.x, *target.given], list(target.y)
+    for cell, number in records.items():
+        at = {name: held[code] for name, held, code in zip(table.names, table.levels, cell)}
+        key = tuple(at[name] for name in names)
+        under[key] += number
+        events[(*key, *(at[name] for name in outcomes))] += number
+    found = []
+    for effect in effects:
+        key = tuple(effect.under[name] for name in names)
+        found.append(Support(events[(*key, *(effect.y[name] for name in outcomes))], under[key]))
+    return tuple(found)
+
+
+def told_doubts(found: Bootstrap) -> Bootstrap:
+    """The answer, after a warning of what speaks against it."""
+    for doubt in found.doubts:
+        warn(doubt, DataWarning)
+    return found
 
 
 def identified(
@@ -208,7 +406,7 @@ def identified(
 
 
 def adjusted(
-    diagram: "Diagram", x: Optional[Names], y: Optional[Names], adjust_for: Names, back_door: bool
+    diagram: "Diagram", x: Optional[Names], y: Optional[Names], members: Names, back_door: bool
 ) -> Tuple[Formula, Tuple[str, ...]]:
     """The formula of a set to adjust for, with its members, or why it isn't one raised.
 
@@ -217,35 +415,17 @@ def adjusted(
     >>> print(adjusted(Diagram("dag { X -> Y X <- Z -> Y W -> Y Z -> W }"), "X", "Y", ["Z", "W"], back_door=True)[0])
     P(Y|do(X)) = sum{Z,W} P(Z,W) * P(Y|X,Z,W)
     """
-    answer = diagram.adjusts(adjust_for, x, y, back_door)
+    answer = diagram.adjusts(members, x, y, back_door)
     if answer.formula is None:
         raise RequestError(f"this set can't be adjusted for: {answer}", place=answer)
     return answer.formula, answer.members
 
 
-def without_one(counts: Mapping[Cell, int], cells: Iterable[Cell]) -> Iterator[Dict[Cell, int]]:
+def without_one(counts: Sequence[int], places: Iterable[int]) -> Iterator[List[int]]:
     """The counts without one record of each of these cells in turn.
 
     >>> from causal.evaluation import without_one
-    >>> list(without_one({(0,): 3, (1,): 2}, [(1,)]))
-    [{(0,): 3, (1,): 1}]
+    >>> list(without_one([3, 2], [1]))
+    [[3, 1]]
     """
-    return ({**counts, cell: counts[cell] - 1} for cell in cells)
-
-
-def levels_at(names: Sequence[str], levels: Any) -> Dict[str, Level]:
-    """Levels by name, from a mapping, from a list in the order of the names, or from a single level.
-
-    >>> from causal.evaluation import levels_at
-    >>> levels_at(["T"], "A"), levels_at(["S", "T"], ["small", "A"])
-    ({'T': 'A'}, {'S': 'small', 'T': 'A'})
-    """
-    if isinstance(levels, Mapping):
-        if set(levels) != set(names):
-            raise RequestError(f"a level is needed for each of {', '.join(names)}, and was given for {', '.join(map(str, levels))}")
-        return {name: levels[name] for name in names}
-    if len(names) == 1:
-        return {names[0]: levels}
-    if isinstance(levels, str) or len(list(levels)) != len(names):
-        raise RequestError(f"a level is needed for each of {', '.join(names)}")
-    return dict(zip(names, levels))
+    return ([*counts[:place], counts[place] - 1, *counts[place + 1 :]] for place in places)

@@ -18,6 +18,7 @@ from causal.errors import (
 )
 from causal.formula import Formula
 from causal.objects import Told, name_in, read_line
+from causal.vocabulary import meant
 
 ERRORS: Dict[str, Type[CausalError]] = {
     kind.stage: kind for kind in (DiagramError, TargetError, CertificateError, CountsError, EvaluationError)
@@ -43,6 +44,8 @@ class Sources(NamedTuple):
     second: bytes = b""
     level_of: Callable[[str, str], Any] = lambda name, level: level
     formula: Optional[Formula] = None
+    # The names of the diagram, and those of the columns.
+    names: Sequence[str] = ()
 
 
 def hint_in(fault: Told, text: bytes) -> str:
@@ -87,6 +90,8 @@ def error_of(fault: Told, sources: Sources) -> CausalError:
     named = [name_in(name) for name in fault.get("names", [fault[key] for key in ("name", "key", "version") if key in fault])]
     detail = f"record {fault['row']}" if "row" in fault else ", ".join(named) or hint_in(fault, text)
     sentence = f"{fault['message']}: {detail}" if detail else fault["message"]
+    if stage.endswith("target") and fault["number"] == 1 and named:
+        sentence += meant(named[0], sources.names).replace("; there are", "; the diagram has")
     excerpt = caret_under(text, fault["byte"])[1] if "byte" in fault else ""
     error = ERRORS[stage.split()[-1]](sentence, fault["number"], place_in(fault, named), excerpt)
     error.stage = stage
@@ -96,19 +101,22 @@ def error_of(fault: Told, sources: Sources) -> CausalError:
 def _evaluation_error(fault: Told, sources: Sources) -> CausalError:
     definition, node = fault["definition"], fault["node"]
     cell = {name: sources.level_of(name, name_in(level)) for name, level in fault.get("cell", ())} or None
-    where = f"node {node} of {'the formula' if definition is None else f'q{definition}'}"
     divisor = sources.formula.divisor_at(definition, node) if sources.formula and cell else None
     if divisor and cell:
         at = _told({name: level for name, level in cell.items() if name in divisor.names})
         sentence = f"no record has {at}, which {divisor.term} is given" if divisor.term else f"a divisor is 0 at {at}"
-        sentence += f" ({where})"
     else:
-        sentence = f"{fault['message']} ({where})" + (f", at {_told(cell)}" if cell else OTHERWISE.get(fault["number"], ""))
+        sentence = fault["message"] + (f", at {_told(cell)}" if cell else OTHERWISE.get(fault["number"], ""))
     return EvaluationError(sentence, fault["number"], EvaluationPlace(definition, node, cell))
 
 
 def _told(cell: Dict[str, Any]) -> str:
     return ", ".join(f"{name}={level}" for name, level in cell.items())
+
+
+def as_text(word: object) -> str:
+    """A word of what was asked, as text."""
+    return word.decode("utf-8", "replace") if isinstance(word, bytes) else str(word)
 
 
 def raise_refusal(status: int, out: bytes, err: bytes, words: Sequence[object], sources: Sources) -> NoReturn:
@@ -125,7 +133,8 @@ def raise_refusal(status: int, out: bytes, err: bytes, words: Sequence[object], 
     """
     printed = err.decode("utf-8", "surrogateescape").rstrip("\n")
     if status == 2:
-        raise RequestError(f"what was asked isn't understood: {list(words)}", printed=printed)
+        told = " ".join(as_text(word) for word in words if word not in ("diagram", "second"))
+        raise RequestError(f"what was asked isn't understood: {told}", printed=printed)
     if status not in (3, 4, 5):
         raise CausalError(f"the library ended with status {status}: {printed}", printed=printed)
     error = read_line(lambda told: error_of(told["fault"], sources), out)

@@ -6,7 +6,7 @@ from itertools import chain
 from typing import TYPE_CHECKING, Any, FrozenSet, Iterator, List, NamedTuple, Optional, Sequence, Set, Tuple, Union
 
 from causal.errors import RequestError
-from causal.framed import Framed
+from causal.framed import Framed, Shown
 from causal.names import printed_name, printed_set
 from causal.objects import Told
 
@@ -180,30 +180,41 @@ class Formula(Framed):
         return f"{self._latex}\nfree {printed_set(self.free)}" if self._latex and self.free else self._latex
 
     @property
+    def display_latex(self) -> str:
+        """The formula for a paper: made from its parts, with names of more than one letter as text, in lines that fit. It needs amsmath.
+
+        >>> from causal import Diagram
+        >>> Diagram("dag{ dose -> Y }").identify("dose", "Y").display_latex
+        '\\\\begin{aligned}\\nP(Y \\\\mid \\\\mathrm{do}(\\\\text{dose})) ={}& P(Y \\\\mid \\\\text{dose})\\n\\\\end{aligned}'
+        """
+        from causal.typeset import latex_of
+
+        return latex_of(self)
+
+    @property
     def certificate(self) -> Optional[str]:
         """The certificate (JSON) with the derivation, where `identify` or `surrogate` gave the formula, and else None. Where it
         didn't come with the answer, it is asked for when it is wanted first.
 
         >>> from causal import Diagram
         >>> diagram = Diagram("dag{ Z -> X Z -> Y X -> Y }")
-        >>> diagram.check(diagram.identify("X", "Y").certificate).accepted
+        >>> diagram.check_certificate(diagram.identify("X", "Y").certificate).accepted
         True
         """
         return self._question.certificate if self._question else None
 
     def _repr_latex_(self) -> Optional[str]:
         """What notebooks show: the formula and its definitions, without the free variables."""
-        latex = self._latex
-        return "$$\\begin{gathered} " + latex.replace("\n", " \\\\ ") + " \\end{gathered}$$" if latex else None
+        return f"$$\n{self.display_latex}\n$$" if self._trees else None
 
 
 @dataclass(frozen=True)
-class HedgeSets(Framed):
+class HedgeSets(Shown):
     """The sets of a hedge.
 
     >>> from causal import Diagram
     >>> diagram = Diagram("dag{ X -> Y X <-> Y }")
-    >>> diagram.check(diagram.identify("X", "Y").certificate).hedge
+    >>> diagram.check_certificate(diagram.identify("X", "Y").certificate).hedge
     HedgeSets(target=Term(y=('Y',), x=('X',), given=()), big=('X', 'Y'), small=('Y',), roots=('Y',))
     """
 
@@ -316,8 +327,8 @@ class Hedge(HedgeSets):
 
     @property
     def settled(self) -> Optional[bool]:
-        """Where a condition was given: whether it is proved that the very two models differ on the conditional effect too. Else two other
-        models do, which aren't printed. None where no condition was given, and where the library is of a version that doesn't tell it.
+        """Where a condition was given: whether it is proved that the very two models differ on the conditional effect too. Else it is
+        proved that no formula is that effect in all models, and no two that differ on it are shown. None where no condition was given, and where the library is of a version that doesn't tell it.
 
         >>> from causal import Diagram
         >>> Diagram("dag{ X -> Y X <-> Y Z -> Y Z <-> Y }").identify("X", "Y", given="Z").settled
@@ -343,7 +354,7 @@ class ExperimentHedgeSets(HedgeSets):
     >>> from causal import Diagram
     >>> diagram = Diagram("dag { Z -> X -> Y Z <-> X Z <-> Y X <-> Y }")
     >>> stopped = diagram.surrogate("X", "Y", experiments="Z", models=True)
-    >>> print(diagram.check(stopped, experiments="Z").hedge)
+    >>> print(diagram.check_certificate(stopped, experiments="Z").hedge)
     P(Y|do(X)) is not identifiable from these experiments
     hedge {X,Y} over {Y} with roots {Y}
     """

@@ -1,7 +1,10 @@
 """Answers as DataFrames: a row for each part of an answer, with plain texts and numbers."""
 from __future__ import annotations
 
+import html
 from typing import TYPE_CHECKING, Any, List, Sequence, Tuple
+
+from causal.vocabulary import needed
 
 if TYPE_CHECKING:
     import pandas
@@ -28,7 +31,16 @@ class Framed:
         >>> diagram.identify("X", "Y").frame().values.tolist()
         [['P(Y|do(X))', 'sum{Z} P(Z) * P(Y|X,Z)']]
         """
-        import pandas
-
         heads, rows = self._table()
-        return pandas.DataFrame(rows, columns=list(heads))
+        return needed("pandas", "a DataFrame").DataFrame(rows, columns=list(heads))
+
+    def to_frame(self) -> "pandas.DataFrame":
+        """The same as `frame`."""
+        return self.frame()
+
+
+class Shown(Framed):
+    """An answer that a notebook shows as it is printed."""
+
+    def _repr_html_(self) -> str:
+        return f"<pre>{html.escape(str(self))}</pre>"

@@ -7,7 +7,7 @@ from __future__ import annotations
 from dataclasses import dataclass
 from typing import Any, Callable, Dict, List, Optional, Sequence, Tuple
 
-from causal.columns import Column, column_of
+from causal.columns import Column, column_of, only_place
 from causal.databases import MOST_ROWS, TOO_MANY, count_name
 from causal.errors import CountsError
 
@@ -27,9 +27,7 @@ class Frame:
     def grouped(self, names: Sequence[str], count: Optional[str] = None) -> Tuple[Dict[str, Column], List[int]]:
         """The columns of a table of counts, with how many records each of its rows stands for, as `DatabaseTable.grouped`."""
         for name in [*names, *([] if count is None else [count])]:
-            if self.names.count(name) != 1:
-                sentence = f"the column {name} is there twice" if name in self.names else f"there is no column {name}"
-                raise CountsError(sentence, 3 if name in self.names else 2, name)
+            only_place([place for place, held in enumerate(self.names) if held == name], name, self.names)
         *columns, records = self.count_columns(self.frame, list(names), count)
         if len(records) > MOST_ROWS:
             raise CountsError(TOO_MANY, 5)

@@ -8,6 +8,7 @@ from causal.answers import GraphText, Path
 from causal.errors import RequestError
 from causal.formula import Hedge, HedgeSets
 from causal.layout import BENT, STRAIGHT, Box, Point, Positions, bend_round, curve, limits, positions_of
+from causal.vocabulary import needed
 
 COLOURS = {"exposure": "#8fd18f", "outcome": "#8fb8e8", "adjusted": "#f2c46d", "latent": "#d9d9d9"}
 PLAIN = "#ffffff"
@@ -41,10 +42,7 @@ def plot(
     content: GraphText, path: Optional[Path], hedge: Optional[HedgeSets], positions: Optional[Positions], ax: Any
 ) -> Any:
     """Draws the diagram on axes of matplotlib, and gives the axes."""
-    try:
-        from matplotlib import pyplot
-    except ImportError as cause:
-        raise ImportError("a drawing needs matplotlib") from cause
+    pyplot = needed("matplotlib.pyplot", "a drawing")
     places = places_of(content, positions)
     axes = pyplot.subplots()[1] if ax is None else ax
     draw(axes, content, places, path, hedge, fits=ax is None)
@@ -53,10 +51,7 @@ def plot(
 
 def plot_intervals(rows: Sequence[Tuple[str, float, float, float]], label: str, ax: Any) -> Any:
     """Draws numbers with their intervals, the first one on top, on axes of matplotlib, and gives the axes."""
-    try:
-        from matplotlib import pyplot
-    except ImportError as cause:
-        raise ImportError("a drawing needs matplotlib") from cause
+    pyplot = needed("matplotlib.pyplot", "a drawing")
     axes = pyplot.subplots(figsize=(6.4, 1.2 + 0.35 * len(rows)), layout="constrained")[1] if ax is None else ax
     for place, (_, value, lower, upper) in enumerate(rows):
         axes.plot([lower, upper], [place, place], color="#333333", linewidth=1.2)
@@ -68,7 +63,24 @@ def plot_intervals(rows: Sequence[Tuple[str, float, float, float]], label: str, 
     return axes
 
 
-def svg(content: GraphText) -> Optional[str]:
+def plot_balance(rows: Sequence[Tuple[str, float, float]], ax: Any) -> Any:
+    """Draws standardised differences before and after weighting, on axes of matplotlib, and gives the axes."""
+    pyplot = needed("matplotlib.pyplot", "a drawing")
+    axes = pyplot.subplots(figsize=(6.4, 1.6 + 0.3 * len(rows)), layout="constrained")[1] if ax is None else ax
+    places = range(len(rows))
+    axes.plot([before for _, before, _ in rows], places, "o", fillstyle="none", color="#888888", label="before")
+    axes.plot([after for _, _, after in rows], places, "o", color="#333333", label="after")
+    for limit in (-0.1, 0.1):
+        axes.axvline(limit, color="#bbbbbb", linestyle=":", linewidth=0.8)
+    axes.axvline(0, color="#888888", linestyle="--", linewidth=0.8)
+    axes.set_yticks(places, [name.replace("$", r"\$") for name, *_ in rows])
+    axes.set_ylim(len(rows) - 0.5, -0.5)
+    axes.set_xlabel("standardised difference")
+    axes.legend(fontsize="small")
+    return axes
+
+
+def svg(content: GraphText, positions: Optional[Positions] = None) -> Optional[str]:
     """The drawing as SVG, or None where matplotlib isn't there."""
     try:
         from matplotlib.backends.backend_agg import FigureCanvasAgg
@@ -77,7 +89,7 @@ def svg(content: GraphText) -> Optional[str]:
         return None
     figure = Figure()
     FigureCanvasAgg(figure)
-    draw(figure.add_axes((0, 0, 1, 1)), content, places_of(content, None), None, None, fits=True)
+    draw(figure.add_axes((0, 0, 1, 1)), content, places_of(content, positions), None, None, fits=True)
     held = io.StringIO()
     figure.savefig(held, format="svg", metadata={"Date": None})
     return held.getvalue()

@@ -3,7 +3,7 @@ from __future__ import annotations
 
 from typing import TYPE_CHECKING, Any, Dict, Iterable, Optional, Sequence, Tuple, Union
 
-from causal.answers import Adjustment, AdjustmentSets, Check, Equivalence, GraphText, Path, Refusal, RuleAnswer, Separation
+from causal.answers import Adjustment, AdjustmentSets, CertificateRefusal, Check, Equivalence, GraphText, Path, RuleAnswer, Separation
 from causal.formula import Bit, Cause, ExperimentHedgeSets, Formula, Hedge, HedgeSets, Term
 from causal.objects import Told
 from causal.surrogates import Stopped, StoppedHedge
@@ -125,7 +125,7 @@ def read_check(told: Told, over_experiments: bool) -> Check:
     if told["answer"] != "accepted":
         at = told.get("at") or {}
         place = (at.get("lemma"), at.get("step"), told.get("vertex"), _path(told["open"]) if "open" in told else None)
-        return Check(refusal=Refusal(told["number"], is_hedge, *place, sentence=told["message"]))
+        return Check(refusal=CertificateRefusal(told["number"], is_hedge, *place, sentence=told["message"]))
     if is_hedge:
         return Check(hedge=(ExperimentHedgeSets if over_experiments else HedgeSets)(_target(told), **_sets(told["hedge"])))
     return Check(formula=read_formula(told))

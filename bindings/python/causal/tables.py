@@ -4,14 +4,15 @@ Levels are sent as their numbers, so that any value may be a level; the answer's
 """
 from __future__ import annotations
 
+import math
 from collections import Counter
-from dataclasses import dataclass, replace
+from dataclasses import dataclass, field, replace
 from operator import index
 from typing import Any, Callable, Dict, Hashable, Iterable, List, Mapping, Optional, Sequence, Tuple, Union
 
 from causal.columns import Column, Data, columns_of, csv_columns
-from causal.databases import DatabaseTable, database_of
-from causal.errors import CausalError, CountsError, MissingValues, RequestError
+from causal.databases import MOST_ROWS, DatabaseTable, database_of
+from causal.errors import CausalError, CountsError, MissingValues, RequestError, WrongType
 from causal.frames import Frame, frame_of
 
 Cell = Tuple[int, ...]
@@ -24,7 +25,7 @@ class Table:
 
     `levels` has the levels of each variable in order; `counts` the count of each cell, a tuple of places in these lists;
     `ranked` the places of the levels in the order of their size, of their text or of the categories; `dropped` says how many records
-    were left out since they lacked a value.
+    were left out since they lacked a value; `orders` has the categories of each ordered `Categorical`.
 
     >>> from causal.tables import table_of
     >>> table = table_of({"X": ["a", "b", "a"], "Y": [1, 1, 1]}, ["X", "Y"])
@@ -37,6 +38,18 @@ class Table:
     counts: Dict[Cell, int]
     ranked: Tuple[Tuple[int, ...], ...]
     dropped: int = 0
+    orders: Mapping[str, Sequence[Hashable]] = field(default_factory=dict)
+
+    def check_size(self) -> None:
+        """Refuses more combinations of levels than a formula reads."""
+        sizes = {name: len(levels) for name, levels in zip(self.names, self.levels)}
+        if math.prod(sizes.values()) > MOST_ROWS:
+            told = ", ".join(f"{name} {size}" for name, size in sorted(sizes.items(), key=lambda pair: -pair[1]))
+            raise CountsError(
+                f"the used columns have {math.prod(sizes.values())} combinations of levels, more than 2^20 (levels: {told}); group levels,"
+                " take a smaller set (adjustment_sets() lists them), or a model: estimate(data, ..)",
+                5,
+            )
 
     @property
     def count_column(self) -> str:
@@ -64,7 +77,7 @@ class Table:
         >>> from causal.tables import table_of
         >>> table = table_of({"X": ["b", "a", "b"], "Y": [1, 1, 1]}, ["X", "Y"]).pinned({"X": 1})
         >>> table.levels, table.counts
-        ((['a', 'b'], [1]), {(1, 0): 2, (0, 0): 1})
+        ((['b', 'a'], [1]), {(1, 0): 1, (0, 0): 2})
         """
         places = [pins.get(name, 0) for name in self.names]
         levels = tuple([held[at], *held[:at], *held[at + 1 :]] if held else held for held, at in zip(self.levels, places))
@@ -79,8 +92,9 @@ class Table:
     def ordered(self) -> "Table":
         """The table with its levels in order, and its cells in the order of these.
 
-        >>> from causal.tables import table_of
-        >>> table = table_of({"X": ["b", "a", "b"], "Y": [1, 1, 1]}, ["X", "Y"]).ordered()
+        >>> from causal.columns import columns_of
+        >>> from causal.tables import table_from
+        >>> table = table_from(columns_of({"X": ["b", "a", "b"], "Y": [1, 1, 1]}, ["X", "Y"]), ["X", "Y"]).ordered()
         >>> table.levels, table.counts
         ((['a', 'b'], [1]), {(0, 0): 1, (1, 0): 2})
         """
@@ -127,18 +141,21 @@ def check_request(names: Sequence[str], count: Optional[str], missing: str) -> N
     if missing not in MISSING:
         raise RequestError(f"missing is {', '.join(map(repr, MISSING[:-1]))} or {MISSING[-1]!r}, and not {missing!r}")
     if count is not None and not isinstance(count, str):
-        raise RequestError(f"count is the name of a column, and no {type(count).__name__}")
+        raise WrongType(f"count is the name of a column, and no {type(count).__name__}")
     if count in names:
         raise RequestError(f"the column {count} can't hold the counts: it is a variable that the answer needs")
 
 
-def table_of(data: Data, names: Sequence[str], count: Optional[str] = None, missing: str = "error") -> Table:
-    """The table of the named variables in data of any kind: see `table_from`."""
+def table_of(
+    data: Data, names: Sequence[str], count: Optional[str] = None, missing: str = "error", declared: Iterable[str] = ()
+) -> Table:
+    """The table of the named variables in data of any kind: see `table_from`. Its levels are in order."""
     check_request(names, count, missing)
     source = database_of(data) or frame_of(data)
     if source is not None:
         return table_of_source(source, names, count, missing)
-    return table_from(columns_of(data, [*names, *([count] if count is not None else [])]), names, count, missing)
+    columns = columns_of(data, [*names, *([count] if count is not None else [])])
+    return table_from(columns, names, count, missing, declared=declared).ordered()
 
 
 def table_of_source(source: Union[DatabaseTable, Frame], names: Sequence[str], count: Optional[str], missing: str) -> Table:
@@ -160,7 +177,7 @@ def table_of_file(
     columns = csv_columns(text, [*names, *([count] if count is not None else [])])
     if over_table(table_from(columns, names, count, "level")) != direct:
         raise CausalError("the file isn't plain CSV: Python reads it otherwise than the library does; give a DataFrame instead")
-    return table_from(columns, names, count, missing)
+    return table_from(columns, names, count, missing).ordered()
 
 
 def table_from(
@@ -168,43 +185,56 @@ def table_from(
     names: Sequence[str],
     count: Optional[str] = None,
     missing: str = "error",
-    records: Optional[Sequence[int]] = None,
+    rows: Optional[Sequence[int]] = None,
+    declared: Iterable[str] = (),
 ) -> Table:
     """The table of the named variables in columns.
 
-    The levels of a `Categorical` are its categories that occur, in their order; of any other column its values in order of first
-    appearance. A missing value (None, NaN, NaT, NA, an empty field of a file) in a used column is refused; with `missing="drop"` its
-    record is left out, and with "level" it is a level. `records` says how many records each row stands for, where it isn't one.
+    The levels of a `Categorical` are its categories that occur, in their order, or all of them for the variables `declared`; of any
+    other column its values in order of first appearance. A missing value (None, NaN, NaT, NA, an empty field of a file) in a used
+    column is refused; with `missing="drop"` its record is left out, and with "level" it is a level. `rows` says how many rows of a
+    database each row stands for, where it isn't one.
+
+    >>> from causal.columns import columns_of
+    >>> from causal.tables import table_from
+    >>> table_from(columns_of({"X": ["a", None], "n": [100, 500]}, ["X", "n"]), ["X"], "n", "drop").dropped
+    500
     """
-    kept, dropped = _kept_records(columns, missing, records)
-    counts = _record_counts(columns[count].values, kept) if count is not None else [1] * len(kept)
-    factors = [columns[name].factor(kept) for name in names]
+    kept, dropped = kept_records(columns, count, missing, rows)
+    counts = record_counts(columns[count].values, kept) if count is not None else [1] * len(kept)
+    whole = set(declared)
+    factors = [columns[name].factor(kept, name in whole) for name in names]
     summed: Counter[Cell] = Counter()
     for cell, number in zip(zip(*(codes for codes, _ in factors)), counts):
         summed[cell] += number
     ranked = tuple(columns[name].ranked(levels) for name, (_, levels) in zip(names, factors))
-    return Table(tuple(names), tuple(levels for _, levels in factors), dict(summed), ranked, dropped)
+    orders = {name: list(columns[name].order or ()) for name in names if columns[name].is_ordered}
+    return Table(tuple(names), tuple(levels for _, levels in factors), dict(summed), ranked, dropped, orders)
 
 
-def _kept_records(
-    columns: Mapping[str, Column], missing: str, records: Optional[Sequence[int]] = None
+def kept_records(
+    columns: Mapping[str, Column], count: Optional[str], missing: str, rows: Optional[Sequence[int]] = None
 ) -> Tuple[Sequence[int], int]:
+    """The rows that are kept, and how many records the others stand for: by their counts, where these are told."""
     size = max((len(column.values) for column in columns.values()), default=0)
     lacking = [column for column in columns.values() if any(column.missing)]
     if not lacking or missing == "level":
         return range(size), 0
-    weights = [1] * size if records is None else records
+    weights = list(rows) if rows is not None else [1] * size
+    if count is not None:
+        counts = [_whole(value) for value in columns[count].values]
+        weights = [weight if number is None else number for weight, number in zip(weights, counts)]
     if missing == "error":
-        name, without = lacking[0].name, sum(weights[k] for k in range(size) if lacking[0].missing[k])
-        raise MissingValues(
-            f'the column {name} has no value in {without} of {sum(weights)} records; give missing="drop" to leave such records out',
-            place=(name, without),
-        )
+        first = lacking[0]
+        without = sum(weights[k] for k in range(size) if first.missing[k])
+        others = ", ".join(column.name for column in lacking[1:])
+        told = f"the column {first.name} has no value in {without} of {sum(weights)} records" + (f"; {others} lack some too" if others else "")
+        raise MissingValues(f'{told}; give missing="drop" to leave such records out', place=(first.name, without))
     kept = [k for k in range(size) if not any(column.missing[k] for column in lacking)]
     return kept, sum(weights) - sum(weights[k] for k in kept)
 
 
-def _record_counts(values: Sequence[Any], kept: Sequence[int]) -> List[int]:
+def record_counts(values: Sequence[Any], kept: Sequence[int]) -> List[int]:
     counts = []
     for record in kept:
         number = _whole(values[record])

@@ -39,7 +39,7 @@ class Adjusting(unittest.TestCase):
     """Effects by a set."""
 
     def test_the_same_as_by_the_formula(self):
-        found, expected = [KIDNEY.effects(COUNTS, count="n", exact=True, adjust_for=it) for it in ("S", None)]
+        found, expected = [KIDNEY.effects(COUNTS, count="n", exact=True, set=it) for it in ("S", None)]
         self.assertEqual(str(found), str(expected))
         self.assertEqual(str(found.formula), str(KIDNEY.adjusts("S").formula))
 
@@ -47,7 +47,7 @@ class Adjusting(unittest.TestCase):
         data = random_table(random.Random(1), "WZXY")
         diagram = Diagram("dag { W -> Z -> X -> Y W -> Y }")
         for members in (["W"], ["Z"], ["Z", "W"]):
-            found = diagram.effects(data, "X", "Y", count="n", exact=True, adjust_for=members)
+            found = diagram.effects(data, "X", "Y", count="n", exact=True, set=members)
             for effect in found:
                 value = sum(
                     part(data, cell, {}) * part(data, effect.y, {**effect.x, **cell})
@@ -56,32 +56,32 @@ class Adjusting(unittest.TestCase):
                 self.assertEqual(effect.value.exact, value)
 
     def test_intervals_and_contrasts(self):
-        drawn = KIDNEY.bootstrap(COUNTS, count="n", resamples=20, seed=1, adjust_for=["S"])
+        drawn = KIDNEY.bootstrap(COUNTS, count="n", resamples=20, seed=1, set=["S"])
         self.assertEqual(drawn.draws, KIDNEY.bootstrap(COUNTS, count="n", resamples=20, seed=1).draws)
         asked = {"treated": "A", "control": "B", "outcome": "success", "count": "n", "exact": True}
-        self.assertEqual(KIDNEY.contrast(COUNTS, **asked, adjust_for="S"), KIDNEY.contrast(COUNTS, **asked))
+        self.assertEqual(KIDNEY.contrast(COUNTS, **asked, set="S"), KIDNEY.contrast(COUNTS, **asked))
 
     def test_the_back_door(self):
-        asked = {"count": "n", "exact": True, "adjust_for": "S"}
+        asked = {"count": "n", "exact": True, "set": "S"}
         self.assertEqual(str(KIDNEY.effects(COUNTS, **asked, back_door=True)), str(KIDNEY.effects(COUNTS, **asked)))
         below = Diagram("dag { X -> Y X -> D }")
         data = random_table(random.Random(2), "XYD")
-        self.assertEqual(len(below.effects(data, "X", "Y", count="n", adjust_for="D", given=())), 4)
+        self.assertEqual(len(below.effects(data, "X", "Y", count="n", set="D", given=())), 4)
         with self.assertRaisesRegex(causal.RequestError, "forbidden: D") as caught:
-            below.effects(data, "X", "Y", count="n", adjust_for="D", back_door=True)
+            below.effects(data, "X", "Y", count="n", set="D", back_door=True)
         self.assertEqual(caught.exception.place.members, ("D",))
 
     def test_a_column_outside_of_the_set_is_not_read(self):
         diagram = Diagram("dag { X -> Y X <- A -> Y A <- B -> X }")
         data = random_table(random.Random(4), "XYA")
-        self.assertEqual(len(diagram.effects(data, "X", "Y", count="n", adjust_for="A")), 4)
+        self.assertEqual(len(diagram.effects(data, "X", "Y", count="n", set="A")), 4)
 
     def test_refusals(self):
         with self.assertRaisesRegex(causal.RequestError, "can't be adjusted for: not admissible: {}"):
-            KIDNEY.effects(COUNTS, count="n", adjust_for=())
+            KIDNEY.effects(COUNTS, count="n", set=())
         with self.assertRaisesRegex(causal.RequestError, "not both"):
-            KIDNEY.effects(COUNTS, count="n", adjust_for="S", given="S")
-        with self.assertRaisesRegex(causal.RequestError, "adjust_for names it"):
+            KIDNEY.effects(COUNTS, count="n", set="S", given="S")
+        with self.assertRaisesRegex(causal.RequestError, "set names it"):
             KIDNEY.effects(COUNTS, count="n", back_door=True)
 
 
@@ -93,7 +93,7 @@ class Given(unittest.TestCase):
         self.assertEqual(len(found), 8)
         for effect in found:
             self.assertEqual(effect.value.exact, part(COUNTS, effect.y, effect.under))
-        self.assertEqual(str(found[0]), "P(R=success|do(T=A),S=small) = 27/29")
+        self.assertEqual(str(found[3]), "P(R=success|do(T=A),S=small) = 27/29")
         self.assertEqual(str(found.formula), str(KIDNEY.identify(given="S")))
         self.assertEqual(found.names, ("T", "S", "R"))
 
@@ -113,8 +113,8 @@ class Given(unittest.TestCase):
         # P(Y|do(X),Z) of a front door with a covariate: the quotient of a joint effect
         diagram = Diagram("dag { X -> M -> Y X <-> Y Z -> Y Z <-> M }")
         data = random_table(random.Random(5), "XMYZ")
-        joint = diagram.effects(data, "X", ["Y", "Z"], count="n", exact=True)
-        found = diagram.effects(data, "X", "Y", count="n", exact=True, given="Z")
+        joint = diagram.effects(data, "X", ["Y", "Z"], count="n", exact=True, short=False)
+        found = diagram.effects(data, "X", "Y", count="n", exact=True, given="Z", short=False)
         for effect in found:
             both = [joint.at({"Y": level, **effect.given}, effect.x).exact for level in (0, 1)]
             self.assertEqual(effect.value.exact, both[effect.y["Y"]] / sum(both))
@@ -128,15 +128,15 @@ class Given(unittest.TestCase):
         interval = drawn.contrast({"R": 1}, {"T": "A"}, {"T": "B"}, {"S": "large"})
         self.assertAlmostEqual(float(interval.contrast.difference), float(contrast.difference))
         self.assertLess(interval.difference.lower, interval.difference.upper)
-        means = {(mean.x["T"], mean.given["S"]): float(mean.value) for mean in drawn.means()}
+        means = {(mean.x["T"], mean.given["S"]): float(mean.value) for mean in drawn.effect_means()}
         self.assertAlmostEqual(means["A", "large"], 192 / 263)
         self.assertAlmostEqual(float(drawn.mean_difference({"T": "A"}, {"T": "B"}, {"S": "large"}).value), float(contrast.difference))
-        self.assertIn("T=A, S=small, mean", str(drawn.means()[0]))
+        self.assertIn("T=A, S=large, mean", str(drawn.effect_means()[0]))
         try:
             frame = drawn.frame()
         except ImportError:
             return
-        self.assertEqual(list(frame.columns), ["T", "S", "R", "estimate", "lower", "upper", "draws"])
+        self.assertEqual(list(frame.columns), ["T", "S", "R", "estimate", "conf_low", "conf_high", "draws"])
 
     def test_a_file(self):
         path = __file__.replace("test_asked.py", "../../../examples/kidney_stones.csv")
@@ -145,7 +145,7 @@ class Given(unittest.TestCase):
 
     def test_nothing_is_done(self):
         found = KIDNEY.effects(COUNTS, x=(), count="n", exact=True, given="S")
-        self.assertEqual(str(found[0]), "P(R=success|S=small) = 15/17")
+        self.assertEqual(str(found[3]), "P(R=success|S=small) = 15/17")
 
     def test_a_condition_that_the_formula_does_not_read(self):
         diagram = Diagram("dag { X -> Y Z }")
@@ -157,7 +157,7 @@ class Given(unittest.TestCase):
         napkin = Diagram(read_example("napkin.dag"))
         data = random_table(random.Random(8), "WZXYV")
         diagram = Diagram(napkin.text.replace("dag {", "dag { V"))
-        spread = diagram.spread(data, "X", "Y", count="n", given="V")
+        spread = diagram.pin_spread(data, "X", "Y", count="n", given="V")
         self.assertEqual([effects.pinned for effects in spread], [{"Z": 0}, {"Z": 1}])
         found = diagram.effects(data, "X", "Y", count="n", given="V", at={"Z": 1})
         self.assertEqual((found.effects, len(found)), (spread[1].effects, 8))
@@ -176,7 +176,7 @@ class Given(unittest.TestCase):
         bow = Diagram("dag { X -> Y X <-> Y Z -> Y }")
         with self.assertRaisesRegex(causal.NotIdentifiable, r"P\(Y\|do\(X\),Z\) is not identifiable"):
             bow.effects({}, "X", "Y", given="Z")
-        with self.assertRaisesRegex(causal.RequestError, "in which R has"):
+        with self.assertRaisesRegex(causal.RequestError, r"S has 'large', 'small'$"):
             KIDNEY.effects(COUNTS, count="n", given="S").at({"R": "success"}, {"T": "A"}, {"S": "none"})
 
 
@@ -188,17 +188,17 @@ class Zero(unittest.TestCase):
     DATA = {**random_table(random.Random(9), "ABXY"), "n": [2, 1, 1, 1, 1, 1, 2, 1, 3, 1, 1, 5, 0, 0, 0, 0]}
 
     def test_a_product_with_a_factor_0(self):
-        found = self.DIAGRAM.effects(self.DATA, "X", "Y", count="n", exact=True, zero=True)
+        found = self.DIAGRAM.effects(self.DATA, "X", "Y", count="n", exact=True, zero=True, short=False)
         self.assertEqual([effect.value.exact for effect in found], [Fraction(*it) for it in ((2, 3), (1, 3), (3, 8), (5, 8))])
         contrast = self.DIAGRAM.contrast(
-            self.DATA, "X", "Y", treated=1, control=0, outcome=1, count="n", exact=True, zero=True
+            self.DATA, "X", "Y", treated=1, control=0, outcome=1, count="n", exact=True, zero=True, short=False
         )
         self.assertEqual(contrast.difference.exact, Fraction(5, 8) - Fraction(1, 3))
 
     def test_the_condition_without_a_record_is_named(self):
         with self.assertRaises(causal.EvaluationError) as caught:
-            self.DIAGRAM.effects(self.DATA, "X", "Y", count="n")
-        sentence = "no record has A=1, B=1, X=0, which P(Y|A,B,X) is given (node 4 of the formula)"
+            self.DIAGRAM.effects(self.DATA, "X", "Y", count="n", zero=False, short=False)
+        sentence = "no record has A=1, B=1, X=0, which P(Y|A,B,X) is given; zero=True gives a value"
         self.assertEqual(caught.exception.sentence, sentence)
         self.assertEqual(caught.exception.place.cell, {"A": 1, "B": 1, "X": 0, "Y": 0})
 
@@ -206,15 +206,15 @@ class Zero(unittest.TestCase):
         diagram = Diagram("dag { X -> Y -> Z }")
         data = {"X": [0, 0, 1], "Y": [0, 1, 0], "Z": [0, 1, 0]}
         with self.assertRaises(causal.EvaluationError) as caught:
-            diagram.effects(data, "X", "Y", given="Z")
-        self.assertEqual(caught.exception.sentence, "a divisor is 0 at X=1, Z=1 (node 0 of the formula)")
+            diagram.effects(data, "X", "Y", given="Z", short=False)
+        self.assertEqual(caught.exception.sentence.partition(";")[0], "a divisor is 0 at X=1, Z=1")
 
     def test_a_definition(self):
         napkin = Diagram(read_example("napkin.dag"))
         data = {**random_table(random.Random(10), "WZXY"), "n": [3] * 12 + [0] * 4}
         with self.assertRaises(causal.EvaluationError) as caught:
-            napkin.effects(data, count="n", at={"Z": 1})
-        self.assertEqual(caught.exception.sentence, "no record has W=1, Z=1, which P(X|W,Z) is given (node 3 of q0)")
+            napkin.effects(data, count="n", at={"Z": 1}, short=False)
+        self.assertEqual(caught.exception.sentence.partition(";")[0], "no record has W=1, Z=1, which P(X|W,Z) is given")
         self.assertEqual(caught.exception.place[:2], (0, 3))
 
     def test_no_record_has_the_condition_that_is_named(self):
@@ -227,11 +227,11 @@ class Zero(unittest.TestCase):
             data = {name: [source.randrange(2) for _ in range(9)] for name in names}
             x, y, given = source.sample(names, 3)
             try:
-                diagram.effects(data, x, y, given=source.choice([(), given]))
+                diagram.effects(data, x, y, given=source.choice([(), given]), zero=False, short=False)
             except causal.NotIdentifiable:
                 continue
             except causal.EvaluationError as error:
-                told = re.fullmatch(r"no record has (.*), which P\(.*\) is given \(node .*\)", error.sentence)
+                told = re.fullmatch(r"no record has (.*), which P\([^;]*\) is given;.*", error.sentence)
                 if told:
                     named += 1
                     levels = dict(it.split("=") for it in told.group(1).split(", "))
@@ -242,11 +242,11 @@ class Zero(unittest.TestCase):
         self.assertGreater(named, 40)
 
     def test_where_there_is_a_value_it_is_the_same(self):
-        self.assertEqual(KIDNEY.effects(COUNTS, count="n", zero=True), KIDNEY.effects(COUNTS, count="n"))
+        self.assertEqual(KIDNEY.effects(COUNTS, count="n", zero=True), KIDNEY.effects(COUNTS, count="n", zero=False))
 
     def test_more_draws_have_a_value(self):
         plain, zero = (
-            self.DIAGRAM.bootstrap({**self.DATA, "n": [20] * 12 + [1] * 4}, "X", "Y", count="n", resamples=60, seed=1, zero=zero)
+            self.DIAGRAM.bootstrap({**self.DATA, "n": [20] * 12 + [1] * 4}, "X", "Y", count="n", resamples=60, seed=1, zero=zero, short=False)
             for zero in (False, True)
         )
         self.assertLess(zero.without_value, plain.without_value)
@@ -256,7 +256,7 @@ class Zero(unittest.TestCase):
         data = random_table(random.Random(10), "WZXY")
         # with W = 1 and Z = 1 there is no record with X = 0
         data["n"] = [0 if (w, z, x) == (1, 1, 0) else n for w, z, x, _, n in zip(*data.values())]
-        found = [napkin.spread(data, count="n", zero=zero).without_value for zero in (False, True)]
+        found = [napkin.pin_spread(data, count="n", zero=zero).without_value for zero in (False, True)]
         self.assertEqual(found, [({"Z": 1},), ()])
 
 
@@ -272,7 +272,7 @@ class Short(unittest.TestCase):
         data = random_table(random.Random(21), ["SES", "Age", "HRT", "CHD"])
         found = self.HORMONES.effects(data, count="n", exact=True, short=True)
         self.assertEqual(str(found.formula), str(self.HORMONES.identify(short=True)))
-        by_set = self.HORMONES.effects(data, count="n", exact=True, adjust_for=["SES", "Age"])
+        by_set = self.HORMONES.effects(data, count="n", exact=True, set=["SES", "Age"])
         self.assertEqual(found.effects, by_set.effects)
 
     def test_a_column_that_the_short_formula_does_not_name_is_not_read(self):
@@ -282,16 +282,16 @@ class Short(unittest.TestCase):
         for effect in found:
             self.assertEqual(effect.value.exact, part(data, effect.y, effect.x))
         with self.assertRaises(causal.CountsError):
-            through.effects(data, "S", "M", count="n")
+            through.effects(data, "S", "M", count="n", short=False)
 
     def test_a_cell_that_only_the_long_formula_asks_for(self):
         data = random_table(random.Random(23), ["SES", "Age", "Smoking", "HRT", "CHD"])
         # among the first with a treatment nobody smokes
         data["n"] = [0 if (ses, smoking, hrt) == (0, 1, 1) else n for ses, _, smoking, hrt, _, n in zip(*data.values())]
         with self.assertRaises(causal.EvaluationError):
-            self.HORMONES.effects(data, count="n")
+            self.HORMONES.effects(data, count="n", zero=False, short=False)
         found = self.HORMONES.effects(data, count="n", exact=True, short=True)
-        self.assertEqual(found.effects, self.HORMONES.effects(data, count="n", exact=True, adjust_for=["SES", "Age"]).effects)
+        self.assertEqual(found.effects, self.HORMONES.effects(data, count="n", exact=True, set=["SES", "Age"]).effects)
 
     def test_nothing_is_shorter(self):
         front_door = Diagram(read_example("front_door.dag"))
@@ -312,18 +312,18 @@ class Short(unittest.TestCase):
         # the part that takes no treatment isn't there where nobody is
         data["n"] = [0 if (ses, age) == (1, 1) else n for ses, age, _, _, n in zip(*data.values())]
         with self.assertRaises(causal.EvaluationError) as caught:
-            self.HORMONES.effects(data, count="n", short=True)
+            self.HORMONES.effects(data, count="n", short=True, zero=False)
         self.assertIn("which P(CHD|HRT,SES,Age) is given", caught.exception.sentence)
         found = self.HORMONES.effects(data, count="n", exact=True, short=True, zero=True)
-        self.assertEqual(found.effects, self.HORMONES.effects(data, count="n", exact=True, adjust_for=["SES", "Age"], zero=True).effects)
+        self.assertEqual(found.effects, self.HORMONES.effects(data, count="n", exact=True, set=["SES", "Age"], zero=True).effects)
 
     def test_contrasts_and_intervals(self):
         data = random_table(random.Random(27), ["SES", "Age", "HRT", "CHD"])
         asked = {"treated": 1, "control": 0, "outcome": 1, "count": "n", "exact": True}
         contrast = self.HORMONES.contrast(data, **asked, short=True)
-        self.assertEqual(contrast, self.HORMONES.contrast(data, **asked, adjust_for=["SES", "Age"]))
+        self.assertEqual(contrast, self.HORMONES.contrast(data, **asked, set=["SES", "Age"]))
         drawn = self.HORMONES.bootstrap(data, count="n", resamples=20, seed=1, short=True)
-        by_set = self.HORMONES.bootstrap(data, count="n", resamples=20, seed=1, adjust_for=["SES", "Age"])
+        by_set = self.HORMONES.bootstrap(data, count="n", resamples=20, seed=1, set=["SES", "Age"])
         self.assertEqual(drawn.draws, by_set.draws)
         among = self.HORMONES.contrast(data, **asked, given={"SES": 1}, short=True)
         self.assertLess(abs(among.difference.exact), 1)
@@ -331,7 +331,7 @@ class Short(unittest.TestCase):
     def test_a_pinned_variable(self):
         napkin = Diagram(read_example("napkin.dag"))
         data = random_table(random.Random(28), "WZXY")
-        plain, short = (napkin.spread(data, count="n", exact=True, short=it) for it in (False, True))
+        plain, short = (napkin.pin_spread(data, count="n", exact=True, short=it) for it in (False, True))
         self.assertEqual(plain[0].formula.definitions, ("sum{W} P(W) * P(X|W,Z) * P(Y|X,W,Z)",))
         self.assertEqual(short[0].formula.definitions, ("sum{W} P(W) * P(X,Y|W,Z)",))
         self.assertEqual([effects.effects for effects in plain], [effects.effects for effects in short])
@@ -344,8 +344,6 @@ class Short(unittest.TestCase):
         self.assertEqual({it.cell for it in found}, {it.cell for it in KIDNEY.effects(COUNTS, count="n")})
 
     def test_refusals(self):
-        with self.assertRaisesRegex(causal.RequestError, "by a short formula, and not both"):
-            KIDNEY.effects(COUNTS, count="n", adjust_for="S", short=True)
         with self.assertRaises(causal.NotIdentifiable):
             Diagram(read_example("bow.dag")).effects({}, short=True)
 

@@ -8,7 +8,8 @@ from worked import read_example
 
 import causal
 from causal import Diagram
-from causal.bootstrap import binomial, drawn, interval_of
+from causal.draws import binomial, drawn
+from causal.intervals import interval_of
 
 NAPKIN = Diagram(read_example("napkin.dag"))
 
@@ -131,7 +132,7 @@ class Coverage(unittest.TestCase):
         for kind, total in (("percentile", 3), ("bca", 6)):
             told = []
             answer = Diagram("dag { X -> Y }").bootstrap(
-                data, "X", "Y", count="n", resamples=3, kind=kind, progress=lambda done, of: told.append((done, of))
+                data, "X", "Y", count="n", resamples=3, interval=kind, progress=lambda done, of: told.append((done, of))
             )
             self.assertEqual(told, [(done, total) for done in range(1, total + 1)])
             self.assertEqual((answer.resamples, [count for count, _ in answer.left_out]), (3, [5] * (total - 3)))

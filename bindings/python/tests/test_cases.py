@@ -87,6 +87,10 @@ class Questions(unittest.TestCase):
         second = case.inputs.get(places[1]) if len(places) > 1 else None
         return getattr(self, f"ask_{case.words[0]}")(diagram, second, options, folder)
 
+    def with_exposures(self, diagram, options):
+        """The options, with the empty set where no exposure is asked about: the package wants it said."""
+        return options if "x" in options or "exposure" in diagram.roles.values() else {**options, "x": []}
+
     def ask_graph(self, diagram, second, options, folder):
         return diagram.project() if options else diagram
 
@@ -94,15 +98,15 @@ class Questions(unittest.TestCase):
         return diagram.separated(**options)
 
     def ask_rule(self, diagram, second, options, folder):
-        return diagram.rule(int(options.pop("rule")), **options)
+        return diagram.rule_holds(int(options.pop("rule")), **options)
 
     def ask_identify(self, diagram, second, options, folder):
         form = [options.pop(name) and name for name in ("latex", "certificate") if name in options]
-        answer = diagram.identify(**options)
+        answer = diagram.identify(**self.with_exposures(diagram, options))
         return getattr(answer, form[0]) if form and hasattr(answer, form[0]) else answer
 
     def ask_check(self, diagram, second, options, folder):
-        return diagram.check(second, **options)
+        return diagram.check_certificate(second, **options)
 
     def ask_adjust(self, diagram, second, options, folder):
         if "set" not in options:
@@ -115,6 +119,7 @@ class Questions(unittest.TestCase):
         return diagram.equivalent(causal.Diagram(second) if second is not None else diagram, **options)
 
     def ask_surrogate(self, diagram, second, options, folder):
+        options = self.with_exposures(diagram, options)
         wants_certificate = options.pop("certificate", False)
         if not wants_certificate:
             return diagram.surrogate(**options)
@@ -133,8 +138,8 @@ class Questions(unittest.TestCase):
     def ask_evaluate(self, diagram, second, options, folder):
         try:
             exact = options.pop("exact", False)
-            options = {{"set": "adjust_for", "back-door": "back_door"}.get(name, name): value for name, value in options.items()}
-            return Evaluation(diagram, **{"x": None, "y": None, **options}).over_file(second or b"", exact).text
+            options = {name.replace("-", "_"): value for name, value in self.with_exposures(diagram, options).items()}
+            return Evaluation(diagram, **{"x": None, "y": None, "zero": False, "short": False, **options}).over_file(second or b"", exact).text
         except (causal.NotIdentifiable, causal.RequestError) as error:
             return error.place
 

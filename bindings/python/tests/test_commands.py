@@ -189,10 +189,10 @@ class Experiments(unittest.TestCase):
     def test_certificates(self):
         diagram = Diagram("dag { Z -> X -> Y Z <-> X Z <-> Y }")
         found = diagram.surrogate("X", "Y", experiments="Z")
-        self.assertTrue(diagram.check(found, experiments="Z"))
-        self.assertFalse(diagram.check(found))
+        self.assertTrue(diagram.check_certificate(found, experiments="Z"))
+        self.assertFalse(diagram.check_certificate(found))
         with self.assertRaises(RequestError):
-            diagram.check(Formula(Term(("Y",), ("X",)), "P(Y|X)"))
+            diagram.check_certificate(Formula(Term(("Y",), ("X",)), "P(Y|X)"))
 
     def test_none_found(self):
         with answering((1, STOPPED, "")):
@@ -306,7 +306,7 @@ class AskedOnce(unittest.TestCase):
     def test_what_comes_with_a_formula(self):
         with answering(formula_told("P(Y|Z,X)")) as library:
             found = Diagram(self.DIAGRAM).identify("X", "Y")
-            self.assertEqual((found.latex, found._repr_latex_()), ("LATEX", "$$\\begin{gathered} LATEX \\end{gathered}$$"))
+            self.assertEqual((found.latex, found._repr_latex_()), ("LATEX", f"$$\n{found.display_latex}\n$$"))
             self.assertEqual((found.text, found.variables), ("P(Y|do(X)) = P(Y|Z,X)", {"X", "Y", "Z"}))
         self.assertEqual(len(library.calls), 1)
 
@@ -342,7 +342,7 @@ class AskedOnce(unittest.TestCase):
         told = {**formula_told("P(Y|Z,X)"), "answer": "admissible", **sets}
         with answering(told, {**formula_told("P(Y|Z,X)"), "answer": "accepted", "of": "formula"}) as library:
             adjusted = Diagram(self.DIAGRAM).adjusts("Z", "X", "Y")
-            checked = Diagram(self.DIAGRAM).check(b"{}")
+            checked = Diagram(self.DIAGRAM).check_certificate(b"{}")
         for formula in (adjusted.formula, checked.formula):
             self.assertEqual((formula.latex, formula.certificate, formula.variables), ("LATEX", None, {"X", "Y", "Z"}))
         self.assertEqual(len(library.calls), 2)
@@ -356,7 +356,7 @@ class AskedOnce(unittest.TestCase):
         ):
             later, at_once = ask(), ask(certificate=True)
             self.assertEqual((later, later.certificate), (at_once, at_once.certificate))
-            self.assertTrue(diagram.check(at_once, **over))
+            self.assertTrue(diagram.check_certificate(at_once, **over))
 
 
 if __name__ == "__main__":

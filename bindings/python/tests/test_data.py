@@ -26,7 +26,8 @@ COUNTS = {
     "R": ["success", "failure"] * 4,
     "n": [81, 6, 234, 36, 192, 71, 55, 25],
 }
-EXACT = [Fraction(634983, 762700), Fraction(127717, 762700), Fraction(6231, 8000), Fraction(1769, 8000)]
+# Failure and success under A, and under B.
+EXACT = [Fraction(127717, 762700), Fraction(634983, 762700), Fraction(1769, 8000), Fraction(6231, 8000)]
 
 
 def exact_values(effects):
@@ -41,7 +42,7 @@ class Columns(unittest.TestCase):
         effects = KIDNEY.effects(COUNTS, count="n", exact=True)
         self.assertEqual(exact_values(effects), EXACT)
         self.assertEqual(effects[0].x, {"T": "A"})
-        self.assertEqual(effects.at({"R": "failure"}, {"T": "B"}).exact, EXACT[3])
+        self.assertEqual(effects.at({"R": "failure"}, {"T": "B"}).exact, EXACT[2])
 
     def test_records(self):
         records = {name: [level for level, n in zip(COUNTS[name], COUNTS["n"]) for _ in range(n)] for name in "STR"}
@@ -57,11 +58,11 @@ class Columns(unittest.TestCase):
 
     def test_contrast(self):
         contrast = KIDNEY.contrast(COUNTS, treated="A", control="B", outcome="success", count="n", exact=True)
-        self.assertEqual(contrast.difference.exact, EXACT[0] - EXACT[2])
-        self.assertEqual(contrast.ratio.exact, EXACT[0] / EXACT[2])
+        self.assertEqual(contrast.difference.exact, EXACT[1] - EXACT[3])
+        self.assertEqual(contrast.ratio.exact, EXACT[1] / EXACT[3])
         bounds = KIDNEY.contrast(COUNTS, treated="A", control="B", outcome="success", count="n")
-        self.assertTrue(bounds.difference.lower < EXACT[0] - EXACT[2] < bounds.difference.upper)
-        self.assertTrue(bounds.ratio.lower < EXACT[0] / EXACT[2] < bounds.ratio.upper)
+        self.assertTrue(bounds.difference.lower < EXACT[1] - EXACT[3] < bounds.difference.upper)
+        self.assertTrue(bounds.ratio.lower < EXACT[1] / EXACT[3] < bounds.ratio.upper)
 
     def test_contrast_with_zero(self):
         data = {"X": ["a", "b"], "Y": [1, 0]}
@@ -80,7 +81,7 @@ class Columns(unittest.TestCase):
 
     def test_nothing_is_done(self):
         effects = KIDNEY.effects(COUNTS, x=[], y="R", count="n", exact=True)
-        self.assertEqual(str(effects), "P(R=success) = 281/350\nP(R=failure) = 69/350")
+        self.assertEqual(str(effects), "P(R=failure) = 69/350\nP(R=success) = 281/350")
 
     def test_a_pinned_variable(self):
         napkin = Diagram(read_example("napkin.dag"))
@@ -96,7 +97,7 @@ class Columns(unittest.TestCase):
         data = {"X": levels, "Y": levels[::-1]}
         effects = Diagram("dag { X -> Y }").effects(data, "X", "Y", exact=True)
         self.assertEqual(len(effects), 64)
-        self.assertEqual([effect.x["X"] for effect in effects][::8], levels)
+        self.assertEqual({effect.x["X"] for effect in effects}, set(levels))
 
     def test_a_vertex_named_count(self):
         data = {"count": ["a", "b", "a"], "count_": [0, 1, 0], "n": [1, 2, 3]}
@@ -144,14 +145,14 @@ class Refused(unittest.TestCase):
         data = {name: column[:6] for name, column in COUNTS.items()}
         error = self.refused(data, count="n")
         self.assertEqual((type(error), error.number), (causal.EvaluationError, 1))
-        self.assertEqual(error.place, (None, 3, {"S": "large", "T": "B", "R": "success"}))
+        self.assertEqual(error.place, (None, 3, {"S": "large", "T": "B", "R": "failure"}))
 
     def test_missing(self):
         data = {**COUNTS, "T": [None, *COUNTS["T"][1:]], "S": [float("nan"), *COUNTS["S"][1:]], "other": [None] * 8}
         error = self.refused(data, count="n")
-        self.assertEqual((type(error), error.place), (causal.MissingValues, ("T", 1)))
+        self.assertEqual((type(error), error.place), (causal.MissingValues, ("T", 81)))
         effects = KIDNEY.effects(data, count="n", missing="drop")
-        self.assertEqual((effects.dropped, effects.at({"R": "failure"}, {"T": "A"}).lower > 0), (1, True))
+        self.assertEqual((effects.dropped, effects.at({"R": "failure"}, {"T": "A"}).lower > 0), (81, True))
         self.assertEqual(self.refused(data, missing="skip").number, None)
 
     def test_levels_of_dropped_records_are_gone(self):
@@ -194,7 +195,7 @@ class Files(unittest.TestCase):
         text = 'X,Y\r\n"a,b",d\r\n"say ""hi""",c\r\n'.encode() + b"\xff,c\r\n"
         effects = self.effects(text, Diagram("dag { X -> Y }"), x="X", y="Y", exact=True)
         self.assertEqual([effect.x["X"] for effect in effects][::2], ["a,b", 'say "hi"', "\udcff"])
-        self.assertEqual([effect.y["Y"] for effect in effects][:2], ["d", "c"])
+        self.assertEqual([effect.y["Y"] for effect in effects][:2], ["c", "d"])
 
     def test_refused_record(self):
         with self.assertRaises(causal.CountsError) as caught:
@@ -244,10 +245,10 @@ class Blanks(unittest.TestCase):
             path = self.put(self.TEXT + b"a," + blank + b",1,7,\n" + blank + b",x,1,7,z\n")
             with self.assertRaises(causal.MissingValues) as caught:
                 KIDNEY.effects(path, count="n")
-            self.assertEqual(caught.exception.place, ("T", 1))
+            self.assertEqual(caught.exception.place, ("T", 7))
             effects = KIDNEY.effects(path, count="n", exact=True, missing="drop")
             whole = KIDNEY.effects(self.put(self.TEXT), count="n", exact=True)
-            self.assertEqual((effects.effects, effects.dropped), (whole.effects, 2))
+            self.assertEqual((effects.effects, effects.dropped), (whole.effects, 14))
 
     def test_each_end_of_lines(self):
         for end in (b"\n", b"\r\n", b"\r"):
@@ -257,7 +258,7 @@ class Blanks(unittest.TestCase):
                 self.assertTrue(may_have_blanks(plain + line + end))
                 self.assertTrue(may_have_blanks(line + end + plain))
             effects = KIDNEY.effects(self.put(plain + b",x,1,7,z" + end), count="n", missing="drop")
-            self.assertEqual(effects.dropped, 1)
+            self.assertEqual(effects.dropped, 7)
 
     def test_as_a_level(self):
         path = self.put(self.TEXT + b"a,,1,7,\n,x,1,7,z\nb,,0,1,\n,,1,1,\n,y,1,1,\n")
@@ -278,7 +279,7 @@ class Blanks(unittest.TestCase):
         path = self.put(self.TEXT + b",x,1,7,z\n")
         with self.assertRaises(causal.MissingValues):
             KIDNEY.bootstrap(path, count="n", resamples=1)
-        self.assertEqual(KIDNEY.bootstrap(path, count="n", resamples=1, missing="drop").effects.dropped, 1)
+        self.assertEqual(KIDNEY.bootstrap(path, count="n", resamples=1, missing="drop").effects.dropped, 7)
 
     def test_implications(self):
         chain = Diagram("dag { S -> T -> R }")
@@ -286,21 +287,21 @@ class Blanks(unittest.TestCase):
         with self.assertRaises(causal.MissingValues):
             chain.implications(path, count="n")
         found = chain.implications(path, count="n", missing="drop")
-        self.assertEqual((found.implications, found.dropped), (chain.implications(self.put(self.TEXT), count="n").implications, 1))
+        self.assertEqual((found.implications, found.dropped), (chain.implications(self.put(self.TEXT), count="n").implications, 7))
         self.assertEqual(chain.implications(path, count="n", missing="level").dropped, 0)
 
     def test_levels_of_frames(self):
         data = {"X": ["a", None, "b", float("nan")], "Y": [0, 1, 1, 0]}
         effects = Diagram("dag { X -> Y }").effects(data, "X", "Y", exact=True, missing="level")
-        self.assertEqual([effect.x["X"] for effect in effects][::2], ["a", None, "b"])
-        self.assertEqual(exact_values(effects)[2:4], [Fraction(1, 2)] * 2)
+        self.assertEqual([effect.x["X"] for effect in effects][::2], ["a", "b", None])
+        self.assertEqual(exact_values(effects)[4:], [Fraction(1, 2)] * 2)
 
     @needs_pandas
     def test_the_number_is_kept(self):
         frame = KIDNEY.evaluate(self.put(self.TEXT + b",x,1,7,z\n"), count="n", missing="drop")
-        self.assertEqual(frame.attrs, {"pinned": {}, "dropped": 1})
+        self.assertEqual(frame.attrs, {"pinned": {}, "dropped": 7, "notes": ["7 records left out that lack a value"]})
         text = str(KIDNEY.effects(self.path, count="n", missing="drop"))
-        self.assertTrue(text.startswith("1 records left out that lack a value\nP("))
+        self.assertTrue(text.startswith("7 records left out that lack a value\nP("))
 
 
 class Polars:
@@ -426,8 +427,8 @@ class Kinds(unittest.TestCase):
         data = {**COUNTS, "S": [pandas.NA, *COUNTS["S"][1:]], "T": [pandas.NaT, *COUNTS["T"][1:]]}
         with self.assertRaises(causal.MissingValues) as caught:
             KIDNEY.effects(data, count="n")
-        self.assertEqual(caught.exception.place, ("T", 1))
-        self.assertEqual(KIDNEY.effects(data, count="n", missing="drop").dropped, 1)
+        self.assertEqual(caught.exception.place, ("T", 81))
+        self.assertEqual(KIDNEY.effects(data, count="n", missing="drop").dropped, 81)
 
     @needs_pandas
     def test_a_series_in_a_mapping(self):
@@ -442,7 +443,7 @@ class Requests(unittest.TestCase):
     def test_the_levels_that_are_there(self):
         data = {"X": ["1", "0", "1"], "Y": ["0", "1", "1"]}
         effects = Diagram("dag { X -> Y }").effects(data, "X", "Y")
-        told = "there is no effect P(Y=1|do(X=1)) in the data, in which Y has '0', '1'; X has '1', '0'"
+        told = "there is no effect P(Y=1|do(X=1)) in the data; Y has '0', '1' (did you mean '1'?); X has '0', '1' (did you mean '1'?)"
         with self.assertRaises(causal.RequestError) as caught:
             effects.at({"Y": 1}, {"X": 1})
         self.assertEqual(str(caught.exception), told)
@@ -495,7 +496,7 @@ class Frames(unittest.TestCase):
         cells = [(w, z, x, y) for w in (0, 1) for z in "ba" for x in (0, 1) for y in (0, 1)]
         frame = Diagram(read_example("napkin.dag")).evaluate(pandas.DataFrame(cells, columns=list("WZXY")))
         self.assertEqual((list(frame.columns[:3]), set(frame["Z"])), (["Z", "X", "Y"], {"a"}))
-        self.assertEqual(frame.attrs, {"pinned": {"Z": "a"}, "dropped": 0})
+        self.assertEqual(frame.attrs, {"pinned": {"Z": "a"}, "dropped": 0, "notes": ["pinned Z=a (in the population every level gives the same)"]})
 
     def test_categories_in_their_order(self):
         data = pandas.DataFrame({"X": ["low", "high", "low", "high"], "Y": [1, 0, 0, 1]})
@@ -517,7 +518,7 @@ class Frames(unittest.TestCase):
             with self.subTest(name):
                 data = pandas.DataFrame({"X": column, "Y": ["a", "a", "b", "b"]})
                 effects = Diagram("dag { X -> Y }").effects(data, "X", "Y", exact=True)
-                self.assertEqual([effect.x["X"] for effect in effects][::2], column.tolist()[:2])
+                self.assertEqual([effect.x["X"] for effect in effects][::2], sorted(column.tolist()[:2]))
                 self.assertEqual(exact_values(effects), [Fraction(1, 2)] * 4)
 
     def test_missing(self):
@@ -572,13 +573,13 @@ class Frames(unittest.TestCase):
 
     def test_bootstrap_frame(self):
         frame = KIDNEY.bootstrap(pandas.DataFrame(COUNTS), count="n", resamples=50).frame()
-        self.assertEqual(list(frame.columns), ["T", "R", "estimate", "lower", "upper", "draws"])
-        self.assertTrue((frame["lower"] < frame["estimate"]).all() and (frame["estimate"] < frame["upper"]).all())
+        self.assertEqual(list(frame.columns), ["T", "R", "estimate", "conf_low", "conf_high", "draws"])
+        self.assertTrue((frame["conf_low"] < frame["estimate"]).all() and (frame["estimate"] < frame["conf_high"]).all())
 
     def test_nothing_to_draw(self):
         data = pandas.DataFrame({"X": ["a", "b"], "Y": [0, 1]})
         frame = Diagram("dag { X -> Y }").bootstrap(data, "X", "Y", resamples=1, seed=2).frame()
-        self.assertTrue(math.isnan(frame["lower"][0]))
+        self.assertTrue(math.isnan(frame["conf_low"][0]))
 
     def test_adjacency(self):
         names = ["X", "größe", 3]

@@ -99,7 +99,7 @@ class Answers(unittest.TestCase):
             for at in ({"Z": 0}, {"Z": 1}):
                 found, expected = [NAPKIN.effects(it, exact=True, at=at) for it in (there, data)]
                 self.assertEqual(by_cell(found), by_cell(expected))
-            self.assertEqual(len(NAPKIN.spread(there)), 2)
+            self.assertEqual(len(NAPKIN.pin_spread(there)), 2)
 
     def test_evaluate(self):
         try:
@@ -131,7 +131,7 @@ class Answers(unittest.TestCase):
         found, expected = [[abs(pair.difference.value) for pair in chain.implications(it)] for it in (held(data), data)]
         self.assertEqual(found, expected)
         found, expected = [chain.test_implications(it, method="permutation", permutations=20) for it in (held(data), data)]
-        self.assertEqual([test.degrees for test in found], [test.degrees for test in expected])
+        self.assertEqual([test.df for test in found], [test.df for test in expected])
         for test, other in zip(found, expected):
             self.assertAlmostEqual(test.statistic, other.statistic)
 

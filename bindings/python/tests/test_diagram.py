@@ -40,9 +40,9 @@ class Texts(unittest.TestCase):
         self.assertEqual(diagram.project().bidirected, (("smoking", "cancer"),))
 
     def test_from_edges(self):
-        diagram = Diagram.from_edges([("A", "B")], vertices=["C"], bidirected=[("B", "C")], latent="D")
-        self.assertEqual(diagram.vertices, ("C", "A", "B", "D"))
-        self.assertEqual((diagram.edges, diagram.bidirected, diagram.roles), ((("A", "B"),), (("C", "B"),), {"D": "latent"}))
+        diagram = Diagram.from_edges([("A", "B")], vertices=["C"], bidirected=[("B", "C")], latent="C")
+        self.assertEqual(diagram.vertices, ("C", "A", "B"))
+        self.assertEqual((diagram.edges, diagram.bidirected, diagram.roles), ((("A", "B"),), (("C", "B"),), {"C": "latent"}))
 
     def test_edges_that_make_no_diagram(self):
         with self.assertRaises(causal.DiagramError) as caught:
@@ -110,8 +110,8 @@ class OddNames(unittest.TestCase):
                 self.assertEqual(list(diagram.adjustment_sets("Z", other)), [(name,)])
                 self.assertEqual(diagram.adjusts(name, "Z", other).members, (name,))
                 self.assertEqual(diagram.identify("Z", other).variables, {name, "Z", other})
-                self.assertTrue(diagram.check(diagram.identify("Z", other)))
-                self.assertTrue(diagram.rule(2, other, "Z", given=name))
+                self.assertTrue(diagram.check_certificate(diagram.identify("Z", other)))
+                self.assertTrue(diagram.rule_holds(2, other, "Z", given=name))
                 self.assertTrue(diagram.equivalent(diagram))
                 self.assertIsNotNone(diagram.identify("Z", other).latex)
 
@@ -119,7 +119,7 @@ class OddNames(unittest.TestCase):
         diagram = Diagram.from_edges([("do(X)", "größe, in cm")], bidirected=[("do(X)", "größe, in cm")])
         hedge = diagram.identify("do(X)", "größe, in cm")
         self.assertEqual((hedge.big, hedge.links), (("do(X)", "größe, in cm"), (("do(X)", "größe, in cm"),)))
-        self.assertTrue(diagram.check(hedge))
+        self.assertTrue(diagram.check_certificate(hedge))
 
     def test_odd_names_in_data(self):
         for name in ODD:
@@ -224,19 +224,19 @@ class Answers(unittest.TestCase):
         formula = Diagram(read_example("napkin.dag")).identify()
         self.assertEqual((formula.free, len(formula.definitions), formula.variables), (("Z",), 1, {"W", "X", "Y", "Z"}))
         self.assertIn(r"\frac", formula.latex)
-        self.assertTrue(formula._repr_latex_().startswith(r"$$\begin{gathered} P(Y \mid"))
+        self.assertTrue(formula._repr_latex_().startswith("$$\n\\begin{aligned}\nP(Y \\mid"))
         self.assertNotIn("free", formula._repr_latex_())
 
     def test_certificates(self):
         for name in ("napkin.dag", "front_door.dag", "bow.dag"):
             diagram = Diagram(read_example(name))
             answer = diagram.identify()
-            check = diagram.check(answer.certificate)
+            check = diagram.check_certificate(answer.certificate)
             self.assertTrue(check.accepted)
             self.assertEqual(check.formula, answer if answer.identifiable else None)
-            self.assertTrue(diagram.check(answer))
+            self.assertTrue(diagram.check_certificate(answer))
         with self.assertRaises(causal.RequestError):
-            diagram.check(Diagram("dag { X -> Y }").adjusts([], "X", "Y").formula)
+            diagram.check_certificate(Diagram("dag { X -> Y }").adjusts([], "X", "Y").formula)
 
     def test_most(self):
         sets = Diagram(read_example("exported.dag")).adjustment_sets(most=1)
@@ -251,7 +251,7 @@ class Answers(unittest.TestCase):
 
     def test_words_that_are_not_understood(self):
         with self.assertRaises(causal.RequestError):
-            Diagram("dag { X -> Y }").rule(4, "Y", "X")
+            Diagram("dag { X -> Y }").rule_holds(4, "Y", "X")
         with self.assertRaises(ValueError):
             causal.run([b"\xff"])
         self.assertEqual(causal.run([]).status, 2)

@@ -22,7 +22,7 @@ class Kinds:
         data = random_records(400, 5)
         found, expected = [NAPKIN.effects(it, exact=True, at={"Z": 1}) for it in (self.frame(data), data)]
         self.assertEqual(by_cell(found), by_cell(expected))
-        self.assertEqual(len(NAPKIN.spread(self.frame(data))), 2)
+        self.assertEqual(len(NAPKIN.pin_spread(self.frame(data))), 2)
 
     def test_intervals_and_tests_come_from_the_counts(self):
         answers = [KIDNEY.bootstrap(self.frame(it), resamples=10, seed=1) for it in (records_of(COUNTS, "n"), random_order(COUNTS))]

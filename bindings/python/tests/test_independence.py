@@ -8,7 +8,8 @@ from collections import Counter
 
 import causal
 from causal import Diagram
-from causal.independence import Stratum, chi_squared, holm, hypergeometric, is_thin, noncentral_below, permutation_p, shift_at, shuffled
+from causal.contingency import Stratum, chi_squared, hypergeometric, is_thin, noncentral_below, permutation_p, shift_at, shuffled
+from causal.independence import holm
 
 try:
     import scipy.stats
@@ -47,24 +48,24 @@ class Statistics(unittest.TestCase):
     def test_over_levels_of_what_is_given(self):
         data = {"A": [0, 0, 1, 1, 0, 0, 0], "B": [0, 0, 0, 0, 1, 1, 2], "C": [0, 1, 0, 1, 0, 1, 1], "n": [9, 5, 3, 8, 4, 4, 1]}
         test = CHAIN.test_implications(data, "n", method="permutation", permutations=50)[0]
-        self.assertEqual((test.a, test.b, test.given, test.degrees), ("A", "C", ("B",), 1))
+        self.assertEqual((test.a, test.b, test.given, test.df), ("A", "C", ("B",), 1))
         stratum = Stratum(((9, 5), (3, 8)))
         self.assertAlmostEqual(test.statistic, stratum.deviance())
         self.assertAlmostEqual(test.effect_size, math.sqrt(stratum.pearson() / 34))
         # the cell (0, 0) has 9 of 34 records, and 14 * 12 / 25 are expected
         self.assertAlmostEqual(test.largest_difference, (9 - 14 * 12 / 25) / 34)
         self.assertAlmostEqual(test.rmsea, math.sqrt((stratum.deviance() - 1) / 33))
-        self.assertLess(test.rmsea_lower, test.rmsea)
-        self.assertLess(test.rmsea, test.rmsea_upper)
+        self.assertLess(test.rmsea_low, test.rmsea)
+        self.assertLess(test.rmsea, test.rmsea_high)
 
     def test_the_interval_of_the_rmsea(self):
         # quantiles of noncentral chi-squared distributions, as tables have them
         for statistic, degrees, shift, below in ((3.841459, 1, 0.0, 0.95), (9.487729, 4, 0.0, 0.95), (3.841459, 1, 7.848861, 0.2)):
             self.assertAlmostEqual(noncentral_below(statistic, degrees, shift), below, places=5)
         test = CHAIN.test_implications(chain_data(random.Random(4), 1000), method="permutation", permutations=9)[0]
-        self.assertEqual(test.rmsea_lower, 0.0)
+        self.assertEqual(test.rmsea_low, 0.0)
         test = CHAIN.test_implications(chain_data(random.Random(4), 1000, 0.4), method="permutation", permutations=9)[0]
-        self.assertGreater(test.rmsea_lower, 0.05)
+        self.assertGreater(test.rmsea_low, 0.05)
 
     @needs_scipy
     def test_the_interval_as_scipy_has_it(self):
@@ -155,13 +156,13 @@ class Permutations(unittest.TestCase):
         data = chain_data(random.Random(6), 3000, 0.03, 3)
         by_chance = CHAIN.test_implications(data, method="permutation", permutations=2000)[0]
         by_distribution = CHAIN.test_implications(data, method="chi-squared")[0]
-        self.assertLess(abs(by_chance.p - by_distribution.p), 5 * (by_distribution.p / 2000) ** 0.5 + 0.005)
+        self.assertLess(abs(by_chance.p_value - by_distribution.p_value), 5 * (by_distribution.p_value / 2000) ** 0.5 + 0.005)
 
     def test_a_seed_gives_the_same(self):
         data = chain_data(random.Random(7), 80)
         one, other, third = [CHAIN.test_implications(data, method="permutation", permutations=99, seed=seed) for seed in (1, 1, 2)]
         self.assertEqual(one, other)
-        self.assertNotEqual(one[0].p, third[0].p)
+        self.assertNotEqual(one[0].p_value, third[0].p_value)
 
 
 class Answers(unittest.TestCase):
@@ -169,13 +170,13 @@ class Answers(unittest.TestCase):
 
     def test_independent_data(self):
         source = random.Random(8)
-        values = [CHAIN.test_implications(chain_data(source, 60), permutations=199, seed=k)[0].p for k in range(150)]
+        values = [CHAIN.test_implications(chain_data(source, 60), permutations=199, seed=k)[0].p_value for k in range(150)]
         self.assertTrue(2 <= sum(p < 0.1 for p in values) <= 30)
         self.assertTrue(50 <= sum(p < 0.5 for p in values) <= 100)
 
     def test_dependent_data(self):
         tests = CHAIN.test_implications(chain_data(random.Random(9), 2000, 0.3))
-        self.assertLess(tests[0].p, 0.01)
+        self.assertLess(tests[0].p_value, 0.01)
         self.assertEqual((tests.rejected(), tests.rejected(0.0)), (tests.tests, ()))
 
     def test_the_method(self):
@@ -192,15 +193,15 @@ class Answers(unittest.TestCase):
         data = {**chain_data(random.Random(2), 300), "a d": [k % 3 for k in range(300)], "unused": [None] * 300}
         tests = diagram.test_implications(data)
         self.assertEqual([(test.a, test.b) for test in tests], [(it.a, it.b) for it in diagram.implications()])
-        self.assertEqual([test.adjusted for test in tests], holm([test.p for test in tests]))
+        self.assertEqual([test.p_holm for test in tests], holm([test.p_value for test in tests]))
         self.assertIn('A from "a d" given {}: G2 = ', str(tests))
 
     def test_nothing_to_test(self):
         none = Diagram("dag { A -> B }").test_implications({})
         self.assertEqual((len(none), str(none)), (0, "none"))
         test = CHAIN.test_implications({"A": [0, 1], "B": [0, 1], "C": [0, 1]})[0]
-        self.assertEqual((test.p, test.method, test.adjusted, test.degrees), (None, None, None, 0))
-        self.assertTrue(str(test).endswith(": no test"))
+        self.assertEqual((test.p_value, test.method, test.p_holm, test.df), (None, None, None, 0))
+        self.assertTrue(str(test).endswith(": no test: no level of {B} has two levels of both"))
 
     def test_data(self):
         data = chain_data(random.Random(3), 50)

@@ -10,8 +10,9 @@ from test_data import COUNTS, EXACT, KIDNEY
 
 import causal
 from causal import Diagram
-from causal.bootstrap import acceleration, corrected_interval, interval_of
-from causal.effects import Contrast, Value, number_of
+from causal.contrasts import MEASURES, Contrast
+from causal.effects import Value, number_of
+from causal.intervals import acceleration, corrected_interval, interval_of
 
 EDGE = Diagram("dag { X -> Y }")
 
@@ -31,10 +32,10 @@ class OddsRatio(unittest.TestCase):
 
     def test_exact(self):
         contrast = KIDNEY.contrast(COUNTS, treated="A", control="B", outcome="success", count="n", exact=True)
-        self.assertEqual(contrast.odds_ratio.exact, EXACT[0] / EXACT[1] / (EXACT[2] / EXACT[3]))
+        self.assertEqual(contrast.odds_ratio.exact, EXACT[1] / EXACT[0] / (EXACT[3] / EXACT[2]))
 
     def test_bounds(self):
-        true = EXACT[0] / EXACT[1] / (EXACT[2] / EXACT[3])
+        true = EXACT[1] / EXACT[0] / (EXACT[3] / EXACT[2])
         found = KIDNEY.contrast(COUNTS, treated="A", control="B", outcome="success", count="n").odds_ratio
         self.assertTrue(found.lower < true < found.upper and float(found.upper - found.lower) < 1e-15)
 
@@ -49,11 +50,11 @@ class OddsRatio(unittest.TestCase):
         contrast = answer.contrast({"R": "success"}, {"T": "A"}, {"T": "B"})
         ends = contrast.odds_ratio.lower, contrast.odds_ratio.upper
         self.assertTrue(ends[0] < float(contrast.contrast.odds_ratio) < ends[1])
-        values = [(draw[0] / draw[1]) / (draw[2] / draw[3]) for draw in answer.draws]
+        values = [(draw[1] / draw[0]) / (draw[3] / draw[2]) for draw in answer.draws]
         for found, wanted in zip(ends, (lambda it: (it.lower, it.upper))(interval_of(values, 0.95))):
             self.assertAlmostEqual(found, wanted)
-        self.assertEqual([name for name, _, _ in contrast.rows], ["risk difference", "risk ratio", "odds ratio"])
-        self.assertTrue(str(contrast).startswith("risk difference: 0.0536712 ["))
+        self.assertEqual([name for name, _, _ in contrast.rows], list(MEASURES))
+        self.assertIn("\nrisk difference: 0.0536712 [", str(contrast))
 
 
 class Means(unittest.TestCase):
@@ -61,20 +62,20 @@ class Means(unittest.TestCase):
 
     def test_exact(self):
         data = {"X": ["a"] * 4 + ["b"] * 2, "Y": [0, 1, 1, 2.5, -3, 1]}
-        means = EDGE.effects(data, "X", "Y", exact=True).means()
+        means = EDGE.effects(data, "X", "Y", exact=True).effect_means()
         self.assertEqual([(mean.x, mean.value.exact) for mean in means], [({"X": "a"}, Fraction(9, 8)), ({"X": "b"}, -1)])
         self.assertEqual(str(means[0]), "mean at X=a = 9/8")
 
     def test_bounds_of_negative_numbers(self):
         data = {"X": [0] * 3 + [1] * 7, "Y": [-1, 2, 5, -4, -4, 3, 2, 2, 2, 2]}
         effects = EDGE.effects(data, "X", "Y")
-        for mean, true in zip(effects.means(), (Fraction(2), Fraction(3, 7))):
+        for mean, true in zip(effects.effect_means(), (Fraction(2), Fraction(3, 7))):
             self.assertTrue(mean.value.lower <= true <= mean.value.upper)
             self.assertLess(mean.value.upper - mean.value.lower, Fraction(1, 10**15))
-        self.assertEqual(effects.mean({"X": 1}), effects.means()[1].value)
+        self.assertEqual(effects.mean({"X": 1}), effects.effect_means()[1].value)
 
     def test_nothing_is_done(self):
-        self.assertEqual(str(EDGE.effects({"X": [0, 1], "Y": [3, 4]}, [], "Y", exact=True).means()[0]), "mean = 7/2")
+        self.assertEqual(str(EDGE.effects({"X": [0, 1], "Y": [3, 4]}, [], "Y", exact=True).effect_means()[0]), "mean = 7/2")
 
     def test_numbers(self):
         levels = {"1": 1, "0.5": Fraction(1, 2), True: 1, Decimal("0.1"): Fraction(1, 10), 0.25: Fraction(1, 4)}
@@ -83,23 +84,23 @@ class Means(unittest.TestCase):
             self.assertIsNone(number_of(level))
 
     def test_what_has_no_mean(self):
-        with self.assertRaisesRegex(causal.RequestError, "R has a level that is no number: 'success', 'failure'"):
-            KIDNEY.effects(COUNTS, count="n").means()
+        with self.assertRaisesRegex(causal.RequestError, "R has a level that is no number: 'failure', 'success'"):
+            KIDNEY.effects(COUNTS, count="n").effect_means()
         with self.assertRaisesRegex(causal.RequestError, "a mean is of one outcome"):
-            Diagram("dag { X -> Y X -> Z }").effects({"X": [0], "Y": [0], "Z": [0]}, "X", ["Y", "Z"]).means()
+            Diagram("dag { X -> Y X -> Z }").effects({"X": [0], "Y": [0], "Z": [0]}, "X", ["Y", "Z"]).effect_means()
         with self.assertRaisesRegex(causal.RequestError, "there is no mean at X=7"):
             EDGE.effects({"X": [0, 1], "Y": [3, 4]}, "X", "Y").mean({"X": 7})
 
     def test_intervals(self):
         answer = EDGE.bootstrap(simple_data(random.Random(3), 1500), "X", "Y", resamples=200, seed=1)
-        for mean in answer.means():
+        for mean in answer.effect_means():
             truth = 3 * (0.3 + 0.2 * mean.x["X"])
             self.assertTrue(mean.interval.lower < truth < mean.interval.upper)
             self.assertTrue(mean.interval.lower < float(mean.value) < mean.interval.upper)
         difference = answer.mean_difference({"X": 1}, {"X": 0})
         self.assertTrue(difference.interval.lower < 0.6 < difference.interval.upper)
-        self.assertAlmostEqual(float(difference.value), float(answer.means()[1].value) - float(answer.means()[0].value))
-        self.assertRegex(str(answer.means()[0]), r"^X=\d, mean 0\.\d+ \[0\.\d+, \d\.\d+\]$|^X=\d, mean 1\.\d+ \[1\.\d+, 1\.\d+\]$")
+        self.assertAlmostEqual(float(difference.value), float(answer.effect_means()[1].value) - float(answer.effect_means()[0].value))
+        self.assertRegex(str(answer.effect_means()[0]), r"^X=\d, mean 0\.\d+ \[0\.\d+, \d\.\d+\]$|^X=\d, mean 1\.\d+ \[1\.\d+, 1\.\d+\]$")
 
 
 class Corrected(unittest.TestCase):
@@ -135,7 +136,7 @@ class Corrected(unittest.TestCase):
 
     def test_on_data(self):
         data = napkin_data(random.Random(22), 4000)
-        answer = NAPKIN.bootstrap(data, resamples=200, seed=5, kind="bca")
+        answer = NAPKIN.bootstrap(data, resamples=200, seed=5, interval="bca")
         self.assertEqual((answer.kind, sum(count for count, _ in answer.left_out)), ("bca", 4000))
         for effect, interval in zip(answer.effects, answer.intervals):
             chance = sum(chance_of_y(effect.x["X"], v) for v in (0, 1)) / 2
@@ -147,12 +148,12 @@ class Corrected(unittest.TestCase):
 
     def test_a_record_without_which_there_is_no_value(self):
         data = {"S": [0, 0, 1, 1], "T": [0, 1, 0, 1], "R": [0, 1, 1, 1], "n": [40, 40, 40, 1]}
-        answer = KIDNEY.bootstrap(data, count="n", resamples=100, seed=1, kind="bca")
+        answer = KIDNEY.bootstrap(data, count="n", resamples=100, seed=1, interval="bca")
         self.assertEqual([count for count, values in answer.left_out if values is None], [1])
 
     def test_kind(self):
-        with self.assertRaisesRegex(causal.RequestError, "kind is 'percentile' or 'bca', and not 'normal'"):
-            KIDNEY.bootstrap(COUNTS, count="n", kind="normal")
+        with self.assertRaisesRegex(causal.RequestError, "interval is 'percentile' or 'bca', and not 'normal'"):
+            KIDNEY.bootstrap(COUNTS, count="n", interval="normal")
 
 
 class Shown(unittest.TestCase):
@@ -167,7 +168,7 @@ class Shown(unittest.TestCase):
             (KIDNEY.effects(COUNTS, count="n", exact=True), "<td>6231/8000</td>"),
             (answer, "95% percentile intervals of 20 resamples"),
             (answer.contrast({"R": "success"}, {"T": "A"}, {"T": "B"}), "<td>odds ratio</td>"),
-            (NAPKIN.spread(napkin_data(random.Random(1), 300)), "<th>Z</th><th>X</th><th>Y</th><th>estimate</th>"),
+            (NAPKIN.pin_spread(napkin_data(random.Random(1), 300)), "<th>Z</th><th>X</th><th>Y</th><th>estimate</th>"),
             (chain.implications(), "<td>{B}</td>"),
             (chain.implications(data), "<td>A="),
             (chain.test_implications(data, permutations=9), "<th>effect_size</th>"),
@@ -186,9 +187,10 @@ class Shown(unittest.TestCase):
             raise unittest.SkipTest("no pandas") from None
         answer = KIDNEY.bootstrap(pandas.DataFrame(COUNTS), count="n", resamples=20, seed=3)
         frame = answer.contrast({"R": "success"}, {"T": "A"}, {"T": "B"}).frame()
-        self.assertEqual(frame["measure"].tolist(), ["risk difference", "risk ratio", "odds ratio"])
+        self.assertEqual(frame["measure"].tolist(), ["risk_treated", "risk_control", "difference", "ratio", "odds_ratio"])
+        self.assertEqual(list(frame.columns[:2]) + frame.iloc[0, :2].tolist(), ["treated", "control", "A", "B"])
         kept = answer.frame().attrs
-        self.assertEqual((kept["kind"], kept["resamples"], kept["seed"], kept["dropped"]), ("percentile", 20, 3, 0))
+        self.assertEqual((kept["interval"], kept["resamples"], kept["seed"], kept["dropped"]), ("percentile", 20, 3, 0))
 
 
 if __name__ == "__main__":

@@ -38,7 +38,7 @@ class Answers(unittest.TestCase):
         formula = KIDNEY.identify()
         other = self.again(formula)
         self.assertEqual((other.latex, other.certificate), (formula.latex, formula.certificate))
-        self.assertTrue(KIDNEY.check(other))
+        self.assertTrue(KIDNEY.check_certificate(other))
 
     def test_hedge(self):
         hedge = BOW.identify()
@@ -55,10 +55,10 @@ class Answers(unittest.TestCase):
         napkin = Diagram(read_example("napkin.dag"))
         self.again(napkin)
         self.again(napkin.separated())
-        self.again(napkin.rule(2, "Y", "X"))
+        self.again(napkin.rule_holds(2, "Y", "X"))
         self.again(napkin.adjustment_sets())
         self.again(napkin.adjusts("W"))
-        self.again(napkin.check(napkin.identify()))
+        self.again(napkin.check_certificate(napkin.identify()))
         self.again(napkin.implications())
         self.again(napkin.surrogate(experiments="Z"))
         self.again(KIDNEY.equivalent(KIDNEY))
@@ -84,7 +84,7 @@ class Exceptions(unittest.TestCase):
             graph,
             second,
             raised(lambda: BOW.identify("X", "Q")),
-            raised(lambda: BOW.check("{}")),
+            raised(lambda: BOW.check_certificate("{}")),
             raised(lambda: BOW.effects(DATA)),
             raised(lambda: KIDNEY.effects({"S": []})),
             raised(lambda: KIDNEY.effects({**DATA, "S": [None, *DATA["S"][1:]]})),

@@ -116,8 +116,8 @@ class Spread(unittest.TestCase):
     """The value at each level."""
 
     def test_each_level(self):
-        spread = NAPKIN.spread(DATA, exact=True)
-        self.assertEqual(list(spread), [NAPKIN.effects(DATA, at={"Z": z}, exact=True) for z in (0, 1)])
+        spread = NAPKIN.pin_spread(DATA, exact=True)
+        self.assertEqual(list(spread), [NAPKIN.effects(DATA, at={"Z": z}, exact=True, short=False) for z in (0, 1)])
         apart = [abs(a - b) for a, b in zip(*map(exact_values, spread))]
         self.assertAlmostEqual(spread.widest, float(max(apart)))
         self.assertTrue(str(spread).endswith(f"at most {spread.widest:.6g} apart"))
@@ -126,27 +126,27 @@ class Spread(unittest.TestCase):
     def test_the_same_in_a_model(self):
         cells = [(w, z, x, y) for w in (0, 1) for z in "ba" for x in (0, 1) for y in (0, 1)]
         data = {name: [cell[k] for cell in cells] for k, name in enumerate("WZXY")}
-        spread = NAPKIN.spread(data, exact=True)
+        spread = NAPKIN.pin_spread(data, exact=True)
         self.assertEqual(([effects.pinned["Z"] for effects in spread], spread.widest), (["a", "b"], 0))
         self.assertEqual(exact_values(spread[0]), [Fraction(1, 2)] * 4)
 
     def test_a_level_without_a_value(self):
         data = {name: [*column, column[0]] for name, column in DATA.items()}
         data["Z"][-1] = 2
-        spread = NAPKIN.spread(data)
+        spread = NAPKIN.pin_spread(data)
         self.assertEqual((len(spread), spread.without_value), (2, ({"Z": 2},)))
         self.assertIn("no value at Z=2", str(spread))
 
     def test_nothing_is_pinned(self):
         with self.assertRaises(causal.RequestError):
-            Diagram(read_example("kidney_stones.dag")).spread({})
+            Diagram(read_example("kidney_stones.dag")).pin_spread({})
 
     def test_frame(self):
         try:
             import pandas
         except ImportError:
             raise unittest.SkipTest("no pandas") from None
-        frame = NAPKIN.spread(pandas.DataFrame(DATA)).frame()
+        frame = NAPKIN.pin_spread(pandas.DataFrame(DATA)).frame()
         self.assertEqual((list(frame.columns[:3]), frame["Z"].tolist()), (["Z", "X", "Y"], [0] * 4 + [1] * 4))
 
 

@@ -42,11 +42,11 @@ interval = drawn.contrast({"R": 1}, {"T": 1}, {"T": 0}).difference
 lower: Optional[float] = None if interval is None else interval.lower
 among: Effects = diagram.effects(data, given="S", short=True)
 at_level: Value = among.at({"R": 1}, {"T": 1}, {"S": 0})
-by_set = diagram.contrast(data, treated=1, control=0, outcome=1, adjust_for=["S"], back_door=True, zero=True)
+by_set = diagram.contrast(data, treated=1, control=0, outcome=1, set=["S"], back_door=True, zero=True)
 in_stratum = diagram.bootstrap(data, resamples=10, given=["S"]).contrast({"R": 1}, {"T": 1}, {"T": 0}, {"S": 1}).ratio
 from_dot: Diagram = Diagram.from_dot("digraph { X -> Y }", exposure="X")
 tests = Diagram("dag { T -> S -> R }").test_implications(data, permutations=9)
-size: float = tests[0].largest_difference + tests[0].rmsea_upper
+size: float = tests[0].largest_difference + tests[0].rmsea_high
 query: str = causal.counts_query(diagram, ("main", "records"), missing="drop")
 query += causal.counts_query(diagram.adjusts("S"), "records")
 connection: sqlite3.Connection = sqlite3.connect(":memory:")
@@ -66,5 +66,12 @@ except causal.EvaluationError as error:
 reply = causal.run(["graph", "g"], {"g": "dag { A }"})
 status: int = reply.status
 written: bytes = reply.out + causal.run(["graph", b"g"], {b"g": b"dag {}"}).err
+table: causal.SupportTable = diagram.support(data)
+estimated: causal.Estimates = diagram.estimate(data, treated=1, control=0, outcome=1, method="aipw", interval="influence")
+estimate_of: float = float(estimated.difference)
+groups: causal.Contrasts = diagram.contrast(data, treated=1, control=0, outcome=1, given="S", resamples=0)
+one: causal.Contrast = diagram.contrast(data, treated=1, control=0, outcome=1, given={"S": 1}, resamples=0)
+walks: causal.Paths = diagram.paths("S", "R")
+print(table, estimate_of, groups, one, walks, diagram.parents("R"), causal.e_value(2.0).value)
 print(query, counted, at_level, by_set, in_stratum, size, from_file)
 print(numbers, separated, first_set, some_sets, exact, some, risk, ratio, given, lower, status, written, width(effects))

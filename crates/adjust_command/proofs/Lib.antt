@@ -1,5 +1,4 @@
 pub mod Formulas
-pub mod Paths
 pub mod Verdicts
 pub mod Exposures
 pub mod Minimal

@@ -1,9 +1,7 @@
 -- The names of a set, as they are written one after the other.
-use Rattle.std.proofs.Common.{append-nil, ◌≡◌, ◌==◌, ◌||◌, ℕ, Bool, true, List, [], ◌∷◌, ◌++◌, ◌⊎◌, inl, inr, Some, map, refl, sym, ap, ◌∙◌, eqb-true}
-use Rattle.std.specs.Prelude.{slice_get}
+use Rattle.std.proofs.Common.{append-nil, ◌≡◌, ◌==◌, ◌||◌, ℕ, Bool, true, List, [], ◌∷◌, ◌++◌, ◌⊎◌, inl, inr, map, refl, sym, ap, ◌∙◌, eqb-true}
 use Rattle.std.proofs.lemmas.Bool.{or_cases}
 use Rattle.std.proofs.lemmas.List.{append_assoc}
-use Rattle.std.proofs.lemmas.Option.{get_or_from_slice_get}
 use Rattle.mixed_graph.specs.Bits.{has, members_below}
 use Rattle.mixed_graph.specs.Names.{name_of}
 use Rattle.answer_text.specs.Printing.{is_plain, printed}
@@ -42,18 +40,15 @@ pub printed_bare : (name : List ℕ) → is_plain name ≡ true → printed name
 printed_bare name e = rw e refl
 
 -- the name that is read of a vertex, if it is printed bare
-pub known_name : (names : List (List ℕ)) (bare : ℕ → Bool) (v : ℕ) (name : List ℕ) → slice_get names v ≡ Some name → AreBare names bare → bare v ≡ true
+pub known_name : (names : List (List ℕ)) (bare : ℕ → Bool) (v : ℕ) (name : List ℕ) → name ≡ name_of names v → AreBare names bare → bare v ≡ true
     → name ≡ printed (name_of names v)
-known_name names bare v name got are i = sym (are v i ∙ get_or_from_slice_get names v name [] got)
+known_name names bare v name got are i = got ∙ sym (are v i)
 
 -- one more vertex whose name is printed bare
-pub bare_more : (names : List (List ℕ)) (bare one after : ℕ → Bool) (v : ℕ) (name : List ℕ) → slice_get names v ≡ Some name → is_plain name ≡ true
+pub bare_more : (names : List (List ℕ)) (bare one after : ℕ → Bool) (v : ℕ) (name : List ℕ) → name ≡ name_of names v → is_plain name ≡ true
     → ((u : ℕ) → after u ≡ (bare u || one u)) → ((u : ℕ) → one u ≡ (u == v)) → AreBare names bare → AreBare names after
 bare_more names bare one after v name got plain after_is one_is are u i = go (or_cases (bare u) (one u) (sym (after_is u) ∙ i))
   where
-    is : name_of names v ≡ name
-    is = get_or_from_slice_get names v name [] got
-
     go : (bare u ≡ true) ⊎ (one u ≡ true) → printed (name_of names u) ≡ name_of names u
     go (inl h) = are u h
-    go (inr h) = printed_bare (name_of names u) (ap (λ k. is_plain (name_of names k)) (eqb-true u v (sym (one_is u) ∙ h)) ∙ ap is_plain is ∙ plain)
+    go (inr h) = printed_bare (name_of names u) (ap (λ k. is_plain (name_of names k)) (eqb-true u v (sym (one_is u) ∙ h)) ∙ ap is_plain (sym got) ∙ plain)

@@ -1,8 +1,6 @@
 -- From what a criterion says of a set to the answer.
 use Rattle.std.proofs.Common.{◌≡◌, ℕ, Bool, true, false, Result, Ok, Err, IfOk, sym, subst}
-use Rattle.mixed_graph.specs.Bits.{has}
-use Rattle.mixed_graph.specs.Graphs.{MixedGraph, IsMixedGraph}
-use Rattle.mixed_graph.specs.Sets.{Within}
+use Rattle.mixed_graph.specs.Graphs.{MixedGraph}
 use Rattle.targets.specs.declared.fault.TargetFault.TheVariants.{NotOneX}
 use Rattle.adjustment.specs.declared.criteria.AdjFault.{AdjFault}
 use Rattle.replies.specs.declared.outcome.Reply.{Reply}
@@ -11,9 +9,7 @@ use Rattle.replies.specs.Told.{Told, told_of, answer_of}
 use Rattle.replies.specs.declared.outcome.Outcome.TheVariants.{Yes, No, Graph}
 use Rattle.adjust_command.specs.declared.criteria.Verdict.TheVariants.{Meets, Breaks, NotOne}
 use Rattle.adjust_command.specs.Answers.{SetTexts, BackDoorAnswer, CriterionAnswer}
-use Rattle.adjust_command.specs.Faults.{IsPrintable}
 use Rattle.adjust_command.specs.Verdicts.{IsVerdict}
-use Rattle.adjust_command.proofs.Paths.{adjustment_printable, back_door_printable}
 
 -- a set that meets a criterion is answered by its text or object
 pub shown : (back_door : Bool) (q : MixedGraph) (texts : SetTexts) (x y z : ℕ) (told : Told) → IsVerdict back_door q x y z Meets
@@ -37,9 +33,3 @@ pub refused : {E : Type 0} (back_door : Bool) (q : MixedGraph) (texts : SetTexts
 refused false q texts x y z r h o l = absurd h
 refused true q texts x y z (Err e) h o l = tt
 refused true q texts x y z (Ok p) h o l = subst (λ u. BackDoorAnswer q texts x y z u (told_of p)) (sym o) (record { not_one = h; prints = l })
-
--- what breaks a criterion can be printed
-pub fault_printable : (back_door : Bool) (q : MixedGraph) → IsMixedGraph q → (x y z : ℕ) → Within q.vertices (has z) → (fault : AdjFault)
-    → IsVerdict back_door q x y z (Breaks fault) → IsPrintable q.vertices fault
-fault_printable false q valid x y z within fault h = adjustment_printable q valid (has x) (has y) (has z) within fault h.0
-fault_printable true q valid x y z within fault (v, exposure, h) = back_door_printable q valid v (has y) (has z) within fault h

@@ -1,7 +1,6 @@
 pub mod Queries
 pub mod Lines
 pub mod Objects
-pub mod Faults
 pub mod Verdicts
 pub mod Answers
 pub mod Bare

@@ -67,8 +67,7 @@ pub fn by_criterion(
     format: Format,
 ) -> Result<Reply, AllocError>
     requires sets { AreThreeSets seen.now.graph.n (has sets.x.bits) (has sets.y.bits) (has sets.given.bits) }
-    requires some_x { 0 < sets.x.bits }
-    requires some_y { 0 < sets.y.bits }
+    requires some { 0 < sets.x.bits }
     ensures { IfOk result (λ r. CriterionAnswer by_back_door (graph_of seen.now.graph) (texts_of format seen.now.names) sets.x.bits sets.y.bits sets.given.bits r.outcome (told_of r)) }
 {
     match judge(&seen.graph, sets, by_back_door) {

@@ -1,13 +1,9 @@
 //! The answers of `adjust`, in either format.
 
-ghost use Rattle.std.specs.Prelude.{◌≡◌, ◌<◌, All, IfOk, codes, length};
-ghost use Rattle.mixed_graph.specs.Bits.{has};
-ghost use Rattle.mixed_graph.specs.Sets.{Within};
-ghost use Rattle.do_rules.specs.Rules.{AreThreeSets};
+ghost use Rattle.std.specs.Prelude.{◌≡◌, IfOk, codes};
 ghost use Rattle.answer_json.specs.Progress.{json_line};
 ghost use Rattle.replies.specs.Told.{text_in};
 ghost use Rattle.adjust_command.specs.Answers.{texts_of};
-ghost use Rattle.adjust_command.specs.Faults.{IsPrintable};
 ghost use Rattle.adjust_command.specs.Lines.{listing_text};
 ghost use Rattle.adjust_command.specs.Objects.{none_json, sets_json};
 
@@ -27,8 +23,6 @@ pub fn admissible(
     names: &Names,
     sets: Sets,
 ) -> Result<Vec<u8>, AllocError>
-    requires sets { AreThreeSets (length names.now) (has sets.x.bits) (has sets.y.bits) (has sets.given.bits) }
-    requires some { 0 < sets.y.bits }
     ensures { IfOk result (λ v. v.items ≡ (texts_of format names.now).meets sets.x.bits sets.y.bits sets.given.bits) }
 {
     match format {
@@ -45,8 +39,6 @@ pub fn not_admissible(
     sets: Sets,
     fault: &AdjFault,
 ) -> Result<Vec<u8>, AllocError>
-    requires sets { AreThreeSets (length names.now) (has sets.x.bits) (has sets.y.bits) (has sets.given.bits) }
-    requires fault { IsPrintable (length names.now) fault.now }
     ensures { IfOk result (λ v. v.items ≡ (texts_of format names.now).breaks sets.x.bits sets.y.bits sets.given.bits fault.now) }
 {
     match format {
@@ -64,8 +56,6 @@ pub fn listed(
     sets: &[VSet],
     more: bool,
 ) -> Result<Vec<u8>, AllocError>
-    requires asked { AreThreeSets (length names.now) (has asked.x.bits) (has asked.y.bits) (has asked.given.bits) }
-    requires sets { All (λ s. Within (length names.now) (has s.bits)) sets.now }
     ensures { IfOk result (λ v. v.items ≡ text_in format (listing_text names.now sets.now more) (json_line (sets_json names.now asked.x.bits asked.y.bits sets.now more))) }
 {
     match format {
@@ -81,7 +71,6 @@ pub fn none_listed(
     names: &Names,
     asked: Sets,
 ) -> Result<Vec<u8>, AllocError>
-    requires { AreThreeSets (length names.now) (has asked.x.bits) (has asked.y.bits) (has asked.given.bits) }
     ensures { IfOk result (λ v. v.items ≡ text_in format (codes "none\n") (json_line (none_json names.now asked.x.bits asked.y.bits))) }
 {
     match format {

@@ -1,11 +1,7 @@
 //! The objects of the answers of `adjust`.
 
-ghost use Rattle.std.specs.Prelude.{◌≡◌, ◌<◌, IfOk, OnOk, All, length};
-ghost use Rattle.mixed_graph.specs.Bits.{has};
-ghost use Rattle.mixed_graph.specs.Sets.{Within};
-ghost use Rattle.do_rules.specs.Rules.{AreThreeSets};
+ghost use Rattle.std.specs.Prelude.{◌≡◌, IfOk, OnOk};
 ghost use Rattle.answer_json.specs.Progress.{with_member, json_line};
-ghost use Rattle.adjust_command.specs.Faults.{IsPrintable};
 ghost use Rattle.adjust_command.specs.Objects.{begun, listing_json, sets_json, none_json, admissible_json, not_admissible_json, fault_member};
 
 use adjustment::{AdjFault, formula_for};
@@ -18,8 +14,6 @@ use targets::Sets;
 
 /// The object of an answer, up to the effect of x on y.
 fn begin(alloc: Global, word: &str, names: &Names, x: VSet, y: VSet) -> Result<Object, AllocError>
-    requires x { Within (length names.now) (has x.bits) }
-    requires y { Within (length names.now) (has y.bits) }
     ensures { IfOk result (λ o. o ≡ begun word.now names.now x.bits y.bits) }
 {
     let mut object = Object::new(alloc)?;
@@ -38,8 +32,6 @@ fn listing_object(
     sets: &[VSet],
     more: bool,
 ) -> Result<Vec<u8>, AllocError>
-    requires asked { AreThreeSets (length names.now) (has asked.x.bits) (has asked.y.bits) (has asked.given.bits) }
-    requires sets { All (λ s. Within (length names.now) (has s.bits)) sets.now }
     ensures { IfOk result (λ v. v.items ≡ json_line (listing_json word.now names.now asked.x.bits asked.y.bits sets.now more)) }
 {
     let mut object = begin(alloc, word, names, asked.x, asked.y)?;
@@ -58,8 +50,6 @@ pub fn sets_object(
     sets: &[VSet],
     more: bool,
 ) -> Result<Vec<u8>, AllocError>
-    requires asked { AreThreeSets (length names.now) (has asked.x.bits) (has asked.y.bits) (has asked.given.bits) }
-    requires sets { All (λ s. Within (length names.now) (has s.bits)) sets.now }
     ensures { IfOk result (λ v. v.items ≡ json_line (sets_json names.now asked.x.bits asked.y.bits sets.now more)) }
 {
     listing_object(alloc, "sets", names, asked, sets, more)
@@ -67,7 +57,6 @@ pub fn sets_object(
 
 /// That no set is admissible, as a line of JSON.
 pub fn none_object(alloc: Global, names: &Names, asked: Sets) -> Result<Vec<u8>, AllocError>
-    requires { AreThreeSets (length names.now) (has asked.x.bits) (has asked.y.bits) (has asked.given.bits) }
     ensures { IfOk result (λ v. v.items ≡ json_line (none_json names.now asked.x.bits asked.y.bits)) }
 {
     listing_object(alloc, "none", names, asked, &[], false)
@@ -75,8 +64,6 @@ pub fn none_object(alloc: Global, names: &Names, asked: Sets) -> Result<Vec<u8>,
 
 /// A set that may be adjusted for, and the effect with its adjustment formula, as a line of JSON.
 pub fn admissible_object(alloc: Global, names: &Names, sets: Sets) -> Result<Vec<u8>, AllocError>
-    requires sets { AreThreeSets (length names.now) (has sets.x.bits) (has sets.y.bits) (has sets.given.bits) }
-    requires some { 0 < sets.y.bits }
     ensures { IfOk result (λ v. v.items ≡ json_line (admissible_json names.now sets.x.bits sets.y.bits sets.given.bits)) }
 {
     let mut object = begin(alloc, "admissible", names, sets.x, sets.y)?;
@@ -93,7 +80,6 @@ pub fn admissible_object(alloc: Global, names: &Names, sets: Sets) -> Result<Vec
 
 /// The member of what breaks a criterion.
 fn push_fault(object: &mut Object, names: &Names, fault: &AdjFault) -> Result<(), AllocError>
-    requires { IsPrintable (length names.now) fault.now }
     ensures { let member = fault_member names.now fault.now in OnOk result (object.new ≡ with_member member.0 member.1 object.old) }
 {
     match fault {
@@ -109,8 +95,6 @@ pub fn not_admissible_object(
     sets: Sets,
     fault: &AdjFault,
 ) -> Result<Vec<u8>, AllocError>
-    requires sets { AreThreeSets (length names.now) (has sets.x.bits) (has sets.y.bits) (has sets.given.bits) }
-    requires fault { IsPrintable (length names.now) fault.now }
     ensures { IfOk result (λ v. v.items ≡ json_line (not_admissible_json names.now sets.x.bits sets.y.bits sets.given.bits fault.now)) }
 {
     let mut object = begin(alloc, "not admissible", names, sets.x, sets.y)?;

@@ -60,8 +60,7 @@ fn decide(
     format: Format,
 ) -> Result<Reply, AllocError>
     requires sets { AreThreeSets seen.now.graph.n (has sets.x.bits) (has sets.y.bits) (has sets.given.bits) }
-    requires some_x { 0 < sets.x.bits }
-    requires some_y { 0 < sets.y.bits }
+    requires some { 0 < sets.x.bits }
     requires most { IsInRange (query_of query.now) }
     ensures { IfOk result (λ r. SetsAnswer format (query_of query.now) (graph_of seen.now.graph) seen.now.names sets.x.bits sets.y.bits sets.given.bits r.outcome (told_of r)) }
 {

@@ -1,9 +1,8 @@
 //! The lines of a listing. Each name is asked once whether it is printed bare, and not in each set again.
 
-ghost use Rattle.std.specs.Prelude.{ℕ, ◌≡◌, ◌++◌, ◌<◌, IfOk, OnOk, All, length};
+ghost use Rattle.std.specs.Prelude.{◌≡◌, ◌++◌, ◌<◌, IfOk, OnOk};
 ghost use Rattle.mixed_graph.specs.Bits.{has};
 ghost use Rattle.mixed_graph.specs.Names.{name_of};
-ghost use Rattle.mixed_graph.specs.Sets.{Within};
 ghost use Rattle.answer_text.specs.Printing.{printed};
 ghost use Rattle.answer_text.specs.Texts.{comma_before, names_in, member_names, set_text};
 ghost use Rattle.answer_text.specs.declared.signs.Notation.TheVariants as notations;
@@ -15,38 +14,25 @@ use answer_text::push_vertex;
 use mixed_graph::{MembersLeft, Names, VSet};
 use std::alloc::{AllocError, Global};
 
-/// The members of all sets.
-fn all_members(sets: &[VSet]) -> VSet
-    ensures { (n : ℕ) → All (λ s. Within n (has s.bits)) sets.now → Within n (has result.bits) }
-{
-    let mut all = VSet::empty();
-    for set in sets {
-        all = all.union(*set);
-    }
-    all
-}
-
 /// With v, where its name is printed bare.
 fn with_bare(bare: VSet, names: &Names, v: u8) -> VSet
     requires low { v < 64 }
-    requires v { v < length names.now }
     requires bare { AreBare names.now (has bare.bits) }
     ensures { AreBare names.now (has result.bits) }
 {
-    if is_plain(names.get(v)) {
+    if is_plain(names.name(v)) {
         bare.union(VSet::one(v))
     } else {
         bare
     }
 }
 
-/// The members whose names are printed bare.
-fn bare_names(names: &Names, members: VSet) -> VSet
-    requires { Within (length names.now) (has members.bits) }
+/// The vertices whose names are printed bare.
+fn bare_names(names: &Names) -> VSet
     ensures { AreBare names.now (has result.bits) }
 {
     let mut bare = VSet::empty();
-    'members: for v in members.iter() {
+    for v in 0..names.count() as u8 {
         bare = with_bare(bare, names, v);
     }
     bare
@@ -54,12 +40,11 @@ fn bare_names(names: &Names, members: VSet) -> VSet
 
 /// Appends the name of a vertex as it is printed.
 fn push_known(out: &mut Vec<u8>, names: &Names, bare: VSet, v: u8) -> Result<(), AllocError>
-    requires v { v < length names.now }
-    requires bare { AreBare names.now (has bare.bits) }
+    requires { AreBare names.now (has bare.bits) }
     ensures { OnOk result (out.new.items ≡ out.old.items ++ printed (name_of names.now v)) }
 {
     if bare.has(v) {
-        out.extend_from_slice(names.get(v))?;
+        out.extend_from_slice(names.name(v))?;
         return Ok(());
     }
     push_vertex(out, names, v)
@@ -74,8 +59,7 @@ fn comma(rest: &MembersLeft) -> &'static [u8]
 
 /// Appends the names of a set's members, with commas between them.
 fn push_members(out: &mut Vec<u8>, names: &Names, bare: VSet, set: VSet) -> Result<(), AllocError>
-    requires set { Within (length names.now) (has set.bits) }
-    requires bare { AreBare names.now (has bare.bits) }
+    requires { AreBare names.now (has bare.bits) }
     ensures { OnOk result (out.new.items ≡ out.old.items ++ names_in notations.Plain (member_names names.now (has set.bits))) }
 {
     let mut rest = set.iter();
@@ -88,8 +72,7 @@ fn push_members(out: &mut Vec<u8>, names: &Names, bare: VSet, set: VSet) -> Resu
 
 /// Appends a set.
 fn push_known_set(out: &mut Vec<u8>, names: &Names, bare: VSet, set: VSet) -> Result<(), AllocError>
-    requires set { Within (length names.now) (has set.bits) }
-    requires bare { AreBare names.now (has bare.bits) }
+    requires { AreBare names.now (has bare.bits) }
     ensures { OnOk result (out.new.items ≡ out.old.items ++ set_text names.now set.bits) }
 {
     out.push(b'{')?;
@@ -105,8 +88,7 @@ fn push_known_line(
     bare: VSet,
     set: VSet,
 ) -> Result<(), AllocError>
-    requires set { Within (length names.now) (has set.bits) }
-    requires bare { AreBare names.now (has bare.bits) }
+    requires { AreBare names.now (has bare.bits) }
     ensures { OnOk result (out.new.items ≡ out.old.items ++ set_line names.now set.bits) }
 {
     push_known_set(out, names, bare, set)?;
@@ -116,10 +98,9 @@ fn push_known_line(
 
 /// Appends each set on a line of its own.
 fn push_sets(out: &mut Vec<u8>, names: &Names, sets: &[VSet]) -> Result<(), AllocError>
-    requires { All (λ s. Within (length names.now) (has s.bits)) sets.now }
     ensures { OnOk result (out.new.items ≡ out.old.items ++ set_lines names.now sets.now) }
 {
-    let bare = bare_names(names, all_members(sets));
+    let bare = bare_names(names);
     for set in sets {
         push_known_line(out, names, bare, *set)?;
     }
@@ -133,7 +114,6 @@ pub fn listing_text(
     sets: &[VSet],
     more: bool,
 ) -> Result<Vec<u8>, AllocError>
-    requires { All (λ s. Within (length names.now) (has s.bits)) sets.now }
     ensures { IfOk result (λ v. v.items ≡ listing_text names.now sets.now more) }
 {
     let mut text = Vec::new(alloc);

@@ -1,10 +1,6 @@
 //! The texts of `adjust`: a set that is admissible, and what breaks a criterion.
 
-ghost use Rattle.std.specs.Prelude.{ℕ, ◌≡◌, ◌++◌, ◌<◌, IfOk, OnOk, length};
-ghost use Rattle.mixed_graph.specs.Bits.{has};
-ghost use Rattle.mixed_graph.specs.Sets.{Within};
-ghost use Rattle.do_rules.specs.Rules.{AreThreeSets};
-ghost use Rattle.adjust_command.specs.Faults.{IsPrintable};
+ghost use Rattle.std.specs.Prelude.{◌≡◌, ◌++◌, IfOk, OnOk};
 ghost use Rattle.adjust_command.specs.Lines.{set_line, admissible_text, forbidden_line, fault_line, not_admissible_text};
 
 use adjustment::{AdjFault, formula_for};
@@ -18,7 +14,6 @@ use targets::Sets;
 
 /// Appends a set and a line feed.
 fn push_line(out: &mut Vec<u8>, names: &Names, set: VSet) -> Result<(), AllocError>
-    requires { Within (length names.now) (has set.bits) }
     ensures { OnOk result (out.new.items ≡ out.old.items ++ set_line names.now set.bits) }
 {
     push_set(out, names, set)?;
@@ -28,8 +23,6 @@ fn push_line(out: &mut Vec<u8>, names: &Names, set: VSet) -> Result<(), AllocErr
 
 /// The text of a set that may be adjusted for.
 pub fn admissible_text(alloc: Global, names: &Names, sets: Sets) -> Result<Vec<u8>, AllocError>
-    requires sets { AreThreeSets (length names.now) (has sets.x.bits) (has sets.y.bits) (has sets.given.bits) }
-    requires some { 0 < sets.y.bits }
     ensures { IfOk result (λ v. v.items ≡ admissible_text names.now sets.x.bits sets.y.bits sets.given.bits) }
 {
     let formula = formula_for(alloc, sets.x, sets.y, sets.given)?;
@@ -47,7 +40,6 @@ pub fn admissible_text(alloc: Global, names: &Names, sets: Sets) -> Result<Vec<u
 
 /// Appends the line of a member that is forbidden.
 fn push_forbidden(out: &mut Vec<u8>, names: &Names, v: u8) -> Result<(), AllocError>
-    requires { v < length names.now }
     ensures { OnOk result (out.new.items ≡ out.old.items ++ forbidden_line names.now v) }
 {
     out.extend_from_slice(b"forbidden: ")?;
@@ -58,7 +50,6 @@ fn push_forbidden(out: &mut Vec<u8>, names: &Names, v: u8) -> Result<(), AllocEr
 
 /// Appends what breaks a criterion.
 fn push_fault(out: &mut Vec<u8>, names: &Names, fault: &AdjFault) -> Result<(), AllocError>
-    requires { IsPrintable (length names.now) fault.now }
     ensures { OnOk result (out.new.items ≡ out.old.items ++ fault_line names.now fault.now) }
 {
     match fault {
@@ -74,8 +65,6 @@ pub fn not_admissible_text(
     set: VSet,
     fault: &AdjFault,
 ) -> Result<Vec<u8>, AllocError>
-    requires set { Within (length names.now) (has set.bits) }
-    requires fault { IsPrintable (length names.now) fault.now }
     ensures { IfOk result (λ v. v.items ≡ not_admissible_text names.now set.bits fault.now) }
 {
     let mut text = Vec::from_slice(alloc, b"not admissible: ")?;

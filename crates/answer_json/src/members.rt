@@ -47,7 +47,6 @@ impl Object {
 
     /// A member whose value is the name of vertex v.
     pub fn vertex_at(&mut self, name: &str, names: &Names, v: u8) -> Result<(), AllocError>
-        requires { v < length names.now }
         ensures { OnOk result (self.new ≡ with_member name.now (vertex_json names.now v) self.old) }
     {
         self.key(name)?;
@@ -61,7 +60,6 @@ impl Object {
         names: &Names,
         vertices: &[u8],
     ) -> Result<(), AllocError>
-        requires { All (λ v. v < length names.now) vertices.now }
         ensures { OnOk result (self.new ≡ with_member name.now (vertices_json names.now vertices.now) self.old) }
     {
         self.key(name)?;
@@ -70,7 +68,6 @@ impl Object {
 
     /// A member whose value is a set.
     pub fn set_at(&mut self, name: &str, names: &Names, set: VSet) -> Result<(), AllocError>
-        requires { Within (length names.now) (has set.bits) }
         ensures { OnOk result (self.new ≡ with_member name.now (set_json names.now set.bits) self.old) }
     {
         self.key(name)?;
@@ -79,9 +76,6 @@ impl Object {
 
     /// The members x, y and given.
     pub fn query(&mut self, names: &Names, x: VSet, y: VSet, given: VSet) -> Result<(), AllocError>
-        requires x { Within (length names.now) (has x.bits) }
-        requires y { Within (length names.now) (has y.bits) }
-        requires given { Within (length names.now) (has given.bits) }
         ensures { OnOk result (self.new ≡ with_members (query_members names.now x.bits y.bits given.bits) self.old) }
     {
         self.set_at("x", names, x)?;
@@ -92,9 +86,6 @@ impl Object {
 
     /// A member whose value is a path.
     pub fn path_at(&mut self, name: &str, names: &Names, path: &OpenPath) -> Result<(), AllocError>
-        requires some { 0 < path.now.count }
-        requires few { path.now.count ≤ 64 }
-        requires named { (i : ℕ) → i < path.now.count → slice_index path.now.vertices i < length names.now }
         ensures { OnOk result (self.new ≡ with_member name.now (path_json names.now path.now.vertices path.now.marks path.now.count) self.old) }
     {
         self.key(name)?;

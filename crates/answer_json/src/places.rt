@@ -3,14 +3,14 @@
 ghost use Rattle.std.specs.Prelude.{◌≡◌, ◌+◌, ◌≤◌, ◌<◌, length, take};
 ghost use Rattle.answer_json.specs.Faults.{next_line, line_behind, next_column, column_behind};
 
-/// The bytes before this one, or all where there are fewer.
-pub fn front(bytes: &[u8], at: usize) -> &[u8]
-    ensures { result.now ≡ take at bytes.now }
+/// The items before this one, or all where there are fewer.
+pub fn front<T>(items: &[T], at: usize) -> &[T]
+    ensures { result.now ≡ take at items.now }
 {
-    if at < bytes.len() {
-        return &bytes[..at];
+    if at < items.len() {
+        return &items[..at];
     }
-    bytes
+    items
 }
 
 /// The line behind a byte.

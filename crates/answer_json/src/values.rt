@@ -8,6 +8,7 @@ ghost use Rattle.answer_json.specs.Progress.{with_value};
 ghost use Rattle.answer_json.specs.Values.{text_json, bytes_json, texts_json, vertex_json, vertices_json, pair_json, pairs_json, marks_json, set_json, sets_json, path_json, mark_word};
 
 use crate::object::Object;
+use crate::places::front;
 use m_separation::{Mark, OpenPath};
 use mixed_graph::{Names, Text, VSet};
 use std::alloc::AllocError;
@@ -68,15 +69,13 @@ impl Object {
 
     /// The name of vertex v.
     pub fn vertex(&mut self, names: &Names, v: u8) -> Result<(), AllocError>
-        requires { v < length names.now }
         ensures { OnOk result (self.new ≡ with_value (vertex_json names.now v) self.old) }
     {
-        self.text(names.get(v))
+        self.text(names.name(v))
     }
 
     /// The names of vertices, in their order.
     pub fn vertices(&mut self, names: &Names, vertices: &[u8]) -> Result<(), AllocError>
-        requires { All (λ v. v < length names.now) vertices.now }
         ensures { OnOk result (self.new ≡ with_value (vertices_json names.now vertices.now) self.old) }
     {
         self.begin_array()?;
@@ -89,8 +88,6 @@ impl Object {
 
     /// A pair of vertices.
     pub fn pair(&mut self, names: &Names, a: u8, b: u8) -> Result<(), AllocError>
-        requires first { a < length names.now }
-        requires second { b < length names.now }
         ensures { OnOk result (self.new ≡ with_value (pair_json names.now (a, b)) self.old) }
     {
         self.begin_array()?;
@@ -102,7 +99,6 @@ impl Object {
 
     /// Pairs of vertices, in their order.
     pub fn pairs(&mut self, names: &Names, pairs: &[(u8, u8)]) -> Result<(), AllocError>
-        requires { All (λ p. (p.0 < length names.now) × (p.1 < length names.now)) pairs.now }
         ensures { OnOk result (self.new ≡ with_value (pairs_json names.now pairs.now) self.old) }
     {
         self.begin_array()?;
@@ -115,7 +111,6 @@ impl Object {
 
     /// The names of a set, in index order.
     pub fn set(&mut self, names: &Names, set: VSet) -> Result<(), AllocError>
-        requires { Within (length names.now) (has set.bits) }
         ensures { OnOk result (self.new ≡ with_value (set_json names.now set.bits) self.old) }
     {
         let list = set.members(self.alloc())?;
@@ -124,7 +119,6 @@ impl Object {
 
     /// Sets, in their order.
     pub fn sets(&mut self, names: &Names, sets: &[VSet]) -> Result<(), AllocError>
-        requires { All (λ set. Within (length names.now) (has set.bits)) sets.now }
         ensures { OnOk result (self.new ≡ with_value (sets_json names.now (map (λ set. set.bits) sets.now)) self.old) }
     {
         self.begin_array()?;
@@ -149,17 +143,14 @@ impl Object {
 
     /// A path: its vertices, and the marks between them.
     pub fn path(&mut self, names: &Names, path: &OpenPath) -> Result<(), AllocError>
-        requires some { 0 < path.now.count }
-        requires few { path.now.count ≤ 64 }
-        requires named { (i : ℕ) → i < path.now.count → slice_index path.now.vertices i < length names.now }
         ensures { OnOk result (self.new ≡ with_value (path_json names.now path.now.vertices path.now.marks path.now.count) self.old) }
     {
         let count = path.count as usize;
         self.begin_object()?;
         self.key("vertices")?;
-        self.vertices(names, &path.vertices[..count])?;
+        self.vertices(names, front(&path.vertices, count))?;
         self.key("marks")?;
-        self.marks(&path.marks[..count - 1])?;
+        self.marks(front(&path.marks, count.saturating_sub(1)))?;
         self.end_object()?;
         Ok(())
     }

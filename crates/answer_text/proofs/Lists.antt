@@ -10,7 +10,7 @@ use Rattle.answer_text.specs.declared.signs.Notation.{Notation}
 use Rattle.answer_text.specs.declared.signs.Sign.{Sign}
 use Rattle.answer_text.specs.declared.signs.Sign.TheVariants.{Comma, Bar, Do}
 use Rattle.answer_text.specs.Notations.{sign_text, name_in}
-use Rattle.answer_text.specs.Texts.{comma_in, names_in, names_behind, mark_text, steps_text, member_names, conditions_in}
+use Rattle.answer_text.specs.Texts.{comma_in, names_in, names_behind, mark_text, steps_text, path_text, member_names, conditions_in}
 use Rattle.mixed_graph.specs.Names.{name_of}
 
 -- the first name, the comma behind it where more names follow, and these
@@ -80,3 +80,13 @@ pub appended_five : (old a b c d e : List ℕ) {out one two three four : List �
     out ≡ old ++ (a ++ (b ++ (c ++ (d ++ e))))
 appended_five old a b c d e p q r s t =
     t ∙ ap (λ x. x ++ e) (s ∙ ap (λ x. x ++ d) (r ∙ ap (λ x. x ++ c) (q ∙ ap (λ x. x ++ b) p))) ∙ simp append_assoc
+
+-- the first vertex, and the steps behind it, are a path
+pub path_done : (names : List (List ℕ)) (vertices : List ℕ) (marks : List Mark) (old first out : List ℕ) (count steps i v : ℕ)
+    → count ≡ suc steps → i ≡ steps → v ≡ slice_index vertices 0 → first ≡ old ++ printed (name_of names v)
+    → out ≡ first ++ steps_text names vertices marks i → out ≡ old ++ path_text names vertices marks count
+path_done names vertices marks old first out count steps i v c e w f o =
+    o ∙ ap (λ t. t ++ steps_text names vertices marks i) (f ∙ ap (λ u. old ++ printed (name_of names u)) w)
+    ∙ append_assoc old (printed (name_of names (slice_index vertices 0))) (steps_text names vertices marks i)
+    ∙ ap (λ k. old ++ (printed (name_of names (slice_index vertices 0)) ++ steps_text names vertices marks k)) e
+    ∙ ap (λ k. old ++ path_text names vertices marks k) (sym c)

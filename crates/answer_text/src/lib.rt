@@ -3,10 +3,10 @@
 //! `push_set(&mut text, &names, set)` writes `{A,B}`. Sets and probabilities are written in either `Notation`: plain, or LaTeX.
 #![tactic(auto)]
 
-ghost use Rattle.std.specs.Prelude.{◌≡◌, ◌++◌, ◌<◌, ◌≤◌, ◌+◌, ◌∷◌, [], ℕ, length, map, OnOk, slice_index, slice_index_or};
+ghost use Rattle.std.specs.Prelude.{◌≡◌, ◌++◌, ◌+◌, ◌∷◌, [], ℕ, length, map, OnOk, slice_index, slice_index_or};
 ghost use Rattle.mixed_graph.specs.Bits.{has, members_below};
 ghost use Rattle.mixed_graph.specs.Names.{name_of};
-ghost use Rattle.mixed_graph.specs.Sets.{Within};
+ghost use Rattle.m_separation.specs.declared.marks.Mark.TheVariants.{Out};
 ghost use Rattle.answer_text.specs.Printing.{printed};
 ghost use Rattle.answer_text.specs.Notations.{name_in, sign_text};
 ghost use Rattle.answer_text.specs.Texts.{comma_in, names_in, names_behind, set_in, set_text, mark_text, steps_text, path_text, member_names, conditions_in, term_in, term_text};
@@ -24,10 +24,9 @@ use std::alloc::AllocError;
 
 /// Appends the name of vertex v as it is printed. At an error what was appended is open.
 pub fn push_vertex(out: &mut Vec<u8>, names: &Names, v: u8) -> Result<(), AllocError>
-    requires { v < length names.now }
     ensures { OnOk result (out.new.items ≡ out.old.items ++ printed (name_of names.now v)) }
 {
-    push_name(out, names.get(v))
+    push_name(out, names.name(v))
 }
 
 /// Appends the name of vertex v in a notation.
@@ -37,19 +36,17 @@ fn push_vertex_in(
     names: &Names,
     v: u8,
 ) -> Result<(), AllocError>
-    requires { v < length names.now }
     ensures { OnOk result (out.new.items ≡ out.old.items ++ name_in notation (name_of names.now v)) }
 {
     match notation {
         Notation::Plain => push_vertex(out, names, v),
-        Notation::Latex => push_latex_name(out, names.get(v)),
+        Notation::Latex => push_latex_name(out, names.name(v)),
     }
 }
 
 /// Appends a set: its names in index order, with commas between them, in braces.
 /// At an error what was appended is open.
 pub fn push_set(out: &mut Vec<u8>, names: &Names, set: VSet) -> Result<(), AllocError>
-    requires { Within (length names.now) (has set.bits) }
     ensures { OnOk result (out.new.items ≡ out.old.items ++ set_text names.now set.bits) }
 {
     push_set_in(out, Notation::Plain, names, set)
@@ -62,7 +59,6 @@ pub fn push_set_in(
     names: &Names,
     set: VSet,
 ) -> Result<(), AllocError>
-    requires { Within (length names.now) (has set.bits) }
     ensures { OnOk result (out.new.items ≡ out.old.items ++ set_in notation names.now set.bits) }
 {
     out.push(b'{')?;
@@ -89,7 +85,6 @@ fn push_members(
     names: &Names,
     set: VSet,
 ) -> Result<(), AllocError>
-    requires { Within (length names.now) (has set.bits) }
     ensures { OnOk result (out.new.items ≡ out.old.items ++ names_in notation (member_names names.now (has set.bits))) }
 {
     let mut rest = set.iter();
@@ -111,7 +106,7 @@ fn mark_bytes(mark: Mark) -> &'static [u8]
     }
 }
 
-/// Appends a path of `count` vertices. At an error what was appended is open.
+/// Appends a path of `count` vertices; nothing where it has none. At an error what was appended is open.
 pub fn push_path(
     out: &mut Vec<u8>,
     names: &Names,
@@ -119,18 +114,32 @@ pub fn push_path(
     marks: &[Mark; 64],
     count: u32,
 ) -> Result<(), AllocError>
-    requires some { 0 < count }
-    requires few { count ≤ 64 }
-    requires named { (i : ℕ) → i < count → slice_index vertices.now i < length names.now }
     ensures { OnOk result (out.new.items ≡ out.old.items ++ path_text names.now vertices.now marks.now count) }
 {
-    push_vertex(out, names, vertices[0])?;
+    if count == 0 {
+        return Ok(());
+    }
+    push_vertex(out, names, vertex_at(vertices, 0))?;
     let steps = count as usize - 1;
     for i in 0..steps {
-        out.extend_from_slice(mark_bytes(marks[i]))?;
-        push_vertex(out, names, vertices[i + 1])?;
+        out.extend_from_slice(mark_bytes(mark_at(marks, i)))?;
+        push_vertex(out, names, vertex_at(vertices, i + 1))?;
     }
     Ok(())
+}
+
+/// Vertex i of a path, and the first vertex of all where the path has no such place.
+fn vertex_at(vertices: &[u8; 64], i: usize) -> u8
+    ensures { result ≡ slice_index vertices.now i }
+{
+    if i < 64 { vertices[i] } else { 0 }
+}
+
+/// Mark i of a path, and an arrow where the path has no such place.
+fn mark_at(marks: &[Mark; 64], i: usize) -> Mark
+    ensures { result ≡ slice_index_or marks.now i Out }
+{
+    if i < 64 { marks[i] } else { Mark::Out }
 }
 
 /// A probability: of a set, under an intervention on another, given a third.
@@ -144,9 +153,6 @@ pub struct Term {
 /// Appends a probability, as `P(Y|do(X),Z)`; what is empty is left out.
 /// At an error what was appended is open.
 pub fn push_term(out: &mut Vec<u8>, names: &Names, term: Term) -> Result<(), AllocError>
-    requires what { Within (length names.now) (has term.of.bits) }
-    requires doing { Within (length names.now) (has term.doing.bits) }
-    requires given { Within (length names.now) (has term.given.bits) }
     ensures { OnOk result (out.new.items ≡ out.old.items ++ term_text names.now (has term.of.bits) (has term.doing.bits) (has term.given.bits)) }
 {
     push_term_in(out, Notation::Plain, names, term)
@@ -159,9 +165,6 @@ pub fn push_term_in(
     names: &Names,
     term: Term,
 ) -> Result<(), AllocError>
-    requires what { Within (length names.now) (has term.of.bits) }
-    requires doing { Within (length names.now) (has term.doing.bits) }
-    requires given { Within (length names.now) (has term.given.bits) }
     ensures { OnOk result (out.new.items ≡ out.old.items ++ term_in notation names.now (has term.of.bits) (has term.doing.bits) (has term.given.bits)) }
 {
     out.extend_from_slice(b"P(")?;
@@ -179,8 +182,6 @@ fn push_conditions(
     doing: VSet,
     given: VSet,
 ) -> Result<(), AllocError>
-    requires doing { Within (length names.now) (has doing.bits) }
-    requires given { Within (length names.now) (has given.bits) }
     ensures { OnOk result (out.new.items ≡ out.old.items ++ conditions_in notation (member_names names.now (has doing.bits)) (member_names names.now (has given.bits))) }
 {
     if doing.is_empty() {
@@ -202,7 +203,6 @@ fn push_behind(
     names: &Names,
     set: VSet,
 ) -> Result<(), AllocError>
-    requires { Within (length names.now) (has set.bits) }
     ensures { OnOk result (out.new.items ≡ out.old.items ++ names_behind notation sign (member_names names.now (has set.bits))) }
 {
     if set.is_empty() {

@@ -39,7 +39,7 @@ in_table command.Graph = refl
 in_table c = refl
 
 module _ (r : Call) (c : Command) (uses : List Use) (call : IsCallOf (row_for c) r.words uses) where
-  by_table : IsCall table r.words (row_for c) uses
+  pub by_table : IsCall table r.words (row_for c) uses
   by_table = record { command = in_table c; spelling = call.spelling; allowed = call.allowed }
 
   -- a request that the words ask for is one of this command, by the same uses
@@ -67,7 +67,7 @@ module _ (r : Call) (c : Command) (uses : List Use) (o : Outcome) (text : Told) 
 
 -- ---- runs
 
-call_answer : (r : Run) (o : Outcome) (text : Told) → Answers commands r o text → (c : Command) (uses : List Use) → IsCallOf (row_for c) r.words uses
+pub call_answer : (r : Run) (o : Outcome) (text : Told) → Answers commands r o text → (c : Command) (uses : List Use) → IsCallOf (row_for c) r.words uses
     → CallAnswer (call_of r) c uses o text
 call_answer r o text (by_words a) c uses call =
     for_words (call_of r) c uses o text a.request (is_of (call_of r) c uses call a.request a.asks) (by_them (call_of r) c uses call a.request a.asks) a.answer

@@ -46,6 +46,8 @@ use Rattle.evaluate_command.specs.Effects.{target_of, IsFoundBy}
 use Rattle.evaluate_command.specs.Ways.{Way, by_procedure, by_adjusting, by_condition}
 use Rattle.evaluate_command.specs.Requests.{Request as EvaluateRequest}
 use Rattle.separation_commands.specs.SeparateAnswers.{SeparateAnswer}
+use Rattle.separation_commands.proofs.SeparateTold.{separate_as_told}
+use Rattle.separation_commands.proofs.RuleTold.{rule_as_told}
 use Rattle.separation_commands.specs.SeparateAnswers as separations
 use Rattle.separation_commands.specs.SeparateRequests.{Request as SeparateRequest}
 use Rattle.separation_commands.specs.SeparateRequests as separate_requests
@@ -293,7 +295,7 @@ separated_on q bytes text d holds a =
 separated : (r : Call) (uses : List Use) (text : Told) → Appends r.before r.after text.text → CallAnswer r Separate uses Yes text
     → WrittenFor separate_requests.IsRequest (λ q. q.file) IsSeparationAsDrawn r uses
 separated r uses text = written_for r Separate uses Yes text (λ q. q.file) IsSeparationAsDrawn (λ q h. h) (λ q. refl) (λ q. refl)
-    (λ q is bytes a. separated_on q bytes text a.diagram a.holds a.answer)
+    (λ q is bytes a. separated_on q bytes text a.diagram a.holds (separate_as_told q.format a.diagram q.x q.y q.given Yes text a.answer))
 
 ruled_on : (q : RuleRequest) (bytes : List ℕ) (text : Told) (d : Diagram) → HoldsDiagram bytes d → RuleAnswer q.format q.rule d q.y q.x q.z q.given Yes text
     → IsEquationAsDrawn q bytes text
@@ -319,7 +321,7 @@ ruled_on q bytes text d holds a =
 ruled : (r : Call) (uses : List Use) (text : Told) → Appends r.before r.after text.text → CallAnswer r Rule uses Yes text
     → WrittenFor rule_requests.IsRequest (λ q. q.file) IsEquationAsDrawn r uses
 ruled r uses text = written_for r Rule uses Yes text (λ q. q.file) IsEquationAsDrawn (λ q h. h) (λ q. refl) (λ q. refl)
-    (λ q is bytes a. ruled_on q bytes text a.diagram a.holds a.answer)
+    (λ q is bytes a. ruled_on q bytes text a.diagram a.holds (rule_as_told q.format q.rule a.diagram q.y q.x q.z q.given Yes text a.answer))
 
 -- ---- a run
 

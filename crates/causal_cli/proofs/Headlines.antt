@@ -1,32 +1,49 @@
 -- From the end of a run to its headline.
-use Rattle.std.proofs.Common.{◌≡◌, ℕ, List, [], ◌∷◌, Some, None, ◌<◌, ◌≤◌, refl, arith}
-use Rattle.std.specs.Prelude.{unwrap_or}
+use Rattle.std.proofs.Common.{◌≡◌, ◌⊎◌, ℕ, List, [], ◌∷◌, Option, Some, None, inl, inr, ◌<◌, ◌≤◌, refl, sym, ◌∙◌, subst, arith}
+use Rattle.std.proofs.lemmas.Option.{same_Some, none-some}
+use Rattle.std.specs.Prelude.{unwrap_or, IfSome}
+use Rattle.std.specs.Option.{option_or}
 use Rattle.std.specs.Io.KnownBytes.{Appends}
 use Rattle.mixed_graph.specs.Bits.{has}
 use Rattle.mixed_graph.specs.Graphs.{MixedGraph}
 use Rattle.mixed_graph.specs.Shown.{graph_of}
-use Rattle.command_words.specs.Form.{Use}
+use Rattle.command_words.specs.Form.{Text, Use}
+use Rattle.dag_reader.specs.RoundTrip.{AreSame}
+use Rattle.dag_reader.proofs.OneReading.{reads_either}
+use Rattle.targets.specs.Targets.{EffectLists, AreEffectSets, listed}
 use Rattle.prob_expr.specs.Tree.{PlainFormula, PlainTarget, effect_on}
 use Rattle.prob_expr.specs.Values.{EqualsEffect}
 use Rattle.dag_reader.specs.declared.graph.ReadGraph.{ReadGraph}
 use Rattle.hidden_models.proofs.Drawn.{right_as_drawn}
 use Rattle.replies.specs.Told.{Told}
 use Rattle.replies.specs.declared.outcome.Outcome.{Outcome}
-use Rattle.replies.specs.declared.outcome.Outcome.TheVariants.{Yes, No}
+use Rattle.replies.specs.declared.outcome.Outcome.TheVariants.{Yes, No, Graph}
+use Rattle.replies.specs.Refusals.{IsGraphRefusal, too_long, faulty}
+use Rattle.replies.specs.Observed.{HoldsGraph}
+use Rattle.replies.proofs.OneGraph.{one_reading}
+use Rattle.replies.proofs.OneTarget.{no_effect_fault}
 use Rattle.replies.specs.Outcomes.{code_of}
-use Rattle.diagram.specs.Observed.{IsObservedGraph}
+use Rattle.diagram.specs.Observed.{IsObservedGraph, observed_names}
+use Rattle.diagram.proofs.OneObserved.{same_observed_names}
 use Rattle.diagram.specs.Sets.{Names, effect_lists}
 use Rattle.diagram.specs.declared.diagram.Diagram.{Diagram}
-use Rattle.diagram.proofs.ObservedParts.{as_read}
+use Rattle.diagram.proofs.ObservedParts.{as_read, part_of}
 use Rattle.replies.specs.Observed.{HoldsDiagram}
 use Rattle.identify_command.specs.declared.form.Form.{Form}
 use Rattle.identify_command.specs.Answers.{EffectAnswer, IdentifyAnswer}
 use Rattle.identify_command.specs.Conditions.{IdentifyAnswerGiven}
 use Rattle.identify_command.specs.Requests.{Request as Asked}
-use Rattle.causal_cli.specs.Calls.{Call}
+use Rattle.identify_command.specs.Requests.{identify_row}
+use Rattle.identify_command.proofs.Lawful.{identify_lawful}
+use Rattle.command_run.specs.Commands.{of, Asks}
+use Rattle.command_run.specs.Answers.{Defined}
+use Rattle.command_run.specs.Run.{Run}
+use Rattle.command_run.specs.Complete.{Complete, NothingFailed}
+use Rattle.causal_cli.specs.Calls.{Call, call_of, IsCallOf}
+use Rattle.causal_cli.specs.Commands.{commands}
 use Rattle.causal_cli.specs.declared.commands.Command.TheVariants.{Identify}
-use Rattle.causal_cli.specs.Headline.{IsRightAsDrawn, ShowsRightFormula, ShowsRightHedge, IsShown, Identified, Headline}
-use Rattle.causal_cli.proofs.CallAnswers.{CallAnswer, Gave, written_for}
+use Rattle.causal_cli.specs.Headline.{IsRightAsDrawn, ShowsRightFormula, ShowsRightHedge, IsShown, Identified, AsksEffect, Headline}
+use Rattle.causal_cli.proofs.CallAnswers.{CallAnswer, on_words, on_file, on_both, Gave, by_table, call_answer, written_for}
 
 -- what equals an effect in the observed graph is right in the diagram as drawn
 pub drawn : (g : ReadGraph) (q : MixedGraph) → IsObservedGraph g q → (t : PlainTarget) (f : PlainFormula) → EqualsEffect q t f → IsRightAsDrawn g t f
@@ -77,7 +94,14 @@ shown_hedge q bytes text d holds a =
         x = h.x;
         y = h.y;
         sets = h.sets;
-        answer = record { hedge = h.answer.hedge; models = h.answer.pair; right = h.answer.found.right; prints = h.answer.prints };
+        answer = record {
+          hedge = h.answer.hedge;
+          models = h.answer.pair;
+          right = h.answer.found.right;
+          evidence = h.answer.found.evidence;
+          built = h.answer.found.models;
+          prints = h.answer.prints;
+        };
       };
     }
 
@@ -95,20 +119,79 @@ hedge_written r uses text = written_for r Identify uses No text (λ q. q.file)
     (λ q bytes line. unwrap_or q.given [] ≡ [] → IsShown ShowsRightHedge q bytes line) (λ q h. h) (λ q. refl) (λ q. refl)
     (λ q is bytes a none. shown_hedge q bytes text a.diagram a.holds (bare q.form a.diagram q.x q.y q.given No text none a.answer))
 
--- a status that is none of an answer says nothing
-other_status : (r : Call) (code : ℕ) → 1 < code → Headline r code
-other_status r code high = record {
-  formula = λ uses call e. absurd (omega (arith, high, e));
-  hedge = λ uses call e. absurd (omega (arith, high, e));
+-- the bytes of a graph aren't refused
+held_or_refused : (bytes : List ℕ) (g : ReadGraph) (told : Told) → HoldsGraph bytes g → IsGraphRefusal bytes told → ⊥
+held_or_refused bytes g told h (too_long long e) = omega (arith, long, h.small)
+held_or_refused bytes g told h (faulty fault small some reads e) = reads_either bytes g fault h.reads some reads
+
+-- graphs that are the same have the same lists of an effect
+same_lists : (g : ReadGraph) (d : Diagram) (x y : Names) → AreSame g d.read
+    → effect_lists d.read d.observed.names x y ≡ effect_lists g (observed_names g) x y
+same_lists g d x y same = λ i. record {
+  all = same.names i;
+  observed = ((part_of d).names ∙ same_observed_names g d.read same) i;
+  x = listed (same.names i) (same.exposures i) x;
+  y = listed (same.names i) (same.outcomes i) y;
 }
 
-pub headline : (r : Call) (code : ℕ) (o : Outcome) (text : Told) → code ≡ code_of o → (code ≤ 1 → Gave r o text) → Headline r code
-headline r code Yes text c g = let h = g (omega (arith, c)) in record {
-  formula = λ uses call zero. formula_written r uses text h.whole (h.answers Identify uses call);
+-- the words ask for the effect of two sets of a graph, and nothing failed: then the answer is yes or no
+module _ (r : Run) (code : ℕ) (uses : List Use) (call : IsCallOf identify_row r.words uses) (a : AsksEffect r uses) where
+  -- on a diagram of the bytes the lists have no fault
+  on_diagram : (o : Outcome) (told : Told) (d : Diagram) → HoldsDiagram a.bytes d
+      → IdentifyAnswer a.request.form d a.request.x a.request.y o told → code ≡ code_of o → (code ≡ 0) ⊎ ((code ≡ 1) ⊎ (code ≡ 8))
+  on_diagram Yes told d holds h e = inl e
+  on_diagram No told d holds h e = inr (inl e)
+  on_diagram Graph told d holds h e = absurd (no_effect_fault (effect_lists d.read d.observed.names a.request.x a.request.y) a.x a.y h.fault
+      (subst (λ (l : EffectLists). AreEffectSets l a.x a.y)
+      (sym (same_lists a.graph d a.request.x a.request.y (one_reading a.bytes a.graph d.read a.holds holds))) a.sets) h.is_fault)
+  on_diagram o told d holds h e = absurd h
+
+  on_bytes : (o : Outcome) (told : Told) → Defined commands (of Identify a.request) a.bytes o told → code ≡ code_of o
+      → (code ≡ 0) ⊎ ((code ≡ 1) ⊎ (code ≡ 8))
+  on_bytes Graph told (inl refused) e = absurd (held_or_refused a.bytes a.graph told a.holds refused)
+  on_bytes Graph told (inr h) e = on_diagram Graph told h.diagram h.holds
+      (bare a.request.form h.diagram a.request.x a.request.y a.request.given Graph told a.bare h.answer) e
+  on_bytes o told h e = on_diagram o told h.diagram h.holds
+      (bare a.request.form h.diagram a.request.x a.request.y a.request.given o told a.bare h.answer) e
+
+  of_request : (o : Outcome) (told : Told) → CallAnswer (call_of r) Identify uses o told → code ≡ code_of o → (code ≡ 0) ⊎ ((code ≡ 1) ⊎ (code ≡ 8))
+  of_request o told (on_words q is h) e = absurd h
+  of_request o told (on_file q is file names defined) e =
+      let same = identify_lawful.one_request uses a.request q a.asks is in
+      let named = subst (λ (p : Asked). p.file ≡ file) same (same_Some q.file file names) in
+      let there = subst (λ (p : Asked). IfSome (option_or r.kept (r.held file)) (λ bytes. Defined commands (of Identify p) bytes o told)) same defined in
+      let told_bytes = subst (λ (n : Text). IfSome (option_or r.kept (r.held n)) (λ bytes. Defined commands (of Identify a.request) bytes o told))
+      (sym named) there in
+      on_bytes o told (subst (λ (m : Option (List ℕ)). IfSome m (λ bytes. Defined commands (of Identify a.request) bytes o told)) a.held told_bytes) e
+  of_request o told (on_both q is file second names names_second h) e = absurd (none-some second names_second)
+
+  pub answered : Complete commands r code → NothingFailed commands r → (code ≡ 0) ⊎ ((code ≡ 1) ⊎ (code ≡ 8))
+  answered c nothing = elim (c.answered (of Identify a.request) asked nothing) [
+    | inl d ↦ of_request d.outcome d.told (call_answer r d.outcome d.told d.answers Identify uses call) d.status
+    | inr e ↦ inr (inr e)
+  ]
+    where
+      asked : Asks commands r.words (of Identify a.request)
+      asked = record { uses = uses; call = by_table (call_of r) Identify uses call; asks = a.asks }
+
+-- a status that is none of an answer says nothing
+other_status : (r : Run) (code : ℕ) → 1 < code → Complete commands r code → Headline r code
+other_status r code high c = record {
+  formula = λ uses call e. absurd (omega (arith, high, e));
+  hedge = λ uses call e. absurd (omega (arith, high, e));
+  answered = λ uses call a. answered r code uses call a c;
+}
+
+pub headline : (r : Run) (code : ℕ) (o : Outcome) (text : Told) → code ≡ code_of o → (code ≤ 1 → Gave (call_of r) o text) → Complete commands r code
+    → Headline r code
+headline r code Yes text c g whole = let h = g (omega (arith, c)) in record {
+  formula = λ uses call zero. formula_written (call_of r) uses text h.whole (h.answers Identify uses call);
   hedge = λ uses call one. absurd (omega (arith, c, one));
+  answered = λ uses call a. answered r code uses call a whole;
 }
-headline r code No text c g = let h = g (omega (arith, c)) in record {
+headline r code No text c g whole = let h = g (omega (arith, c)) in record {
   formula = λ uses call zero. absurd (omega (arith, c, zero));
-  hedge = λ uses call one. hedge_written r uses text h.whole (h.answers Identify uses call);
+  hedge = λ uses call one. hedge_written (call_of r) uses text h.whole (h.answers Identify uses call);
+  answered = λ uses call a. answered r code uses call a whole;
 }
-headline r code o text c g = other_status r code (omega (arith, c))
+headline r code o text c g whole = other_status r code (omega (arith, c)) whole

@@ -54,6 +54,8 @@ use Rattle.surrogate_command.specs.Sets.{surrogate_lists}
 use Rattle.evaluate_command.specs.Answers.{ProcedureFirst, EvaluateFirst}
 use Rattle.evaluate_command.specs.Ways.{Way, by_procedure, by_adjusting, by_condition, criterion_query}
 use Rattle.separation_commands.specs.SeparateAnswers.{SeparateAnswer}
+use Rattle.separation_commands.proofs.SeparateTold.{separate_as_told}
+use Rattle.separation_commands.proofs.RuleTold.{rule_as_told}
 use Rattle.separation_commands.specs.SeparateAnswers as separations
 use Rattle.separation_commands.specs.SeparateRequests.{Request as SeparateRequest}
 use Rattle.separation_commands.specs.SeparateRequests as separate_requests
@@ -366,7 +368,7 @@ separated_on q bytes text d holds a =
 separated : (r : Call) (uses : List Use) (text : Told) → Appends r.before r.after text.text → CallAnswer r Separate uses No text
     → WrittenFor separate_requests.IsRequest (λ q. q.file) IsDependenceAsDrawn r uses
 separated r uses text = written_for r Separate uses No text (λ q. q.file) IsDependenceAsDrawn (λ q h. h) (λ q. refl) (λ q. refl)
-    (λ q is bytes a. separated_on q bytes text a.diagram a.holds a.answer)
+    (λ q is bytes a. separated_on q bytes text a.diagram a.holds (separate_as_told q.format a.diagram q.x q.y q.given No text a.answer))
 
 ruled_on : (q : RuleRequest) (bytes : List ℕ) (text : Told) (d : Diagram) → HoldsDiagram bytes d → RuleAnswer q.format q.rule d q.y q.x q.z q.given No text
     → IsFailureAsDrawn q bytes text
@@ -392,7 +394,7 @@ ruled_on q bytes text d holds a =
 ruled : (r : Call) (uses : List Use) (text : Told) → Appends r.before r.after text.text → CallAnswer r Rule uses No text
     → WrittenFor rule_requests.IsRequest (λ q. q.file) IsFailureAsDrawn r uses
 ruled r uses text = written_for r Rule uses No text (λ q. q.file) IsFailureAsDrawn (λ q h. h) (λ q. refl) (λ q. refl)
-    (λ q is bytes a. ruled_on q bytes text a.diagram a.holds a.answer)
+    (λ q is bytes a. ruled_on q bytes text a.diagram a.holds (rule_as_told q.format q.rule a.diagram q.y q.x q.z q.given No text a.answer))
 
 -- ---- a run
 

@@ -29,6 +29,10 @@ use Rattle.effect_answers.proofs.OneNo.{one_hedge_in}
 use Rattle.separation_commands.specs.GraphAnswers.{GraphAnswer}
 use Rattle.separation_commands.specs.GraphObjects.{role_json, graph_json}
 use Rattle.separation_commands.specs.SeparateAnswers as separations
+use Rattle.separation_commands.specs.SeparateCommand.{separate_command}
+use Rattle.separation_commands.specs.RuleCommand.{rule_command}
+use Rattle.separation_commands.proofs.SeparateTold.{separate_as_told}
+use Rattle.separation_commands.proofs.RuleTold.{rule_as_told}
 use Rattle.separation_commands.specs.SeparateLines.{separated_text}
 use Rattle.separation_commands.specs.SeparateObjects.{separated_json}
 use Rattle.separation_commands.specs.RuleAnswers as rules
@@ -246,12 +250,14 @@ pub texts_are_one : TextsAreOne
 texts_are_one = record {
   survey = λ q o. survey_once q.format q.seed o;
   graph = λ q o bytes. on_bytes bytes (λ d. GraphAnswer q.format q.project d) o (graph_once q.format q.project o);
-  separate = λ q o told bytes. on_bytes bytes (λ d. separations.SeparateAnswer q.format d q.x q.y q.given) o
-      (for_diagrams (λ d. query_lists d.read d.observed.names q.x q.y q.given) (λ p l. separations.ListsAnswer q.format p l o)
-      (same_query_lists q.x q.y q.given) (separated_once o told q.format));
-  rule = λ q o told bytes. on_bytes bytes (λ d. rules.RuleAnswer q.format q.rule d q.y q.x q.z q.given) o
-      (for_diagrams (λ d. rule_lists d.read d.observed.names q.y q.x q.z q.given) (λ p l. rules.ListsAnswer q.format q.rule p l o)
-      (same_rule_lists q.y q.x q.z q.given) (ruled_once o told q.format q.rule));
+  separate = λ q o told bytes. on_bytes bytes (λ d. separate_command.by_diagram q d) o (λ d e s text line a b.
+      for_diagrams (λ d. query_lists d.read d.observed.names q.x q.y q.given) (λ p l. separations.ListsAnswer q.format p l o)
+      (same_query_lists q.x q.y q.given) (separated_once o told q.format) d e s text line
+      (separate_as_told q.format d q.x q.y q.given o text a) (separate_as_told q.format e q.x q.y q.given o line b));
+  rule = λ q o told bytes. on_bytes bytes (λ d. rule_command.by_diagram q d) o (λ d e s text line a b.
+      for_diagrams (λ d. rule_lists d.read d.observed.names q.y q.x q.z q.given) (λ p l. rules.ListsAnswer q.format q.rule p l o)
+      (same_rule_lists q.y q.x q.z q.given) (ruled_once o told q.format q.rule) d e s text line
+      (rule_as_told q.format q.rule d q.y q.x q.z q.given o text a) (rule_as_told q.format q.rule e q.y q.x q.z q.given o line b));
   identify = λ q o told bytes. on_bytes bytes (λ d. IdentifyAnswerGiven q.form d q.x q.y q.given) o (identified_once o q.form told q.x q.y q.given);
   surrogate = λ q o bytes. on_bytes bytes (λ d. surrogates.SurrogateAnswer q.form d q.x q.y q.experiments) o
       (surrogate_once o q.form q.x q.y q.experiments);

@@ -31,7 +31,8 @@ pub fn run<S: Shelf, O: Sink, E: Sink>(
         (stream_of (O.written out.old) (O.written out.new) (O.faults out.old) (O.faults out.new))) (stream_of (E.written err.old) (E.written err.new) (E.faults err.old) (E.faults err.new)) result.code }
     ensures complete { Complete commands (run_on (texts_of words.now) (S.held shelf.old) (S.lacks shelf.old) (S.faults shelf.old) (S.faults shelf.new)
         (stream_of (O.written out.old) (O.written out.new) (O.faults out.old) (O.faults out.new))) result.code }
-    ensures headline { Headline (call_on (texts_of words.now) (S.held shelf.old) (O.written out.old) (O.written out.new)) result.code }
+    ensures headline { Headline (run_on (texts_of words.now) (S.held shelf.old) (S.lacks shelf.old) (S.faults shelf.old) (S.faults shelf.new)
+        (stream_of (O.written out.old) (O.written out.new) (O.faults out.old) (O.faults out.new))) result.code }
     ensures checked { HeadlineOfCheck (call_on (texts_of words.now) (S.held shelf.old) (O.written out.old) (O.written out.new)) result.code }
     ensures drawn { RightAsDrawn (call_on (texts_of words.now) (S.held shelf.old) (O.written out.old) (O.written out.new)) result.code }
     ensures refuted { RefutedAsDrawn (call_on (texts_of words.now) (S.held shelf.old) (O.written out.old) (O.written out.new)) result.code }

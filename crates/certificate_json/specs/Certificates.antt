@@ -1,13 +1,14 @@
 -- A certificate as an object, its members sorted by key.
-use Rattle.std.specs.Prelude.{ℕ, List, [], ◌∷◌, ◌++◌, if◌then◌else◌, codes, decimal, map}
+use Rattle.std.specs.Prelude.{ℕ, ◌+◌, ◌==◌, List, [], ◌∷◌, ◌++◌, if◌then◌else◌, codes, decimal, map}
 use Rattle.json.specs.Json.{Json, string, number}
+use Rattle.json.specs.Print.{print}
+use Rattle.json.specs.Tree.{json_tokens}
 use Rattle.mixed_graph.specs.Masks.{is_empty}
 use Rattle.prob_expr.specs.Tree.{Tree, PlainTarget, PlainFormula}
 use Rattle.do_derivation.specs.Plans.{PlainLemma, PlainDerivation}
 use Rattle.expr_text.specs.Write.{text_of}
 use Rattle.certificate.specs.Plain.{PlainHedge, PlainCertificate, formula, hedge}
-use Rattle.certificate_writing.specs.Written.{choices_from, version_of}
-use Rattle.answer_json.specs.Progress.{array_of, object_of}
+use Rattle.answer_json.specs.Progress.{array_of, object_of, json_line}
 use Rattle.answer_json.specs.Values.{text_json, set_json, vertices_json, pair_json, pairs_json}
 use Rattle.certificate_json.specs.Steps.{step_json}
 
@@ -23,9 +24,18 @@ lemma_json names l = array_of (set_json names l.set ∷ step_json names l.plan �
 abbrev pub given_members : List (List ℕ) → ℕ → List (List ℕ × Json)
 given_members names given = if is_empty given then [] else (codes "given", set_json names given) ∷ []
 
+-- the version: 1 where nothing is given, else 2
+abbrev pub version_of : (given : ℕ) → ℕ
+version_of given = if is_empty given then 1 else 2
+
 -- the members of every certificate from `version` on
 abbrev pub target_members : List (List ℕ) → PlainTarget → List (List ℕ × Json)
 target_members names t = (codes "version", number (decimal (version_of t.given))) ∷ (codes "x", set_json names t.x) ∷ (codes "y", set_json names t.y) ∷ []
+
+-- the vertices from v on that have a choice, each with its child
+abbrev pub choices_from : (v : ℕ) → List ℕ → List (ℕ × ℕ)
+choices_from v [] = []
+choices_from v (child ∷ rest) = if child == 64 then choices_from (v + 1) rest else (v, child) ∷ choices_from (v + 1) rest
 
 -- the start alone, and then each found vertex with its partner
 abbrev pub link_values : List (List ℕ) → List (ℕ × ℕ) → List Json
@@ -49,8 +59,20 @@ formula_members names f = (codes "defs", array_of (map (expr_json names) f.defs)
 abbrev pub derivation_members : List (List ℕ) → PlainDerivation → List (List ℕ × Json)
 derivation_members names d = (codes "lemmas", array_of (map (lemma_json names) d.lemmas)) ∷ (codes "main", step_json names d.main) ∷ []
 
+-- the members of a certificate, sorted by key
+abbrev pub certificate_members : List (List ℕ) → PlainCertificate → List (List ℕ × Json)
+certificate_members names (formula t f d) = (codes "answer", string (codes "formula"))
+    ∷ (formula_members names f ++ (given_members names t.given ++ (derivation_members names d ++ target_members names t)))
+certificate_members names (hedge t h) = (codes "answer", string (codes "hedge")) ∷ (hedge_members names h ++ target_members names t)
+
 -- a certificate
 abbrev pub certificate_json : List (List ℕ) → PlainCertificate → Json
-certificate_json names (formula t f d) = object_of ((codes "answer", string (codes "formula"))
-    ∷ (formula_members names f ++ (given_members names t.given ++ (derivation_members names d ++ target_members names t))))
-certificate_json names (hedge t h) = object_of ((codes "answer", string (codes "hedge")) ∷ (hedge_members names h ++ target_members names t))
+certificate_json names c = object_of (certificate_members names c)
+
+-- its text: in compact form, with no line feed at the end
+abbrev pub certificate_text : List (List ℕ) → PlainCertificate → List ℕ
+certificate_text names c = print (json_tokens (certificate_json names c))
+
+-- it on a line of its own
+abbrev pub certificate_line : List (List ℕ) → PlainCertificate → List ℕ
+certificate_line names c = json_line (certificate_json names c)

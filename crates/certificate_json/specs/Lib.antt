@@ -1,2 +1,6 @@
 pub mod Steps
+pub mod StepSizes
 pub mod Certificates
+pub mod Writable
+pub mod Kept
+pub mod ReadsBack

@@ -1,15 +1,11 @@
 //! The members of a formula's certificate.
 
-ghost use Rattle.std.specs.Prelude.{◌≡◌, true, length, codes, map, None, OnOk};
-ghost use Rattle.mixed_graph.specs.Masks.{is_below};
-ghost use Rattle.prob_expr.specs.Check.{fault_in};
+ghost use Rattle.std.specs.Prelude.{◌≡◌, true, codes, map, OnOk};
 ghost use Rattle.prob_expr.specs.View.{view, formula_view};
-ghost use Rattle.do_derivation.specs.Accepts.{are_sets, sets_of};
 ghost use Rattle.do_derivation.specs.View.{lemma_view, step_view, derivation_view};
-ghost use Rattle.expr_text.specs.Sound.{is_sound, all_sound};
-ghost use Rattle.step_json.specs.Laws.{is_within};
-ghost use Rattle.certificate_writing.specs.Writable.{are_steps_within, IsDerivationWithin};
+ghost use Rattle.certificate_json.specs.StepSizes.{is_short};
 ghost use Rattle.answer_json.specs.Progress.{with_value, with_values, with_member, with_members, array_of};
+ghost use Rattle.certificate_json.specs.Kept.{are_steps_short, IsShort};
 ghost use Rattle.certificate_json.specs.Certificates.{expr_json, lemma_json, formula_members, derivation_members};
 
 use crate::steps::push_step;
@@ -22,7 +18,6 @@ use std::alloc::AllocError;
 
 /// The text of an expression.
 pub fn push_expr(object: &mut Object, names: &Names, e: &Expr) -> Result<(), AllocError>
-    requires { is_sound (length names.now) (view e.now) ≡ true }
     ensures { OnOk result (object.new ≡ with_value (expr_json names.now (view e.now)) object.old) }
 {
     let text = write_expr(object.alloc(), e, names)?;
@@ -31,7 +26,6 @@ pub fn push_expr(object: &mut Object, names: &Names, e: &Expr) -> Result<(), All
 
 /// The texts of expressions one after another.
 fn push_exprs(object: &mut Object, names: &Names, list: &Vec<Expr>) -> Result<(), AllocError>
-    requires { all_sound (length names.now) (map view list.now.items) ≡ true }
     ensures { OnOk result (object.new ≡ with_values (map (expr_json names.now) (map view list.now.items)) object.old) }
 {
     for e in list {
@@ -48,7 +42,6 @@ pub fn push_exprs_at(
     name: &str,
     list: &Vec<Expr>,
 ) -> Result<(), AllocError>
-    requires { all_sound (length names.now) (map view list.now.items) ≡ true }
     ensures { OnOk result (object.new ≡ with_member name.now (array_of (map (expr_json names.now) (map view list.now.items))) object.old) }
 {
     object.key(name)?;
@@ -60,7 +53,6 @@ pub fn push_exprs_at(
 
 /// The members of a formula: its definitions, and its main expression.
 pub fn push_formula(object: &mut Object, names: &Names, f: &Formula) -> Result<(), AllocError>
-    requires { fault_in (length names.now) (formula_view f.now) ≡ None }
     ensures { OnOk result (object.new ≡ with_members (formula_members names.now (formula_view f.now)) object.old) }
 {
     push_exprs_at(object, names, "defs", &f.defs)?;
@@ -70,11 +62,9 @@ pub fn push_formula(object: &mut Object, names: &Names, f: &Formula) -> Result<(
 }
 
 /// A lemma: its set and its step.
-#[tactic(auto, using(expr_text::proofs::Within::below_within))]
 fn push_lemma(object: &mut Object, names: &Names, lemma: &Lemma) -> Result<(), AllocError>
-    requires set { is_below (length names.now) lemma.now.set.bits ≡ true }
-    requires step { is_within (length names.now) (step_view lemma.now.step) ≡ true }
-    ensures { OnOk result (object.new ≡ with_value (lemma_json names.now (lemma_view lemma.now)) object.old) }
+    ensures written { OnOk result (object.new ≡ with_value (lemma_json names.now (lemma_view lemma.now)) object.old) }
+    ensures short { OnOk result (is_short (step_view lemma.now.step) ≡ true) }
 {
     object.begin_array()?;
     object.set(names, lemma.set)?;
@@ -85,9 +75,8 @@ fn push_lemma(object: &mut Object, names: &Names, lemma: &Lemma) -> Result<(), A
 
 /// Lemmas one after another.
 fn push_lemmas(object: &mut Object, names: &Names, list: &Vec<Lemma>) -> Result<(), AllocError>
-    requires sets { are_sets (length names.now) (sets_of (map lemma_view list.now.items)) ≡ true }
-    requires steps { are_steps_within (length names.now) (map lemma_view list.now.items) ≡ true }
-    ensures { OnOk result (object.new ≡ with_values (map (lemma_json names.now) (map lemma_view list.now.items)) object.old) }
+    ensures written { OnOk result (object.new ≡ with_values (map (lemma_json names.now) (map lemma_view list.now.items)) object.old) }
+    ensures short { OnOk result (are_steps_short (map lemma_view list.now.items) ≡ true) }
 {
     for lemma in list {
         push_lemma(object, names, lemma)?;
@@ -98,9 +87,8 @@ fn push_lemmas(object: &mut Object, names: &Names, list: &Vec<Lemma>) -> Result<
 /// The member of the lemmas.
 #[tactic(auto, using(answer_json::proofs::Arrays::array_written))]
 fn push_lemmas_at(object: &mut Object, names: &Names, list: &Vec<Lemma>) -> Result<(), AllocError>
-    requires sets { are_sets (length names.now) (sets_of (map lemma_view list.now.items)) ≡ true }
-    requires steps { are_steps_within (length names.now) (map lemma_view list.now.items) ≡ true }
-    ensures { OnOk result (object.new ≡ with_member (codes "lemmas") (array_of (map (lemma_json names.now) (map lemma_view list.now.items))) object.old) }
+    ensures written { OnOk result (object.new ≡ with_member (codes "lemmas") (array_of (map (lemma_json names.now) (map lemma_view list.now.items))) object.old) }
+    ensures short { OnOk result (are_steps_short (map lemma_view list.now.items) ≡ true) }
 {
     object.key("lemmas")?;
     object.begin_array()?;
@@ -115,8 +103,8 @@ pub fn push_derivation(
     names: &Names,
     derivation: &Derivation,
 ) -> Result<(), AllocError>
-    requires { IsDerivationWithin (length names.now) (derivation_view derivation.now) }
-    ensures { OnOk result (object.new ≡ with_members (derivation_members names.now (derivation_view derivation.now)) object.old) }
+    ensures written { OnOk result (object.new ≡ with_members (derivation_members names.now (derivation_view derivation.now)) object.old) }
+    ensures short { OnOk result (IsShort (derivation_view derivation.now)) }
 {
     push_lemmas_at(object, names, &derivation.lemmas)?;
     object.key("main")?;

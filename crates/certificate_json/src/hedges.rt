@@ -1,13 +1,12 @@
 //! The members of a hedge's certificate.
 
-ghost use Rattle.std.specs.Prelude.{◌≡◌, ℕ, ◌<◌, ◌++◌, ◌∷◌, [], length, map, codes, slice_index, All, IfOk, OnOk};
+ghost use Rattle.std.specs.Prelude.{◌≡◌, ◌++◌, ◌∷◌, [], length, map, IfOk, OnOk};
 ghost use Rattle.std.specs.List.{zip};
 ghost use Rattle.certificate.specs.Plain.{links_view, hedge_view};
-ghost use Rattle.certificate_writing.specs.Writable.{IsHedgeWithin};
-ghost use Rattle.certificate_writing.specs.Written.{choices_from};
-ghost use Rattle.answer_json.specs.Progress.{with_value, with_values, with_member, with_members, array_of};
-ghost use Rattle.answer_json.specs.Values.{set_json, vertices_json, pair_json, pairs_json};
-ghost use Rattle.certificate_json.specs.Certificates.{link_values, hedge_members};
+ghost use Rattle.answer_json.specs.Progress.{with_value, with_values, with_members, array_of};
+ghost use Rattle.answer_json.specs.Values.{vertices_json, pair_json, pairs_json};
+ghost use Rattle.certificate_json.specs.Kept.{IsKept};
+ghost use Rattle.certificate_json.specs.Certificates.{choices_from, link_values, hedge_members};
 
 use answer_json::Object;
 use hedge::{Choice, Hedge, Links};
@@ -40,8 +39,8 @@ fn choices_of(alloc: Global, choice: &Choice) -> Result<Vec<(u8, u8)>, AllocErro
 
 /// The choices: each vertex that has one, with its child.
 fn push_choices(object: &mut Object, names: &Names, choice: &Choice) -> Result<(), AllocError>
-    requires { (v : ℕ) → v < 64 → (slice_index choice.now.next v ≡ 64 → ⊥) → (v < length names.now) × (slice_index choice.now.next v < length names.now) }
-    ensures { OnOk result (object.new ≡ with_value (pairs_json names.now (choices_from 0 choice.now.next)) object.old) }
+    ensures written { OnOk result (object.new ≡ with_value (pairs_json names.now (choices_from 0 choice.now.next)) object.old) }
+    ensures size { length choice.now.next ≡ 64 }
 {
     let pairs = choices_of(object.alloc(), choice)?;
     object.pairs(names, pairs.as_slice())
@@ -61,7 +60,6 @@ fn paired(alloc: Global, found: &[u8], partner: &[u8]) -> Result<Vec<(u8, u8)>, 
 
 /// A list of the start alone.
 fn push_start(object: &mut Object, names: &Names, v: u8) -> Result<(), AllocError>
-    requires { v < length names.now }
     ensures { OnOk result (object.new ≡ with_value (vertices_json names.now (v ∷ [])) object.old) }
 {
     object.begin_array()?;
@@ -70,24 +68,31 @@ fn push_start(object: &mut Object, names: &Names, v: u8) -> Result<(), AllocErro
     Ok(())
 }
 
+/// Pairs one after another.
+fn push_each(object: &mut Object, names: &Names, pairs: &[(u8, u8)]) -> Result<(), AllocError>
+    ensures { OnOk result (object.new ≡ with_values (map (pair_json names.now) pairs.now) object.old) }
+{
+    for pair in pairs {
+        object.pair(names, pair.0, pair.1)?;
+    }
+    Ok(())
+}
+
 /// The start alone, and then pairs.
 fn push_entries(object: &mut Object, names: &Names, entries: &[(u8, u8)]) -> Result<(), AllocError>
-    requires some { 0 < length entries.now }
-    requires within { All (λ l. (l.0 < length names.now) × (l.1 < length names.now)) entries.now }
     ensures { OnOk result (object.new ≡ with_values (link_values names.now entries.now) object.old) }
 {
-    push_start(object, names, entries[0].0)?;
-    for i in 1..entries.len() {
-        object.pair(names, entries[i].0, entries[i].1)?;
-    }
+    let [start, rest @ ..] = entries else {
+        return Ok(());
+    };
+    push_start(object, names, start.0)?;
+    push_each(object, names, rest)?;
     Ok(())
 }
 
 /// The links: the start alone, and then each found vertex with its partner.
 #[tactic(auto, using(answer_json::proofs::Arrays::array_written))]
 fn push_links(object: &mut Object, names: &Names, links: &Links) -> Result<(), AllocError>
-    requires some { 0 < length (links_view links.now) }
-    requires within { All (λ l. (l.0 < length names.now) × (l.1 < length names.now)) (links_view links.now) }
     ensures { OnOk result (object.new ≡ with_value (array_of (link_values names.now (links_view links.now))) object.old) }
 {
     let count = links.count as usize;
@@ -103,10 +108,10 @@ fn push_links(object: &mut Object, names: &Names, links: &Links) -> Result<(), A
 }
 
 /// The members of a hedge.
-#[tactic(auto, using(expr_text::proofs::Within::below_within))]
+#[tactic(auto, using(crate::proofs::Keeping::links_few, crate::proofs::Keeping::links_blank))]
 pub fn push_hedge(object: &mut Object, names: &Names, h: &Hedge) -> Result<(), AllocError>
-    requires { IsHedgeWithin (length names.now) (hedge_view h.now) }
-    ensures { OnOk result (object.new ≡ with_members (hedge_members names.now (hedge_view h.now)) object.old) }
+    ensures written { OnOk result (object.new ≡ with_members (hedge_members names.now (hedge_view h.now)) object.old) }
+    ensures kept { OnOk result (IsKept (hedge_view h.now)) }
 {
     object.set_at("big", names, h.big)?;
     object.key("choice")?;

@@ -1,13 +1,11 @@
 //! Steps as lists.
 
-ghost use Rattle.std.specs.Prelude.{◌≡◌, ◌∷◌, [], true, length, codes, decimal, map, OnOk};
+ghost use Rattle.std.specs.Prelude.{◌≡◌, ◌^◌, ◌∷◌, [], true, ltb, leb, length, decimal, map, OnOk};
 ghost use Rattle.json.specs.Json.{string, number};
-ghost use Rattle.mixed_graph.specs.Masks.{is_below};
 ghost use Rattle.do_derivation.specs.Plans.{Move, Plan};
 ghost use Rattle.do_derivation.specs.View.{step_view, steps_view, listed, numbers_of};
-ghost use Rattle.step_json.specs.Laws.{are_below, is_within, are_within};
+ghost use Rattle.certificate_json.specs.StepSizes.{are_below, groups_below, is_short, are_short};
 ghost use Rattle.answer_json.specs.Progress.{with_value, with_values, items};
-ghost use Rattle.answer_json.specs.Values.{vertices_json};
 ghost use Rattle.certificate_json.specs.Steps.{numbers_json, said_json, said_set_json, move_json, step_json, steps_json};
 
 use answer_json::Object;
@@ -15,12 +13,21 @@ use do_derivation::Step;
 use mixed_graph::{Names, Order, VSet};
 use std::alloc::AllocError;
 
+/// A number of 32 bits.
+fn push_number(object: &mut Object, k: u32) -> Result<(), AllocError>
+    ensures written { OnOk result (object.new ≡ with_value (number (decimal k)) object.old) }
+    ensures short { ltb k (2 ^ 32) ≡ true }
+{
+    object.number(u64::from(k))
+}
+
 /// Numbers one after another.
-fn push_each(object: &mut Object, list: &[u32]) -> Result<(), AllocError>
-    ensures { OnOk result (object.new ≡ with_values (map (λ n. number (decimal n)) list.now) object.old) }
+fn push_each(object: &mut Object, list: &Vec<u32>) -> Result<(), AllocError>
+    ensures written { OnOk result (object.new ≡ with_values (map (λ n. number (decimal n)) list.now.items) object.old) }
+    ensures short { OnOk result (are_below (2 ^ 32) list.now.items ≡ true) }
 {
     for k in list {
-        object.number(u64::from(*k))?;
+        push_number(object, *k)?;
     }
     Ok(())
 }
@@ -28,17 +35,19 @@ fn push_each(object: &mut Object, list: &[u32]) -> Result<(), AllocError>
 /// A list of numbers.
 #[tactic(auto, using(answer_json::proofs::Arrays::array_written))]
 fn push_numbers(object: &mut Object, list: &Vec<u32>) -> Result<(), AllocError>
-    ensures { OnOk result (object.new ≡ with_value (numbers_json list.now.items) object.old) }
+    ensures written { OnOk result (object.new ≡ with_value (numbers_json list.now.items) object.old) }
+    ensures short { OnOk result (are_below (2 ^ 32) list.now.items ≡ true) }
 {
     object.begin_array()?;
-    push_each(object, list.as_slice())?;
+    push_each(object, list)?;
     object.end_array()?;
     Ok(())
 }
 
 /// Lists of numbers one after another.
 fn push_groups(object: &mut Object, list: &Vec<Vec<u32>>) -> Result<(), AllocError>
-    ensures { OnOk result (object.new ≡ with_values (map numbers_json (numbers_of list.now.items)) object.old) }
+    ensures written { OnOk result (object.new ≡ with_values (map numbers_json (numbers_of list.now.items)) object.old) }
+    ensures short { OnOk result (groups_below (2 ^ 32) (numbers_of list.now.items) ≡ true) }
 {
     for group in list {
         push_numbers(object, group)?;
@@ -65,14 +74,12 @@ fn push_bare(object: &mut Object, word: &str) -> Result<(), AllocError>
 }
 
 /// A word with a set.
-#[tactic(auto, using(expr_text::proofs::Within::below_within))]
 fn push_said_set(
     object: &mut Object,
     names: &Names,
     word: &str,
     set: VSet,
 ) -> Result<(), AllocError>
-    requires { is_below (length names.now) set.bits ≡ true }
     ensures { OnOk result (object.new ≡ with_value (said_set_json names.now word.now set.bits) object.old) }
 {
     begin_said(object, word)?;
@@ -81,21 +88,14 @@ fn push_said_set(
     Ok(())
 }
 
-/// Vertices in their order.
-fn push_order(object: &mut Object, names: &Names, vertices: &[u8]) -> Result<(), AllocError>
-    requires { are_below (length names.now) vertices.now ≡ true }
-    ensures { OnOk result (object.new ≡ with_value (vertices_json names.now vertices.now) object.old) }
-{
-    object.vertices(names, vertices)
-}
-
 /// The order of a chain.
+#[tactic(auto, using(crate::proofs::Keeping::order_short))]
 fn push_chain(object: &mut Object, names: &Names, order: &Order) -> Result<(), AllocError>
-    requires { are_below (length names.now) (listed order.now) ≡ true }
-    ensures { OnOk result (object.new ≡ with_value (move_json names.now (Move.Chain (listed order.now))) object.old) }
+    ensures written { OnOk result (object.new ≡ with_value (move_json names.now (Move.Chain (listed order.now))) object.old) }
+    ensures short { OnOk result (leb (length (listed order.now)) 64 ≡ true) }
 {
     begin_said(object, "chain")?;
-    push_order(object, names, &order.list[..order.count as usize])?;
+    object.vertices(names, &order.list[..order.count as usize])?;
     object.end_array()?;
     Ok(())
 }
@@ -103,7 +103,8 @@ fn push_chain(object: &mut Object, names: &Names, order: &Order) -> Result<(), A
 /// The groups of a product.
 #[tactic(auto, using(answer_json::proofs::Arrays::array_written))]
 fn push_group(object: &mut Object, list: &Vec<Vec<u32>>) -> Result<(), AllocError>
-    ensures { OnOk result (object.new ≡ with_value (move_json [] (Move.Group (numbers_of list.now.items))) object.old) }
+    ensures written { OnOk result (object.new ≡ with_value (move_json [] (Move.Group (numbers_of list.now.items))) object.old) }
+    ensures short { OnOk result (groups_below (2 ^ 32) (numbers_of list.now.items) ≡ true) }
 {
     begin_said(object, "group")?;
     object.begin_array()?;
@@ -115,10 +116,11 @@ fn push_group(object: &mut Object, list: &Vec<Vec<u32>>) -> Result<(), AllocErro
 
 /// A citation.
 fn push_cite(object: &mut Object, k: u32) -> Result<(), AllocError>
-    ensures { OnOk result (object.new ≡ with_value (move_json [] (Move.Cite k)) object.old) }
+    ensures written { OnOk result (object.new ≡ with_value (move_json [] (Move.Cite k)) object.old) }
+    ensures short { OnOk result (ltb k (2 ^ 32) ≡ true) }
 {
     begin_said(object, "cite")?;
-    object.number(u64::from(k))?;
+    push_number(object, k)?;
     object.end_array()?;
     Ok(())
 }
@@ -126,11 +128,11 @@ fn push_cite(object: &mut Object, k: u32) -> Result<(), AllocError>
 /// A step on a child.
 #[cycle(push)]
 fn push_at(object: &mut Object, names: &Names, child: u32, step: &Step) -> Result<(), AllocError>
-    requires { is_within (length names.now) (step_view step.now) ≡ true }
-    ensures { OnOk result (object.new ≡ with_value (step_json names.now (Plan.At child (step_view step.now))) object.old) }
+    ensures written { OnOk result (object.new ≡ with_value (step_json names.now (Plan.At child (step_view step.now))) object.old) }
+    ensures short { OnOk result (is_short (Plan.At child (step_view step.now)) ≡ true) }
 {
     begin_said(object, "at")?;
-    object.number(u64::from(child))?;
+    push_number(object, child)?;
     push_step(object, names, step)?;
     object.end_array()?;
     Ok(())
@@ -139,8 +141,8 @@ fn push_at(object: &mut Object, names: &Names, child: u32, step: &Step) -> Resul
 /// Steps one after another.
 #[cycle(push)]
 fn push_steps(object: &mut Object, names: &Names, steps: &Vec<Step>) -> Result<(), AllocError>
-    requires { are_within (length names.now) (steps_view steps.now.items) ≡ true }
-    ensures { OnOk result (object.new ≡ with_values (steps_json names.now (steps_view steps.now.items)) object.old) }
+    ensures written { OnOk result (object.new ≡ with_values (steps_json names.now (steps_view steps.now.items)) object.old) }
+    ensures short { OnOk result (are_short (steps_view steps.now.items) ≡ true) }
 {
     for step in steps {
         push_step(object, names, step)?;
@@ -152,8 +154,8 @@ fn push_steps(object: &mut Object, names: &Names, steps: &Vec<Step>) -> Result<(
 #[cycle(push)]
 #[tactic(auto, using(answer_json::proofs::Arrays::array_written))]
 fn push_then(object: &mut Object, names: &Names, steps: &Vec<Step>) -> Result<(), AllocError>
-    requires { are_within (length names.now) (steps_view steps.now.items) ≡ true }
-    ensures { OnOk result (object.new ≡ with_value (step_json names.now (Plan.Then (steps_view steps.now.items))) object.old) }
+    ensures written { OnOk result (object.new ≡ with_value (step_json names.now (Plan.Then (steps_view steps.now.items))) object.old) }
+    ensures short { OnOk result (are_short (steps_view steps.now.items) ≡ true) }
 {
     begin_said(object, "then")?;
     object.begin_array()?;
@@ -163,11 +165,11 @@ fn push_then(object: &mut Object, names: &Names, steps: &Vec<Step>) -> Result<()
     Ok(())
 }
 
-/// A step: a word and its arguments.
+/// A step: a word and its arguments. Its numbers have 32 bits, and its orders 64 vertices at most, as the types keep it.
 #[cycle(push)]
 pub fn push_step(object: &mut Object, names: &Names, step: &Step) -> Result<(), AllocError>
-    requires { is_within (length names.now) (step_view step.now) ≡ true }
-    ensures { OnOk result (object.new ≡ with_value (step_json names.now (step_view step.now)) object.old) }
+    ensures written { OnOk result (object.new ≡ with_value (step_json names.now (step_view step.now)) object.old) }
+    ensures short { OnOk result (is_short (step_view step.now) ≡ true) }
 {
     match step {
         Step::Rule1In(z) => push_said_set(object, names, "rule1in", *z),

@@ -1,6 +1,5 @@
 pub mod Harmless
 pub mod Headings
-pub mod LowPaths
 pub mod ReadFormulas
 pub mod ReadTargets
 pub mod Using

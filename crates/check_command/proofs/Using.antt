@@ -1,33 +1,22 @@
 -- What the checks ask of a target that was read, and what a fault that isn't want of memory says.
-use Rattle.std.proofs.Common.{◌≡◌, ℕ, Bool, true, false, ◌&&◌, Result, Err, refl, sym, ◌∙◌, List}
+use Rattle.std.proofs.Common.{◌≡◌, ℕ, Bool, true, false, ◌&&◌, Result, Err, refl, sym, ◌∙◌}
 use Rattle.mixed_graph.specs.Bits.{has}
-use Rattle.mixed_graph.specs.Graphs.{MixedGraph, IsMixedGraph}
 use Rattle.mixed_graph.specs.Sets.{Within, Apart}
 use Rattle.mixed_graph.specs.Masks.{is_below, is_apart}
 use Rattle.prob_expr.specs.TermSets.{are_term_sets}
-use Rattle.prob_expr.specs.Tree.{PlainFormula, PlainTarget}
+use Rattle.prob_expr.specs.Tree.{PlainTarget}
 use Rattle.mixed_graph.proofs.MaskLaws.{apart_has}
-use Rattle.expr_text.proofs.Within.{and_true, first_within, second_within, third_within}
-use Rattle.do_derivation.specs.Accepts.{AcceptsNot}
+use Rattle.expr_text.proofs.Within.{and_true, first_within}
 use Rattle.do_derivation.specs.Answers.{UnlessNoMemory}
-use Rattle.do_derivation.specs.Plans.{PlainDerivation}
 use Rattle.do_derivation.specs.declared.faults.CheckFault.{CheckFault}
 use Rattle.do_derivation.specs.declared.faults.CheckFault.TheVariants as checks
 use Rattle.certificate.specs.Faults.{Fails}
 use Rattle.certificate.specs.declared.fault.CertFault.{CertFault}
 use Rattle.certificate.specs.declared.fault.CertFault.TheVariants.{NotJson, Member, Version, TooDeep, Name, NoMemory}
 use Rattle.check_command.specs.Replies.{IsSoundTarget}
-use Rattle.check_json.specs.Refusals.{IsNamedFault}
-use Rattle.check_command.proofs.LowPaths.{fault_low}
-
-pub x_within : (n : ℕ) (t : PlainTarget) → IsSoundTarget n t → Within n (has t.x)
-x_within n t h = second_within n t.y t.x t.given h
 
 pub y_within : (n : ℕ) (t : PlainTarget) → IsSoundTarget n t → Within n (has t.y)
 y_within n t h = first_within n t.y t.x t.given h
-
-pub given_within : (n : ℕ) (t : PlainTarget) → IsSoundTarget n t → Within n (has t.given)
-given_within n t h = third_within n t.y t.x t.given h
 
 pub sets_apart : (n : ℕ) (t : PlainTarget) → IsSoundTarget n t → Apart (has t.x) (has t.y)
 sets_apart n t h v e = go (has t.y v) refl
@@ -41,15 +30,6 @@ sets_apart n t h v e = go (has t.y v) refl
     go : (b : Bool) → has t.y v ≡ b → b ≡ false
     go true k = sym e ∙ apart_has t.y t.x v apart k
     go false k = refl
-
--- the path of the fault of a check lies in the graph
-pub low_unless : (g : MixedGraph) → IsMixedGraph g → (zs : List ℕ) (t : PlainTarget) (f : PlainFormula) (d : PlainDerivation) (fault : CheckFault)
-    → UnlessNoMemory fault (AcceptsNot g zs t f d fault)
-    → IsNamedFault g.vertices fault
-low_unless g valid zs t f d (checks.Step place why) h = fault_low g valid zs t f d (checks.Step place why) h
-low_unless g valid zs t f d (checks.EndDiffers k) h = tt
-low_unless g valid zs t f d checks.DoLeft h = tt
-low_unless g valid zs t f d checks.NoMemory h = tt
 
 pub told : (fault : CheckFault) (P : Type 0) → UnlessNoMemory fault P → (fault ≡ checks.NoMemory → ⊥) → P
 told (checks.Step place why) P h other = h

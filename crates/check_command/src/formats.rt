@@ -1,18 +1,14 @@
 //! The answers of `check`, in either format.
 
-ghost use Rattle.std.specs.Prelude.{◌≡◌, IfOk, OnOk, length};
-ghost use Rattle.mixed_graph.specs.Bits.{has};
-ghost use Rattle.mixed_graph.specs.Sets.{Within};
+ghost use Rattle.std.specs.Prelude.{◌≡◌, IfOk, OnOk};
 ghost use Rattle.prob_expr.specs.Listed.{masks_of};
 ghost use Rattle.prob_expr.specs.View.{formula_view, target_view};
 ghost use Rattle.identify_text.specs.Answers.{answer_in};
-ghost use Rattle.identify_text.specs.Below.{IsHedgeBelow};
 ghost use Rattle.answer_json.specs.Progress.{json_line};
-ghost use Rattle.check_json.specs.Refusals.{IsNamedFault, derivation_json, hedge_fault_json, met_json};
+ghost use Rattle.check_json.specs.Refusals.{derivation_json, hedge_fault_json, met_json};
 ghost use Rattle.replies.specs.Told.{text_in};
 ghost use Rattle.check_command.specs.Lines.{accepted_text, derivation_text, heading_over, hedge_text, met_text};
 ghost use Rattle.check_command.specs.Objects.{accepted_formula_json, accepted_hedge_json};
-ghost use Rattle.check_command.specs.Replies.{IsSoundTarget, IsSoundFormula};
 
 use crate::lines::{accepted_text, derivation_text, heading_over, hedge_text};
 use crate::objects::{accepted_formula_object, accepted_hedge_object};
@@ -34,8 +30,6 @@ pub fn accepted_formula(
     target: &Target,
     formula: &Formula,
 ) -> Result<Vec<u8>, AllocError>
-    requires target { IsSoundTarget (length names.now) (target_view target.now) }
-    requires formula { IsSoundFormula (length names.now) (formula_view formula.now) }
     ensures { IfOk result (λ v. v.items ≡ text_in format (accepted_text (answer_in Notation.Plain names.now (target_view target.now) (formula_view formula.now)))
         (json_line (accepted_formula_json names.now (target_view target.now) (formula_view formula.now)))) }
 {
@@ -56,7 +50,6 @@ pub fn refused_formula(
     lemmas: usize,
     fault: &CheckFault,
 ) -> Result<Vec<u8>, AllocError>
-    requires { IsNamedFault (length names.now) fault.now }
     ensures text { IfOk result (λ v. v.items ≡ text_in format (derivation_text names.now lemmas fault.now) (json_line (derivation_json names.now lemmas fault.now))) }
     ensures memory { OnOk result (fault.now ≡ CheckFault.NoMemory → ⊥) }
 {
@@ -75,9 +68,6 @@ pub fn accepted_hedge(
     target: &Target,
     hedge: &Hedge,
 ) -> Result<Vec<u8>, AllocError>
-    requires x { Within (length names.now) (has target.now.x.bits) }
-    requires y { Within (length names.now) (has target.now.y.bits) }
-    requires hedge { IsHedgeBelow (length names.now) hedge.now }
     ensures { IfOk result (λ v. v.items ≡ text_in format (accepted_text (heading_over names.now (masks_of experiments.now) target.now.x.bits target.now.y.bits hedge.now))
         (json_line (accepted_hedge_json names.now target.now.x.bits target.now.y.bits hedge.now))) }
 {

@@ -1,11 +1,8 @@
 //! The lines of `check`: what is accepted, and the first fault.
 
-ghost use Rattle.std.specs.Prelude.{◌≡◌, ◌++◌, OnOk, IfOk, length};
-ghost use Rattle.mixed_graph.specs.Bits.{has};
-ghost use Rattle.mixed_graph.specs.Sets.{Within};
+ghost use Rattle.std.specs.Prelude.{◌≡◌, ◌++◌, OnOk, IfOk};
 ghost use Rattle.prob_expr.specs.Listed.{masks_of};
 ghost use Rattle.check_command.specs.Lines.{accepted_text, place_text, fault_digit, path_line, step_text, end_place, derivation_text, name_or_dash, hedge_digit, at_vertex, hedge_text, heading_over};
-ghost use Rattle.check_json.specs.Refusals.{HasNamedPath, IsNamedFault};
 
 use answer_text::push_vertex;
 use do_derivation::{CheckFault, StepFault, StepPlace};
@@ -57,7 +54,6 @@ fn fault_digit(fault: &StepFault) -> &'static [u8]
 
 /// Appends the line of the open path, where that is the fault.
 fn push_path_line(out: &mut Vec<u8>, names: &Names, fault: &StepFault) -> Result<(), AllocError>
-    requires { HasNamedPath (length names.now) fault.now }
     ensures { OnOk result (out.new.items ≡ out.old.items ++ path_line names.now fault.now) }
 {
     match fault {
@@ -79,7 +75,6 @@ fn step_text(
     place: &StepPlace,
     fault: &StepFault,
 ) -> Result<Vec<u8>, AllocError>
-    requires { HasNamedPath (length names.now) fault.now }
     ensures { IfOk result (λ v. v.items ≡ step_text names.now place.now fault.now) }
 {
     let mut text = Vec::from_slice(alloc, b"refused: ")?;
@@ -108,7 +103,6 @@ pub fn derivation_text(
     lemmas: usize,
     fault: &CheckFault,
 ) -> Result<Vec<u8>, AllocError>
-    requires { IsNamedFault (length names.now) fault.now }
     ensures text { IfOk result (λ v. v.items ≡ derivation_text names.now lemmas fault.now) }
     ensures memory { OnOk result (fault.now ≡ CheckFault.NoMemory → ⊥) }
 {
@@ -182,11 +176,6 @@ pub fn heading_over(
     target: &Target,
     hedge: &Hedge,
 ) -> Result<Vec<u8>, AllocError>
-    requires x { Within (length names.now) (has target.now.x.bits) }
-    requires y { Within (length names.now) (has target.now.y.bits) }
-    requires big { Within (length names.now) (has hedge.now.big.bits) }
-    requires small { Within (length names.now) (has hedge.now.small.bits) }
-    requires roots { Within (length names.now) (has hedge.now.roots.bits) }
     ensures { IfOk result (λ v. v.items ≡ heading_over names.now (masks_of experiments.now) target.now.x.bits target.now.y.bits hedge.now) }
 {
     if experiments.is_empty() {

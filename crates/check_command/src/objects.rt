@@ -1,16 +1,11 @@
 //! The objects of accepted certificates.
 
-ghost use Rattle.std.specs.Prelude.{◌≡◌, length, codes, None, IfOk, OnOk};
-ghost use Rattle.mixed_graph.specs.Bits.{has};
-ghost use Rattle.mixed_graph.specs.Sets.{Within};
-ghost use Rattle.prob_expr.specs.Check.{fault_in};
+ghost use Rattle.std.specs.Prelude.{◌≡◌, codes, IfOk, OnOk};
 ghost use Rattle.prob_expr.specs.Tree.{effect_on};
 ghost use Rattle.prob_expr.specs.View.{formula_view, target_view};
-ghost use Rattle.identify_text.specs.Below.{IsHedgeBelow};
 ghost use Rattle.answer_json.specs.Progress.{nothing, members, with_member, json_line};
 ghost use Rattle.effect_answers.specs.Objects.{effect_json};
 ghost use Rattle.check_command.specs.Objects.{formula_answer, hedge_answer, accepted_formula_json, accepted_hedge_json};
-ghost use Rattle.check_command.specs.Replies.{IsSoundTarget, IsSoundFormula};
 
 use answer_json::Object;
 use effect_answers::objects::{push_formula, push_target};
@@ -30,10 +25,6 @@ fn begin_formula(
     target: &Target,
     f: &Formula,
 ) -> Result<Object, AllocError>
-    requires what { Within (length names.now) (has target.now.y.bits) }
-    requires doing { Within (length names.now) (has target.now.x.bits) }
-    requires given { Within (length names.now) (has target.now.given.bits) }
-    requires formula { fault_in (length names.now) (formula_view f.now) ≡ None }
     ensures { IfOk result (λ o. o ≡ members nothing (formula_answer names.now (target_view target.now) (formula_view f.now))) }
 {
     let mut object = Object::new(alloc)?;
@@ -51,8 +42,6 @@ pub fn accepted_formula_object(
     target: &Target,
     formula: &Formula,
 ) -> Result<Vec<u8>, AllocError>
-    requires target { IsSoundTarget (length names.now) (target_view target.now) }
-    requires formula { IsSoundFormula (length names.now) (formula_view formula.now) }
     ensures { IfOk result (λ v. v.items ≡ json_line (accepted_formula_json names.now (target_view target.now) (formula_view formula.now))) }
 {
     let object = begin_formula(alloc, names, target, formula)?;
@@ -63,8 +52,6 @@ pub fn accepted_formula_object(
 
 /// The member of the effect of x on y as text.
 fn push_effect(object: &mut Object, names: &Names, x: VSet, y: VSet) -> Result<(), AllocError>
-    requires x { Within (length names.now) (has x.bits) }
-    requires y { Within (length names.now) (has y.bits) }
     ensures { OnOk result (object.new ≡ with_member (codes "effect") (effect_json names.now (effect_on x.bits y.bits)) object.old) }
 {
     let text = effect_text(object.alloc(), x, y, names)?;
@@ -79,9 +66,6 @@ fn begin_hedge(
     y: VSet,
     hedge: &Hedge,
 ) -> Result<Object, AllocError>
-    requires x { Within (length names.now) (has x.bits) }
-    requires y { Within (length names.now) (has y.bits) }
-    requires hedge { IsHedgeBelow (length names.now) hedge.now }
     ensures { IfOk result (λ o. o ≡ members nothing (hedge_answer names.now x.bits y.bits hedge.now)) }
 {
     let mut object = Object::new(alloc)?;
@@ -103,9 +87,6 @@ pub fn accepted_hedge_object(
     y: VSet,
     hedge: &Hedge,
 ) -> Result<Vec<u8>, AllocError>
-    requires x { Within (length names.now) (has x.bits) }
-    requires y { Within (length names.now) (has y.bits) }
-    requires hedge { IsHedgeBelow (length names.now) hedge.now }
     ensures { IfOk result (λ v. v.items ≡ json_line (accepted_hedge_json names.now x.bits y.bits hedge.now)) }
 {
     let object = begin_hedge(alloc, names, x, y, hedge)?;

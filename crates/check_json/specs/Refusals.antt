@@ -8,7 +8,7 @@ use Rattle.do_derivation.specs.declared.faults.CheckFault.TheVariants.{Step, End
 use Rattle.hedge.specs.declared.hedge.HedgeFault.{HedgeFault}
 use Rattle.hedge.specs.declared.hedge.HedgeFault.TheVariants as hedges
 use Rattle.answer_json.specs.Progress.{Progress, nothing, members, at_key, object_of}
-use Rattle.answer_json.specs.Values.{vertex_json, path_json, IsNamedPath}
+use Rattle.answer_json.specs.Values.{vertex_json, path_json}
 
 -- ---- derivations
 
@@ -44,24 +44,6 @@ open_members names Grouping = []
 open_members names (NoLemma k) = []
 open_members names (NoPlace i) = []
 open_members names Shape = []
-
--- its path, where it has one, is of named vertices
-abbrev pub HasNamedPath : ℕ → StepFault → Type 0
-HasNamedPath n NotATerm = Unit {0}
-HasNamedPath n Sets = Unit {0}
-HasNamedPath n (Unblocked p) = IsNamedPath n p
-HasNamedPath n BadOrder = Unit {0}
-HasNamedPath n Grouping = Unit {0}
-HasNamedPath n (NoLemma k) = Unit {0}
-HasNamedPath n (NoPlace i) = Unit {0}
-HasNamedPath n Shape = Unit {0}
-
--- the same of a derivation's fault
-abbrev pub IsNamedFault : ℕ → CheckFault → Type 0
-IsNamedFault n (Step place fault) = HasNamedPath n fault
-IsNamedFault n (EndDiffers k) = Unit {0}
-IsNamedFault n DoLeft = Unit {0}
-IsNamedFault n NoMemory = Unit {0}
 
 -- a number, where there is one
 abbrev pub number_or_null : Option ℕ → Json

@@ -1,10 +1,10 @@
 //! A derivation that is refused.
 
-ghost use Rattle.std.specs.Prelude.{◌≡◌, [], IfOk, OnOk, length, None};
+ghost use Rattle.std.specs.Prelude.{◌≡◌, [], IfOk, OnOk, None};
 ghost use Rattle.std.specs.Str.{IsUtf8};
 ghost use Rattle.json.specs.Json.{null};
 ghost use Rattle.answer_json.specs.Progress.{with_value, with_member, with_members, json_line};
-ghost use Rattle.check_json.specs.Refusals.{step_number, step_message, open_members, number_or_null, at_json, refused_json, end_place, end_message, do_message, derivation_json, HasNamedPath, IsNamedFault, begun_refusal};
+ghost use Rattle.check_json.specs.Refusals.{step_number, step_message, open_members, number_or_null, at_json, refused_json, end_place, end_message, do_message, derivation_json, begun_refusal};
 
 use answer_json::Object;
 use do_derivation::{CheckFault, StepFault, StepPlace};
@@ -85,7 +85,6 @@ fn push_at(object: &mut Object, lemma: Option<u32>, step: Option<u32>) -> Result
 
 /// The open path, where that is the fault.
 fn push_open(object: &mut Object, names: &Names, fault: &StepFault) -> Result<(), AllocError>
-    requires { HasNamedPath (length names.now) fault.now }
     ensures { OnOk result (object.new ≡ with_members (open_members names.now fault.now) object.old) }
 {
     match fault {
@@ -118,7 +117,6 @@ fn step_line(
     place: &StepPlace,
     fault: &StepFault,
 ) -> Result<Vec<u8>, AllocError>
-    requires { HasNamedPath (length names.now) fault.now }
     ensures text { IfOk result (λ v. v.items ≡ json_line (derivation_json names.now 0 (CheckFault.Step place.now fault.now))) }
     ensures utf8 { IfOk result (λ v. IsUtf8 v.items) }
 {
@@ -168,7 +166,6 @@ pub fn refused_derivation(
     lemmas: usize,
     fault: &CheckFault,
 ) -> Result<Vec<u8>, AllocError>
-    requires { IsNamedFault (length names.now) fault.now }
     ensures text { IfOk result (λ v. v.items ≡ json_line (derivation_json names.now lemmas fault.now)) }
     ensures utf8 { IfOk result (λ v. IsUtf8 v.items) }
     ensures memory { OnOk result (fault.now ≡ CheckFault.NoMemory → ⊥) }

@@ -1,8 +1,7 @@
 //! The levels of a cell as text.
 
-ghost use Rattle.std.specs.Prelude.{ℕ, ◌≡◌, ◌++◌, ◌<◌, length, OnOk};
+ghost use Rattle.std.specs.Prelude.{ℕ, ◌≡◌, ◌++◌, length, slice_index, OnOk};
 ghost use Rattle.mixed_graph.specs.Bits.{has, members_below};
-ghost use Rattle.mixed_graph.specs.Sets.{Within};
 ghost use Rattle.count_eval.specs.Programs.{cell_of};
 ghost use Rattle.answer_text.specs.Texts.{comma_before};
 ghost use Rattle.count_answers.specs.Lines.{level_text, assignment, assignments};
@@ -30,7 +29,6 @@ pub fn push_assignment(
     v: u8,
     k: u32,
 ) -> Result<(), AllocError>
-    requires { v < length names.now }
     ensures { OnOk result (out.new.items ≡ out.old.items ++ assignment names.now counts.now (λ u. k) v) }
 {
     push_vertex(out, names, v)?;
@@ -45,6 +43,13 @@ pub fn separator(rest: &MembersLeft) -> &'static [u8]
     if rest.is_empty() { b"" } else { b"," }
 }
 
+/// The number of vertex v's level in a cell; 0 where the cell has no such entry.
+pub fn number_at(cell: &[u32], v: u8) -> u32
+    ensures { result ≡ slice_index cell.now v }
+{
+    cell.get(v as usize).copied().unwrap_or(0)
+}
+
 /// Appends the levels of a set's members in a cell, in index order with commas between them.
 pub fn push_assignments(
     out: &mut Vec<u8>,
@@ -53,13 +58,11 @@ pub fn push_assignments(
     set: VSet,
     cell: &[u32],
 ) -> Result<(), AllocError>
-    requires named { Within (length names.now) (has set.bits) }
-    requires entries { Within (length cell.now) (has set.bits) }
     ensures { OnOk result (out.new.items ≡ out.old.items ++ assignments names.now counts.now (cell_of cell.now) (members_below (has set.bits) 64)) }
 {
     let mut rest = set.iter();
     'members: while let Some(v) = rest.next() {
-        push_assignment(out, names, counts, v, cell[v as usize])?;
+        push_assignment(out, names, counts, v, number_at(cell, v))?;
         out.extend_from_slice(separator(&rest))?;
     }
     Ok(())

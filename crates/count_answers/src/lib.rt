@@ -3,4 +3,4 @@
 
 mod cells;
 
-pub use cells::{entries, push_assignment, push_assignments, separator};
+pub use cells::{entries, number_at, push_assignment, push_assignments, separator};

@@ -1,14 +1,14 @@
 //! The levels of a cell.
 
-ghost use Rattle.std.specs.Prelude.{◌≡◌, ◌<◌, All, length, map, OnOk};
+ghost use Rattle.std.specs.Prelude.{◌≡◌, map, OnOk};
 ghost use Rattle.mixed_graph.specs.Bits.{has, members_below};
-ghost use Rattle.mixed_graph.specs.Sets.{Within};
 ghost use Rattle.count_eval.specs.Programs.{cell_of};
 ghost use Rattle.count_answers.specs.Lines.{level_text};
 ghost use Rattle.answer_json.specs.Progress.{with_value, with_values};
 ghost use Rattle.count_json.specs.Cells.{level_json, cell_json};
 
 use answer_json::Object;
+use count_answers::number_at;
 use count_table::Counts;
 use mixed_graph::{Names, VSet};
 use std::alloc::AllocError;
@@ -31,7 +31,6 @@ pub fn push_level(
     v: u8,
     k: u32,
 ) -> Result<(), AllocError>
-    requires { v < length names.now }
     ensures { OnOk result (object.new ≡ with_value (level_json names.now counts.now v k) object.old) }
 {
     object.begin_array()?;
@@ -49,12 +48,10 @@ pub fn push_levels(
     vertices: &[u8],
     cell: &[u32],
 ) -> Result<(), AllocError>
-    requires named { All (λ v. v < length names.now) vertices.now }
-    requires entries { All (λ v. v < length cell.now) vertices.now }
     ensures { OnOk result (object.new ≡ with_values (map (λ v. level_json names.now counts.now v (cell_of cell.now v)) vertices.now) object.old) }
 {
     for v in vertices {
-        push_level(object, names, counts, *v, cell[*v as usize])?;
+        push_level(object, names, counts, *v, number_at(cell, *v))?;
     }
     Ok(())
 }
@@ -68,8 +65,6 @@ pub fn push_cell(
     set: VSet,
     cell: &[u32],
 ) -> Result<(), AllocError>
-    requires named { Within (length names.now) (has set.bits) }
-    requires entries { Within (length cell.now) (has set.bits) }
     ensures { OnOk result (object.new ≡ with_value (cell_json names.now counts.now (cell_of cell.now) (members_below (has set.bits) 64)) object.old) }
 {
     let list = set.members(object.alloc())?;

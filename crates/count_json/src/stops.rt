@@ -1,6 +1,6 @@
 //! Evaluations without a value.
 
-ghost use Rattle.std.specs.Prelude.{◌≡◌, ◌<◌, ◌≤◌, All, IfOk, OnOk, codes, length};
+ghost use Rattle.std.specs.Prelude.{◌≡◌, IfOk, OnOk, codes};
 ghost use Rattle.std.specs.Str.{IsUtf8};
 ghost use Rattle.quantity.specs.declared.fault.QuantityFault.TheVariants.{ZeroBelow};
 ghost use Rattle.count_eval.specs.Programs.{cell_of};
@@ -78,8 +78,6 @@ fn push_support(
     counts: &Counts,
     cell: &[u32; 64],
 ) -> Result<(), AllocError>
-    requires few { length names.now ≤ 64 }
-    requires named { All (λ v. v < length names.now) counts.now.vertices }
     ensures { OnOk result (object.new ≡ with_member (codes "cell") (cell_json names.now counts.now (cell_of cell.now) counts.now.vertices) object.old) }
 {
     let list = counts.used().members(object.alloc())?;
@@ -98,8 +96,6 @@ fn support_line(
     cell: &[u32; 64],
     place: Place,
 ) -> Result<Vec<u8>, AllocError>
-    requires few { length names.now ≤ 64 }
-    requires named { All (λ v. v < length names.now) counts.now.vertices }
     ensures text { IfOk result (λ v. v.items ≡ json_line (evaluation_json ZeroBelow names.now counts.now place.def place.node (cell_of cell.now))) }
     ensures utf8 { IfOk result (λ v. IsUtf8 v.items) }
 {
@@ -136,8 +132,6 @@ pub fn evaluation_fault(
     counts: &Counts,
     fault: &EvalFault,
 ) -> Result<Vec<u8>, AllocError>
-    requires few { length names.now ≤ 64 }
-    requires named { All (λ v. v < length names.now) counts.now.vertices }
     ensures text { IfOk result (λ v. v.items ≡ json_line (evaluation_fault_json names.now counts.now fault.now)) }
     ensures utf8 { IfOk result (λ v. IsUtf8 v.items) }
     ensures memory { OnOk result (fault.now ≡ EvalFault.NoMemory → ⊥) }

@@ -1,11 +1,8 @@
 -- What is known of a hedge that the identification answers.
-use Rattle.std.proofs.Common.{◌≡◌, ◌≤◌, ℕ, refl, sym, subst}
-use Rattle.mixed_graph.specs.Bits.{has}
-use Rattle.mixed_graph.specs.Graphs.{MixedGraph, IsMixedGraph}
-use Rattle.mixed_graph.specs.Sets.{Within}
+use Rattle.std.proofs.Common.{◌≡◌, ℕ, subst}
+use Rattle.mixed_graph.specs.Graphs.{MixedGraph}
 use Rattle.hedge.specs.Hedges.{IsHedge}
 use Rattle.hedge.specs.declared.hedge.Hedge.{Hedge}
-use Rattle.counter_models.specs.Events.{AreCounterModels}
 use Rattle.counter_models.specs.Pairs.{IsPairOf}
 use Rattle.counter_models.specs.declared.counter_pair.CounterPair.{CounterPair}
 use Rattle.identification_theory.specs.Procedure.{IsUnidentified}
@@ -15,10 +12,7 @@ use Rattle.identify.specs.declared.answer.Answer.{Answer}
 use Rattle.identify.specs.declared.answer.Answer.TheVariants as answers
 use Rattle.identify.specs.declared.answer.FormulaAnswer.{FormulaAnswer}
 use Rattle.identify.specs.declared.answer.FormulaAnswer.TheVariants as alone
-use Rattle.identify_text.specs.Below.{IsHedgeBelow, ArePairBelow}
-use Rattle.identify_text.proofs.Belows.{hedge_below}
 use Rattle.effect_answers.specs.Hedges.{IsFoundHedge}
-use Rattle.effect_answers.proofs.Belows.{pair_below}
 
 module _ (q : MixedGraph) (x y : ℕ) {a : Answer} (h : Hedge) (pair : CounterPair) (is : a ≡ answers.Hedge h pair) where
   -- it is the hedge at which the procedure stops, with its data and its models
@@ -33,18 +27,6 @@ module _ (q : MixedGraph) (x y : ℕ) {a : Answer} (h : Hedge) (pair : CounterPa
     models = subst (λ b. IfHedge b (IsPairOf q x y)) is models;
   }
 
-  -- its vertices have names, where there is one for each
-  pub hedge_named : (n : ℕ) → n ≡ q.vertices → q.vertices ≤ 64 → IfHedge a (λ h pair. IsHedge q x y h) → IsHedgeBelow n h
-  hedge_named n named few evidence = subst (λ k. IsHedgeBelow k h) (sym named)
-      (hedge_below q x y h few (subst (λ b. IfHedge b (λ h pair. IsHedge q x y h)) is evidence))
-
-  -- and so have those of its models
-  pub pair_named : (n : ℕ) → n ≡ q.vertices → IsMixedGraph q → Within q.vertices (has y) → IfHedge a (IsPairOf q x y)
-      → IfHedge a (λ h pair. AreCounterModels q x y pair) → ArePairBelow n pair
-  pair_named n named valid in_y models counter = subst (λ k. ArePairBelow k pair) (sym named)
-      (pair_below q valid x y h pair in_y (subst (λ b. IfHedge b (IsPairOf q x y)) is models)
-      (subst (λ b. IfHedge b (λ h pair. AreCounterModels q x y pair)) is counter))
-
 -- the same where a formula alone was asked for
 module _ (q : MixedGraph) (x y : ℕ) {a : FormulaAnswer} (h : Hedge) (pair : CounterPair) (is : a ≡ alone.Hedge h pair) where
   pub found_alone : IsRightAlone q x y a → IfHedgeAlone a (λ h pair. IsHedge q x y h)
@@ -57,13 +39,3 @@ module _ (q : MixedGraph) (x y : ℕ) {a : FormulaAnswer} (h : Hedge) (pair : Co
     built = subst (λ b. IfHedgeAlone b (λ h pair. IsHedgeOf q h)) is built;
     models = subst (λ b. IfHedgeAlone b (IsPairOf q x y)) is models;
   }
-
-  pub hedge_named_alone : (n : ℕ) → n ≡ q.vertices → q.vertices ≤ 64 → IfHedgeAlone a (λ h pair. IsHedge q x y h) → IsHedgeBelow n h
-  hedge_named_alone n named few evidence = hedge_named q x y {a = answers.Hedge h pair} h pair refl n named few
-      (subst (λ b. IfHedgeAlone b (λ h pair. IsHedge q x y h)) is evidence)
-
-  pub pair_named_alone : (n : ℕ) → n ≡ q.vertices → IsMixedGraph q → Within q.vertices (has y) → IfHedgeAlone a (IsPairOf q x y)
-      → IfHedgeAlone a (λ h pair. AreCounterModels q x y pair) → ArePairBelow n pair
-  pair_named_alone n named valid in_y models counter = pair_named q x y {a = answers.Hedge h pair} h pair refl n named valid in_y
-      (subst (λ b. IfHedgeAlone b (IsPairOf q x y)) is models)
-      (subst (λ b. IfHedgeAlone b (λ h pair. AreCounterModels q x y pair)) is counter)

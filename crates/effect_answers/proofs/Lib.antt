@@ -1,4 +1,3 @@
-pub mod Belows
 pub mod Found
 pub mod Exclusive
 pub mod OneHedge

@@ -5,11 +5,11 @@ use Rattle.finite_models.proofs.Bools.{and_first, and_second}
 use Rattle.prob_expr.specs.Tree.{Tree, prob, sum, product, quotient, named, Trees, no_trees, tree, PlainFormula}
 use Rattle.do_derivation.specs.Plans.{Plan, Plans, no_plans, plan, PlainLemma, PlainDerivation}
 use Rattle.expr_text.specs.Write as expr
-use Rattle.step_json.specs.Laws as step
+use Rattle.certificate_json.specs.StepSizes as step
 use Rattle.identification_theory.specs.Depth.{is_plan_within, are_plans_within, are_lemmas_within}
 use Rattle.identification_theory.specs.AnswerDepth.{is_tree_within, are_trees_within, are_defs_within}
 use Rattle.identify.specs.Answers.{AreShallowSteps, IsShallowFormula}
-use Rattle.certificate_writing.specs.Writable.{AreStepsShallow, IsFormulaShallow}
+use Rattle.certificate_json.specs.Writable.{AreStepsShallow, IsFormulaShallow}
 
 -- ---- formulas
 -- an expression has at most one pair of parentheses round it

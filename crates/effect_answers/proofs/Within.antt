@@ -19,8 +19,8 @@ use Rattle.do_derivation.proofs.Preserved.{step_keeps_terms}
 use Rattle.do_derivation.proofs.TermSets.{IsTerm, minus_left, term_from, term_filled}
 use Rattle.do_derivation.proofs.TreeTerms.{AreTerms, child_terms, terms_of, terms_test}
 use Rattle.mixed_graph.proofs.MaskLaws.{filled_from}
-use Rattle.step_json.specs.Laws.{are_below, is_move_within, is_within, are_within}
-use Rattle.certificate_writing.specs.Writable.{are_steps_within, IsDerivationWithin}
+use Rattle.certificate_json.specs.StepSizes.{are_below, is_move_within, is_within, are_within}
+use Rattle.certificate_json.specs.Writable.{are_steps_within, IsDerivationWithin}
 
 -- what is made where a test holds is made only where it does
 so : (g : MixedGraph) (b : Bool) (r : Row) (f : StepFault) (e : Tree) → IsMade g (if_so b r f) e → b ≡ true

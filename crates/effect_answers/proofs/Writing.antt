@@ -17,7 +17,7 @@ use Rattle.hedge.specs.Entries.{HasEntries}
 use Rattle.hedge.specs.Hedges.{IsHedge}
 use Rattle.hedge.specs.declared.hedge.Hedge.{Hedge}
 use Rattle.certificate.specs.Plain.{hedge_view}
-use Rattle.certificate_writing.specs.Writable.{IsTargetWithin, IsBareTarget, IsHedgeWithin}
+use Rattle.certificate_json.specs.Writable.{IsTargetWithin, IsBareTarget, IsHedgeWithin}
 
 -- a target whose sets are disjoint
 pub target_within : (n : ℕ) (t : PlainTarget) → AreThreeSets n (has t.x) (has t.y) (has t.given) → 0 < t.y → IsTargetWithin n t

@@ -2,4 +2,3 @@ pub mod Effects
 pub mod Objects
 pub mod Formats
 pub mod Hedges
-pub mod Lines

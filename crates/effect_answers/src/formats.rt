@@ -1,10 +1,7 @@
 //! A hedge in either format.
 
-ghost use Rattle.std.specs.Prelude.{◌≡◌, length, IfOk};
-ghost use Rattle.mixed_graph.specs.Bits.{has};
-ghost use Rattle.mixed_graph.specs.Sets.{Within};
+ghost use Rattle.std.specs.Prelude.{◌≡◌, IfOk};
 ghost use Rattle.prob_expr.specs.View.{target_view};
-ghost use Rattle.identify_text.specs.Below.{IsHedgeBelow, ArePairBelow};
 ghost use Rattle.effect_answers.specs.Formats.{hedge_in, joint_in};
 
 use crate::effects::target_of;
@@ -27,10 +24,6 @@ pub fn hedge_in(
     hedge: &Hedge,
     pair: &CounterPair,
 ) -> Result<Vec<u8>, AllocError>
-    requires x { Within (length names.now) (has sets.x.bits) }
-    requires y { Within (length names.now) (has sets.y.bits) }
-    requires hedge { IsHedgeBelow (length names.now) hedge.now }
-    requires models { ArePairBelow (length names.now) pair.now }
     ensures { IfOk result (λ v. v.items ≡ hedge_in format names.now sets.x.bits sets.y.bits hedge.now pair.now) }
 {
     let target = target_of(sets);
@@ -50,13 +43,6 @@ pub fn joint_in(
     hedge: &Hedge,
     pair: &CounterPair,
 ) -> Result<Vec<u8>, AllocError>
-    requires what { Within (length names.now) (has target.now.y.bits) }
-    requires doing { Within (length names.now) (has target.now.x.bits) }
-    requires given { Within (length names.now) (has target.now.given.bits) }
-    requires x { Within (length names.now) (has sets.x.bits) }
-    requires y { Within (length names.now) (has sets.y.bits) }
-    requires hedge { IsHedgeBelow (length names.now) hedge.now }
-    requires models { ArePairBelow (length names.now) pair.now }
     ensures { IfOk result (λ v. v.items ≡ joint_in format names.now (target_view target.now) sets.x.bits sets.y.bits hedge.now pair.now) }
 {
     match format {

@@ -1,8 +1,7 @@
 //! What the commands that ask for the effect of x on y have in common: what their lists ask for,
-//! the hedge that answers no, and the line of a certificate; and what their objects of JSON share.
+//! and the hedge that answers no; and what their objects of JSON share.
 #![tactic(auto)]
 
-pub mod certificates;
 mod effects;
 mod formats;
 mod hedges;

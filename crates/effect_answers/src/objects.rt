@@ -1,15 +1,8 @@
 //! The objects of answers to the effect of x on y.
 
-ghost use Rattle.std.specs.Prelude.{◌≡◌, ◌++◌, length, codes, map, IfOk, OnOk, None};
-ghost use Rattle.mixed_graph.specs.Bits.{has};
-ghost use Rattle.mixed_graph.specs.Sets.{Within};
-ghost use Rattle.prob_expr.specs.Check.{fault_in};
-ghost use Rattle.prob_expr.specs.Tree.{effect_on};
+ghost use Rattle.std.specs.Prelude.{◌≡◌, ◌++◌, codes, map, IfOk, OnOk};
 ghost use Rattle.prob_expr.specs.View.{view, formula_view, target_view};
 ghost use Rattle.identify_text.specs.Answers.{free_beside};
-ghost use Rattle.identify_text.specs.Below.{IsHedgeBelow, ArePairBelow};
-ghost use Rattle.certificate.specs.Plain.{hedge_view};
-ghost use Rattle.certificate_writing.specs.Writable.{IsBareTarget, IsHedgeWithin};
 ghost use Rattle.certificate_json.specs.Certificates.{expr_json};
 ghost use Rattle.answer_json.specs.Progress.{nothing, members, with_member, with_members, array_of, json_line};
 ghost use Rattle.answer_json.specs.Values.{text_json, set_json};
@@ -32,9 +25,6 @@ use targets::EffectSets;
 
 /// The members of a target's sets.
 pub fn push_target(object: &mut Object, names: &Names, target: &Target) -> Result<(), AllocError>
-    requires what { Within (length names.now) (has target.now.y.bits) }
-    requires doing { Within (length names.now) (has target.now.x.bits) }
-    requires given { Within (length names.now) (has target.now.given.bits) }
     ensures { OnOk result (object.new ≡ with_members (target_members names.now (target_view target.now)) object.old) }
 {
     object.set_at("y", names, target.y)?;
@@ -45,9 +35,6 @@ pub fn push_target(object: &mut Object, names: &Names, target: &Target) -> Resul
 
 /// The member of a target's term as text.
 pub fn push_effect(object: &mut Object, names: &Names, target: &Target) -> Result<(), AllocError>
-    requires what { Within (length names.now) (has target.now.y.bits) }
-    requires doing { Within (length names.now) (has target.now.x.bits) }
-    requires given { Within (length names.now) (has target.now.given.bits) }
     ensures { OnOk result (object.new ≡ with_member (codes "effect") (effect_json names.now (target_view target.now)) object.old) }
 {
     let text = target_text(object.alloc(), target, names)?;
@@ -58,7 +45,6 @@ pub fn push_effect(object: &mut Object, names: &Names, target: &Target) -> Resul
 
 /// The member of a formula's main expression as text.
 fn push_main_text(object: &mut Object, names: &Names, f: &Formula) -> Result<(), AllocError>
-    requires { fault_in (length names.now) (formula_view f.now) ≡ None }
     ensures { OnOk result (object.new ≡ with_member (codes "formula") (expr_json names.now (view f.now.main)) object.old) }
 {
     object.key("formula")?;
@@ -67,7 +53,6 @@ fn push_main_text(object: &mut Object, names: &Names, f: &Formula) -> Result<(),
 
 /// The member of a formula's definitions as texts.
 fn push_definition_texts(object: &mut Object, names: &Names, f: &Formula) -> Result<(), AllocError>
-    requires { fault_in (length names.now) (formula_view f.now) ≡ None }
     ensures { OnOk result (object.new ≡ with_member (codes "definitions") (array_of (map (expr_json names.now) (map view f.now.defs.items))) object.old) }
 {
     push_exprs_at(object, names, "definitions", &f.defs)
@@ -80,7 +65,6 @@ fn push_free(
     target: &Target,
     f: &Formula,
 ) -> Result<(), AllocError>
-    requires { fault_in (length names.now) (formula_view f.now) ≡ None }
     ensures { OnOk result (object.new ≡ with_member (codes "free") (set_json names.now (free_beside (target_view target.now) (formula_view f.now))) object.old) }
 {
     let free = free_beside(object.alloc(), f, target)?;
@@ -94,10 +78,6 @@ fn equation_latex(
     target: &Target,
     f: &Formula,
 ) -> Result<Vec<u8>, AllocError>
-    requires what { Within (length names.now) (has target.now.y.bits) }
-    requires doing { Within (length names.now) (has target.now.x.bits) }
-    requires given { Within (length names.now) (has target.now.given.bits) }
-    requires formula { fault_in (length names.now) (formula_view f.now) ≡ None }
     ensures { IfOk result (λ v. v.items ≡ equation_latex names.now (target_view target.now) (formula_view f.now)) }
 {
     let mut text = target_in(alloc, Notation::Latex, target, names)?;
@@ -113,10 +93,6 @@ fn push_latex(
     target: &Target,
     f: &Formula,
 ) -> Result<(), AllocError>
-    requires what { Within (length names.now) (has target.now.y.bits) }
-    requires doing { Within (length names.now) (has target.now.x.bits) }
-    requires given { Within (length names.now) (has target.now.given.bits) }
-    requires formula { fault_in (length names.now) (formula_view f.now) ≡ None }
     ensures { OnOk result (object.new ≡ with_member (codes "latex") (text_json (equation_latex names.now (target_view target.now) (formula_view f.now))) object.old) }
 {
     let text = equation_latex(object.alloc(), names, target, f)?;
@@ -130,10 +106,6 @@ pub fn push_formula(
     target: &Target,
     f: &Formula,
 ) -> Result<(), AllocError>
-    requires what { Within (length names.now) (has target.now.y.bits) }
-    requires doing { Within (length names.now) (has target.now.x.bits) }
-    requires given { Within (length names.now) (has target.now.given.bits) }
-    requires formula { fault_in (length names.now) (formula_view f.now) ≡ None }
     ensures { OnOk result (object.new ≡ with_members (formula_members names.now (target_view target.now) (formula_view f.now)) object.old) }
 {
     push_effect(object, names, target)?;
@@ -152,8 +124,6 @@ pub fn push_formula(
 
 /// The member of the joint effect of x on y.
 fn push_joint(object: &mut Object, names: &Names, sets: EffectSets) -> Result<(), AllocError>
-    requires x { Within (length names.now) (has sets.x.bits) }
-    requires y { Within (length names.now) (has sets.y.bits) }
     ensures { OnOk result (object.new ≡ with_member (codes "joint") (joint_json names.now sets.x.bits sets.y.bits) object.old) }
 {
     object.key("joint")?;
@@ -173,13 +143,6 @@ fn begin_hedge(
     hedge: &Hedge,
     pair: &CounterPair,
 ) -> Result<Object, AllocError>
-    requires what { Within (length names.now) (has target.now.y.bits) }
-    requires doing { Within (length names.now) (has target.now.x.bits) }
-    requires given { Within (length names.now) (has target.now.given.bits) }
-    requires x { Within (length names.now) (has sets.x.bits) }
-    requires y { Within (length names.now) (has sets.y.bits) }
-    requires hedge { IsHedgeBelow (length names.now) hedge.now }
-    requires models { ArePairBelow (length names.now) pair.now }
     ensures { IfOk result (λ o. o ≡ members nothing (hedge_members names.now (target_view target.now) sets.x.bits sets.y.bits hedge.now pair.now)) }
 {
     let mut object = Object::new(alloc)?;
@@ -203,13 +166,6 @@ pub fn hedge_object(
     hedge: &Hedge,
     pair: &CounterPair,
 ) -> Result<Vec<u8>, AllocError>
-    requires what { Within (length names.now) (has target.now.y.bits) }
-    requires doing { Within (length names.now) (has target.now.x.bits) }
-    requires given { Within (length names.now) (has target.now.given.bits) }
-    requires x { Within (length names.now) (has sets.x.bits) }
-    requires y { Within (length names.now) (has sets.y.bits) }
-    requires hedge { IsHedgeBelow (length names.now) hedge.now }
-    requires models { ArePairBelow (length names.now) pair.now }
     ensures { IfOk result (λ v. v.items ≡ json_line (hedge_object names.now (target_view target.now) sets.x.bits sets.y.bits hedge.now pair.now)) }
 {
     let object = begin_hedge(alloc, names, target, sets, hedge, pair)?;
@@ -225,15 +181,6 @@ pub fn certified_hedge_object(
     hedge: &Hedge,
     pair: &CounterPair,
 ) -> Result<Vec<u8>, AllocError>
-    requires what { Within (length names.now) (has target.now.y.bits) }
-    requires doing { Within (length names.now) (has target.now.x.bits) }
-    requires given { Within (length names.now) (has target.now.given.bits) }
-    requires x { Within (length names.now) (has sets.x.bits) }
-    requires y { Within (length names.now) (has sets.y.bits) }
-    requires target { IsBareTarget (length names.now) (effect_on sets.x.bits sets.y.bits) }
-    requires hedge { IsHedgeBelow (length names.now) hedge.now }
-    requires models { ArePairBelow (length names.now) pair.now }
-    requires data { IsHedgeWithin (length names.now) (hedge_view hedge.now) }
     ensures { IfOk result (λ v. v.items ≡ json_line (certified_hedge_object names.now (target_view target.now) sets.x.bits sets.y.bits hedge.now pair.now)) }
 {
     let effect = target_of(sets);

@@ -1,8 +1,8 @@
--- Sets and paths of vertices that have names.
-use Rattle.std.proofs.Common.{◌≡◌, ℕ, ◌+◌, ◌-◌, Bool, List, length, Option, Some, None, zero, suc, refl, ap, subst, ◌∙◌, arith, eq-eqb}
+-- The sets of a query are sets of vertices, and an open path has its own ends.
+use Rattle.std.proofs.Common.{◌≡◌, ℕ, ◌+◌, ◌-◌, Bool, List, length, Option, Some, None, zero, suc, refl, ap, ◌∙◌, arith, eq-eqb}
 use Rattle.std.specs.Prelude.{IfSome, slice_index}
 use Rattle.std.specs.Global.{Vec}
-use Rattle.mixed_graph.specs.Graphs.{MixedGraph, IsMixedGraph}
+use Rattle.mixed_graph.specs.Graphs.{MixedGraph}
 use Rattle.mixed_graph.specs.Names.{texts}
 use Rattle.m_separation.specs.declared.marks.Mark.{Mark}
 use Rattle.m_separation.specs.declared.paths.OpenPath.{OpenPath}
@@ -13,8 +13,6 @@ use Rattle.targets.proofs.Queries.{set_within}
 use Rattle.markov_equivalence.specs.Separations.{IsOpenWithEndsOf}
 use Rattle.diagram.specs.declared.diagram.Diagram.{Diagram}
 use Rattle.diagram.specs.Sets.{query_lists}
-use Rattle.replies.specs.Lines.{IsPrintablePath}
-use Rattle.replies.proofs.PathsBelow.{path_printable}
 use Rattle.equivalent_command.specs.Requests.{Query, query_of}
 use Rattle.equivalent_command.specs.Queries.{lists_on, AreAsked, AreBelow}
 use Rattle.equivalent_command.specs.declared.request.Query.{Query as CodeQuery}
@@ -34,11 +32,6 @@ asked_below d (Some q) (Some s) a = record {
   y = set_within d.observed.names q.y s.y.bits a.set_y;
   given = set_within d.observed.names q.given s.given.bits a.set_given;
 }
-
--- the vertices of an open path are vertices of the graph
-pub open_below : (g : MixedGraph) → IsMixedGraph g → (n : ℕ) → g.vertices ≡ n → (x y w : ℕ → Bool) (p : OpenPath)
-    → IsOpenPath g x y w p.vertices p.marks p.count → IsPrintablePath n p
-open_below g valid n e x y w p o = subst (λ k. IsPrintablePath k p) e (path_printable g valid x y w p o)
 
 -- where the steps of a path lead
 last_of_steps : (vertices : List ℕ) (marks : List Mark) (i k : ℕ) → last (slice_index vertices i) (steps_from vertices marks i k) ≡ slice_index vertices (i + k)

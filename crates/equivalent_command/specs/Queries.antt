@@ -1,4 +1,4 @@
--- What the lists of a query stand for: sets of the first diagram. And sets that can be printed: their vertices have names.
+-- What the lists of a query stand for: sets of the first diagram. And sets of vertices.
 use Rattle.std.specs.Prelude.{ℕ, Option, Some, None}
 use Rattle.mixed_graph.specs.Bits.{has}
 use Rattle.mixed_graph.specs.Sets.{Within}

@@ -1,6 +1,6 @@
 //! What is said of equivalent graphs.
 
-ghost use Rattle.std.specs.Prelude.{◌≡◌, IfOk, IfSome, length};
+ghost use Rattle.std.specs.Prelude.{◌≡◌, IfOk, IfSome};
 ghost use Rattle.mixed_graph.specs.Shown.{graph_of};
 ghost use Rattle.markov_equivalence.specs.Skeletons.{HasArrowsAlone, AreEquivalent};
 ghost use Rattle.replies.specs.Told.{answer_of};
@@ -24,7 +24,6 @@ pub fn agreement(
     second: &Graph,
     sets: Option<Sets>,
 ) -> Result<Vec<u8>, AllocError>
-    requires named { length names.now ≡ first.now.n }
     requires size { first.now.n ≡ second.now.n }
     requires first_arrows { HasArrowsAlone (graph_of first.now) }
     requires second_arrows { HasArrowsAlone (graph_of second.now) }

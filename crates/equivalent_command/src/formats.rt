@@ -1,11 +1,8 @@
 //! The answers of `equivalent`, in either format.
 
-ghost use Rattle.std.specs.Prelude.{◌≡◌, ◌<◌, IfOk, length};
-ghost use Rattle.markov_equivalence.specs.Comparisons.{IsBelow};
+ghost use Rattle.std.specs.Prelude.{◌≡◌, IfOk};
 ghost use Rattle.answer_json.specs.Progress.{json_line};
-ghost use Rattle.replies.specs.Lines.{IsPrintablePath};
 ghost use Rattle.replies.specs.Told.{text_in};
-ghost use Rattle.equivalent_command.specs.Queries.{AreBelow};
 ghost use Rattle.equivalent_command.specs.Lines.{equivalent_text, separated_text, connected_text, edge_text, collider_text};
 ghost use Rattle.equivalent_command.specs.Objects.{equivalent_json, separated_json, connected_json, edge_json, collider_json};
 
@@ -37,7 +34,6 @@ pub fn separated(
     names: &Names,
     sets: Sets,
 ) -> Result<Vec<u8>, AllocError>
-    requires { AreBelow (length names.now) sets }
     ensures { IfOk result (λ v. v.items ≡ text_in format (separated_text names.now sets) (json_line (separated_json names.now sets))) }
 {
     match format {
@@ -55,9 +51,6 @@ pub fn connected(
     first: &OpenPath,
     second: &OpenPath,
 ) -> Result<Vec<u8>, AllocError>
-    requires sets { AreBelow (length names.now) sets }
-    requires first { IsPrintablePath (length names.now) first.now }
-    requires second { IsPrintablePath (length names.now) second.now }
     ensures { IfOk result (λ v. v.items ≡ text_in format (connected_text names.now first.now second.now) (json_line (connected_json names.now sets first.now second.now))) }
 {
     match format {
@@ -73,7 +66,6 @@ pub fn edge(
     names: &Names,
     d: Difference,
 ) -> Result<Vec<u8>, AllocError>
-    requires { IsBelow (length names.now) d }
     ensures { IfOk result (λ v. v.items ≡ text_in format (edge_text names.now d) (json_line (edge_json names.now d))) }
 {
     match format {
@@ -90,8 +82,6 @@ pub fn collider(
     d: Difference,
     m: u8,
 ) -> Result<Vec<u8>, AllocError>
-    requires below { IsBelow (length names.now) d }
-    requires collider { m < length names.now }
     ensures { IfOk result (λ v. v.items ≡ text_in format (collider_text names.now d m) (json_line (collider_json names.now d m))) }
 {
     match format {

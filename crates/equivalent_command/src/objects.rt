@@ -1,10 +1,7 @@
 //! The objects of the answers of `equivalent`.
 
-ghost use Rattle.std.specs.Prelude.{◌≡◌, ◌<◌, All, OnOk, IfOk, codes, length};
-ghost use Rattle.replies.specs.Lines.{IsPrintablePath};
-ghost use Rattle.markov_equivalence.specs.Comparisons.{IsBelow};
+ghost use Rattle.std.specs.Prelude.{◌≡◌, OnOk, IfOk, codes};
 ghost use Rattle.answer_json.specs.Progress.{with_member, with_members, json_line};
-ghost use Rattle.equivalent_command.specs.Queries.{AreBelow};
 ghost use Rattle.equivalent_command.specs.Objects.{equivalent_json, asked_begun, separated_json, paths_members, connected_json, difference_json, separation_json, different_json, edge_json, collider_json};
 
 use crate::printing::word_of;
@@ -26,7 +23,6 @@ pub fn equivalent_object(alloc: Global) -> Result<Vec<u8>, AllocError>
 
 /// The object of graphs that don't differ, up to the sets that are asked about.
 fn begin(alloc: Global, names: &Names, sets: Sets) -> Result<Object, AllocError>
-    requires { AreBelow (length names.now) sets }
     ensures { IfOk result (λ o. o ≡ asked_begun names.now sets) }
 {
     let mut object = Object::new(alloc)?;
@@ -37,7 +33,6 @@ fn begin(alloc: Global, names: &Names, sets: Sets) -> Result<Object, AllocError>
 
 /// That sets are separated in both graphs, as a line of JSON.
 pub fn separated_object(alloc: Global, names: &Names, sets: Sets) -> Result<Vec<u8>, AllocError>
-    requires { AreBelow (length names.now) sets }
     ensures { IfOk result (λ v. v.items ≡ json_line (separated_json names.now sets)) }
 {
     let mut object = begin(alloc, names, sets)?;
@@ -53,8 +48,6 @@ fn push_paths(
     first: &OpenPath,
     second: &OpenPath,
 ) -> Result<(), AllocError>
-    requires first { IsPrintablePath (length names.now) first.now }
-    requires second { IsPrintablePath (length names.now) second.now }
     ensures { OnOk result (object.new ≡ with_members (paths_members names.now first.now second.now) object.old) }
 {
     object.path_at("first", names, first)?;
@@ -70,9 +63,6 @@ pub fn connected_object(
     first: &OpenPath,
     second: &OpenPath,
 ) -> Result<Vec<u8>, AllocError>
-    requires sets { AreBelow (length names.now) sets }
-    requires first { IsPrintablePath (length names.now) first.now }
-    requires second { IsPrintablePath (length names.now) second.now }
     ensures { IfOk result (λ v. v.items ≡ json_line (connected_json names.now sets first.now second.now)) }
 {
     let mut object = begin(alloc, names, sets)?;
@@ -90,7 +80,6 @@ fn push_difference(
     vertices: &[u8],
     side: Side,
 ) -> Result<(), AllocError>
-    requires { All (λ v. v < length names.now) vertices.now }
     ensures { OnOk result (object.new ≡ with_member (codes "difference") (difference_json kind.now names.now vertices.now side) object.old) }
 {
     object.key("difference")?;
@@ -104,7 +93,6 @@ fn push_difference(
 
 /// The member of the separation that holds in one graph alone.
 fn push_separation(object: &mut Object, names: &Names, d: Difference) -> Result<(), AllocError>
-    requires { IsBelow (length names.now) d }
     ensures { OnOk result (object.new ≡ with_member (codes "separation") (separation_json names.now d) object.old) }
 {
     object.key("separation")?;
@@ -124,8 +112,6 @@ fn different_object(
     vertices: &[u8],
     d: Difference,
 ) -> Result<Vec<u8>, AllocError>
-    requires vertices { All (λ v. v < length names.now) vertices.now }
-    requires below { IsBelow (length names.now) d }
     ensures { IfOk result (λ v. v.items ≡ json_line (different_json kind.now names.now vertices.now d)) }
 {
     let mut object = Object::new(alloc)?;
@@ -138,7 +124,6 @@ fn different_object(
 
 /// An edge that one graph has alone, as a line of JSON.
 pub fn edge_object(alloc: Global, names: &Names, d: Difference) -> Result<Vec<u8>, AllocError>
-    requires { IsBelow (length names.now) d }
     ensures { IfOk result (λ v. v.items ≡ json_line (edge_json names.now d)) }
 {
     different_object(alloc, "edge", names, &[d.a, d.b], d)
@@ -151,8 +136,6 @@ pub fn collider_object(
     d: Difference,
     m: u8,
 ) -> Result<Vec<u8>, AllocError>
-    requires below { IsBelow (length names.now) d }
-    requires collider { m < length names.now }
     ensures { IfOk result (λ v. v.items ≡ json_line (collider_json names.now d m)) }
 {
     different_object(alloc, "collider", names, &[d.a, m, d.b], d)

@@ -1,10 +1,6 @@
 //! The texts of graphs that differ, and of graphs that don't.
 
-ghost use Rattle.std.specs.Prelude.{◌≡◌, ◌++◌, ◌∷◌, [], ◌<◌, IfOk, OnOk, length};
-ghost use Rattle.mixed_graph.specs.Bits.{has};
-ghost use Rattle.markov_equivalence.specs.Comparisons.{IsBelow};
-ghost use Rattle.replies.specs.Lines.{IsPrintablePath};
-ghost use Rattle.equivalent_command.specs.Queries.{AreBelow};
+ghost use Rattle.std.specs.Prelude.{◌≡◌, ◌++◌, ◌∷◌, [], IfOk, OnOk};
 ghost use Rattle.equivalent_command.specs.Lines.{which, braced, pair_text, separation_text, place_text, edge_text, collider_text, separated_text, open_text, connected_text};
 
 use answer_text::{push_path, push_set, push_vertex};
@@ -17,7 +13,6 @@ use targets::Sets;
 
 /// The text of an edge that one graph has alone.
 pub fn edge_text(alloc: Global, names: &Names, d: Difference) -> Result<Vec<u8>, AllocError>
-    requires { IsBelow (length names.now) d }
     ensures { IfOk result (λ v. v.items ≡ edge_text names.now d) }
 {
     let mut text = Vec::from_slice(alloc, b"not equivalent: edge ")?;
@@ -36,8 +31,6 @@ pub fn collider_text(
     d: Difference,
     m: u8,
 ) -> Result<Vec<u8>, AllocError>
-    requires below { IsBelow (length names.now) d }
-    requires collider { m < length names.now }
     ensures { IfOk result (λ v. v.items ≡ collider_text names.now d m) }
 {
     let mut text = Vec::from_slice(alloc, b"not equivalent: collider ")?;
@@ -80,7 +73,6 @@ fn push_place(out: &mut Vec<u8>, d: Difference) -> Result<(), AllocError>
 
 /// Appends a vertex between braces.
 fn push_braced(out: &mut Vec<u8>, names: &Names, v: u8) -> Result<(), AllocError>
-    requires { v < length names.now }
     ensures { OnOk result (out.new.items ≡ out.old.items ++ braced names.now v) }
 {
     out.push(b'{')?;
@@ -91,7 +83,6 @@ fn push_braced(out: &mut Vec<u8>, names: &Names, v: u8) -> Result<(), AllocError
 
 /// Appends `{A} from {B} given {C}`.
 fn push_pair(out: &mut Vec<u8>, names: &Names, d: Difference) -> Result<(), AllocError>
-    requires { IsBelow (length names.now) d }
     ensures { OnOk result (out.new.items ≡ out.old.items ++ pair_text names.now d) }
 {
     push_braced(out, names, d.a)?;
@@ -104,7 +95,6 @@ fn push_pair(out: &mut Vec<u8>, names: &Names, d: Difference) -> Result<(), Allo
 
 /// Appends the line of the separation.
 fn push_separation(out: &mut Vec<u8>, names: &Names, d: Difference) -> Result<(), AllocError>
-    requires { IsBelow (length names.now) d }
     ensures { OnOk result (out.new.items ≡ out.old.items ++ separation_text names.now d) }
 {
     out.extend_from_slice(b"separated in the ")?;
@@ -117,7 +107,6 @@ fn push_separation(out: &mut Vec<u8>, names: &Names, d: Difference) -> Result<()
 
 /// The text of equivalent graphs in which sets are separated.
 pub fn separated_text(alloc: Global, names: &Names, sets: Sets) -> Result<Vec<u8>, AllocError>
-    requires { AreBelow (length names.now) sets }
     ensures { IfOk result (λ v. v.items ≡ separated_text names.now sets) }
 {
     let mut text = Vec::from_slice(alloc, b"equivalent\n")?;
@@ -134,8 +123,6 @@ pub fn connected_text(
     first: &OpenPath,
     second: &OpenPath,
 ) -> Result<Vec<u8>, AllocError>
-    requires first { IsPrintablePath (length names.now) first.now }
-    requires second { IsPrintablePath (length names.now) second.now }
     ensures { IfOk result (λ v. v.items ≡ connected_text names.now first.now second.now) }
 {
     let mut text = Vec::from_slice(alloc, b"equivalent\n")?;
@@ -151,7 +138,6 @@ fn push_open_in(
     names: &Names,
     path: &OpenPath,
 ) -> Result<(), AllocError>
-    requires { IsPrintablePath (length names.now) path.now }
     ensures { OnOk result (out.new.items ≡ out.old.items ++ open_text side names.now path.now) }
 {
     out.extend_from_slice(b"open in the ")?;

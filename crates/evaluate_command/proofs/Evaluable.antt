@@ -60,8 +60,3 @@ module _ (e : PlainEffect) (id : IsIdentified e) (t : Table) (counts : AreCounts
       (All-append (λ v. is_used t v ≡ true) (members_below (has e.given) 64) (members_below (has e.y) 64)
       (each_used e.given (λ v h. in_right e.x (union e.y e.given) v (in_right e.y e.given v h)))
       (each_used e.y (λ v h. in_right e.x (union e.y e.given) v (in_left e.y e.given v h))))
-
-  -- the vertices of the table are vertices of the graph
-  pub vertices_low : All (λ v. v < e.graph.vertices) t.vertices
-  vertices_low = subst (λ (vs : List ℕ). All (λ v. v < e.graph.vertices) vs) (sym vertices)
-      (all_members (λ v. v < e.graph.vertices) (has (used_in e)) 64 (λ v lt h. id.used v h))

@@ -1,5 +1,6 @@
 -- A right formula for an effect identifies it: that of a procedure, or one that is no longer, and the adjustment formula of a set that meets a criterion.
-use Rattle.std.proofs.Common.{ℕ, ◌≡◌, ◌<◌, ◌⊎◌, inl, inr, true, Bool, IsTrue, [], None, refl, arith}
+use Rattle.std.proofs.Common.{ℕ, ◌≡◌, ◌<◌, ◌⊎◌, inl, inr, true, Bool, IsTrue, [], None, refl, sym, ◌∙◌, arith}
+use Rattle.std.proofs.lemmas.Bool.{false≢true}
 use Rattle.mixed_graph.specs.Bits.{has}
 use Rattle.mixed_graph.specs.Graphs.{IsAncestor}
 use Rattle.mixed_graph.specs.Masks.{union}
@@ -17,7 +18,6 @@ use Rattle.do_derivation.specs.Plans.{PlainDerivation}
 use Rattle.identification_theory.specs.Derivations.{IsDerived}
 use Rattle.identification_theory.specs.Names.{FormulaNamesOnly}
 use Rattle.identify.specs.Answers.{IsRightFormula}
-use Rattle.identify_text.proofs.Free.{none_within}
 use Rattle.conditional_id.specs.Conditionals.{IsConditionalBySteps}
 use Rattle.conditional_id.specs.TurnLaws.{IsRightGiven}
 use Rattle.short_formulas.specs.Short.{IsOrShorter}
@@ -35,7 +35,7 @@ pub bare_sets : (n x y : ℕ) → Within n (has x) → Within n (has y) → Apar
 bare_sets n x y in_x in_y apart = record {
   x_within = in_x;
   y_within = in_y;
-  w_within = λ v i. none_within n 0 v refl i;
+  w_within = λ v i. absurd (false≢true (sym (has_none v) ∙ i));
   x_y = apart;
   x_w = λ v i. has_none v;
   y_w = λ v i. has_none v;

@@ -1,9 +1,8 @@
 -- The text of a stop, from the fault that says it.
-use Rattle.std.proofs.Common.{◌≡◌, ℕ, ◌<◌, ◌^◌, Bool, cond, List, ◌++◌, codes, sym, ap, subst, ◌∙◌, append-nil, All, IsTrue}
+use Rattle.std.proofs.Common.{◌≡◌, ℕ, Bool, cond, List, ◌++◌, codes, sym, ap, ◌∙◌, append-nil}
 use Rattle.mixed_graph.specs.Names.{name_of}
 use Rattle.answer_text.specs.Printing.{printed}
 use Rattle.mixed_graph.specs.Bits.{has, members_below}
-use Rattle.mixed_graph.proofs.Masks.{below_64}
 use Rattle.prob_expr.specs.declared.expr.Place.{Place}
 use Rattle.quantity.specs.declared.fault.QuantityFault.TheVariants.{ZeroBelow, TooWide, TooFine}
 use Rattle.count_rows.specs.Rows.{Table}
@@ -14,7 +13,7 @@ use Rattle.count_eval.specs.Stops.{Stop}
 use Rattle.count_answers.specs.Lines.{with_commas, assignment, assignments, level_text}
 use Rattle.count_answers.proofs.Texts.{same_texts}
 use Rattle.evaluate_command.specs.Lines.{place_text, why_digit, support_text, stop_text}
-use Rattle.evaluate_command.proofs.Tables.{member_used, member_of_all}
+use Rattle.evaluate_command.proofs.Tables.{member_used}
 
 -- the place in a fault is that of the stop
 same_place : (place : Place) (s : Stop) → IsPlaceOf place s → place_text place.def place.node ≡ place_text s.def s.node
@@ -51,7 +50,3 @@ support_text_is names t s place cell used why is at table vertices =
     ap (λ p. codes "evaluation fault 1: " ++ (p ++ (codes " at " ++ assignments names t (cell_of cell) (members_below used 64)))) (same_place place s is)
     ∙ ap (λ a. codes "evaluation fault 1: " ++ (place_text s.def s.node ++ (codes " at " ++ a))) (same_levels names t s cell used table vertices at)
     ∙ ap (λ w. codes "evaluation fault " ++ (why_digit w ++ (codes ": " ++ (place_text s.def s.node ++ support_text w names t s.cell)))) (sym why)
-
--- the members of a set that are all low
-pub members_low : (n m : ℕ) (vs : List ℕ) → m < 2 ^ 64 → members_below (has m) 64 ≡ vs → All (λ v. v < n) vs → (v : ℕ) → IsTrue (has m v) → v < n
-members_low n m vs fits is low v h = member_of_all (λ u. u < n) (has m) 64 (subst (λ (us : List ℕ). All (λ u. u < n) us) (sym is) low) v (below_64 m v fits h) h

@@ -1,8 +1,7 @@
 //! The reply to a cell without a value.
 
-ghost use Rattle.std.specs.Prelude.{ℕ, ◌≡◌, ◌++◌, ◌<◌, ◌≤◌, All, length, OnOk, IfOk};
+ghost use Rattle.std.specs.Prelude.{ℕ, ◌≡◌, ◌++◌, OnOk, IfOk};
 ghost use Rattle.mixed_graph.specs.Bits.{has, members_below};
-ghost use Rattle.mixed_graph.specs.Sets.{Within};
 ghost use Rattle.answer_text.specs.Lines.{line_of};
 ghost use Rattle.count_eval.specs.Answers.{IsEvaluationFault};
 ghost use Rattle.count_eval.specs.Programs.{is_used};
@@ -45,8 +44,6 @@ fn push_fault(
     counts: &Counts,
     fault: &EvalFault,
 ) -> Result<(), AllocError>
-    requires few { length names.now ≤ 64 }
-    requires named { All (λ v. v < length names.now) counts.now.vertices }
     ensures { OnOk result ((s : Stop) → IsEvaluationFault (is_used counts.now) fault.now s → out.new.items ≡ out.old.items ++ stop_text names.now counts.now s) }
 {
     match fault {
@@ -75,8 +72,6 @@ fn fault_line(
     counts: &Counts,
     fault: &EvalFault,
 ) -> Result<Vec<u8>, AllocError>
-    requires few { length names.now ≤ 64 }
-    requires named { All (λ v. v < length names.now) counts.now.vertices }
     ensures { IfOk result (λ line. (s : Stop) → IsEvaluationFault (is_used counts.now) fault.now s → line.items ≡ line_of (stop_text names.now counts.now s)) }
 {
     let mut line = Vec::from_slice(alloc, b"causal: ")?;
@@ -92,8 +87,6 @@ pub fn refuse_value(
     counts: &Counts,
     fault: &EvalFault,
 ) -> Result<Reply, AllocError>
-    requires few { length names.now ≤ 64 }
-    requires named { All (λ v. v < length names.now) counts.now.vertices }
     ensures outcome { IfOk result (λ r. r.outcome ≡ Outcome.Evaluation) }
     ensures told { IfOk result (λ r. (s : Stop) → IsEvaluationFault (is_used counts.now) fault.now s → told_of r ≡ stop_told names.now counts.now s) }
 {

@@ -1,8 +1,7 @@
 //! The lines of an answer.
 
-ghost use Rattle.std.specs.Prelude.{◌≡◌, ◌++◌, ◌<◌, ◌≤◌, ◌∷◌, [], length, codes, map, if◌then◌else◌, OnOk, IfOk};
+ghost use Rattle.std.specs.Prelude.{◌≡◌, ◌++◌, ◌∷◌, [], codes, map, if◌then◌else◌, OnOk, IfOk};
 ghost use Rattle.mixed_graph.specs.Bits.{has};
-ghost use Rattle.mixed_graph.specs.Sets.{Within};
 ghost use Rattle.mixed_graph.specs.Masks.{is_empty};
 ghost use Rattle.count_eval.specs.Programs.{cell_of};
 ghost use Rattle.evaluate_command.specs.Effects.{effect_view, target_of};
@@ -24,8 +23,6 @@ fn push_doing(
     counts: &Counts,
     cell: &[u32],
 ) -> Result<(), AllocError>
-    requires named { Within (length effect.now.seen.now.names) (has effect.now.target.x.bits) }
-    requires entries { Within (length cell.now) (has effect.now.target.x.bits) }
     ensures { OnOk result (out.new.items ≡ out.old.items ++ doing_text (effect_view effect.now) counts.now (cell_of cell.now)) }
 {
     if effect.target.x.is_empty() {
@@ -44,8 +41,6 @@ fn push_given(
     counts: &Counts,
     cell: &[u32],
 ) -> Result<(), AllocError>
-    requires named { Within (length effect.now.seen.now.names) (has effect.now.target.given.bits) }
-    requires entries { Within (length cell.now) (has effect.now.target.given.bits) }
     ensures { OnOk result (out.new.items ≡ out.old.items ++ given_text (effect_view effect.now) counts.now (cell_of cell.now)) }
 {
     if effect.target.given.is_empty() {
@@ -70,10 +65,6 @@ fn push_effect(
     counts: &Counts,
     cell: &[u32],
 ) -> Result<(), AllocError>
-    requires x { Within (length effect.now.seen.now.names) (has effect.now.target.x.bits) }
-    requires y { Within (length effect.now.seen.now.names) (has effect.now.target.y.bits) }
-    requires given { Within (length effect.now.seen.now.names) (has effect.now.target.given.bits) }
-    requires entries { length effect.now.seen.now.names ≡ length cell.now }
     ensures { OnOk result (out.new.items ≡ out.old.items ++ effect_text (effect_view effect.now) counts.now (cell_of cell.now)) }
 {
     out.extend_from_slice(b"P(")?;
@@ -100,10 +91,6 @@ pub fn push_line<Q: Shown>(
     cell: &[u32],
     quantity: &Q,
 ) -> Result<(), AllocError>
-    requires x { Within (length effect.now.seen.now.names) (has effect.now.target.x.bits) }
-    requires y { Within (length effect.now.seen.now.names) (has effect.now.target.y.bits) }
-    requires given { Within (length effect.now.seen.now.names) (has effect.now.target.given.bits) }
-    requires entries { length effect.now.seen.now.names ≡ length cell.now }
     ensures { OnOk result (out.new.items ≡ out.old.items ++ value_line Q.kind (sign_of Q.IS_EXACT) (effect_view effect.now) counts.now (record { cell = cell.now; quantity = Q.numbers quantity.now })) }
 {
     push_effect(out, effect, counts, cell)?;
@@ -121,8 +108,6 @@ fn push_pinned(
     set: VSet,
     v: u8,
 ) -> Result<(), AllocError>
-    requires vertex { v < 64 }
-    requires named { Within (length names.now) (has set.bits) }
     ensures { OnOk result (out.new.items ≡ out.old.items ++ (if has set.bits v then pinned_line names.now counts.now v else [])) }
 {
     if !set.has(v) {
@@ -147,7 +132,6 @@ pub fn pinned_lines(
     effect: &Effect<'_, '_>,
     counts: &Counts,
 ) -> Result<Vec<u8>, AllocError>
-    requires { Within (length effect.now.seen.now.names) (has (free_beside (target_of (effect_view effect.now)) (effect_view effect.now).formula)) }
     ensures { IfOk result (λ v. v.items ≡ pinned_lines (effect_view effect.now) counts.now) }
 {
     let pinned = pinned_set(alloc, effect)?;

@@ -1,11 +1,8 @@
 //! The object of the values of an effect.
 
-ghost use Rattle.std.specs.Prelude.{◌≡◌, IfOk, OnOk, length};
-ghost use Rattle.mixed_graph.specs.Bits.{has};
-ghost use Rattle.mixed_graph.specs.Sets.{Within};
-ghost use Rattle.identify_text.specs.Answers.{free_beside};
+ghost use Rattle.std.specs.Prelude.{◌≡◌, IfOk, OnOk};
 ghost use Rattle.answer_json.specs.Progress.{with_value, with_members};
-ghost use Rattle.evaluate_command.specs.Effects.{effect_view, target_of};
+ghost use Rattle.evaluate_command.specs.Effects.{effect_view};
 ghost use Rattle.evaluate_command.specs.Objects.{cell_members, pinned_json, value_json, values_begun};
 
 use crate::identified::Effect;
@@ -23,10 +20,6 @@ fn push_levels(
     counts: &Counts,
     cell: &[u32],
 ) -> Result<(), AllocError>
-    requires x { Within (length effect.now.seen.now.names) (has effect.now.target.x.bits) }
-    requires y { Within (length effect.now.seen.now.names) (has effect.now.target.y.bits) }
-    requires given { Within (length effect.now.seen.now.names) (has effect.now.target.given.bits) }
-    requires entries { length effect.now.seen.now.names ≡ length cell.now }
     ensures { OnOk result (object.new ≡ with_members (cell_members (effect_view effect.now) counts.now cell.now) object.old) }
 {
     let names = &effect.seen.names;
@@ -47,10 +40,6 @@ pub fn push_value<Q: Shown>(
     cell: &[u32],
     quantity: &Q,
 ) -> Result<(), AllocError>
-    requires x { Within (length effect.now.seen.now.names) (has effect.now.target.x.bits) }
-    requires y { Within (length effect.now.seen.now.names) (has effect.now.target.y.bits) }
-    requires given { Within (length effect.now.seen.now.names) (has effect.now.target.given.bits) }
-    requires entries { length effect.now.seen.now.names ≡ length cell.now }
     ensures { OnOk result (object.new ≡ with_value (value_json Q.IS_EXACT (effect_view effect.now) counts.now (record { cell = cell.now; quantity = Q.numbers quantity.now })) object.old) }
 {
     object.begin_object()?;
@@ -66,7 +55,6 @@ fn push_pinned(
     effect: &Effect<'_, '_>,
     counts: &Counts,
 ) -> Result<(), AllocError>
-    requires { Within (length effect.now.seen.now.names) (has (free_beside (target_of (effect_view effect.now)) (effect_view effect.now).formula)) }
     ensures { OnOk result (object.new ≡ with_value (pinned_json (effect_view effect.now) counts.now) object.old) }
 {
     let first = vec![in object.alloc(); 0; effect.seen.graph.n as usize]?;
@@ -81,10 +69,6 @@ pub fn begin_values(
     counts: &Counts,
     exact: bool,
 ) -> Result<Object, AllocError>
-    requires x { Within (length effect.now.seen.now.names) (has effect.now.target.x.bits) }
-    requires y { Within (length effect.now.seen.now.names) (has effect.now.target.y.bits) }
-    requires given { Within (length effect.now.seen.now.names) (has effect.now.target.given.bits) }
-    requires pinned { Within (length effect.now.seen.now.names) (has (free_beside (target_of (effect_view effect.now)) (effect_view effect.now).formula)) }
     ensures { IfOk result (λ o. o ≡ values_begun exact (effect_view effect.now) counts.now) }
 {
     let names = &effect.seen.names;

@@ -1,11 +1,8 @@
 //! What is written of the values of an effect, in either format.
 
-ghost use Rattle.std.specs.Prelude.{◌≡◌, ◌∷◌, [], IfOk, OnOk, length};
-ghost use Rattle.mixed_graph.specs.Bits.{has};
-ghost use Rattle.mixed_graph.specs.Sets.{Within};
-ghost use Rattle.identify_text.specs.Answers.{free_beside};
+ghost use Rattle.std.specs.Prelude.{◌≡◌, ◌∷◌, [], IfOk, OnOk};
 ghost use Rattle.answer_json.specs.Progress.{ended_array, ended_object, IsWhole, value_of, json_line};
-ghost use Rattle.evaluate_command.specs.Effects.{effect_view, target_of};
+ghost use Rattle.evaluate_command.specs.Effects.{effect_view};
 ghost use Rattle.evaluate_command.specs.Pages.{page_of, with_cells, page_begun, CanEnd, page_text};
 
 use crate::identified::Effect;
@@ -34,10 +31,6 @@ pub fn begin_sheet(
     counts: &Counts,
     exact: bool,
 ) -> Result<Sheet, AllocError>
-    requires x { Within (length effect.now.seen.now.names) (has effect.now.target.x.bits) }
-    requires y { Within (length effect.now.seen.now.names) (has effect.now.target.y.bits) }
-    requires given { Within (length effect.now.seen.now.names) (has effect.now.target.given.bits) }
-    requires pinned { Within (length effect.now.seen.now.names) (has (free_beside (target_of (effect_view effect.now)) (effect_view effect.now).formula)) }
     ensures { IfOk result (λ s. page_of s ≡ page_begun format exact (effect_view effect.now) counts.now) }
 {
     match format {
@@ -55,10 +48,6 @@ pub fn push_shown<Q: Shown>(
     cell: &[u32],
     quantity: &Q,
 ) -> Result<(), AllocError>
-    requires x { Within (length effect.now.seen.now.names) (has effect.now.target.x.bits) }
-    requires y { Within (length effect.now.seen.now.names) (has effect.now.target.y.bits) }
-    requires given { Within (length effect.now.seen.now.names) (has effect.now.target.given.bits) }
-    requires entries { length effect.now.seen.now.names ≡ length cell.now }
     ensures { OnOk result (page_of sheet.new ≡ with_cells Q.kind Q.IS_EXACT (effect_view effect.now) counts.now (record { cell = cell.now; quantity = Q.numbers quantity.now } ∷ []) (page_of sheet.old)) }
 {
     match sheet {

@@ -1,8 +1,6 @@
 //! The line of an effect that no formula over the experiments equals.
 
-ghost use Rattle.std.specs.Prelude.{◌≡◌, IfOk, length};
-ghost use Rattle.mixed_graph.specs.Bits.{has};
-ghost use Rattle.mixed_graph.specs.Sets.{Within};
+ghost use Rattle.std.specs.Prelude.{◌≡◌, IfOk};
 ghost use Rattle.experiment_lists.specs.Lines.{unidentifiable_with_line};
 
 use identify_text::effect_text;
@@ -16,8 +14,6 @@ pub fn unidentifiable_text(
     x: VSet,
     y: VSet,
 ) -> Result<Vec<u8>, AllocError>
-    requires x { Within (length names.now) (has x.bits) }
-    requires y { Within (length names.now) (has y.bits) }
     ensures { IfOk result (λ v. v.items ≡ unidentifiable_with_line names.now x.bits y.bits) }
 {
     let mut text = effect_text(alloc, x, y, names)?;

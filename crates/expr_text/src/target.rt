@@ -1,8 +1,6 @@
 //! The text of a target.
 
-ghost use Rattle.std.specs.Prelude.{◌≡◌, ◌++◌, length, IfOk};
-ghost use Rattle.mixed_graph.specs.Bits.{has};
-ghost use Rattle.mixed_graph.specs.Sets.{Within};
+ghost use Rattle.std.specs.Prelude.{◌≡◌, ◌++◌, IfOk};
 ghost use Rattle.prob_expr.specs.Tree.{term_of};
 ghost use Rattle.prob_expr.specs.View.{target_view};
 ghost use Rattle.expr_text.specs.Write.{expr_in, text_of, latex_of};
@@ -32,9 +30,6 @@ pub fn target_in(
     target: &Target,
     names: &Names,
 ) -> Result<Vec<u8>, AllocError>
-    requires what { Within (length names.now) (has target.now.y.bits) }
-    requires doing { Within (length names.now) (has target.now.x.bits) }
-    requires given { Within (length names.now) (has target.now.given.bits) }
     ensures { IfOk result (λ v. v.items ≡ expr_in notation names.now (term_of (target_view target.now))) }
 {
     let mut out = Vec::new(alloc);
@@ -44,9 +39,6 @@ pub fn target_in(
 
 /// The text of a target: the term `P(Y|do(X))`, or `P(Y)` where X is empty.
 pub fn target_text(alloc: Global, target: &Target, names: &Names) -> Result<Vec<u8>, AllocError>
-    requires what { Within (length names.now) (has target.now.y.bits) }
-    requires doing { Within (length names.now) (has target.now.x.bits) }
-    requires given { Within (length names.now) (has target.now.given.bits) }
     ensures { IfOk result (λ v. v.items ≡ text_of names.now (term_of (target_view target.now))) }
 {
     target_in(alloc, Notation::Plain, target, names)
@@ -54,9 +46,6 @@ pub fn target_text(alloc: Global, target: &Target, names: &Names) -> Result<Vec<
 
 /// A target as LaTeX: the term `P(Y \mid \mathrm{do}(X))`, or `P(Y)` where X is empty.
 pub fn target_latex(alloc: Global, target: &Target, names: &Names) -> Result<Vec<u8>, AllocError>
-    requires what { Within (length names.now) (has target.now.y.bits) }
-    requires doing { Within (length names.now) (has target.now.x.bits) }
-    requires given { Within (length names.now) (has target.now.given.bits) }
     ensures { IfOk result (λ v. v.items ≡ latex_of names.now (term_of (target_view target.now))) }
 {
     target_in(alloc, Notation::Latex, target, names)

@@ -1,14 +1,10 @@
 //! Expressions and formulas written.
 
-ghost use Rattle.std.specs.Prelude.{◌≡◌, ◌<◌, ◌≤◌, ◌++◌, ◌+◌, ℕ, length, OnOk, IfOk, codes, decimal, string_bytes, map, true, None};
+ghost use Rattle.std.specs.Prelude.{◌≡◌, ◌++◌, ◌+◌, OnOk, IfOk, codes, decimal, string_bytes, map};
 ghost use Rattle.mixed_graph.specs.Bits.{has};
 ghost use Rattle.answer_text.specs.Notations.{sign_text};
 ghost use Rattle.answer_text.specs.Texts.{set_in, term_in};
-ghost use Rattle.prob_expr.specs.Check.{fault_in};
-ghost use Rattle.mixed_graph.specs.Masks.{is_below, is_empty};
-ghost use Rattle.prob_expr.specs.Terms.{is_term};
 ghost use Rattle.prob_expr.specs.View.{view, views, formula_view};
-ghost use Rattle.expr_text.specs.Sound.{is_sound, are_sound, all_sound};
 ghost use Rattle.expr_text.specs.Write.{parenthesized, factor_in, wrapped, quotient_in, name_of_def, expr_in, factors_in, defs_in, formula_in, text_of, formula_text, formula_latex};
 
 use answer_text::{Notation, Sign, Term, push_set_in, push_sign, push_term_in};
@@ -32,18 +28,14 @@ pub enum Place {
 }
 
 /// Appends a term.
-#[tactic(auto, using(crate::proofs::Within::first_within, crate::proofs::Within::second_within, crate::proofs::Within::third_within))]
 fn put_term(writer: &Writer, out: &mut Vec<u8>, term: Term) -> Result<(), AllocError>
-    requires { is_term (length writer.now.names.now) term.of.bits term.doing.bits term.given.bits ≡ true }
     ensures { OnOk result (out.new.items ≡ out.old.items ++ term_in writer.now.notation writer.now.names.now (has term.of.bits) (has term.doing.bits) (has term.given.bits)) }
 {
     push_term_in(out, writer.notation, writer.names, term)
 }
 
 /// Appends the sign of a sum and the set over which the sum is.
-#[tactic(auto, using(crate::proofs::Within::below_within))]
 fn put_over(writer: &Writer, out: &mut Vec<u8>, over: VSet) -> Result<(), AllocError>
-    requires { is_below (length writer.now.names.now) over.bits ≡ true }
     ensures { OnOk result (out.new.items ≡ out.old.items ++ (sign_text writer.now.notation Sign.Sum ++ (set_in writer.now.notation writer.now.names.now over.bits ++ codes " "))) }
 {
     push_sign(out, writer.notation, Sign::Sum)?;
@@ -74,7 +66,6 @@ fn put_named(writer: &Writer, out: &mut Vec<u8>, k: usize) -> Result<(), AllocEr
 /// Appends an expression.
 #[cycle(put)]
 fn put_expr(writer: &Writer, out: &mut Vec<u8>, e: &Expr) -> Result<(), AllocError>
-    requires { is_sound (length writer.now.names.now) (view e.now) ≡ true }
     ensures { OnOk result (out.new.items ≡ out.old.items ++ expr_in writer.now.notation writer.now.names.now (view e.now)) }
 {
     match e {
@@ -109,7 +100,6 @@ fn put_expr(writer: &Writer, out: &mut Vec<u8>, e: &Expr) -> Result<(), AllocErr
 /// Appends an expression as an operand.
 #[cycle(put)]
 fn put_operand(writer: &Writer, out: &mut Vec<u8>, e: &Expr) -> Result<(), AllocError>
-    requires { is_sound (length writer.now.names.now) (view e.now) ≡ true }
     ensures { OnOk result (out.new.items ≡ out.old.items ++ wrapped writer.now.notation (view e.now) (expr_in writer.now.notation writer.now.names.now (view e.now))) }
 {
     match e {
@@ -121,7 +111,6 @@ fn put_operand(writer: &Writer, out: &mut Vec<u8>, e: &Expr) -> Result<(), Alloc
 /// Appends an expression in parentheses.
 #[cycle(put)]
 fn put_parenthesized(writer: &Writer, out: &mut Vec<u8>, e: &Expr) -> Result<(), AllocError>
-    requires { is_sound (length writer.now.names.now) (view e.now) ≡ true }
     ensures { OnOk result (out.new.items ≡ out.old.items ++ parenthesized writer.now.notation (expr_in writer.now.notation writer.now.names.now (view e.now))) }
 {
     push_sign(out, writer.notation, Sign::Open)?;
@@ -133,7 +122,6 @@ fn put_parenthesized(writer: &Writer, out: &mut Vec<u8>, e: &Expr) -> Result<(),
 /// Appends a product.
 #[cycle(put)]
 fn put_factors(writer: &Writer, out: &mut Vec<u8>, factors: &Vec<Expr>) -> Result<(), AllocError>
-    requires { are_sound (length writer.now.names.now) (views factors.now.items) ≡ true }
     ensures { OnOk result (out.new.items ≡ out.old.items ++ factors_in writer.now.notation Place.First writer.now.names.now (views factors.now.items)) }
 {
     let mut place = Place::First;
@@ -147,7 +135,6 @@ fn put_factors(writer: &Writer, out: &mut Vec<u8>, factors: &Vec<Expr>) -> Resul
 /// Appends a factor, and before a later one the sign of a product.
 #[cycle(put)]
 fn put_factor(writer: &Writer, out: &mut Vec<u8>, place: Place, e: &Expr) -> Result<(), AllocError>
-    requires { is_sound (length writer.now.names.now) (view e.now) ≡ true }
     ensures { OnOk result (out.new.items ≡ out.old.items ++ factor_in writer.now.notation place (wrapped writer.now.notation (view e.now) (expr_in writer.now.notation writer.now.names.now (view e.now)))) }
 {
     match place {
@@ -161,7 +148,6 @@ fn put_factor(writer: &Writer, out: &mut Vec<u8>, place: Place, e: &Expr) -> Res
 
 /// The text of an expression.
 pub fn write_expr(alloc: Global, e: &Expr, names: &Names) -> Result<Vec<u8>, AllocError>
-    requires { is_sound (length names.now) (view e.now) ≡ true }
     ensures { IfOk result (λ v. v.items ≡ text_of names.now (view e.now)) }
 {
     let mut out = Vec::new(alloc);
@@ -176,7 +162,6 @@ pub fn write_expr(alloc: Global, e: &Expr, names: &Names) -> Result<Vec<u8>, All
 
 /// Appends a line with a definition.
 fn put_def(writer: &Writer, out: &mut Vec<u8>, k: usize, def: &Expr) -> Result<(), AllocError>
-    requires { is_sound (length writer.now.names.now) (view def.now) ≡ true }
     ensures { OnOk result (out.new.items ≡ out.old.items ++ (codes "\n" ++ (name_of_def writer.now.notation k ++ (codes " = " ++ expr_in writer.now.notation writer.now.names.now (view def.now))))) }
 {
     out.extend_from_slice(b"\n")?;
@@ -188,7 +173,6 @@ fn put_def(writer: &Writer, out: &mut Vec<u8>, k: usize, def: &Expr) -> Result<(
 
 /// Appends all definitions.
 fn put_defs(writer: &Writer, out: &mut Vec<u8>, defs: &Vec<Expr>) -> Result<(), AllocError>
-    requires { all_sound (length writer.now.names.now) (map view defs.now.items) ≡ true }
     ensures { OnOk result (out.new.items ≡ out.old.items ++ defs_in writer.now.notation writer.now.names.now 0 (map view defs.now.items)) }
 {
     let mut k = 0;
@@ -199,7 +183,7 @@ fn put_defs(writer: &Writer, out: &mut Vec<u8>, defs: &Vec<Expr>) -> Result<(), 
     Ok(())
 }
 
-/// Appends a formula that `check` accepts, in a notation.
+/// Appends a formula in a notation.
 pub fn push_formula_in(
     alloc: Global,
     out: &mut Vec<u8>,
@@ -207,7 +191,6 @@ pub fn push_formula_in(
     f: &Formula,
     names: &Names,
 ) -> Result<(), AllocError>
-    requires { fault_in (length names.now) (formula_view f.now) ≡ None }
     ensures { OnOk result (out.new.items ≡ out.old.items ++ formula_in notation names.now (formula_view f.now)) }
 {
     let writer = Writer {
@@ -219,14 +202,13 @@ pub fn push_formula_in(
     put_defs(&writer, out, &f.defs)
 }
 
-/// A formula that `check` accepts, in a notation.
+/// A formula in a notation.
 fn formula_in(
     alloc: Global,
     notation: Notation,
     f: &Formula,
     names: &Names,
 ) -> Result<Vec<u8>, AllocError>
-    requires { fault_in (length names.now) (formula_view f.now) ≡ None }
     ensures { IfOk result (λ v. v.items ≡ formula_in notation names.now (formula_view f.now)) }
 {
     let mut out = Vec::new(alloc);
@@ -234,17 +216,15 @@ fn formula_in(
     Ok(out)
 }
 
-/// The text of a formula that `check` accepts.
+/// The text of a formula.
 pub fn formula_text(alloc: Global, f: &Formula, names: &Names) -> Result<Vec<u8>, AllocError>
-    requires { fault_in (length names.now) (formula_view f.now) ≡ None }
     ensures { IfOk result (λ v. v.items ≡ formula_text names.now (formula_view f.now)) }
 {
     formula_in(alloc, Notation::Plain, f, names)
 }
 
-/// A formula that `check` accepts, as LaTeX.
+/// A formula as LaTeX.
 pub fn latex_text(alloc: Global, f: &Formula, names: &Names) -> Result<Vec<u8>, AllocError>
-    requires { fault_in (length names.now) (formula_view f.now) ≡ None }
     ensures { IfOk result (λ v. v.items ≡ formula_latex names.now (formula_view f.now)) }
 {
     formula_in(alloc, Notation::Latex, f, names)

@@ -1,11 +1,7 @@
 //! The tree of an expression.
 
-ghost use Rattle.std.specs.Prelude.{◌≡◌, length, map, OnOk, codes, true, None};
-ghost use Rattle.mixed_graph.specs.Masks.{is_below};
-ghost use Rattle.prob_expr.specs.Check.{fault_in};
-ghost use Rattle.prob_expr.specs.Terms.{is_term};
+ghost use Rattle.std.specs.Prelude.{◌≡◌, map, OnOk, codes};
 ghost use Rattle.prob_expr.specs.View.{view, views, formula_view};
-ghost use Rattle.expr_text.specs.Sound.{is_sound, are_sound, all_sound};
 ghost use Rattle.answer_json.specs.Progress.{with_value, with_values, with_member};
 ghost use Rattle.answer_json.specs.Values.{set_json};
 ghost use Rattle.formula_json.specs.Trees.{term_json, named_json, product_json, tree_json, trees_json, definitions_json};
@@ -16,7 +12,6 @@ use prob_expr::{Expr, Formula};
 use std::alloc::AllocError;
 
 /// A term.
-#[tactic(auto, using(expr_text::proofs::Within::first_within, expr_text::proofs::Within::second_within, expr_text::proofs::Within::third_within))]
 fn push_term(
     object: &mut Object,
     names: &Names,
@@ -24,7 +19,6 @@ fn push_term(
     doing: VSet,
     given: VSet,
 ) -> Result<(), AllocError>
-    requires { is_term (length names.now) of.bits doing.bits given.bits ≡ true }
     ensures { OnOk result (object.new ≡ with_value (term_json names.now of.bits doing.bits given.bits) object.old) }
 {
     object.begin_object()?;
@@ -36,9 +30,7 @@ fn push_term(
 }
 
 /// The member that says over which vertices a sum is.
-#[tactic(auto, using(expr_text::proofs::Within::below_within))]
 fn push_over(object: &mut Object, names: &Names, over: VSet) -> Result<(), AllocError>
-    requires { is_below (length names.now) over.bits ≡ true }
     ensures { OnOk result (object.new ≡ with_member (codes "sum") (set_json names.now over.bits) object.old) }
 {
     object.set_at("sum", names, over)
@@ -57,7 +49,6 @@ fn push_named(object: &mut Object, k: u32) -> Result<(), AllocError>
 /// An expression as a value.
 #[cycle(push)]
 pub fn push_tree(object: &mut Object, names: &Names, e: &Expr) -> Result<(), AllocError>
-    requires { is_sound (length names.now) (view e.now) ≡ true }
     ensures { OnOk result (object.new ≡ with_value (tree_json names.now (view e.now)) object.old) }
 {
     match e {
@@ -89,7 +80,6 @@ pub fn push_tree(object: &mut Object, names: &Names, e: &Expr) -> Result<(), All
 #[cycle(push)]
 #[tactic(auto, using(answer_json::proofs::Arrays::array_written))]
 fn push_product(object: &mut Object, names: &Names, factors: &Vec<Expr>) -> Result<(), AllocError>
-    requires { are_sound (length names.now) (views factors.now.items) ≡ true }
     ensures { OnOk result (object.new ≡ with_value (product_json names.now (views factors.now.items)) object.old) }
 {
     object.begin_object()?;
@@ -104,7 +94,6 @@ fn push_product(object: &mut Object, names: &Names, factors: &Vec<Expr>) -> Resu
 /// The factors of a product as values, in their order.
 #[cycle(push)]
 fn push_factors(object: &mut Object, names: &Names, factors: &Vec<Expr>) -> Result<(), AllocError>
-    requires { are_sound (length names.now) (views factors.now.items) ≡ true }
     ensures { OnOk result (object.new ≡ with_values (trees_json names.now (views factors.now.items)) object.old) }
 {
     for factor in factors {
@@ -115,7 +104,6 @@ fn push_factors(object: &mut Object, names: &Names, factors: &Vec<Expr>) -> Resu
 
 /// Expressions as values, in their order.
 fn push_trees(object: &mut Object, names: &Names, list: &Vec<Expr>) -> Result<(), AllocError>
-    requires { all_sound (length names.now) (map view list.now.items) ≡ true }
     ensures { OnOk result (object.new ≡ with_values (map (tree_json names.now) (map view list.now.items)) object.old) }
 {
     for e in list {
@@ -124,18 +112,16 @@ fn push_trees(object: &mut Object, names: &Names, list: &Vec<Expr>) -> Result<()
     Ok(())
 }
 
-/// The main expression of a formula that `check` accepts.
+/// The main expression of a formula.
 pub fn push_main(object: &mut Object, names: &Names, f: &Formula) -> Result<(), AllocError>
-    requires { fault_in (length names.now) (formula_view f.now) ≡ None }
     ensures { OnOk result (object.new ≡ with_value (tree_json names.now (view f.now.main)) object.old) }
 {
     push_tree(object, names, &f.main)
 }
 
-/// The list of the definitions of a formula that `check` accepts.
+/// The list of the definitions of a formula.
 #[tactic(auto, using(answer_json::proofs::Arrays::array_written))]
 pub fn push_definitions(object: &mut Object, names: &Names, f: &Formula) -> Result<(), AllocError>
-    requires { fault_in (length names.now) (formula_view f.now) ≡ None }
     ensures { OnOk result (object.new ≡ with_value (definitions_json names.now (formula_view f.now)) object.old) }
 {
     object.begin_array()?;

@@ -1,9 +1,5 @@
 //! Texts of formulas, and formulas as texts.
 
-ghost use Rattle.std.specs.Prelude.{◌≡◌, length, None};
-ghost use Rattle.prob_expr.specs.Check.{fault_in};
-ghost use Rattle.prob_expr.specs.View.{formula_view};
-
 use crate::fields::{add_text, names_in, text_in, vertex};
 use anyhow::{Result, bail};
 use expr_text::{
@@ -13,18 +9,11 @@ use expr_text::{
 use mixed_graph::Names;
 use prob_expr::{Formula, Target, check};
 use serde_json::Value;
-use std::alloc::{AllocError, Global};
+use std::alloc::Global;
 
 /// Adds where reading stopped.
 fn add_fault(alloc: Global, line: &mut Vec<u8>, fault: TextFault) -> Result<()> {
     add_text(line, format!(in alloc; "{fault:?}")?.as_str())
-}
-
-/// The text of the main expression alone.
-fn main_text(alloc: Global, f: &Formula, names: &Names) -> Result<Vec<u8>, AllocError>
-    requires { fault_in (length names.now) (formula_view f.now) ≡ None }
-{
-    write_expr(alloc, &f.main, names)
 }
 
 /// The text of a formula, its LaTeX, or the text of its main expression.
@@ -33,7 +22,7 @@ fn text_of(alloc: Global, call: &str, f: &Formula, names: &Names) -> Result<Vec<
         Ok(()) => match call {
             "formula_text" => Ok(formula_text(alloc, f, names)?),
             "latex_text" => Ok(latex_text(alloc, f, names)?),
-            "write_expr" => Ok(main_text(alloc, f, names)?),
+            "write_expr" => Ok(write_expr(alloc, &f.main, names)?),
             other => bail!("no call {other}"),
         },
         Err(_) => bail!("the formula has a fault"),

@@ -1,12 +1,11 @@
 //! The two bits of a vertex.
 
-ghost use Rattle.std.specs.Prelude.{◌≡◌, ◌<◌, All, length, map, OnOk};
-ghost use Rattle.mixed_graph.specs.Bits.{has};
-ghost use Rattle.mixed_graph.specs.Sets.{Within};
+ghost use Rattle.std.specs.Prelude.{◌≡◌, map, OnOk};
 ghost use Rattle.answer_json.specs.Progress.{with_value, with_values, with_members};
 ghost use Rattle.hedge_json.specs.Models.{bit_json, bits_json, bit_members, letter};
 
 use answer_json::Object;
+use identify_text::vertex_name;
 use mixed_graph::{Names, VSet};
 use std::alloc::AllocError;
 
@@ -32,19 +31,17 @@ pub fn push_bit_members(
     object: &mut Object,
     names: &Names,
     bit: Bit,
-    v: u8,
+    v: usize,
 ) -> Result<(), AllocError>
-    requires { v < length names.now }
     ensures { OnOk result (object.new ≡ with_members (bit_members names.now bit v) object.old) }
 {
     object.word_at("bit", letter(bit))?;
-    object.vertex_at("vertex", names, v)?;
+    object.text_at("vertex", vertex_name(names, v))?;
     Ok(())
 }
 
 /// A bit of vertex v as a term.
-pub fn push_bit(object: &mut Object, names: &Names, bit: Bit, v: u8) -> Result<(), AllocError>
-    requires { v < length names.now }
+pub fn push_bit(object: &mut Object, names: &Names, bit: Bit, v: usize) -> Result<(), AllocError>
     ensures { OnOk result (object.new ≡ with_value (bit_json names.now bit v) object.old) }
 {
     object.begin_object()?;
@@ -55,18 +52,16 @@ pub fn push_bit(object: &mut Object, names: &Names, bit: Bit, v: u8) -> Result<(
 
 /// That bit of each vertex, in their order.
 fn push_all(object: &mut Object, names: &Names, bit: Bit, vertices: &[u8]) -> Result<(), AllocError>
-    requires { All (λ v. v < length names.now) vertices.now }
     ensures { OnOk result (object.new ≡ with_values (map (bit_json names.now bit) vertices.now) object.old) }
 {
     for v in vertices {
-        push_bit(object, names, bit, *v)?;
+        push_bit(object, names, bit, *v as usize)?;
     }
     Ok(())
 }
 
 /// That bit of each member of a set, in index order.
 pub fn push_bits(object: &mut Object, names: &Names, bit: Bit, set: VSet) -> Result<(), AllocError>
-    requires { Within (length names.now) (has set.bits) }
     ensures { OnOk result (object.new ≡ with_values (bits_json names.now bit set.bits) object.old) }
 {
     let list = set.members(object.alloc())?;

@@ -1,23 +1,21 @@
 //! A hedge as an object.
 
-ghost use Rattle.std.specs.Prelude.{◌≡◌, ◌<◌, ◌∷◌, [], if◌then◌else◌, length, OnOk, codes};
-ghost use Rattle.identify_text.specs.Below.{IsHedgeBelow};
+ghost use Rattle.std.specs.Prelude.{◌≡◌, ◌∷◌, [], if◌then◌else◌, OnOk, codes};
 ghost use Rattle.identify_text.specs.HedgeLines.{chooses};
 ghost use Rattle.answer_json.specs.Progress.{with_value, with_values, with_member, array_of};
 ghost use Rattle.hedge_json.specs.Hedges.{choice_json, choices_json, link_json, links_json, hedge_json};
 
 use answer_json::Object;
 use hedge::Hedge;
+use identify_text::entry;
 use mixed_graph::Names;
 use std::alloc::AllocError;
 
 /// The choice of v, where v is a member of big that has one.
 fn push_choice(object: &mut Object, names: &Names, h: &Hedge, v: u8) -> Result<(), AllocError>
-    requires vertex { v < 64 }
-    requires hedge { IsHedgeBelow (length names.now) h.now }
     ensures { OnOk result (object.new ≡ with_values (if chooses h.now v then choice_json names.now h.now v ∷ [] else []) object.old) }
 {
-    let child = h.choice.next[v as usize];
+    let child = entry(&h.choice.next, v as usize);
     if !h.big.has(v) || child >= 64 {
         return Ok(());
     }
@@ -30,7 +28,6 @@ fn push_choice(object: &mut Object, names: &Names, h: &Hedge, v: u8) -> Result<(
 
 /// The choice of each member of big, in index order.
 fn push_choices(object: &mut Object, names: &Names, h: &Hedge) -> Result<(), AllocError>
-    requires { IsHedgeBelow (length names.now) h.now }
     ensures { OnOk result (object.new ≡ with_values (choices_json names.now h.now) object.old) }
 {
     for v in 0..64u8 {
@@ -41,17 +38,14 @@ fn push_choices(object: &mut Object, names: &Names, h: &Hedge) -> Result<(), All
 
 /// Entry i and its partner.
 fn push_link(object: &mut Object, names: &Names, h: &Hedge, i: usize) -> Result<(), AllocError>
-    requires later { 0 < i }
-    requires entry { i < h.now.links.count }
-    requires hedge { IsHedgeBelow (length names.now) h.now }
     ensures { OnOk result (object.new ≡ with_value (link_json names.now h.now i) object.old) }
 {
-    object.pair(names, h.links.found[i], h.links.partner[i])
+    let (found, partner) = (entry(&h.links.found, i), entry(&h.links.partner, i));
+    object.pair(names, found, partner)
 }
 
 /// Each entry after the first with its partner, in found order.
 fn push_links(object: &mut Object, names: &Names, h: &Hedge) -> Result<(), AllocError>
-    requires { IsHedgeBelow (length names.now) h.now }
     ensures { OnOk result (object.new ≡ with_values (links_json names.now h.now) object.old) }
 {
     for i in 1..h.links.count as usize {
@@ -63,7 +57,6 @@ fn push_links(object: &mut Object, names: &Names, h: &Hedge) -> Result<(), Alloc
 /// A hedge as a value: its sets, its choices and its links.
 #[tactic(auto, using(answer_json::proofs::Arrays::array_written))]
 pub fn push_hedge(object: &mut Object, names: &Names, h: &Hedge) -> Result<(), AllocError>
-    requires { IsHedgeBelow (length names.now) h.now }
     ensures { OnOk result (object.new ≡ with_value (hedge_json names.now h.now) object.old) }
 {
     object.begin_object()?;
@@ -79,7 +72,6 @@ pub fn push_hedge(object: &mut Object, names: &Names, h: &Hedge) -> Result<(), A
 /// The member of the choices.
 #[tactic(auto, using(answer_json::proofs::Arrays::array_written))]
 fn push_choices_at(object: &mut Object, names: &Names, h: &Hedge) -> Result<(), AllocError>
-    requires { IsHedgeBelow (length names.now) h.now }
     ensures { OnOk result (object.new ≡ with_member (codes "choices") (array_of (choices_json names.now h.now)) object.old) }
 {
     object.key("choices")?;
@@ -92,7 +84,6 @@ fn push_choices_at(object: &mut Object, names: &Names, h: &Hedge) -> Result<(), 
 /// The member of the links.
 #[tactic(auto, using(answer_json::proofs::Arrays::array_written))]
 fn push_links_at(object: &mut Object, names: &Names, h: &Hedge) -> Result<(), AllocError>
-    requires { IsHedgeBelow (length names.now) h.now }
     ensures { OnOk result (object.new ≡ with_member (codes "links") (array_of (links_json names.now h.now)) object.old) }
 {
     object.key("links")?;

@@ -1,10 +1,7 @@
 //! The two models as an object.
 
-ghost use Rattle.std.specs.Prelude.{◌≡◌, ◌+◌, ◌++◌, All, codes, decimal, length, map, OnOk, IfOk, string_bytes};
-ghost use Rattle.mixed_graph.specs.Bits.{has};
-ghost use Rattle.mixed_graph.specs.Sets.{Within};
+ghost use Rattle.std.specs.Prelude.{◌≡◌, ◌+◌, ◌++◌, codes, decimal, map, OnOk, IfOk, string_bytes};
 ghost use Rattle.json.specs.Json.{string};
-ghost use Rattle.identify_text.specs.Below.{IsCauseBelow, IsMechanismBelow, IsModelBelow, ArePairBelow};
 ghost use Rattle.answer_json.specs.Progress.{with_value, with_values, with_member, array_of};
 ghost use Rattle.hedge_json.specs.Models.{cause_json, vertex_values, bits_json, event_json, models_json};
 ghost use Rattle.hedge_json.specs.declared.bits.Bit.TheVariants.{CarriedBit};
@@ -30,7 +27,6 @@ fn push_weights(object: &mut Object, weights: &[u32]) -> Result<(), AllocError>
 /// A cause.
 #[tactic(auto, using(answer_json::proofs::Arrays::array_written))]
 fn push_cause(object: &mut Object, names: &Names, cause: &Cause) -> Result<(), AllocError>
-    requires { IsCauseBelow (length names.now) cause.now }
     ensures { OnOk result (object.new ≡ with_value (cause_json names.now cause.now) object.old) }
 {
     object.begin_object()?;
@@ -45,7 +41,6 @@ fn push_cause(object: &mut Object, names: &Names, cause: &Cause) -> Result<(), A
 
 /// Causes, in their order.
 fn push_causes(object: &mut Object, names: &Names, causes: &[Cause]) -> Result<(), AllocError>
-    requires { All (IsCauseBelow (length names.now)) causes.now }
     ensures { OnOk result (object.new ≡ with_values (map (cause_json names.now) causes.now) object.old) }
 {
     for cause in causes {
@@ -57,7 +52,6 @@ fn push_causes(object: &mut Object, names: &Names, causes: &[Cause]) -> Result<(
 /// The member of the causes.
 #[tactic(auto, using(answer_json::proofs::Arrays::array_written))]
 fn push_causes_at(object: &mut Object, names: &Names, causes: &[Cause]) -> Result<(), AllocError>
-    requires { All (IsCauseBelow (length names.now)) causes.now }
     ensures { OnOk result (object.new ≡ with_member (codes "causes") (array_of (map (cause_json names.now) causes.now)) object.old) }
 {
     object.key("causes")?;
@@ -74,12 +68,10 @@ fn push_vertices(
     names: &Names,
     mechanisms: &[Mechanism],
 ) -> Result<(), AllocError>
-    requires count { length mechanisms.now ≡ length names.now }
-    requires parts { All (IsMechanismBelow (length names.now)) mechanisms.now }
     ensures { OnOk result (object.new ≡ with_values (vertex_values names.now 0 mechanisms.now) object.old) }
 {
-    for v in 0..names.count() as u8 {
-        push_mechanism(object, names, v, &mechanisms[v as usize])?;
+    for (v, mechanism) in mechanisms.iter().enumerate() {
+        push_mechanism(object, names, v, mechanism)?;
     }
     Ok(())
 }
@@ -92,8 +84,6 @@ fn push_vertices_at(
     name: &str,
     mechanisms: &[Mechanism],
 ) -> Result<(), AllocError>
-    requires count { length mechanisms.now ≡ length names.now }
-    requires parts { All (IsMechanismBelow (length names.now)) mechanisms.now }
     ensures { OnOk result (object.new ≡ with_member name.now (array_of (vertex_values names.now 0 mechanisms.now)) object.old) }
 {
     object.key(name)?;
@@ -114,7 +104,6 @@ fn gain_text(alloc: Global, noise: u32) -> Result<String, AllocError>
 /// The member of the carried bits of an event.
 #[tactic(auto, using(answer_json::proofs::Arrays::array_written))]
 fn push_sum_at(object: &mut Object, names: &Names, event: VSet) -> Result<(), AllocError>
-    requires { Within (length names.now) (has event.bits) }
     ensures { OnOk result (object.new ≡ with_member (codes "sum") (array_of (bits_json names.now CarriedBit event.bits)) object.old) }
 {
     object.key("sum")?;
@@ -126,7 +115,6 @@ fn push_sum_at(object: &mut Object, names: &Names, event: VSet) -> Result<(), Al
 
 /// The event, with its probability in each model.
 fn push_event(object: &mut Object, names: &Names, pair: &CounterPair) -> Result<(), AllocError>
-    requires { Within (length names.now) (has pair.now.event.bits) }
     ensures { OnOk result (object.new ≡ with_value (event_json names.now pair.now) object.old) }
 {
     let gain = gain_text(object.alloc(), pair.noise)?;
@@ -140,7 +128,6 @@ fn push_event(object: &mut Object, names: &Names, pair: &CounterPair) -> Result<
 
 /// The two models by which the effect differs though all observations agree, as a value.
 pub fn push_models(object: &mut Object, names: &Names, pair: &CounterPair) -> Result<(), AllocError>
-    requires { ArePairBelow (length names.now) pair.now }
     ensures { OnOk result (object.new ≡ with_value (models_json names.now pair.now) object.old) }
 {
     object.begin_object()?;

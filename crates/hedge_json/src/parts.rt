@@ -1,9 +1,6 @@
 //! The bits of a vertex, and what each is the parity of.
 
-ghost use Rattle.std.specs.Prelude.{◌≡◌, ◌<◌, ◌++◌, ◌∷◌, [], if◌then◌else◌, length, map, codes, OnOk};
-ghost use Rattle.mixed_graph.specs.Bits.{has};
-ghost use Rattle.mixed_graph.specs.Sets.{Within};
-ghost use Rattle.identify_text.specs.Below.{IsPartBelow, IsBitBelow, IsMechanismBelow};
+ghost use Rattle.std.specs.Prelude.{◌≡◌, ◌++◌, ◌∷◌, [], if◌then◌else◌, map, codes, OnOk};
 ghost use Rattle.answer_json.specs.Progress.{with_value, with_values, with_member, with_members, array_of};
 ghost use Rattle.hedge_json.specs.declared.bits.Bit.TheVariants.{HedgeBit, CarriedBit};
 ghost use Rattle.hedge_json.specs.Models.{bit_json, bits_json, bit_members, cause_term, terms_json, part_values, mechanism_values, letter};
@@ -15,8 +12,7 @@ use mixed_graph::{Names, VSet};
 use std::alloc::AllocError;
 
 /// The hedge bit of v, where its part reads it.
-fn push_own(object: &mut Object, names: &Names, part: &Part, v: u8) -> Result<(), AllocError>
-    requires { v < length names.now }
+fn push_own(object: &mut Object, names: &Names, part: &Part, v: usize) -> Result<(), AllocError>
     ensures { OnOk result (object.new ≡ with_values (if part.now.own_hedge then bit_json names.now HedgeBit v ∷ [] else []) object.old) }
 {
     if !part.own_hedge {
@@ -46,9 +42,7 @@ fn push_cause_terms(object: &mut Object, causes: &[u32]) -> Result<(), AllocErro
 }
 
 /// What a bit of vertex v is the parity of.
-fn push_terms(object: &mut Object, names: &Names, v: u8, part: &Part) -> Result<(), AllocError>
-    requires vertex { v < length names.now }
-    requires part { IsPartBelow (length names.now) part.now }
+fn push_terms(object: &mut Object, names: &Names, v: usize, part: &Part) -> Result<(), AllocError>
     ensures { OnOk result (object.new ≡ with_values (terms_json names.now v part.now) object.old) }
 {
     push_own(object, names, part, v)?;
@@ -60,9 +54,7 @@ fn push_terms(object: &mut Object, names: &Names, v: u8, part: &Part) -> Result<
 
 /// The member of what a bit is the parity of.
 #[tactic(auto, using(answer_json::proofs::Arrays::array_written))]
-fn push_sum(object: &mut Object, names: &Names, v: u8, part: &Part) -> Result<(), AllocError>
-    requires vertex { v < length names.now }
-    requires part { IsPartBelow (length names.now) part.now }
+fn push_sum(object: &mut Object, names: &Names, v: usize, part: &Part) -> Result<(), AllocError>
     ensures { OnOk result (object.new ≡ with_member (codes "sum") (array_of (terms_json names.now v part.now)) object.old) }
 {
     object.key("sum")?;
@@ -77,11 +69,9 @@ fn push_part(
     object: &mut Object,
     names: &Names,
     bit: Bit,
-    v: u8,
+    v: usize,
     part: &Option<Part>,
 ) -> Result<(), AllocError>
-    requires vertex { v < length names.now }
-    requires part { IsBitBelow (length names.now) part.now }
     ensures { OnOk result (object.new ≡ with_values (part_values names.now bit v part.now) object.old) }
 {
     let Some(part) = part else {
@@ -98,13 +88,10 @@ fn push_part(
 fn push_parity(
     object: &mut Object,
     names: &Names,
-    v: u8,
+    v: usize,
     hedge: &Option<Part>,
     carried: &Option<Part>,
 ) -> Result<(), AllocError>
-    requires vertex { v < length names.now }
-    requires hedge { IsBitBelow (length names.now) hedge.now }
-    requires carried { IsBitBelow (length names.now) carried.now }
     ensures { OnOk result (object.new ≡ with_values (part_values names.now HedgeBit v hedge.now ++ part_values names.now CarriedBit v carried.now) object.old) }
 {
     push_part(object, names, Bit::HedgeBit, v, hedge)?;
@@ -116,11 +103,9 @@ fn push_parity(
 pub fn push_mechanism(
     object: &mut Object,
     names: &Names,
-    v: u8,
+    v: usize,
     mechanism: &Mechanism,
 ) -> Result<(), AllocError>
-    requires vertex { v < length names.now }
-    requires parts { IsMechanismBelow (length names.now) mechanism.now }
     ensures { OnOk result (object.new ≡ with_values (mechanism_values names.now v mechanism.now) object.old) }
 {
     match mechanism {

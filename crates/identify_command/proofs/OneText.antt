@@ -20,7 +20,7 @@ use Rattle.replies.proofs.OneTarget.{same_two}
 use Rattle.answer_json.specs.Progress.{json_line}
 use Rattle.replies.specs.Told.{Told, text_in, answer_of}
 use Rattle.effect_answers.specs.Hedges.{IsFoundHedge, HasArrays}
-use Rattle.effect_answers.specs.Lines.{certificate_line}
+use Rattle.certificate_json.specs.Certificates.{certificate_line}
 use Rattle.effect_answers.specs.Objects.{hedge_object, certified_hedge_object}
 use Rattle.effect_answers.proofs.OneNo.{one_hedge_text, one_hedge_view, one_hedge_object, one_certified_object, joint_with}
 use Rattle.identify_command.specs.declared.form.Form.{Form}

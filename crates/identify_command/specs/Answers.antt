@@ -19,11 +19,11 @@ use Rattle.identify_text.specs.Answers.{answer_in}
 use Rattle.identify_text.specs.PairLines.{hedge_answer}
 use Rattle.effect_answers.specs.Effects.{IsOfSets, IsEffectRefusal}
 use Rattle.effect_answers.specs.Hedges.{IsFoundHedge, HasArrays}
-use Rattle.effect_answers.specs.Lines.{certificate_line}
+use Rattle.certificate_json.specs.Certificates.{certificate_line}
 use Rattle.certificate.specs.Plain.{PlainCertificate, hedge_view}
 use Rattle.certificate.specs.Plain as plain
 use Rattle.certificate.specs.Reading.{certificate_in}
-use Rattle.certificate_writing.specs.Written.{certificate_text}
+use Rattle.certificate_json.specs.Certificates.{certificate_text}
 use Rattle.identify_command.specs.declared.form.Form.{Form}
 use Rattle.identify_command.specs.declared.form.Writing.{Writing}
 use Rattle.identify_command.specs.declared.form.Writing.TheVariants.{Plain, Certificate, Latex}

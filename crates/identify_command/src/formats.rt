@@ -1,17 +1,13 @@
 //! The answers in either format.
 
-ghost use Rattle.std.specs.Prelude.{◌≡◌, length, None, IfOk};
-ghost use Rattle.mixed_graph.specs.Bits.{has};
-ghost use Rattle.mixed_graph.specs.Sets.{Within};
-ghost use Rattle.prob_expr.specs.Check.{fault_in};
+ghost use Rattle.std.specs.Prelude.{◌≡◌, length, IfOk};
 ghost use Rattle.prob_expr.specs.View.{target_view, formula_view};
 ghost use Rattle.do_derivation.specs.View.{derivation_view};
 ghost use Rattle.prob_expr.specs.Tree.{effect_on};
 ghost use Rattle.answer_json.specs.Progress.{json_line};
 ghost use Rattle.identify_text.specs.Answers.{answer_in};
-ghost use Rattle.identify_text.specs.Below.{IsHedgeBelow, ArePairBelow};
 ghost use Rattle.certificate.specs.Plain.{hedge_view, formula as formula_case, hedge as hedge_case};
-ghost use Rattle.certificate_writing.specs.Writable.{IsTargetWithin, IsBareTarget, IsDerivationWithin, IsHedgeWithin, IsFormulaShallow};
+ghost use Rattle.certificate_json.specs.Writable.{IsWritable, IsShallow};
 ghost use Rattle.replies.specs.Told.{text_in};
 ghost use Rattle.identify_command.specs.Answers.{formula_shown, hedge_shown, ReadsBack};
 ghost use Rattle.identify_command.specs.Conditions.{joint_shown};
@@ -42,10 +38,6 @@ pub fn formula_in(
     notation: Notation,
     format: Format,
 ) -> Result<Vec<u8>, AllocError>
-    requires what { Within (length names.now) (has target.now.y.bits) }
-    requires doing { Within (length names.now) (has target.now.x.bits) }
-    requires given { Within (length names.now) (has target.now.given.bits) }
-    requires formula { fault_in (length names.now) (formula_view formula.now) ≡ None }
     ensures { IfOk result (λ v. v.items ≡ text_in format (answer_in notation names.now (target_view target.now) (formula_view formula.now)) (json_line (formula_object names.now (target_view target.now) (formula_view formula.now)))) }
 {
     match format {
@@ -63,12 +55,6 @@ fn formula_json(
     derivation: &Derivation,
     writing: Writing,
 ) -> Result<Vec<u8>, AllocError>
-    requires what { Within (length names.now) (has target.now.y.bits) }
-    requires doing { Within (length names.now) (has target.now.x.bits) }
-    requires given { Within (length names.now) (has target.now.given.bits) }
-    requires target { IsTargetWithin (length names.now) (target_view target.now) }
-    requires formula { fault_in (length names.now) (formula_view formula.now) ≡ None }
-    requires derivation { IsDerivationWithin (length names.now) (derivation_view derivation.now) }
     ensures { IfOk result (λ v. v.items ≡ json_line (formula_json writing names.now (target_view target.now) (formula_view formula.now) (derivation_view derivation.now))) }
 {
     match writing {
@@ -88,15 +74,8 @@ pub fn formula_shown(
     derivation: Derivation,
     form: Form,
 ) -> Result<Vec<u8>, AllocError>
-    requires what { Within (length names.now) (has target.y.bits) }
-    requires doing { Within (length names.now) (has target.x.bits) }
-    requires given { Within (length names.now) (has target.given.bits) }
-    requires target { IsTargetWithin (length names.now) (target_view target) }
-    requires formula { fault_in (length names.now) (formula_view formula) ≡ None }
-    requires derivation { IsDerivationWithin (length names.now) (derivation_view derivation) }
-    requires shallow { IsFormulaShallow (formula_view formula) (derivation_view derivation) }
     ensures text { IfOk result (λ v. v.items ≡ formula_shown form names.now (target_view target) (formula_view formula) (derivation_view derivation)) }
-    ensures reads_back { form.format ≡ Format.Text → IfOk result (λ v. ReadsBack form.writing names.now (formula_case (target_view target) (formula_view formula) (derivation_view derivation))) }
+    ensures reads_back { let c = formula_case (target_view target) (formula_view formula) (derivation_view derivation) in form.format ≡ Format.Text → IsWritable (length names.now) c → IsShallow c → IfOk result (λ v. ReadsBack form.writing names.now c) }
 {
     match form.format {
         Format::Text => formula_text(alloc, names, target, formula, derivation, form.writing),
@@ -114,15 +93,6 @@ fn hedge_json(
     pair: &CounterPair,
     writing: Writing,
 ) -> Result<Vec<u8>, AllocError>
-    requires what { Within (length names.now) (has target.now.y.bits) }
-    requires doing { Within (length names.now) (has target.now.x.bits) }
-    requires given { Within (length names.now) (has target.now.given.bits) }
-    requires x { Within (length names.now) (has sets.x.bits) }
-    requires y { Within (length names.now) (has sets.y.bits) }
-    requires target { IsBareTarget (length names.now) (effect_on sets.x.bits sets.y.bits) }
-    requires hedge { IsHedgeBelow (length names.now) hedge.now }
-    requires models { ArePairBelow (length names.now) pair.now }
-    requires data { IsHedgeWithin (length names.now) (hedge_view hedge.now) }
     ensures { IfOk result (λ v. v.items ≡ json_line (hedge_json writing names.now (target_view target.now) sets.x.bits sets.y.bits hedge.now pair.now)) }
 {
     match writing {
@@ -140,14 +110,8 @@ pub fn hedge_shown(
     pair: &CounterPair,
     form: Form,
 ) -> Result<Vec<u8>, AllocError>
-    requires x { Within (length names.now) (has sets.x.bits) }
-    requires y { Within (length names.now) (has sets.y.bits) }
-    requires target { IsBareTarget (length names.now) (effect_on sets.x.bits sets.y.bits) }
-    requires hedge { IsHedgeBelow (length names.now) hedge }
-    requires models { ArePairBelow (length names.now) pair.now }
-    requires data { IsHedgeWithin (length names.now) (hedge_view hedge) }
     ensures text { IfOk result (λ v. v.items ≡ hedge_shown form names.now sets.x.bits sets.y.bits hedge pair.now) }
-    ensures reads_back { form.format ≡ Format.Text → IfOk result (λ v. ReadsBack form.writing names.now (hedge_case (effect_on sets.x.bits sets.y.bits) (hedge_view hedge))) }
+    ensures reads_back { let c = hedge_case (effect_on sets.x.bits sets.y.bits) (hedge_view hedge) in form.format ≡ Format.Text → IsWritable (length names.now) c → IsShallow c → IfOk result (λ v. ReadsBack form.writing names.now c) }
 {
     let target = target_of(sets);
     match form.format {
@@ -166,17 +130,8 @@ pub fn joint_shown(
     pair: &CounterPair,
     form: Form,
 ) -> Result<Vec<u8>, AllocError>
-    requires what { Within (length names.now) (has target.now.y.bits) }
-    requires doing { Within (length names.now) (has target.now.x.bits) }
-    requires given { Within (length names.now) (has target.now.given.bits) }
-    requires x { Within (length names.now) (has sets.x.bits) }
-    requires y { Within (length names.now) (has sets.y.bits) }
-    requires target { IsBareTarget (length names.now) (effect_on sets.x.bits sets.y.bits) }
-    requires hedge { IsHedgeBelow (length names.now) hedge }
-    requires models { ArePairBelow (length names.now) pair.now }
-    requires data { IsHedgeWithin (length names.now) (hedge_view hedge) }
     ensures text { IfOk result (λ v. v.items ≡ joint_shown form names.now (target_view target.now) sets.x.bits sets.y.bits hedge pair.now) }
-    ensures reads_back { form.format ≡ Format.Text → IfOk result (λ v. ReadsBack form.writing names.now (hedge_case (effect_on sets.x.bits sets.y.bits) (hedge_view hedge))) }
+    ensures reads_back { let c = hedge_case (effect_on sets.x.bits sets.y.bits) (hedge_view hedge) in form.format ≡ Format.Text → IsWritable (length names.now) c → IsShallow c → IfOk result (λ v. ReadsBack form.writing names.now c) }
 {
     match form.format {
         Format::Text => joint_text(alloc, names, target, sets, hedge, pair, form.writing),

@@ -1,12 +1,8 @@
 //! The objects of the answers.
 
-ghost use Rattle.std.specs.Prelude.{◌≡◌, length, None, IfOk};
-ghost use Rattle.mixed_graph.specs.Bits.{has};
-ghost use Rattle.mixed_graph.specs.Sets.{Within};
-ghost use Rattle.prob_expr.specs.Check.{fault_in};
+ghost use Rattle.std.specs.Prelude.{◌≡◌, IfOk};
 ghost use Rattle.prob_expr.specs.View.{formula_view, target_view};
 ghost use Rattle.do_derivation.specs.View.{derivation_view};
-ghost use Rattle.certificate_writing.specs.Writable.{IsTargetWithin, IsDerivationWithin};
 ghost use Rattle.answer_json.specs.Progress.{nothing, members, json_line};
 ghost use Rattle.identify_command.specs.Objects.{formula_answer, formula_object, certified_formula_object};
 
@@ -25,10 +21,6 @@ fn begin_formula(
     target: &Target,
     f: &Formula,
 ) -> Result<Object, AllocError>
-    requires what { Within (length names.now) (has target.now.y.bits) }
-    requires doing { Within (length names.now) (has target.now.x.bits) }
-    requires given { Within (length names.now) (has target.now.given.bits) }
-    requires formula { fault_in (length names.now) (formula_view f.now) ≡ None }
     ensures { IfOk result (λ o. o ≡ members nothing (formula_answer names.now (target_view target.now) (formula_view f.now))) }
 {
     let mut object = Object::new(alloc)?;
@@ -45,10 +37,6 @@ pub fn formula_object(
     target: &Target,
     f: &Formula,
 ) -> Result<Vec<u8>, AllocError>
-    requires what { Within (length names.now) (has target.now.y.bits) }
-    requires doing { Within (length names.now) (has target.now.x.bits) }
-    requires given { Within (length names.now) (has target.now.given.bits) }
-    requires formula { fault_in (length names.now) (formula_view f.now) ≡ None }
     ensures { IfOk result (λ v. v.items ≡ json_line (formula_object names.now (target_view target.now) (formula_view f.now))) }
 {
     let object = begin_formula(alloc, names, target, f)?;
@@ -63,12 +51,6 @@ pub fn certified_formula_object(
     f: &Formula,
     derivation: &Derivation,
 ) -> Result<Vec<u8>, AllocError>
-    requires what { Within (length names.now) (has target.now.y.bits) }
-    requires doing { Within (length names.now) (has target.now.x.bits) }
-    requires given { Within (length names.now) (has target.now.given.bits) }
-    requires target { IsTargetWithin (length names.now) (target_view target.now) }
-    requires formula { fault_in (length names.now) (formula_view f.now) ≡ None }
-    requires derivation { IsDerivationWithin (length names.now) (derivation_view derivation.now) }
     ensures { IfOk result (λ v. v.items ≡ json_line (certified_formula_object names.now (target_view target.now) (formula_view f.now) (derivation_view derivation.now))) }
 {
     let mut object = begin_formula(alloc, names, target, f)?;

@@ -1,24 +1,20 @@
 //! The texts of the answers.
 
-ghost use Rattle.std.specs.Prelude.{◌≡◌, length, None, IfOk};
-ghost use Rattle.mixed_graph.specs.Bits.{has};
-ghost use Rattle.mixed_graph.specs.Sets.{Within};
-ghost use Rattle.prob_expr.specs.Check.{fault_in};
+ghost use Rattle.std.specs.Prelude.{◌≡◌, length, IfOk};
 ghost use Rattle.prob_expr.specs.View.{target_view, formula_view};
 ghost use Rattle.do_derivation.specs.View.{derivation_view};
 ghost use Rattle.prob_expr.specs.Tree.{effect_on};
-ghost use Rattle.identify_text.specs.Below.{IsHedgeBelow, ArePairBelow};
 ghost use Rattle.certificate.specs.Plain.{hedge_view, formula as formula_case, hedge as hedge_case};
-ghost use Rattle.certificate_writing.specs.Writable.{IsTargetWithin, IsBareTarget, IsDerivationWithin, IsHedgeWithin, IsFormulaShallow};
+ghost use Rattle.certificate_json.specs.Writable.{IsWritable, IsShallow};
 ghost use Rattle.identify_command.specs.Answers.{formula_text, hedge_text, ReadsBack};
 ghost use Rattle.identify_command.specs.Conditions.{joint_text};
 
 use crate::form::Writing;
 use answer_text::Notation;
 use certificate::Certificate;
+use certificate_json::certificate_line;
 use counter_models::CounterPair;
 use do_derivation::Derivation;
-use effect_answers::certificates::certificate_line;
 use effect_answers::target_of;
 use hedge::Hedge;
 use identify_text::{answer_in, hedge_answer, joint_answer};
@@ -36,22 +32,15 @@ pub fn formula_text(
     derivation: Derivation,
     writing: Writing,
 ) -> Result<Vec<u8>, AllocError>
-    requires what { Within (length names.now) (has target.y.bits) }
-    requires doing { Within (length names.now) (has target.x.bits) }
-    requires given { Within (length names.now) (has target.given.bits) }
-    requires target { IsTargetWithin (length names.now) (target_view target) }
-    requires formula { fault_in (length names.now) (formula_view formula) ≡ None }
-    requires derivation { IsDerivationWithin (length names.now) (derivation_view derivation) }
-    requires shallow { IsFormulaShallow (formula_view formula) (derivation_view derivation) }
     ensures text { IfOk result (λ v. v.items ≡ formula_text writing names.now (target_view target) (formula_view formula) (derivation_view derivation)) }
-    ensures reads_back { IfOk result (λ v. ReadsBack writing names.now (formula_case (target_view target) (formula_view formula) (derivation_view derivation))) }
+    ensures reads_back { let c = formula_case (target_view target) (formula_view formula) (derivation_view derivation) in IsWritable (length names.now) c → IsShallow c → IfOk result (λ v. ReadsBack writing names.now c) }
 {
     match writing {
         Writing::Plain => answer_in(alloc, Notation::Plain, &formula, &target, names),
         Writing::Latex => answer_in(alloc, Notation::Latex, &formula, &target, names),
         Writing::Certificate => {
             let certificate = Certificate::Formula(target, formula, derivation);
-            certificate_line(alloc, &certificate, names)
+            certificate_line(alloc, names, &certificate)
         }
     }
 }
@@ -65,20 +54,14 @@ pub fn hedge_text(
     pair: &CounterPair,
     writing: Writing,
 ) -> Result<Vec<u8>, AllocError>
-    requires x { Within (length names.now) (has sets.x.bits) }
-    requires y { Within (length names.now) (has sets.y.bits) }
-    requires target { IsBareTarget (length names.now) (effect_on sets.x.bits sets.y.bits) }
-    requires hedge { IsHedgeBelow (length names.now) hedge }
-    requires models { ArePairBelow (length names.now) pair.now }
-    requires data { IsHedgeWithin (length names.now) (hedge_view hedge) }
     ensures text { IfOk result (λ v. v.items ≡ hedge_text writing names.now sets.x.bits sets.y.bits hedge pair.now) }
-    ensures reads_back { IfOk result (λ v. ReadsBack writing names.now (hedge_case (effect_on sets.x.bits sets.y.bits) (hedge_view hedge))) }
+    ensures reads_back { let c = hedge_case (effect_on sets.x.bits sets.y.bits) (hedge_view hedge) in IsWritable (length names.now) c → IsShallow c → IfOk result (λ v. ReadsBack writing names.now c) }
 {
     match writing {
         Writing::Plain | Writing::Latex => hedge_answer(alloc, sets.x, sets.y, &hedge, pair, names),
         Writing::Certificate => {
             let certificate = Certificate::Hedge(target_of(sets), hedge);
-            certificate_line(alloc, &certificate, names)
+            certificate_line(alloc, names, &certificate)
         }
     }
 }
@@ -93,17 +76,8 @@ pub fn joint_text(
     pair: &CounterPair,
     writing: Writing,
 ) -> Result<Vec<u8>, AllocError>
-    requires what { Within (length names.now) (has target.now.y.bits) }
-    requires doing { Within (length names.now) (has target.now.x.bits) }
-    requires given { Within (length names.now) (has target.now.given.bits) }
-    requires x { Within (length names.now) (has sets.x.bits) }
-    requires y { Within (length names.now) (has sets.y.bits) }
-    requires target { IsBareTarget (length names.now) (effect_on sets.x.bits sets.y.bits) }
-    requires hedge { IsHedgeBelow (length names.now) hedge }
-    requires models { ArePairBelow (length names.now) pair.now }
-    requires data { IsHedgeWithin (length names.now) (hedge_view hedge) }
     ensures text { IfOk result (λ v. v.items ≡ joint_text writing names.now (target_view target.now) sets.x.bits sets.y.bits hedge pair.now) }
-    ensures reads_back { IfOk result (λ v. ReadsBack writing names.now (hedge_case (effect_on sets.x.bits sets.y.bits) (hedge_view hedge))) }
+    ensures reads_back { let c = hedge_case (effect_on sets.x.bits sets.y.bits) (hedge_view hedge) in IsWritable (length names.now) c → IsShallow c → IfOk result (λ v. ReadsBack writing names.now c) }
 {
     match writing {
         Writing::Plain | Writing::Latex => {
@@ -111,7 +85,7 @@ pub fn joint_text(
         }
         Writing::Certificate => {
             let certificate = Certificate::Hedge(target_of(sets), hedge);
-            certificate_line(alloc, &certificate, names)
+            certificate_line(alloc, names, &certificate)
         }
     }
 }

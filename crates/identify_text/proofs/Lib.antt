@@ -1,4 +1,1 @@
-pub mod Belows
-pub mod Free
 pub mod Lines
-pub mod NoChoice

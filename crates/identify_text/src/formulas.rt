@@ -1,9 +1,6 @@
 //! The text of a formula with its target.
 
-ghost use Rattle.std.specs.Prelude.{◌≡◌, ◌++◌, length, None, OnOk, IfOk};
-ghost use Rattle.mixed_graph.specs.Bits.{has};
-ghost use Rattle.mixed_graph.specs.Sets.{Within};
-ghost use Rattle.prob_expr.specs.Check.{fault_in};
+ghost use Rattle.std.specs.Prelude.{◌≡◌, ◌++◌, OnOk, IfOk};
 ghost use Rattle.mixed_graph.specs.Masks.{union, minus};
 ghost use Rattle.prob_expr.specs.View.{formula_view, target_view};
 ghost use Rattle.expr_text.specs.Write.{text_of};
@@ -30,8 +27,6 @@ fn effect(x: VSet, y: VSet) -> Target
 
 /// The text of an effect.
 pub fn effect_text(alloc: Global, x: VSet, y: VSet, names: &Names) -> Result<Vec<u8>, AllocError>
-    requires x { Within (length names.now) (has x.bits) }
-    requires y { Within (length names.now) (has y.bits) }
     ensures { IfOk result (λ v. v.items ≡ text_of names.now (effect_term x.bits y.bits)) }
 {
     target_text(alloc, &effect(x, y), names)
@@ -39,7 +34,6 @@ pub fn effect_text(alloc: Global, x: VSet, y: VSet, names: &Names) -> Result<Vec
 
 /// Appends the line of the free variables, where there are some.
 fn push_free(out: &mut Vec<u8>, names: &Names, free: VSet) -> Result<(), AllocError>
-    requires { Within (length names.now) (has free.bits) }
     ensures { OnOk result (out.new.items ≡ out.old.items ++ free_line names.now free.bits) }
 {
     if free.is_empty() {
@@ -71,10 +65,6 @@ pub fn answer_in(
     target: &Target,
     names: &Names,
 ) -> Result<Vec<u8>, AllocError>
-    requires what { Within (length names.now) (has target.now.y.bits) }
-    requires doing { Within (length names.now) (has target.now.x.bits) }
-    requires given { Within (length names.now) (has target.now.given.bits) }
-    requires formula { fault_in (length names.now) (formula_view f.now) ≡ None }
     ensures { IfOk result (λ v. v.items ≡ answer_in notation names.now (target_view target.now) (formula_view f.now)) }
 {
     let mut text = target_in(alloc, notation, target, names)?;

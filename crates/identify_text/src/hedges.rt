@@ -1,9 +1,6 @@
 //! The text of a hedge.
 
-ghost use Rattle.std.specs.Prelude.{◌≡◌, ◌<◌, ◌++◌, [], if◌then◌else◌, length, OnOk, IfOk};
-ghost use Rattle.mixed_graph.specs.Bits.{has};
-ghost use Rattle.mixed_graph.specs.Sets.{Within};
-ghost use Rattle.identify_text.specs.Below.{IsHedgeBelow};
+ghost use Rattle.std.specs.Prelude.{◌≡◌, ◌++◌, [], if◌then◌else◌, slice_index, OnOk, IfOk};
 ghost use Rattle.identify_text.specs.HedgeLines.{unidentifiable_line, sets_line, heading_text, chooses, choice_line, choice_lines, link_line, link_lines};
 
 use crate::formulas::effect_text;
@@ -14,9 +11,6 @@ use std::alloc::{AllocError, Global};
 
 /// Appends the line of a hedge's sets.
 pub fn push_hedge_sets(out: &mut Vec<u8>, names: &Names, h: &Hedge) -> Result<(), AllocError>
-    requires big { Within (length names.now) (has h.now.big.bits) }
-    requires small { Within (length names.now) (has h.now.small.bits) }
-    requires roots { Within (length names.now) (has h.now.roots.bits) }
     ensures { OnOk result (out.new.items ≡ out.old.items ++ sets_line names.now h.now) }
 {
     out.extend_from_slice(b"hedge ")?;
@@ -39,11 +33,6 @@ pub fn hedge_heading(
     h: &Hedge,
     names: &Names,
 ) -> Result<Vec<u8>, AllocError>
-    requires x { Within (length names.now) (has x.bits) }
-    requires y { Within (length names.now) (has y.bits) }
-    requires big { Within (length names.now) (has h.now.big.bits) }
-    requires small { Within (length names.now) (has h.now.small.bits) }
-    requires roots { Within (length names.now) (has h.now.roots.bits) }
     ensures { IfOk result (λ v. v.items ≡ heading_text names.now x.bits y.bits h.now) }
 {
     let mut text = effect_text(alloc, x, y, names)?;
@@ -52,13 +41,18 @@ pub fn hedge_heading(
     Ok(text)
 }
 
+/// Entry i of the choices or links of a hedge; 0 where there is no such entry.
+pub fn entry(entries: &[u8; 64], i: usize) -> u8
+    ensures { result ≡ slice_index entries.now i }
+{
+    entries.get(i).copied().unwrap_or(0)
+}
+
 /// Appends the line of v's choice, where v is a member of big that has one.
 fn push_choice(out: &mut Vec<u8>, names: &Names, h: &Hedge, v: u8) -> Result<(), AllocError>
-    requires vertex { v < 64 }
-    requires hedge { IsHedgeBelow (length names.now) h.now }
     ensures { OnOk result (out.new.items ≡ out.old.items ++ (if chooses h.now v then choice_line names.now h.now v else [])) }
 {
-    let child = h.choice.next[v as usize];
+    let child = entry(&h.choice.next, v as usize);
     if !h.big.has(v) || child >= 64 {
         return Ok(());
     }
@@ -72,7 +66,6 @@ fn push_choice(out: &mut Vec<u8>, names: &Names, h: &Hedge, v: u8) -> Result<(),
 
 /// Appends the line of each choice of a member of big, in index order.
 pub fn push_choices(out: &mut Vec<u8>, names: &Names, h: &Hedge) -> Result<(), AllocError>
-    requires { IsHedgeBelow (length names.now) h.now }
     ensures { OnOk result (out.new.items ≡ out.old.items ++ choice_lines names.now h.now) }
 {
     for v in 0..64u8 {
@@ -83,22 +76,18 @@ pub fn push_choices(out: &mut Vec<u8>, names: &Names, h: &Hedge) -> Result<(), A
 
 /// Appends the line of entry i and its partner.
 fn push_link(out: &mut Vec<u8>, names: &Names, h: &Hedge, i: usize) -> Result<(), AllocError>
-    requires later { 0 < i }
-    requires entry { i < h.now.links.count }
-    requires hedge { IsHedgeBelow (length names.now) h.now }
     ensures { OnOk result (out.new.items ≡ out.old.items ++ link_line names.now h.now i) }
 {
     out.extend_from_slice(b"link ")?;
-    push_vertex(out, names, h.links.found[i])?;
+    push_vertex(out, names, entry(&h.links.found, i))?;
     out.extend_from_slice(b" <-> ")?;
-    push_vertex(out, names, h.links.partner[i])?;
+    push_vertex(out, names, entry(&h.links.partner, i))?;
     out.push(b'\n')?;
     Ok(())
 }
 
 /// Appends the line of each entry after the first, in found order.
 pub fn push_links(out: &mut Vec<u8>, names: &Names, h: &Hedge) -> Result<(), AllocError>
-    requires { IsHedgeBelow (length names.now) h.now }
     ensures { OnOk result (out.new.items ≡ out.old.items ++ link_lines names.now h.now) }
 {
     for i in 1..h.links.count as usize {

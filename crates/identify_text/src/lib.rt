@@ -7,9 +7,8 @@ mod hedges;
 mod models;
 mod pairs;
 mod parts;
-mod theory;
 
+pub use bits::vertex_name;
 pub use formulas::{answer_in, effect_text, free_beside};
-pub use hedges::{hedge_heading, push_hedge_sets};
+pub use hedges::{entry, hedge_heading, push_hedge_sets};
 pub use pairs::{hedge_answer, joint_answer, push_models};
-pub use theory::laws;

@@ -1,11 +1,7 @@
 //! The texts of causes, weights and sizes.
 
-ghost use Rattle.std.specs.Prelude.{◌≡◌, ◌≤◌, ◌++◌, codes, decimal, length, All, OnOk};
-ghost use Rattle.mixed_graph.specs.Bits.{has};
-ghost use Rattle.mixed_graph.specs.Sets.{Within};
-ghost use Rattle.mixed_graph.specs.Names.{AreNames};
+ghost use Rattle.std.specs.Prelude.{◌≡◌, ◌++◌, codes, decimal, OnOk};
 ghost use Rattle.answer_text.specs.Texts.{set_text};
-ghost use Rattle.identify_text.specs.Below.{IsCauseBelow, IsMechanismBelow};
 ghost use Rattle.identify_text.specs.ModelLines.{weights_text, cause_line, cause_lines, vertex_lines};
 
 use crate::parts::push_mechanism;
@@ -50,7 +46,6 @@ fn push_cause(
     j: usize,
     cause: &Cause,
 ) -> Result<(), AllocError>
-    requires { IsCauseBelow (length names.now) cause.now }
     ensures { OnOk result (out.new.items ≡ out.old.items ++ cause_line names.now j cause.now) }
 {
     push_number(alloc, out, j)?;
@@ -68,7 +63,6 @@ pub fn push_causes(
     names: &Names,
     causes: &[Cause],
 ) -> Result<(), AllocError>
-    requires { All (IsCauseBelow (length names.now)) causes.now }
     ensures { OnOk result (out.new.items ≡ out.old.items ++ cause_lines names.now 0 causes.now) }
 {
     let mut j = 0;
@@ -87,12 +81,10 @@ pub fn push_vertices(
     model: &[u8],
     mechanisms: &[Mechanism],
 ) -> Result<(), AllocError>
-    requires count { length mechanisms.now ≡ length names.now }
-    requires parts { All (IsMechanismBelow (length names.now)) mechanisms.now }
     ensures { OnOk result (out.new.items ≡ out.old.items ++ vertex_lines names.now model.now 0 mechanisms.now) }
 {
-    for v in 0..names.count() as u8 {
-        push_mechanism(alloc, out, names, model, v, &mechanisms[v as usize])?;
+    for (v, mechanism) in mechanisms.iter().enumerate() {
+        push_mechanism(alloc, out, names, model, v, mechanism)?;
     }
     Ok(())
 }

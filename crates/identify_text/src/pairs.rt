@@ -1,10 +1,7 @@
 //! The text of the two models of a hedge.
 
-ghost use Rattle.std.specs.Prelude.{◌≡◌, ◌+◌, ◌++◌, decimal, length, OnOk, IfOk};
-ghost use Rattle.mixed_graph.specs.Bits.{has};
-ghost use Rattle.mixed_graph.specs.Sets.{Within};
+ghost use Rattle.std.specs.Prelude.{◌≡◌, ◌+◌, ◌++◌, decimal, OnOk, IfOk};
 ghost use Rattle.prob_expr.specs.View.{target_view};
-ghost use Rattle.identify_text.specs.Below.{IsTargetBelow, IsHedgeBelow, ArePairBelow};
 ghost use Rattle.identify_text.specs.PairLines.{event_line, models_text, hedge_answer, joint_answer};
 
 use crate::bits::{Bit, add_bits, push_sum};
@@ -34,7 +31,6 @@ fn push_event(
     names: &Names,
     pair: &CounterPair,
 ) -> Result<(), AllocError>
-    requires { Within (length names.now) (has pair.now.event.bits) }
     ensures { OnOk result (out.new.items ≡ out.old.items ++ event_line names.now pair.now) }
 {
     let mut terms = Vec::new(alloc);
@@ -57,8 +53,6 @@ pub fn push_models(
     h: &Hedge,
     pair: &CounterPair,
 ) -> Result<(), AllocError>
-    requires hedge { IsHedgeBelow (length names.now) h.now }
-    requires models { ArePairBelow (length names.now) pair.now }
     ensures { OnOk result (out.new.items ≡ out.old.items ++ models_text names.now h.now pair.now) }
 {
     push_choices(out, names, h)?;
@@ -93,10 +87,6 @@ pub fn hedge_answer(
     pair: &CounterPair,
     names: &Names,
 ) -> Result<Vec<u8>, AllocError>
-    requires x { Within (length names.now) (has x.bits) }
-    requires y { Within (length names.now) (has y.bits) }
-    requires hedge { IsHedgeBelow (length names.now) h.now }
-    requires models { ArePairBelow (length names.now) pair.now }
     ensures { IfOk result (λ v. v.items ≡ hedge_answer names.now x.bits y.bits h.now pair.now) }
 {
     let mut text = hedge_heading(alloc, x, y, h, names)?;
@@ -117,11 +107,6 @@ pub fn joint_answer(
     pair: &CounterPair,
     names: &Names,
 ) -> Result<Vec<u8>, AllocError>
-    requires target { IsTargetBelow (length names.now) target.now }
-    requires x { Within (length names.now) (has x.bits) }
-    requires y { Within (length names.now) (has y.bits) }
-    requires hedge { IsHedgeBelow (length names.now) h.now }
-    requires models { ArePairBelow (length names.now) pair.now }
     ensures { IfOk result (λ v. v.items ≡ joint_answer names.now (target_view target.now) x.bits y.bits h.now pair.now) }
 {
     let mut text = target_text(alloc, target, names)?;

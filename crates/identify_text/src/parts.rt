@@ -1,10 +1,8 @@
 //! The text of a mechanism's parts.
 
-ghost use Rattle.std.specs.Prelude.{◌≡◌, ◌<◌, ◌++◌, ◌∷◌, [], if◌then◌else◌, codes, map, length, OnOk};
-ghost use Rattle.mixed_graph.specs.Bits.{has};
+ghost use Rattle.std.specs.Prelude.{◌≡◌, ◌++◌, ◌∷◌, [], if◌then◌else◌, codes, map, OnOk};
 ghost use Rattle.identify_text.specs.declared.bits.Bit.TheVariants.{Hedge};
 ghost use Rattle.identify_text.specs.ModelLines.{bit_text, cause_text, terms_of, added, sum_text, part_line, mechanism_lines};
-ghost use Rattle.identify_text.specs.Below.{IsPartBelow, IsBitBelow, IsMechanismBelow};
 
 use crate::bits::{Bit, add_bits, push_bit, push_sum};
 use finite_models::{Mechanism, Part};
@@ -12,8 +10,7 @@ use mixed_graph::Names;
 use std::alloc::{AllocError, Global};
 
 /// Appends ` + ` and the hedge bit of v, where its part reads it.
-fn add_own(terms: &mut Vec<u8>, names: &Names, part: &Part, v: u8) -> Result<(), AllocError>
-    requires { v < length names.now }
+fn add_own(terms: &mut Vec<u8>, names: &Names, part: &Part, v: usize) -> Result<(), AllocError>
     ensures { OnOk result (terms.new.items ≡ terms.old.items ++ added (if part.now.own_hedge then bit_text names.now Hedge v ∷ [] else [])) }
 {
     if !part.own_hedge {
@@ -47,11 +44,9 @@ fn push_terms(
     alloc: Global,
     out: &mut Vec<u8>,
     names: &Names,
-    v: u8,
+    v: usize,
     part: &Part,
 ) -> Result<(), AllocError>
-    requires vertex { v < length names.now }
-    requires part { IsPartBelow (length names.now) part.now }
     ensures { OnOk result (out.new.items ≡ out.old.items ++ sum_text (terms_of names.now v part.now)) }
 {
     let mut terms = Vec::new(alloc);
@@ -69,11 +64,9 @@ fn push_part(
     names: &Names,
     model: &[u8],
     bit: Bit,
-    v: u8,
+    v: usize,
     part: &Option<Part>,
 ) -> Result<(), AllocError>
-    requires vertex { v < length names.now }
-    requires part { IsBitBelow (length names.now) part.now }
     ensures { OnOk result (out.new.items ≡ out.old.items ++ part_line names.now model.now bit v part.now) }
 {
     let Some(part) = part else {
@@ -94,11 +87,9 @@ pub fn push_mechanism(
     out: &mut Vec<u8>,
     names: &Names,
     model: &[u8],
-    v: u8,
+    v: usize,
     mechanism: &Mechanism,
 ) -> Result<(), AllocError>
-    requires vertex { v < length names.now }
-    requires parts { IsMechanismBelow (length names.now) mechanism.now }
     ensures { OnOk result (out.new.items ≡ out.old.items ++ mechanism_lines names.now model.now v mechanism.now) }
 {
     match mechanism {

@@ -23,9 +23,6 @@ all_below p are n le = All-weaker (IsImplication p.graph) (IsNamed n) (named_bel
 pub all_named : (p : PlainPairs) → ArePairs p → All (IsNamed (length p.names)) p.list
 all_named p are = all_below p are (length p.names) (let e = are.named in omega (arith, e))
 
-pub named : (p : PlainPairs) → ArePairs p → (i : Implication) → IsImplication p.graph i → IsNamed (length p.names) i
-named p are = named_below p.graph (length p.names) (let e = are.named in omega (arith, e))
-
 pub all_low : (p : PlainPairs) → ArePairs p → All (IsNamed 64) p.list
 all_low p are = all_below p are 64 are.few
 

@@ -1,10 +1,9 @@
 //! The answers of `implications`, in either format.
 
-ghost use Rattle.std.specs.Prelude.{◌≡◌, ◌≤◌, All, IfOk, length};
+ghost use Rattle.std.specs.Prelude.{◌≡◌, IfOk};
 ghost use Rattle.std.specs.List.{flat_map};
 ghost use Rattle.answer_json.specs.Progress.{json_line};
 ghost use Rattle.replies.specs.Told.{text_in};
-ghost use Rattle.implications_command.specs.Pairs.{IsNamed};
 ghost use Rattle.implications_command.specs.Lines.{none_line, pair_lines, measured_lines};
 ghost use Rattle.implications_command.specs.Objects.{none_json, pairs_json, differences_json};
 
@@ -34,7 +33,6 @@ pub fn pairs(
     names: &Names,
     list: &[Implication],
 ) -> Result<Vec<u8>, AllocError>
-    requires { All (IsNamed (length names.now)) list.now }
     ensures { IfOk result (λ v. v.items ≡ text_in format (pair_lines names.now list.now) (json_line (pairs_json names.now list.now))) }
 {
     match format {
@@ -51,8 +49,6 @@ pub fn differences(
     counts: &Counts,
     measured: &[Measured],
 ) -> Result<Vec<u8>, AllocError>
-    requires named { All (λ m. IsNamed (length names.now) m.pair) measured.now }
-    requires few { length names.now ≤ 64 }
     ensures { IfOk result (λ v. v.items ≡ text_in format (flat_map (measured_lines names.now counts.now) measured.now) (json_line (differences_json names.now counts.now measured.now))) }
 {
     match format {

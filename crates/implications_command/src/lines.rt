@@ -1,15 +1,14 @@
 //! The lines of an answer.
 
-ghost use Rattle.std.specs.Prelude.{◌≡◌, ◌++◌, ◌≤◌, All, length, OnOk, IfOk};
+ghost use Rattle.std.specs.Prelude.{◌≡◌, ◌++◌, OnOk, IfOk};
 ghost use Rattle.std.specs.List.{flat_map};
 ghost use Rattle.count_eval.specs.Programs.{cell_of};
 ghost use Rattle.count_answers.specs.Lines.{assignments};
-ghost use Rattle.implications_command.specs.Pairs.{IsNamed};
 ghost use Rattle.implications_command.specs.Lines.{pair_line, pair_lines, vertices_of, value_text, difference_line, measured_lines};
 
 use crate::differences::Measured;
 use answer_text::{push_set, push_vertex};
-use count_answers::{entries, push_assignment, push_assignments, separator};
+use count_answers::{entries, number_at, push_assignment, push_assignments, separator};
 use count_table::Counts;
 use implications::Implication;
 use implied_differences::Difference;
@@ -18,7 +17,6 @@ use std::alloc::{AllocError, Global};
 
 /// Appends the line of a pair: `A from C given {B}`.
 fn push_pair(out: &mut Vec<u8>, names: &Names, i: &Implication) -> Result<(), AllocError>
-    requires { IsNamed (length names.now) i.now }
     ensures { OnOk result (out.new.items ≡ out.old.items ++ pair_line names.now i.now) }
 {
     push_vertex(out, names, i.a)?;
@@ -32,7 +30,6 @@ fn push_pair(out: &mut Vec<u8>, names: &Names, i: &Implication) -> Result<(), Al
 
 /// The lines of pairs.
 pub fn pair_lines(alloc: Global, names: &Names, list: &[Implication]) -> Result<Vec<u8>, AllocError>
-    requires { All (IsNamed (length names.now)) list.now }
     ensures { IfOk result (λ v. v.items ≡ pair_lines names.now list.now) }
 {
     let mut text = Vec::new(alloc);
@@ -50,13 +47,11 @@ fn push_cell(
     i: &Implication,
     cell: &[u32],
 ) -> Result<(), AllocError>
-    requires named { IsNamed (length names.now) i.now }
-    requires entries { IsNamed (length cell.now) i.now }
     ensures { OnOk result (out.new.items ≡ out.old.items ++ assignments names.now counts.now (cell_of cell.now) (vertices_of i.now)) }
 {
-    push_assignment(out, names, counts, i.a, cell[i.a as usize])?;
+    push_assignment(out, names, counts, i.a, number_at(cell, i.a))?;
     out.push(b',')?;
-    push_assignment(out, names, counts, i.b, cell[i.b as usize])?;
+    push_assignment(out, names, counts, i.b, number_at(cell, i.b))?;
     out.extend_from_slice(separator(&i.given.iter()))?;
     push_assignments(out, names, counts, i.given, cell)?;
     Ok(())
@@ -80,8 +75,6 @@ fn push_difference(
     i: &Implication,
     d: Difference,
 ) -> Result<(), AllocError>
-    requires named { IsNamed (length names.now) i.now }
-    requires few { length names.now ≤ 64 }
     ensures { OnOk result (out.new.items ≡ out.old.items ++ difference_line names.now counts.now i.now d) }
 {
     push_value(alloc, out, d.value)?;
@@ -98,8 +91,6 @@ fn push_measured(
     counts: &Counts,
     m: &Measured,
 ) -> Result<(), AllocError>
-    requires named { IsNamed (length names.now) m.now.pair }
-    requires few { length names.now ≤ 64 }
     ensures { OnOk result (out.new.items ≡ out.old.items ++ measured_lines names.now counts.now m.now) }
 {
     push_pair(out, names, &m.pair)?;
@@ -114,8 +105,6 @@ pub fn difference_lines(
     counts: &Counts,
     measured: &[Measured],
 ) -> Result<Vec<u8>, AllocError>
-    requires named { All (λ m. IsNamed (length names.now) m.pair) measured.now }
-    requires few { length names.now ≤ 64 }
     ensures { IfOk result (λ v. v.items ≡ flat_map (measured_lines names.now counts.now) measured.now) }
 {
     let mut text = Vec::new(alloc);

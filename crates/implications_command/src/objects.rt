@@ -1,18 +1,17 @@
 //! The objects of the answers of `implications`.
 
-ghost use Rattle.std.specs.Prelude.{◌≡◌, ◌≤◌, [], All, length, map, OnOk, IfOk, codes};
+ghost use Rattle.std.specs.Prelude.{◌≡◌, [], map, OnOk, IfOk, codes};
 ghost use Rattle.std.specs.Fmt.{signed_decimal};
 ghost use Rattle.json.specs.Json.{string};
 ghost use Rattle.count_eval.specs.Programs.{cell_of};
 ghost use Rattle.answer_json.specs.Progress.{with_value, with_values, with_member, with_members, array_of, json_line};
 ghost use Rattle.count_json.specs.Cells.{level_json, cell_json};
-ghost use Rattle.implications_command.specs.Pairs.{IsNamed};
 ghost use Rattle.implications_command.specs.Lines.{vertices_of};
 ghost use Rattle.implications_command.specs.Objects.{none_json, pair_members, pair_json, pairs_json, difference_members, measured_json, differences_json};
 
 use crate::differences::Measured;
 use answer_json::Object;
-use count_answers::entries;
+use count_answers::{entries, number_at};
 use count_json::{push_level, push_levels};
 use count_table::Counts;
 use implications::Implication;
@@ -34,7 +33,6 @@ pub fn none_object(alloc: Global) -> Result<Vec<u8>, AllocError>
 
 /// The members of a pair: its two vertices, and what is given.
 fn push_members(object: &mut Object, names: &Names, i: &Implication) -> Result<(), AllocError>
-    requires { IsNamed (length names.now) i.now }
     ensures { OnOk result (object.new ≡ with_members (pair_members names.now i.now) object.old) }
 {
     object.vertex_at("x", names, i.a)?;
@@ -45,7 +43,6 @@ fn push_members(object: &mut Object, names: &Names, i: &Implication) -> Result<(
 
 /// A pair.
 fn push_pair(object: &mut Object, names: &Names, i: &Implication) -> Result<(), AllocError>
-    requires { IsNamed (length names.now) i.now }
     ensures { OnOk result (object.new ≡ with_value (pair_json names.now i.now) object.old) }
 {
     object.begin_object()?;
@@ -56,7 +53,6 @@ fn push_pair(object: &mut Object, names: &Names, i: &Implication) -> Result<(), 
 
 /// Pairs, in their order.
 fn push_pairs(object: &mut Object, names: &Names, list: &[Implication]) -> Result<(), AllocError>
-    requires { All (IsNamed (length names.now)) list.now }
     ensures { OnOk result (object.new ≡ with_values (map (pair_json names.now) list.now) object.old) }
 {
     for i in list {
@@ -68,7 +64,6 @@ fn push_pairs(object: &mut Object, names: &Names, list: &[Implication]) -> Resul
 /// The member of the pairs.
 #[tactic(auto, using(answer_json::proofs::Arrays::array_written))]
 fn pairs_at(object: &mut Object, names: &Names, list: &[Implication]) -> Result<(), AllocError>
-    requires { All (IsNamed (length names.now)) list.now }
     ensures { OnOk result (object.new ≡ with_member (codes "pairs") (array_of (map (pair_json names.now) list.now)) object.old) }
 {
     object.key("pairs")?;
@@ -84,7 +79,6 @@ pub fn pairs_object(
     names: &Names,
     list: &[Implication],
 ) -> Result<Vec<u8>, AllocError>
-    requires { All (IsNamed (length names.now)) list.now }
     ensures { IfOk result (λ v. v.items ≡ json_line (pairs_json names.now list.now)) }
 {
     let mut object = Object::new(alloc)?;
@@ -109,13 +103,11 @@ fn push_all_levels(
     i: &Implication,
     cell: &[u32],
 ) -> Result<(), AllocError>
-    requires named { IsNamed (length names.now) i.now }
-    requires entries { IsNamed (length cell.now) i.now }
     ensures { OnOk result (object.new ≡ with_values (map (λ v. level_json names.now counts.now v (cell_of cell.now v)) (vertices_of i.now)) object.old) }
 {
     let given = i.given.members(object.alloc())?;
-    push_level(object, names, counts, i.a, cell[i.a as usize])?;
-    push_level(object, names, counts, i.b, cell[i.b as usize])?;
+    push_level(object, names, counts, i.a, number_at(cell, i.a))?;
+    push_level(object, names, counts, i.b, number_at(cell, i.b))?;
     push_levels(object, names, counts, given.as_slice(), cell)?;
     Ok(())
 }
@@ -128,8 +120,6 @@ fn push_cell(
     i: &Implication,
     cell: &[u32],
 ) -> Result<(), AllocError>
-    requires named { IsNamed (length names.now) i.now }
-    requires entries { IsNamed (length cell.now) i.now }
     ensures { OnOk result (object.new ≡ with_value (cell_json names.now counts.now (cell_of cell.now) (vertices_of i.now)) object.old) }
 {
     object.begin_array()?;
@@ -146,8 +136,6 @@ fn push_difference(
     i: &Implication,
     d: Difference,
 ) -> Result<(), AllocError>
-    requires named { IsNamed (length names.now) i.now }
-    requires few { length names.now ≤ 64 }
     ensures { OnOk result (object.new ≡ with_members (difference_members names.now counts.now i.now d) object.old) }
 {
     object.key("difference")?;
@@ -164,8 +152,6 @@ fn push_measured(
     counts: &Counts,
     m: &Measured,
 ) -> Result<(), AllocError>
-    requires named { IsNamed (length names.now) m.now.pair }
-    requires few { length names.now ≤ 64 }
     ensures { OnOk result (object.new ≡ with_value (measured_json names.now counts.now m.now) object.old) }
 {
     object.begin_object()?;
@@ -182,8 +168,6 @@ fn push_all(
     counts: &Counts,
     measured: &[Measured],
 ) -> Result<(), AllocError>
-    requires named { All (λ m. IsNamed (length names.now) m.pair) measured.now }
-    requires few { length names.now ≤ 64 }
     ensures { OnOk result (object.new ≡ with_values (map (measured_json names.now counts.now) measured.now) object.old) }
 {
     for m in measured {
@@ -200,8 +184,6 @@ fn differences_at(
     counts: &Counts,
     measured: &[Measured],
 ) -> Result<(), AllocError>
-    requires named { All (λ m. IsNamed (length names.now) m.pair) measured.now }
-    requires few { length names.now ≤ 64 }
     ensures { OnOk result (object.new ≡ with_member (codes "pairs") (array_of (map (measured_json names.now counts.now) measured.now)) object.old) }
 {
     object.key("pairs")?;
@@ -218,8 +200,6 @@ pub fn differences_object(
     counts: &Counts,
     measured: &[Measured],
 ) -> Result<Vec<u8>, AllocError>
-    requires named { All (λ m. IsNamed (length names.now) m.pair) measured.now }
-    requires few { length names.now ≤ 64 }
     ensures { IfOk result (λ v. v.items ≡ json_line (differences_json names.now counts.now measured.now)) }
 {
     let mut object = Object::new(alloc)?;

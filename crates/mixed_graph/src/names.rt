@@ -3,7 +3,7 @@
 ghost use Rattle.std.specs.Prelude.{◌≡◌, ◌<◌, ◌≤◌, ◌+◌, ◌↔◌, List, ℕ, [], ◌∷◌, ◌++◌, is_some, true, false, length, IfOk, IfSome, IfNone, OnOk, OnSome, OnErr, IsErrOf, IsTrue, slice_get, slice_index, slice_index_or};
 ghost use Rattle.std.specs.List.{list_all};
 ghost use Rattle.std.specs.Str.{IsUtf8, bytes_eq};
-ghost use Rattle.mixed_graph.specs.Names.{IsName, AreNames, is_named, with_name, index_of, is_line_byte};
+ghost use Rattle.mixed_graph.specs.Names.{IsName, AreNames, is_named, with_name, index_of, name_of, is_line_byte};
 ghost use Rattle.mixed_graph.specs.NameBlocks.{start_of, cut, IsBlock};
 ghost use Rattle.mixed_graph.specs.NameKeys.{AreKeys, IsKeyed};
 
@@ -267,6 +267,17 @@ impl Names {
         let start = start_of(&self.ends, v);
         let end = self.ends[v as usize] as usize;
         &self.bytes[start..end]
+    }
+
+    /// The name of vertex v; the empty text where the graph has no such vertex. So whoever writes a name asks for nothing first.
+    pub fn name(&self, v: u8) -> &[u8]
+        ensures { result.now ≡ name_of self.now v }
+    {
+        if (v as u32) < self.count() {
+            self.get(v)
+        } else {
+            b""
+        }
     }
 }
 

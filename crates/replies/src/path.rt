@@ -1,6 +1,6 @@
 //! The line of an open path.
 
-ghost use Rattle.std.specs.Prelude.{◌≡◌, ◌++◌, ◌<◌, ◌≤◌, ℕ, OnOk, length, slice_index};
+ghost use Rattle.std.specs.Prelude.{◌≡◌, ◌++◌, OnOk};
 ghost use Rattle.replies.specs.Lines.{open_text};
 
 use answer_text::push_path;
@@ -10,9 +10,6 @@ use std::alloc::AllocError;
 
 /// Appends the line of an open path.
 pub fn push_open(out: &mut Vec<u8>, names: &Names, path: &OpenPath) -> Result<(), AllocError>
-    requires some { 0 < path.now.count }
-    requires few { path.now.count ≤ 64 }
-    requires named { (i : ℕ) → i < path.now.count → slice_index path.now.vertices i < length names.now }
     ensures { OnOk result (out.new.items ≡ out.old.items ++ open_text names.now path.now.vertices path.now.marks path.now.count) }
 {
     out.extend_from_slice(b"open: ")?;

@@ -1,8 +1,6 @@
 //! The text of a question of separation.
 
-ghost use Rattle.std.specs.Prelude.{◌≡◌, ◌++◌, OnOk, length};
-ghost use Rattle.mixed_graph.specs.Bits.{has};
-ghost use Rattle.mixed_graph.specs.Sets.{Within};
+ghost use Rattle.std.specs.Prelude.{◌≡◌, ◌++◌, OnOk};
 ghost use Rattle.replies.specs.Lines.{query_text};
 
 use answer_text::push_set;
@@ -12,9 +10,6 @@ use targets::Sets;
 
 /// Appends `X from Y given W`.
 pub fn push_query(out: &mut Vec<u8>, names: &Names, sets: Sets) -> Result<(), AllocError>
-    requires x { Within (length names.now) (has sets.x.bits) }
-    requires y { Within (length names.now) (has sets.y.bits) }
-    requires given { Within (length names.now) (has sets.given.bits) }
     ensures { OnOk result (out.new.items ≡ out.old.items ++ query_text names.now sets.x.bits sets.y.bits sets.given.bits) }
 {
     push_set(out, names, sets.x)?;

@@ -1,4 +1,4 @@
--- The sets of a separation are those that it asks for.
+-- The sets that the lists of a separation name are sets of the graph, apart from each other.
 use Rattle.std.proofs.Common.{◌≡◌, ℕ, length}
 use Rattle.mixed_graph.specs.Bits.{has}
 use Rattle.do_rules.specs.Rules.{AreThreeSets}

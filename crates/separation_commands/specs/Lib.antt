@@ -5,10 +5,16 @@ pub mod GraphCommand
 pub mod SeparateAnswers
 pub mod SeparateLines
 pub mod SeparateObjects
+pub mod SeparateSentences
+pub mod SeparateTelling
+pub mod SeparateRight
 pub mod SeparateRequests
 pub mod SeparateCommand
 pub mod RuleAnswers
 pub mod RuleLines
 pub mod RuleObjects
+pub mod RuleSentences
+pub mod RuleTelling
+pub mod RuleRight
 pub mod RuleRequests
 pub mod RuleCommand

@@ -1,8 +1,11 @@
 -- The command `rule`.
-use Rattle.replies.specs.Command.{CommandForm, on_file}
-use Rattle.separation_commands.specs.RuleAnswers.{RuleAnswer}
+use Rattle.replies.specs.Command.{CommandForm}
+use Rattle.told.specs.Commands.{told_on_file}
+use Rattle.told.specs.Forms.{plain_form}
+use Rattle.separation_commands.specs.RuleRight.{IsRuleAnswer}
+use Rattle.separation_commands.specs.RuleTelling.{rule_telling}
 use Rattle.separation_commands.specs.RuleRequests.{Request, IsRequest}
 
 -- its request and its answers
 abbrev pub rule_command : CommandForm
-rule_command = on_file Request IsRequest (λ q. q.format) (λ q. q.file) (λ q d. RuleAnswer q.format q.rule d q.y q.x q.z q.given)
+rule_command = told_on_file Request IsRequest (λ q. plain_form q.format) (λ q. q.file) rule_telling (λ q d. IsRuleAnswer q.rule d q.y q.x q.z q.given)

@@ -2,7 +2,6 @@
 use Rattle.std.specs.Prelude.{ℕ, Bool, List, [], ◌∷◌, ◌++◌, codes}
 use Rattle.std.specs.Fmt.{decimal}
 use Rattle.mixed_graph.specs.Bits.{has}
-use Rattle.mixed_graph.specs.Sets.{Within}
 use Rattle.answer_text.specs.declared.Term.{Term}
 use Rattle.answer_text.specs.Texts.{term_text}
 use Rattle.do_rules.specs.Rules.{Side, left_of, right_of, number_of}
@@ -15,12 +14,6 @@ side_text names s = term_text names s.of s.doing s.given
 -- the side that a term is
 abbrev pub side_of : Term → Side
 side_of t = record { of = has t.of.bits; doing = has t.doing.bits; given = has t.given.bits }
-
--- the sets of a term are within n
-pub record IsTermWithin (n : ℕ) (t : Term) : Type 0 where
-  pub of : Within n (has t.of.bits)
-  pub doing : Within n (has t.doing.bits)
-  pub given : Within n (has t.given.bits)
 
 -- the equation of a rule
 abbrev pub equation_text : Rule → List (List ℕ) → (x y z w : ℕ → Bool) → List ℕ

@@ -1,8 +1,11 @@
 -- The command `separate`.
-use Rattle.replies.specs.Command.{CommandForm, on_file}
-use Rattle.separation_commands.specs.SeparateAnswers.{SeparateAnswer}
+use Rattle.replies.specs.Command.{CommandForm}
+use Rattle.told.specs.Commands.{told_on_file}
+use Rattle.told.specs.Forms.{plain_form}
+use Rattle.separation_commands.specs.SeparateRight.{IsSeparateAnswer}
+use Rattle.separation_commands.specs.SeparateTelling.{separate_telling}
 use Rattle.separation_commands.specs.SeparateRequests.{Request, IsRequest}
 
 -- its request and its answers
 abbrev pub separate_command : CommandForm
-separate_command = on_file Request IsRequest (λ q. q.format) (λ q. q.file) (λ q d. SeparateAnswer q.format d q.x q.y q.given)
+separate_command = told_on_file Request IsRequest (λ q. plain_form q.format) (λ q. q.file) separate_telling (λ q d. IsSeparateAnswer d q.x q.y q.given)

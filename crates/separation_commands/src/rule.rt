@@ -1,10 +1,10 @@
 //! The command `rule`: whether a rule of the do-calculus holds, in the observed graph.
-mod formats;
-mod objects;
+mod answer;
+mod parts;
 mod reply;
 mod request;
 mod sides;
-mod texts;
 
-pub use reply::rule_reply;
+pub use answer::Answer;
+pub use reply::{rule_answer, rule_reply};
 pub use request::{ROW, Request};

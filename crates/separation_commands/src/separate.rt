@@ -1,9 +1,8 @@
 //! The command `separate`: whether two sets are separated given a third, in the observed graph.
-mod formats;
-mod objects;
+mod answer;
 mod reply;
 mod request;
-mod texts;
 
-pub use reply::separate_reply;
+pub use answer::Answer;
+pub use reply::{separate_answer, separate_reply};
 pub use request::{ROW, Request};

@@ -95,7 +95,8 @@ module _ (kept : Option (List ℕ)) (bytes : List ℕ) (words : List Span) (inpu
       told = known kept bytes words inputs run_of is_run;
       exact = exact_unless_lacked commands lawful run_of code reply.outcome (told_as commands reply) status ends
           (known kept bytes words inputs run_of is_run) (fails_lacked kept bytes words inputs run_of is_run) (λ rose. absurd (omega (arith, rose)));
-      headline = headline (call_of run_of) code reply.outcome (told_as commands reply) status gives;
+      headline = headline run_of code reply.outcome (told_as commands reply) status gives
+          (complete commands lawful run_of code reply.outcome (told_as commands reply) status ends);
       checked = certificate;
       drawn = right_as_drawn_of (call_of run_of) code reply.outcome (told_as commands reply) status gives certificate;
       refuted = refuted_as_drawn_of (call_of run_of) code reply.outcome (told_as commands reply) status gives certificate;

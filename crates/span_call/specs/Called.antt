@@ -48,7 +48,7 @@ pub record Called (kept : Option (List ℕ)) (bytes : List ℕ) (words : List Sp
   pub complete : Complete commands run code
   pub told : InputsAreKnown commands run
   pub exact : IsExact commands run code
-  pub headline : Headline (call_of run) code
+  pub headline : Headline run code
   pub checked : HeadlineOfCheck (call_of run) code
   pub drawn : RightAsDrawn (call_of run) code
   pub refuted : RefutedAsDrawn (call_of run) code

@@ -1,9 +1,3 @@
 pub mod Copying
 pub mod Depths
 pub mod Ends
-pub mod Growing
-pub mod NamesBack
-pub mod Pushing
-pub mod SetsBack
-pub mod StepDepth
-pub mod StepsBack

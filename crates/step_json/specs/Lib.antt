@@ -1,5 +1,3 @@
-pub mod Laws
 pub mod Reading
-pub mod Values
 pub mod View
 pub mod Words

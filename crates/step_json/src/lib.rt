@@ -1,4 +1,4 @@
-//! Steps of derivations and sets of vertices as JSON values, and JSON values read as steps and sets.
+//! Steps of derivations and sets of vertices read from JSON values.
 //!
 //! A step is a list: a word and its arguments. A set is a list of names.
 //!
@@ -14,14 +14,10 @@
 #![tactic(auto)]
 
 mod fault;
-mod laws;
 mod lists;
 mod reading;
 mod words;
-mod writing;
 
 pub use fault::ValueFault;
-pub use laws::written_is_read;
 pub use lists::{read_filled_set, read_set, read_vertex};
 pub use reading::read_step;
-pub use writing::{name_value, set_value, step_value};

@@ -32,7 +32,7 @@ use Rattle.effect_answers.proofs.HedgeTexts.{sets_alike, models_alike}
 use Rattle.effect_answers.proofs.HedgeObjects as objects
 use Rattle.effect_answers.proofs.HedgeViews.{views_alike}
 use Rattle.effect_answers.specs.Hedges.{HasArrays}
-use Rattle.effect_answers.specs.Lines.{certificate_line}
+use Rattle.certificate_json.specs.Certificates.{certificate_line}
 use Rattle.certificate.specs.Plain.{PlainHedge, hedge_view}
 use Rattle.certificate.specs.Plain as plain
 use Rattle.surrogate_command.specs.declared.form.Form.{Form}

@@ -4,6 +4,5 @@ pub mod Sets
 pub mod Asked
 pub mod Objects
 pub mod Lines
-pub mod Commons
 pub mod Answers
 pub mod Command

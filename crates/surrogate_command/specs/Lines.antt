@@ -14,8 +14,8 @@ use Rattle.experiment_lists.specs.Lines.{unidentifiable_with_line}
 use Rattle.certificate.specs.Plain.{PlainCertificate, hedge_view}
 use Rattle.certificate.specs.Plain as plain
 use Rattle.certificate.specs.Reading.{certificate_in}
-use Rattle.certificate_writing.specs.Written.{certificate_text}
-use Rattle.effect_answers.specs.Lines.{certificate_line}
+use Rattle.certificate_json.specs.Certificates.{certificate_text}
+use Rattle.certificate_json.specs.Certificates.{certificate_line}
 use Rattle.surrogates.specs.declared.answer.CommonHedge.{CommonHedge}
 use Rattle.answer_json.specs.Progress.{json_line}
 use Rattle.replies.specs.Told.{text_in}

@@ -1,19 +1,14 @@
 //! The answers in either format.
 
-ghost use Rattle.std.specs.Prelude.{◌≡◌, length, All, Some, None, IfOk, IfSome};
-ghost use Rattle.mixed_graph.specs.Bits.{has};
-ghost use Rattle.mixed_graph.specs.Sets.{Within};
-ghost use Rattle.prob_expr.specs.Check.{fault_in};
+ghost use Rattle.std.specs.Prelude.{◌≡◌, length, Some, IfOk, IfSome};
 ghost use Rattle.prob_expr.specs.Listed.{masks_of};
 ghost use Rattle.prob_expr.specs.Tree.{effect_on};
 ghost use Rattle.prob_expr.specs.View.{target_view, formula_view};
 ghost use Rattle.do_derivation.specs.View.{derivation_view};
-ghost use Rattle.identify_text.specs.Below.{IsHedgeBelow};
 ghost use Rattle.certificate.specs.Plain.{hedge_view, formula as formula_case, hedge as hedge_case};
-ghost use Rattle.certificate_writing.specs.Writable.{IsTargetWithin, IsBareTarget, IsDerivationWithin, IsFormulaShallow};
+ghost use Rattle.certificate_json.specs.Writable.{IsWritable, IsShallow};
 ghost use Rattle.answer_json.specs.Progress.{json_line};
 ghost use Rattle.effect_answers.specs.Hedges.{HasArrays};
-ghost use Rattle.surrogate_command.specs.Commons.{IsCommonBelow};
 ghost use Rattle.surrogate_command.specs.Lines.{formula_shown, stopped_shown, ReadsBack};
 ghost use Rattle.surrogate_command.specs.Objects.{formula_json, stopped_json};
 
@@ -42,13 +37,6 @@ fn formula_json(
     derivation: &Derivation,
     writing: Writing,
 ) -> Result<Vec<u8>, AllocError>
-    requires what { Within (length names.now) (has target.now.y.bits) }
-    requires doing { Within (length names.now) (has target.now.x.bits) }
-    requires given { Within (length names.now) (has target.now.given.bits) }
-    requires experiments { All (λ set. Within (length names.now) (has set.bits)) experiments.now }
-    requires target { IsTargetWithin (length names.now) (target_view target.now) }
-    requires formula { fault_in (length names.now) (formula_view formula.now) ≡ None }
-    requires derivation { IsDerivationWithin (length names.now) (derivation_view derivation.now) }
     ensures { IfOk result (λ v. v.items ≡ json_line (formula_json writing names.now (masks_of experiments.now) (target_view target.now) (formula_view formula.now) (derivation_view derivation.now))) }
 {
     match writing {
@@ -71,16 +59,8 @@ pub fn formula_shown(
     derivation: Derivation,
     form: Form,
 ) -> Result<Vec<u8>, AllocError>
-    requires what { Within (length names.now) (has target.y.bits) }
-    requires doing { Within (length names.now) (has target.x.bits) }
-    requires given { Within (length names.now) (has target.given.bits) }
-    requires experiments { All (λ set. Within (length names.now) (has set.bits)) experiments.now }
-    requires target { IsTargetWithin (length names.now) (target_view target) }
-    requires formula { fault_in (length names.now) (formula_view formula) ≡ None }
-    requires derivation { IsDerivationWithin (length names.now) (derivation_view derivation) }
-    requires shallow { IsFormulaShallow (formula_view formula) (derivation_view derivation) }
     ensures text { IfOk result (λ v. v.items ≡ formula_shown form names.now (masks_of experiments.now) (target_view target) (formula_view formula) (derivation_view derivation)) }
-    ensures reads_back { form.format ≡ Format.Text → IfOk result (λ v. ReadsBack form.writing names.now (formula_case (target_view target) (formula_view formula) (derivation_view derivation))) }
+    ensures reads_back { let c = formula_case (target_view target) (formula_view formula) (derivation_view derivation) in form.format ≡ Format.Text → IsWritable (length names.now) c → IsShallow c → IfOk result (λ v. ReadsBack form.writing names.now c) }
 {
     match form.format {
         Format::Text => formula_text(alloc, names, target, formula, derivation, form.writing),
@@ -106,14 +86,6 @@ fn common_json(
     common: &CommonHedge,
     writing: Writing,
 ) -> Result<Vec<u8>, AllocError>
-    requires x { Within (length names.now) (has sets.now.x.bits) }
-    requires y { Within (length names.now) (has sets.now.y.bits) }
-    requires experiments { All (λ set. Within (length names.now) (has set.bits)) sets.now.experiments.items }
-    requires target { IsBareTarget (length names.now) (effect_on sets.now.x.bits sets.now.y.bits) }
-    requires district { Within (length names.now) (has district.bits) }
-    requires hedge { IsHedgeBelow (length names.now) hedge.now }
-    requires common { IsCommonBelow (length names.now) common.now }
-    requires arrays { HasArrays common.now.hedge }
     ensures { IfOk result (λ v. v.items ≡ json_line (stopped_json writing names.now (masks_of sets.now.experiments.items) (effect_on sets.now.x.bits sets.now.y.bits) district.bits hedge.now (Some common.now))) }
 {
     let target = effect_of(sets);
@@ -140,13 +112,6 @@ fn stopped_json(
     writing: Writing,
     names: &Names,
 ) -> Result<Vec<u8>, AllocError>
-    requires x { Within (length names.now) (has sets.now.x.bits) }
-    requires y { Within (length names.now) (has sets.now.y.bits) }
-    requires experiments { All (λ set. Within (length names.now) (has set.bits)) sets.now.experiments.items }
-    requires target { IsBareTarget (length names.now) (effect_on sets.now.x.bits sets.now.y.bits) }
-    requires district { Within (length names.now) (has district.bits) }
-    requires hedge { IsHedgeBelow (length names.now) hedge.now }
-    requires common { IfSome common.now (λ k. IsCommonBelow (length names.now) k) }
     ensures text { IfOk result (λ v. v.items ≡ json_line (stopped_json writing names.now (masks_of sets.now.experiments.items) (effect_on sets.now.x.bits sets.now.y.bits) district.bits hedge.now common.now)) }
     ensures arrays { IfSome common.now (λ k. HasArrays k.hedge) }
 {
@@ -173,16 +138,9 @@ pub fn stopped_shown(
     form: Form,
     names: &Names,
 ) -> Result<Vec<u8>, AllocError>
-    requires x { Within (length names.now) (has sets.now.x.bits) }
-    requires y { Within (length names.now) (has sets.now.y.bits) }
-    requires experiments { All (λ set. Within (length names.now) (has set.bits)) sets.now.experiments.items }
-    requires target { IsBareTarget (length names.now) (effect_on sets.now.x.bits sets.now.y.bits) }
-    requires district { Within (length names.now) (has district.bits) }
-    requires hedge { IsHedgeBelow (length names.now) hedge.now }
-    requires common { IfSome common (λ k. IsCommonBelow (length names.now) k) }
     ensures text { IfOk result (λ v. v.items ≡ stopped_shown form names.now (masks_of sets.now.experiments.items) sets.now.x.bits sets.now.y.bits district.bits hedge.now common) }
     ensures arrays { IfOk result (λ v. IfSome common (λ k. HasArrays k.hedge)) }
-    ensures reads_back { form.format ≡ Format.Text → IfOk result (λ v. IfSome common (λ k. ReadsBack form.writing names.now (hedge_case (effect_on sets.now.x.bits sets.now.y.bits) (hedge_view k.hedge)))) }
+    ensures reads_back { form.format ≡ Format.Text → IfOk result (λ v. IfSome common (λ k. let c = hedge_case (effect_on sets.now.x.bits sets.now.y.bits) (hedge_view k.hedge) in IsWritable (length names.now) c → ReadsBack form.writing names.now c)) }
 {
     match form.format {
         Format::Text => stopped_text(alloc, sets, district, hedge, common, form.writing, names),

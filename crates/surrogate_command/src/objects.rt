@@ -1,15 +1,9 @@
 //! The objects of the answers.
 
-ghost use Rattle.std.specs.Prelude.{◌≡◌, length, map, All, None, IfOk, OnOk};
-ghost use Rattle.mixed_graph.specs.Bits.{has};
-ghost use Rattle.mixed_graph.specs.Sets.{Within};
-ghost use Rattle.prob_expr.specs.Check.{fault_in};
+ghost use Rattle.std.specs.Prelude.{◌≡◌, map, IfOk, OnOk};
 ghost use Rattle.prob_expr.specs.Listed.{masks_of};
 ghost use Rattle.prob_expr.specs.View.{formula_view, target_view};
 ghost use Rattle.do_derivation.specs.View.{derivation_view};
-ghost use Rattle.identify_text.specs.Below.{IsHedgeBelow, ArePairBelow};
-ghost use Rattle.certificate.specs.Plain.{hedge_view};
-ghost use Rattle.certificate_writing.specs.Writable.{IsTargetWithin, IsDerivationWithin, IsHedgeWithin};
 ghost use Rattle.answer_json.specs.Progress.{nothing, members, with_members, json_line};
 ghost use Rattle.surrogate_command.specs.Objects.{asked_members, formula_answer, formula_object, certified_formula_object, stop_members, common_members, stop_object, common_object, certified_common_object};
 
@@ -31,10 +25,6 @@ fn push_asked(
     target: &Target,
     experiments: &[VSet],
 ) -> Result<(), AllocError>
-    requires what { Within (length names.now) (has target.now.y.bits) }
-    requires doing { Within (length names.now) (has target.now.x.bits) }
-    requires given { Within (length names.now) (has target.now.given.bits) }
-    requires experiments { All (λ set. Within (length names.now) (has set.bits)) experiments.now }
     ensures { OnOk result (object.new ≡ with_members (asked_members names.now (masks_of experiments.now) (target_view target.now)) object.old) }
 {
     push_target(object, names, target)?;
@@ -53,11 +43,6 @@ fn begin_formula(
     experiments: &[VSet],
     f: &Formula,
 ) -> Result<Object, AllocError>
-    requires what { Within (length names.now) (has target.now.y.bits) }
-    requires doing { Within (length names.now) (has target.now.x.bits) }
-    requires given { Within (length names.now) (has target.now.given.bits) }
-    requires experiments { All (λ set. Within (length names.now) (has set.bits)) experiments.now }
-    requires formula { fault_in (length names.now) (formula_view f.now) ≡ None }
     ensures { IfOk result (λ o. o ≡ members nothing (formula_answer names.now (masks_of experiments.now) (target_view target.now) (formula_view f.now))) }
 {
     let mut object = Object::new(alloc)?;
@@ -75,11 +60,6 @@ pub fn formula_object(
     experiments: &[VSet],
     f: &Formula,
 ) -> Result<Vec<u8>, AllocError>
-    requires what { Within (length names.now) (has target.now.y.bits) }
-    requires doing { Within (length names.now) (has target.now.x.bits) }
-    requires given { Within (length names.now) (has target.now.given.bits) }
-    requires experiments { All (λ set. Within (length names.now) (has set.bits)) experiments.now }
-    requires formula { fault_in (length names.now) (formula_view f.now) ≡ None }
     ensures { IfOk result (λ v. v.items ≡ json_line (formula_object names.now (masks_of experiments.now) (target_view target.now) (formula_view f.now))) }
 {
     let object = begin_formula(alloc, names, target, experiments, f)?;
@@ -95,13 +75,6 @@ pub fn certified_formula_object(
     f: &Formula,
     derivation: &Derivation,
 ) -> Result<Vec<u8>, AllocError>
-    requires what { Within (length names.now) (has target.now.y.bits) }
-    requires doing { Within (length names.now) (has target.now.x.bits) }
-    requires given { Within (length names.now) (has target.now.given.bits) }
-    requires experiments { All (λ set. Within (length names.now) (has set.bits)) experiments.now }
-    requires target { IsTargetWithin (length names.now) (target_view target.now) }
-    requires formula { fault_in (length names.now) (formula_view f.now) ≡ None }
-    requires derivation { IsDerivationWithin (length names.now) (derivation_view derivation.now) }
     ensures { IfOk result (λ v. v.items ≡ json_line (certified_formula_object names.now (masks_of experiments.now) (target_view target.now) (formula_view f.now) (derivation_view derivation.now))) }
 {
     let mut object = begin_formula(alloc, names, target, experiments, f)?;
@@ -122,12 +95,6 @@ fn begin_stop(
     district: VSet,
     hedge: &Hedge,
 ) -> Result<Object, AllocError>
-    requires what { Within (length names.now) (has target.now.y.bits) }
-    requires doing { Within (length names.now) (has target.now.x.bits) }
-    requires given { Within (length names.now) (has target.now.given.bits) }
-    requires experiments { All (λ set. Within (length names.now) (has set.bits)) experiments.now }
-    requires district { Within (length names.now) (has district.bits) }
-    requires hedge { IsHedgeBelow (length names.now) hedge.now }
     ensures { IfOk result (λ o. o ≡ members nothing (stop_members answer.now names.now (masks_of experiments.now) (target_view target.now) district.bits hedge.now)) }
 {
     let mut object = Object::new(alloc)?;
@@ -149,12 +116,6 @@ pub fn stop_object(
     district: VSet,
     hedge: &Hedge,
 ) -> Result<Vec<u8>, AllocError>
-    requires what { Within (length names.now) (has target.now.y.bits) }
-    requires doing { Within (length names.now) (has target.now.x.bits) }
-    requires given { Within (length names.now) (has target.now.given.bits) }
-    requires experiments { All (λ set. Within (length names.now) (has set.bits)) experiments.now }
-    requires district { Within (length names.now) (has district.bits) }
-    requires hedge { IsHedgeBelow (length names.now) hedge.now }
     ensures { IfOk result (λ v. v.items ≡ json_line (stop_object names.now (masks_of experiments.now) (target_view target.now) district.bits hedge.now)) }
 {
     let object = begin_stop(
@@ -179,13 +140,6 @@ fn begin_common(
     hedge: &Hedge,
     pair: &CounterPair,
 ) -> Result<Object, AllocError>
-    requires what { Within (length names.now) (has target.now.y.bits) }
-    requires doing { Within (length names.now) (has target.now.x.bits) }
-    requires given { Within (length names.now) (has target.now.given.bits) }
-    requires experiments { All (λ set. Within (length names.now) (has set.bits)) experiments.now }
-    requires district { Within (length names.now) (has district.bits) }
-    requires hedge { IsHedgeBelow (length names.now) hedge.now }
-    requires models { ArePairBelow (length names.now) pair.now }
     ensures { IfOk result (λ o. o ≡ members nothing (common_members names.now (masks_of experiments.now) (target_view target.now) district.bits hedge.now pair.now)) }
 {
     let mut object = begin_stop(alloc, names, "hedge", target, experiments, district, hedge)?;
@@ -204,13 +158,6 @@ pub fn common_object(
     hedge: &Hedge,
     pair: &CounterPair,
 ) -> Result<Vec<u8>, AllocError>
-    requires what { Within (length names.now) (has target.now.y.bits) }
-    requires doing { Within (length names.now) (has target.now.x.bits) }
-    requires given { Within (length names.now) (has target.now.given.bits) }
-    requires experiments { All (λ set. Within (length names.now) (has set.bits)) experiments.now }
-    requires district { Within (length names.now) (has district.bits) }
-    requires hedge { IsHedgeBelow (length names.now) hedge.now }
-    requires models { ArePairBelow (length names.now) pair.now }
     ensures { IfOk result (λ v. v.items ≡ json_line (common_object names.now (masks_of experiments.now) (target_view target.now) district.bits hedge.now pair.now)) }
 {
     let object = begin_common(alloc, names, target, experiments, district, hedge, pair)?;
@@ -227,15 +174,6 @@ pub fn certified_common_object(
     hedge: &Hedge,
     pair: &CounterPair,
 ) -> Result<Vec<u8>, AllocError>
-    requires what { Within (length names.now) (has target.now.y.bits) }
-    requires doing { Within (length names.now) (has target.now.x.bits) }
-    requires given { Within (length names.now) (has target.now.given.bits) }
-    requires experiments { All (λ set. Within (length names.now) (has set.bits)) experiments.now }
-    requires target { IsTargetWithin (length names.now) (target_view target.now) }
-    requires district { Within (length names.now) (has district.bits) }
-    requires hedge { IsHedgeBelow (length names.now) hedge.now }
-    requires models { ArePairBelow (length names.now) pair.now }
-    requires data { IsHedgeWithin (length names.now) (hedge_view hedge.now) }
     ensures { IfOk result (λ v. v.items ≡ json_line (certified_common_object names.now (masks_of experiments.now) (target_view target.now) district.bits hedge.now pair.now)) }
 {
     let mut object = begin_common(alloc, names, target, experiments, district, hedge, pair)?;

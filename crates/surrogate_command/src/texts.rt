@@ -1,29 +1,23 @@
 //! The texts of the answers.
 
-ghost use Rattle.std.specs.Prelude.{◌≡◌, ◌++◌, OnOk, IfOk, IfSome, Ok, None, length};
-ghost use Rattle.mixed_graph.specs.Bits.{has};
-ghost use Rattle.mixed_graph.specs.Sets.{Within};
-ghost use Rattle.prob_expr.specs.Check.{fault_in};
+ghost use Rattle.std.specs.Prelude.{◌≡◌, ◌++◌, OnOk, IfOk, IfSome, Ok, length};
 ghost use Rattle.prob_expr.specs.View.{target_view, formula_view};
 ghost use Rattle.do_derivation.specs.View.{derivation_view};
 ghost use Rattle.prob_expr.specs.Tree.{effect_on};
-ghost use Rattle.identify_text.specs.Below.{IsHedgeBelow, ArePairBelow};
 ghost use Rattle.certificate.specs.Plain.{hedge_view, formula as formula_case, hedge as hedge_case};
 ghost use Rattle.certificate.specs.Reading.{certificate_in};
-ghost use Rattle.certificate_writing.specs.Writable.{IsTargetWithin, IsBareTarget, IsDerivationWithin, IsHedgeWithin, IsFormulaShallow};
-ghost use Rattle.certificate_writing.specs.Written.{certificate_text};
+ghost use Rattle.certificate_json.specs.Writable.{IsWritable, IsShallow};
+ghost use Rattle.certificate_json.specs.Certificates.{certificate_text, certificate_line};
 ghost use Rattle.effect_answers.specs.Hedges.{HasArrays};
-ghost use Rattle.effect_answers.specs.Lines.{certificate_line};
-ghost use Rattle.surrogate_command.specs.Commons.{IsCommonBelow};
 ghost use Rattle.surrogate_command.specs.Lines.{unfound_line, district_line, stop_answer, common_answer, formula_text, stopped_text, ReadsBack};
 
 use crate::form::Writing;
 use crate::sets::SurrogateSets;
 use answer_text::{Notation, push_set};
 use certificate::Certificate;
+use certificate_json::certificate_line;
 use counter_models::CounterPair;
 use do_derivation::Derivation;
-use effect_answers::certificates::certificate_line;
 use effect_answers::has_arrays;
 use experiment_lists::unidentifiable_text;
 use hedge::Hedge;
@@ -35,8 +29,6 @@ use surrogates::CommonHedge;
 
 /// The line that no formula is found.
 fn unfound(alloc: Global, names: &Names, x: VSet, y: VSet) -> Result<Vec<u8>, AllocError>
-    requires x { Within (length names.now) (has x.bits) }
-    requires y { Within (length names.now) (has y.bits) }
     ensures { IfOk result (λ v. v.items ≡ unfound_line names.now x.bits y.bits) }
 {
     let mut text = effect_text(alloc, x, y, names)?;
@@ -46,7 +38,6 @@ fn unfound(alloc: Global, names: &Names, x: VSet, y: VSet) -> Result<Vec<u8>, Al
 
 /// Appends the line of a district.
 fn push_district(out: &mut Vec<u8>, names: &Names, district: VSet) -> Result<(), AllocError>
-    requires { Within (length names.now) (has district.bits) }
     ensures { OnOk result (out.new.items ≡ out.old.items ++ district_line names.now district.bits) }
 {
     out.extend_from_slice(b"district ")?;
@@ -66,12 +57,6 @@ fn stop_answer(
     h: &Hedge,
     names: &Names,
 ) -> Result<Vec<u8>, AllocError>
-    requires x { Within (length names.now) (has x.bits) }
-    requires y { Within (length names.now) (has y.bits) }
-    requires district { Within (length names.now) (has district.bits) }
-    requires big { Within (length names.now) (has h.now.big.bits) }
-    requires small { Within (length names.now) (has h.now.small.bits) }
-    requires roots { Within (length names.now) (has h.now.roots.bits) }
     ensures { IfOk result (λ v. v.items ≡ stop_answer names.now x.bits y.bits district.bits h.now) }
 {
     let mut text = unfound(alloc, names, x, y)?;
@@ -91,11 +76,6 @@ fn common_answer(
     pair: &CounterPair,
     names: &Names,
 ) -> Result<Vec<u8>, AllocError>
-    requires x { Within (length names.now) (has sets.now.x.bits) }
-    requires y { Within (length names.now) (has sets.now.y.bits) }
-    requires district { Within (length names.now) (has district.bits) }
-    requires hedge { IsHedgeBelow (length names.now) hedge.now }
-    requires models { ArePairBelow (length names.now) pair.now }
     ensures { IfOk result (λ v. v.items ≡ common_answer names.now sets.now.x.bits sets.now.y.bits district.bits hedge.now pair.now) }
 {
     let mut text = unidentifiable_text(alloc, names, sets.x, sets.y)?;
@@ -107,10 +87,7 @@ fn common_answer(
 
 /// The effect of the sets.
 pub fn effect_of(sets: &SurrogateSets) -> Target
-    ensures view { target_view result ≡ effect_on sets.now.x.bits sets.now.y.bits }
-    ensures x { result.x ≡ sets.now.x }
-    ensures y { result.y ≡ sets.now.y }
-    ensures given { result.given.bits ≡ 0 }
+    ensures { target_view result ≡ effect_on sets.now.x.bits sets.now.y.bits }
 {
     Target {
         x: sets.x,
@@ -128,15 +105,8 @@ pub fn formula_text(
     derivation: Derivation,
     writing: Writing,
 ) -> Result<Vec<u8>, AllocError>
-    requires what { Within (length names.now) (has target.y.bits) }
-    requires doing { Within (length names.now) (has target.x.bits) }
-    requires given { Within (length names.now) (has target.given.bits) }
-    requires target { IsTargetWithin (length names.now) (target_view target) }
-    requires formula { fault_in (length names.now) (formula_view formula) ≡ None }
-    requires derivation { IsDerivationWithin (length names.now) (derivation_view derivation) }
-    requires shallow { IsFormulaShallow (formula_view formula) (derivation_view derivation) }
     ensures text { IfOk result (λ v. v.items ≡ formula_text writing names.now (target_view target) (formula_view formula) (derivation_view derivation)) }
-    ensures reads_back { IfOk result (λ v. ReadsBack writing names.now (formula_case (target_view target) (formula_view formula) (derivation_view derivation))) }
+    ensures reads_back { let c = formula_case (target_view target) (formula_view formula) (derivation_view derivation) in IsWritable (length names.now) c → IsShallow c → IfOk result (λ v. ReadsBack writing names.now c) }
 {
     match writing {
         Writing::Plain | Writing::Models => answer_in(
@@ -148,7 +118,7 @@ pub fn formula_text(
         ),
         Writing::Certificate => {
             let certificate = Certificate::Formula(target, formula, derivation);
-            certificate_line(alloc, &certificate, names)
+            certificate_line(alloc, names, &certificate)
         }
     }
 }
@@ -160,13 +130,11 @@ fn hedge_certificate(
     target: Target,
     hedge: Hedge,
 ) -> Result<Vec<u8>, AllocError>
-    requires target { IsBareTarget (length names.now) (target_view target) }
-    requires data { IsHedgeWithin (length names.now) (hedge_view hedge) }
     ensures text { IfOk result (λ v. v.items ≡ certificate_line names.now (hedge_case (target_view target) (hedge_view hedge))) }
-    ensures reads_back { IfOk result (λ v. certificate_in names.now (certificate_text names.now (hedge_case (target_view target) (hedge_view hedge))) ≡ Ok (hedge_case (target_view target) (hedge_view hedge))) }
+    ensures reads_back { let c = hedge_case (target_view target) (hedge_view hedge) in IsWritable (length names.now) c → IfOk result (λ v. certificate_in names.now (certificate_text names.now c) ≡ Ok c) }
 {
     let certificate = Certificate::Hedge(target, hedge);
-    certificate_line(alloc, &certificate, names)
+    certificate_line(alloc, names, &certificate)
 }
 
 /// The text of a stop. Where there is a common hedge, and it is asked for, that with its models, or its certificate.
@@ -179,15 +147,9 @@ pub fn stopped_text(
     writing: Writing,
     names: &Names,
 ) -> Result<Vec<u8>, AllocError>
-    requires x { Within (length names.now) (has sets.now.x.bits) }
-    requires y { Within (length names.now) (has sets.now.y.bits) }
-    requires target { IsBareTarget (length names.now) (effect_on sets.now.x.bits sets.now.y.bits) }
-    requires district { Within (length names.now) (has district.bits) }
-    requires hedge { IsHedgeBelow (length names.now) hedge.now }
-    requires common { IfSome common (λ k. IsCommonBelow (length names.now) k) }
     ensures text { IfOk result (λ v. v.items ≡ stopped_text writing names.now sets.now.x.bits sets.now.y.bits district.bits hedge.now common) }
     ensures arrays { IfOk result (λ v. IfSome common (λ k. HasArrays k.hedge)) }
-    ensures reads_back { IfOk result (λ v. IfSome common (λ k. ReadsBack writing names.now (hedge_case (effect_on sets.now.x.bits sets.now.y.bits) (hedge_view k.hedge)))) }
+    ensures reads_back { IfOk result (λ v. IfSome common (λ k. let c = hedge_case (effect_on sets.now.x.bits sets.now.y.bits) (hedge_view k.hedge) in IsWritable (length names.now) c → ReadsBack writing names.now c)) }
 {
     let Some(common) = common else {
         return stop_answer(alloc, sets.x, sets.y, district, hedge, names);

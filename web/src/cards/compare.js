@@ -94,4 +94,4 @@ function picture(graph, places, marks) {
 }
 
 /** @type {import("./parts.js").Card} */
-export const compare = { id: "compare", title: "Compare", answer };
+export const compare = { id: "compare", title: "Compare", about: "Whether two diagrams imply the same independences", answer };

@@ -7,13 +7,13 @@ import { withRole } from "./parts.js";
 
 const MOST_ORDERS = 8;
 
-/** Admissible sets that contain these vertices, and from which no other vertex can be left out. @returns {Promise<string[][]>} */
-export async function setsWith(ctx, wanted) {
-  const xs = withRole(ctx, "exposure"), ys = withRole(ctx, "outcome"), test = (set) => isAdmissible(ctx, set);
+/** Admissible sets that contain these vertices, and from which no other vertex can be left out. @param {import("./kind.js").Kind} kind @returns {Promise<string[][]>} */
+export async function setsWith(ctx, wanted, kind) {
+  const xs = kind.doing, ys = withRole(ctx, "outcome"), test = (set) => isAdmissible(ctx, kind, set);
   const before = await new Ways(ctx.askAbout, ctx.graph).before([...xs, ...ys, ...wanted]);
   const others = ctx.observed.filter((name) => before.has(name) && ![...xs, ...ys, ...wanted].includes(name));
   const allowed = [];
-  for (const name of others) if (!(await isForbidden(ctx, name))) allowed.push(name);
+  for (const name of others) if (!(await isForbidden(ctx, kind, name))) allowed.push(name);
   if (!(await test([...wanted, ...allowed]))) return [];
   const found = new Map();
   for (let i = 0; i < Math.min(MOST_ORDERS, Math.max(1, allowed.length)); i++) {
@@ -28,13 +28,13 @@ export async function setsWith(ctx, wanted) {
   return [...found.values()];
 }
 
-const words = (set) => ["adjust", DIAGRAM, "--set", listWord(set)];
+const words = (kind, set) => ["adjust", DIAGRAM, ...kind.words, "--set", listWord(set)];
 
-async function isAdmissible(ctx, set) {
-  return (await ctx.read(words(set))).status === 0;
+async function isAdmissible(ctx, kind, set) {
+  return (await ctx.read(words(kind, set))).status === 0;
 }
 
 /** Whether the criterion excludes a vertex from every set. */
-async function isForbidden(ctx, name) {
-  return (await ctx.read(words([name]))).object.forbidden !== undefined;
+async function isForbidden(ctx, kind, name) {
+  return (await ctx.read(words(kind, [name]))).object.forbidden !== undefined;
 }

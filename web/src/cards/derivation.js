@@ -94,7 +94,7 @@ const sentence = (names) =>
   names.length > 1 ? `${names.slice(0, -1).join(", ")} and ${names[names.length - 1]}` : names[0];
 
 /** One step in plain words. @param {Step} step */
-function inWords({ word, set, part }) {
+export function inWords({ word, set, part }) {
   const z = sentence(set);
   return {
     rule1in: `Rule 1: having seen ${z} changes nothing here, so it may be observed too.`,

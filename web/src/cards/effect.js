@@ -1,31 +1,29 @@
-import { button, h } from "../dom.js";
+import { h } from "../dom.js";
 import { kindOf } from "../explain.js";
 import { DIAGRAM } from "../names.js";
-import { boundIn, linesOf, textOf } from "../objects.js";
+import { boundIn, textOf } from "../objects.js";
 import { listWord } from "../text/printed.js";
 import { derivation } from "./derivation.js";
 import { askedAhead, chosenForm } from "./forms.js";
 import { hedge } from "./hedge.js";
 import { certificateRow, fold, formulaBox, listed, refused, source, verdict, withRole } from "./parts.js";
-import { Ways } from "../ways.js";
+import { chosenKind } from "./kind.js";
 import { chosenSet, howToChoose } from "./sets.js";
 
 const IDENTIFY = ["identify", DIAGRAM];
 
 /** @param {import("./parts.js").Context} ctx */
 async function answer(ctx) {
-  const given = chosenSet(ctx, "condition", "Given", []), { names } = given, xs = withRole(ctx, "exposure");
-  const also = chosenSet(ctx, "also set", "Also set", []), doing = [...xs, ...also.names.filter((name) => !xs.includes(name))];
-  const isDirect = doing.length > xs.length;
-  const asked = [...IDENTIFY, ...(isDirect ? ["--x", listWord(doing)] : []), ...(names.length ? ["--given", listWord(names)] : [])];
-  const more = () => [directPart(ctx, also), condition(ctx, given)];
+  const given = chosenSet(ctx, "condition", "Given", []), { names } = given, kind = await chosenKind(ctx), { isDirect } = kind;
+  const asked = [...IDENTIFY, ...kind.words, ...(names.length ? ["--given", listWord(names)] : [])];
+  const more = () => [condition(ctx, given)];
   const form = await chosenForm(ctx, asked), { words, said } = form;
-  if (said.fault) return refused(words, said, () => (names.length || isDirect ? h("div", { class: "stack" }, more()) : null));
-  if (said.status === 1) return hedge(ctx, words, said.object, names.length ? await kindOf(ctx, words) : "", ...more());
+  if (said.fault) return refused(ctx, words, said, () => (names.length || ctx.memory.direct ? h("div", { class: "stack" }, kind.row(), more()) : null));
+  if (said.status === 1) return hedge(ctx, words, said.object, names.length ? await kindOf(ctx, words) : "", kind, ...more());
   const isUnchanged = !names.length && !isDirect && (await leavesUnchanged(ctx));
   return {
-    dot: "yes", view: () => view({ ctx, form, given, doing, isDirect, isUnchanged, more }),
-    marks: { vertices: new Map([...names.map((name) => [name, "chosen"]), ...also.names.map((name) => [name, "from"])]) },
+    dot: "yes", view: () => view({ ctx, form, given, kind, isUnchanged, more }),
+    marks: { vertices: new Map([...names.map((name) => [name, "chosen"]), ...kind.also.map((name) => [name, "from"])]) },
   };
 }
 
@@ -37,21 +35,6 @@ async function leavesUnchanged(ctx) {
   return (await ctx.ask(["rule", DIAGRAM, "--rule", "3", ...sets])).status === 0;
 }
 
-/** The choice of further variables that are set: with those on the way, what is left is a direct effect. */
-function directPart(ctx, also) {
-  const take = async () => {
-    const { memory, observed, graph } = ctx, xs = withRole(ctx, "exposure"), ys = withRole(ctx, "outcome");
-    const between = await new Ways(ctx.askAbout, graph).between(xs, ys);
-    memory.sets["also set"] = observed.filter((name) => between.includes(name));
-    ctx.refresh();
-  };
-  return fold(ctx, "direct", "A direct effect: set what is on the way too", () => h("div", { class: "stack" },
-    h("p", {}, "The effect of the exposure when these are set as well. With all that is on the way set, it is the part that goes no way "
-      + "round (the controlled direct effect)."),
-    h("div", { class: "pickers" }, also.row()),
-    h("p", {}, button("Take what is on the way", take, { data: { key: "take mediators" } })), howToChoose()));
-}
-
 /** The choice of a condition: the effect among those with the same values of some variables. */
 function condition(ctx, given) {
   return fold(ctx, "condition", "Given the values of other variables", () => h("div", { class: "stack" },
@@ -59,19 +42,19 @@ function condition(ctx, given) {
     h("div", { class: "pickers" }, given.row()), howToChoose()));
 }
 
-function view({ ctx, form, given, doing: xs, isDirect, isUnchanged, more }) {
+function view({ ctx, form, given, kind: { isDirect, doing: xs, row }, isUnchanged, more }) {
   const { words, said: { object: formula } } = form, ys = withRole(ctx, "outcome");
   const notes = [form.note && h("li", {}, form.note), ...notesOn(formula, xs, ys)].filter(Boolean);
   const among = given.names.length ? [" given ", listed(given.names)] : "";
   const claim = xs.length
-    ? [isDirect ? "The effect of setting " : "The effect of ", listed(xs), " on ", listed(ys), among, ": ", h("code", {}, formula.effect), " equals this formula at every "
-      + "assignment in every positive finite model that fits the diagram."]
+    ? [isDirect ? "The effect of setting " : "The effect of ", listed(xs), " on ", listed(ys), among, ": ", h("code", {}, formula.effect),
+      " equals this formula, if the diagram is right."]
     : ["No exposure is marked, so this is the plain distribution of ", listed(ys), among, "."];
-  return h("div", {},
+  return h("div", {}, row(),
     verdict("yes", "Identifiable", claim),
     isUnchanged ? h("p", { class: "reason" }, "No directed path leads from ", listed(xs), " to ", listed(ys), ", so ", listed(ys),
       ys.length > 1 ? " aren't" : " isn't", " changed by ", listed(xs), ".") : null,
-    formulaBox(formula.latex.split("\n"), linesOf(formula), form.choice()),
+    formulaBox(formula, form.choice()),
     notes.length ? h("ul", { class: "notes" }, notes) : null,
     source(words, textOf(formula)),
     fold(ctx, "derivation", "Derivation in the do-calculus", () => derivation(ctx, words)),
@@ -98,13 +81,13 @@ function notesOn(formula, xs, ys) {
   }
   if (free.length) {
     note(h("span", { class: "key" }, `free ${free.join(", ")}`), " The formula reads ", listed(free),
-      ", yet in every positive model that fits its value doesn't depend on it: take any one level.");
+      ", yet its value doesn't depend on it: take any one level.");
   }
   return notes;
 }
 
 /** @type {import("./parts.js").Card} */
 export const effect = {
-  id: "effect", title: "Effect", hasDot: true, dotWords: { yes: "identifiable", no: "not identifiable" },
+  id: "effect", title: "Effect", about: "Whether the effect can be computed, by which formula, and why", hasDot: true, dotWords: { yes: "identifiable", no: "not identifiable" },
   ahead: askedAhead(IDENTIFY), answer,
 };

@@ -1,6 +1,6 @@
 import { button, h } from "../dom.js";
 import { DIAGRAM } from "../names.js";
-import { linesOf, nodesIn, textOf } from "../objects.js";
+import { nodesIn, textOf } from "../objects.js";
 import { experimentsWord } from "../text/printed.js";
 import { formulaBox, listed, refused, source, sourceOf, verdict } from "./parts.js";
 import { chosenSet, howToChoose } from "./sets.js";
@@ -16,7 +16,7 @@ async function answer(ctx) {
   if (!chosen.length) return { dot: "", view: () => h("div", {}, invitation(), pickers()) };
   const words = ["surrogate", DIAGRAM, "--experiments", experimentsWord(chosen)], said = await ctx.read(words);
   const marks = { vertices: new Map(chosen.flat().map((name) => [name, "chosen"])) };
-  if (said.fault) return { ...refused(words, said, pickers), marks };
+  if (said.fault) return { ...refused(ctx, words, said, pickers), marks };
   if (said.status === 1) return stopped(ctx, words, said, pickers);
   return { dot: "", marks, view: () => h("div", {}, pickers(), formulaView(words, said.object)) };
 }
@@ -36,14 +36,13 @@ function choice(ctx, sets, chosen) {
 }
 
 function formulaView(words, formula) {
-  const { effect, latex, free } = formula, usesTrial = nodesIn(formula).some((node) => node.do?.length);
+  const { effect, free } = formula, usesTrial = nodesIn(formula).some((node) => node.do?.length);
   return h("div", { class: "stack" },
     verdict("yes", usesTrial ? "A formula from these trials" : "A formula from observations alone", h("code", {}, effect),
-      " equals it at every assignment in every positive finite model that fits the diagram. A term with do(…) is read "
+      " equals it, if the diagram is right. A term with do(…) is read "
       + "off the trial that sets these variables; the others are observed."),
-    formulaBox(latex.split("\n"), linesOf(formula)),
-    free.length ? h("p", {}, "The formula reads ", listed(free), ", yet in every positive model that fits its value doesn't "
-      + "depend on it: take any one level.") : null,
+    formulaBox(formula),
+    free.length ? h("p", {}, "The formula reads ", listed(free), ", yet its value doesn't depend on it: take any one level.") : null,
     source(words, textOf(formula)));
 }
 
@@ -64,4 +63,4 @@ function stopped(ctx, words, said, pickers) {
 }
 
 /** @type {import("./parts.js").Card} */
-export const experiments = { id: "experiments", title: "Trials", answer };
+export const experiments = { id: "experiments", title: "Trials", about: "Whether trials on other variables give a formula", answer };

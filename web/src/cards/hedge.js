@@ -2,21 +2,23 @@ import { h } from "../dom.js";
 import { route } from "../diagram/route.js";
 import { bitsOf, sumText } from "../objects.js";
 import { termText } from "../text/printed.js";
-import { certificateRow, listed, source, verdict } from "./parts.js";
+import { whatNext } from "./next.js";
+import { certificateRow, fold, listed, source, verdict } from "./parts.js";
 
 const MOST_DIGITS = 12;
 
 /**
  * A hedge in the drawing, with both models as tables and the two effects; below it further parts.
  * @param {any} object of `identify` @param {string} kind under a condition, of which kind the answer is
+ * @param {import("./kind.js").Kind} asked which effect is asked for
  */
-export function hedge(ctx, words, object, kind, ...more) {
+export function hedge(ctx, words, object, kind, asked, ...more) {
   const { larger, smaller, choices } = object.hedge, links = linksOf(object.hedge);
   const classes = [[larger, "hedge-big"], [smaller, "hedge-small"]];
   const vertices = new Map(classes.flatMap(([names, cls]) => names.map((n) => [n, cls])));
   const edges = [...choices.map(({ vertex, child }) => ({ a: vertex, b: child, both: false })), ...links];
   return {
-    dot: "no", view: () => view(ctx, words, object, kind, more),
+    dot: "no", view: () => view(ctx, words, object, kind, asked, more),
     marks: { vertices, edges: edges.map((e) => ({ ...e, cls: "hedge" })) },
   };
 }
@@ -24,14 +26,15 @@ export function hedge(ctx, words, object, kind, ...more) {
 /** Its bidirected edges. @returns {import("../text/printed.js").Edge[]} */
 const linksOf = ({ links }) => links.map(([a, b]) => ({ a, b, both: true }));
 
-function view(ctx, words, object, kind, more) {
-  const { joint, models, hedge: { larger, smaller, roots } } = object, asked = object.given.length > 0;
+function view(ctx, words, object, kind, { row }, more) {
+  const { joint, models, hedge: { larger, smaller, roots } } = object, isAsked = object.given.length > 0;
   const effect = termText({ term: joint.y, do: joint.x, given: [] });
-  return h("div", {},
+  return h("div", {}, row(),
     verdict("no", "Not identifiable", plainReason(ctx.graph, linksOf(object.hedge)), "What is observed doesn't settle ", h("code", {}, effect),
-    ": two positive finite models fit the diagram, agree on all observations, and differ on it. So no formula over what is "
+    ": two models fit the diagram, agree on all observations, and differ on it. So no formula over what is "
       + "observed equals it in both.",
-    asked ? [" Nor does any formula equal ", h("code", {}, object.effect), DIFFER[kind] ?? "", "."] : ""),
+    isAsked ? [" Nor does any formula equal ", h("code", {}, object.effect), DIFFER[kind] ?? "", "."] : ""),
+    fold(ctx, "next", "What would help", () => whatNext(ctx, words)),
     h("p", { class: "legendline" }, h("span", { class: "swatch hedge-big" }), "hedge ", listed(larger),
       h("span", { class: "swatch hedge-small" }), "over ", listed(smaller), "; roots ", listed(roots)),
     eventTable(models.event, joint.x),
@@ -43,7 +46,10 @@ function view(ctx, words, object, kind, more) {
 }
 
 /** Which models show it of the effect that was asked for. */
-const DIFFER = { settled: ": the same two models differ on it too", unsettled: ": two other models, which aren't shown, differ on it" };
+const DIFFER = {
+  settled: ": the same two models differ on it too",
+  unsettled: ", and no two models that differ on it are shown",
+};
 
 const MOST_NAMED = 3;
 

@@ -3,7 +3,7 @@ import { DIAGRAM } from "../names.js";
 import { impliedBy } from "../objects.js";
 import { holm, strataOf } from "../statistics/independence.js";
 import { levelsText } from "../text/printed.js";
-import { asksForTable, cellsOf, countWords, tableName } from "./data.js";
+import { asksForTable, cellsOf, countWords, tableName, tableNotes } from "./table.js";
 import { refused, source, sourceOf, verdict } from "./parts.js";
 
 const WORDS = ["implications", DIAGRAM];
@@ -14,29 +14,46 @@ const LEVEL = 0.05;
 
 /** @typedef {import("../objects.js").Implication} Implication */
 
+/** The pairs with their tests, where there is a table; what is refused is in `said`. @param {import("./parts.js").Context} ctx */
+export async function impliedPairs(ctx) {
+  const said = await ctx.read(WORDS);
+  if (said.fault) return { ctx, said, pairs: [], rejected: [] };
+  const { csv } = ctx.memory, pairs = impliedBy(said.object), isLacking = ({ a, b, given }) => csv.lacking.some((name) => [a, b, ...given].includes(name));
+  const testable = csv ? pairs.filter((pair) => !isLacking(pair)) : [];
+  const words = csv && pairs.length && !csv.lacking.length ? ["implications", DIAGRAM, tableName(csv.name), ...countWords(ctx)] : null;
+  const counted = words && (await ctx.read(words)), isReadable = !counted || counted.status === 0;
+  const tests = csv && isReadable && testable.length ? await testsOf(ctx, testable.slice(0, MOST_ROWS)) : null;
+  const differences = counted?.status === 0 ? new Map(impliedBy(counted.object).map((pair) => [keyOf(pair), pair])) : new Map();
+  const rows = pairs.map((pair) => ({ ...pair, ...differences.get(keyOf(pair)), test: tests?.get(keyOf(pair)) ?? null }));
+  const found = { ctx, said, pairs: inOrder(rows), words, counted, tests, untested: pairs.length - testable.length };
+  const rejected = rows.filter(({ test }) => test?.adjusted < LEVEL).map(({ a, b }) => ({ a, b, both: false, plain: true, cls: "rejected" }));
+  return { ...found, rejected };
+}
+
 /** @param {import("./parts.js").Context} ctx */
 async function answer(ctx) {
-  const said = await ctx.read(WORDS);
-  if (said.fault) return refused(WORDS, said);
-  const { csv } = ctx.memory, pairs = impliedBy(said.object);
-  const words = csv && pairs.length ? ["implications", DIAGRAM, tableName(csv.name), ...countWords(ctx)] : null;
-  const counted = words && (await ctx.read(words));
-  const isCounted = counted?.status === 0, tests = isCounted ? await testsOf(ctx, pairs.slice(0, MOST_ROWS)) : null;
-  const found = { ctx, said, pairs, words, counted, tests, told: isCounted ? impliedBy(counted.object) : pairs };
-  return { dot: "", view: () => view(found) };
+  const found = await impliedPairs(ctx);
+  if (found.said.fault) return refused(ctx, WORDS, found.said);
+  return { dot: "", view: () => view(found), marks: { edges: found.rejected } };
 }
+
+const keyOf = ({ a, b, given }) => JSON.stringify([a, b, given]);
+
+/** The pairs by what their tests say, those without a test last. */
+const inOrder = (rows) => (rows.some(({ test }) => test) ? [...rows].sort((one, other) => (one.test?.p ?? 2) - (other.test?.p ?? 2)) : rows);
 
 const kept = new WeakMap(); // by a table, its tests of some pairs
 
-/** The tests of the pairs over the table, with Holm's correction for all of them. */
+/** The tests of the pairs over the table, with Holm's correction for all of them, by the pair. */
 async function testsOf(ctx, pairs) {
   const table = cellsOf(ctx), key = JSON.stringify([pairs, table]), had = kept.get(ctx.memory.csv);
   if (had?.key === key) return had.tests;
-  const { tests } = await ctx.compute({ compute: "tests", table, pairs, seed: SEED });
-  if (!tests) return null;
-  const places = tests.map((test, i) => i).filter((i) => tests[i].p !== null), adjusted = holm(places.map((i) => tests[i].p));
-  places.forEach((place, i) => (tests[place].adjusted = adjusted[i]));
-  tests.forEach((test, i) => (test.shown = differenceOf(table, pairs[i])));
+  const { tests: list } = await ctx.compute({ compute: "tests", table, pairs, seed: SEED });
+  if (!list) return null;
+  const places = list.map((test, i) => i).filter((i) => list[i].p !== null), adjusted = holm(places.map((i) => list[i].p));
+  places.forEach((place, i) => (list[place].adjusted = adjusted[i]));
+  list.forEach((test, i) => (test.shown = differenceOf(table, pairs[i])));
+  const tests = new Map(list.map((test, i) => [keyOf(pairs[i]), test]));
   kept.set(ctx.memory.csv, { key, tests });
   return tests;
 }
@@ -55,54 +72,60 @@ function asProbability({ difference, cell }, strata) {
 }
 
 function view(found) {
-  const { ctx, said, pairs, words, counted, told, tests } = found;
-  return h("div", {}, head(pairs),
-    pairs.length ? h("div", { class: "scroll" }, table(ctx, told, tests)) : null,
+  const { ctx, said, pairs, words, counted } = found;
+  return h("div", {}, head(found), ctx.memory.csv && pairs.length ? tableNotes(ctx) : null,
+    pairs.length && !ctx.memory.csv ? asksForTable(ctx) : null,
+    pairs.length ? h("div", { class: "scroll" }, table(found)) : null,
     counted?.status === 0 ? sourceOf(ctx, words, counted) : sourceOf(ctx, WORDS, said),
     pairs.length ? dataPart(found) : null);
 }
 
-function head(pairs) {
+function head({ pairs, tests, untested, rejected }) {
   if (!pairs.length) {
-    return verdict("no", "No independence to test", "No two vertices are separated by any set, so the diagram demands no "
+    return verdict("no", "No independence to test", "No two variables are separated by any set, so the diagram demands no "
       + "independence of what is observed.");
   }
-  return verdict("yes", pairs.length === 1 ? "One independence" : `${pairs.length} independences`,
-    "These pairs, and no others, are separated by some set; each stands with one such set. In every finite model that "
-    + "fits the diagram, positive or not, the two are independent given it.");
+  const many = pairs.length === 1 ? "One independence" : `${pairs.length} independences`;
+  if (!tests) {
+    return verdict("yes", many, "If the diagram is right, each pair is independent given the set beside it. No other pair is separated by any set. "
+      + "A table can test this.");
+  }
+  const done = [...tests.values()].filter(({ p }) => p !== null).length, left = untested ? ` ${untested} more name a variable without a column.` : "";
+  return rejected.length
+    ? verdict("no", `${rejected.length} of ${done} tested independences ${rejected.length === 1 ? "is" : "are"} rejected`,
+      `At the level ${LEVEL}, after Holm's correction: lines in the drawing join these pairs. So some assumption of the diagram doesn't fit the table.${left}`)
+    : verdict("yes", `None of ${done} tested independences is rejected`, `At the level ${LEVEL}, after Holm's correction. This doesn't show that the diagram is right.${left}`);
 }
 
-/** @param {Implication[]} pairs */
-function table(ctx, pairs, tests) {
-  const hasData = pairs.some((pair) => pair.difference), names = hasData ? ["p", "largest difference"] : [];
+function table({ ctx, pairs, tests }) {
+  const hasDifference = pairs.some((pair) => pair.difference), names = [...(tests ? ["p"] : []), ...(hasDifference ? ["largest difference"] : [])];
   const columns = ["pair", "given", ...names].map((text) => h("th", { scope: "col" }, text));
   const left = pairs.length - MOST_ROWS;
   return h("table", { class: "pairs" },
     h("caption", {}, left > 0 ? `The first ${MOST_ROWS} of ${pairs.length}; all are in the printed text` : null),
     h("thead", {}, h("tr", {}, columns)),
-    h("tbody", {}, pairs.slice(0, MOST_ROWS).map((pair, i) => row(ctx, pair, hasData, tests?.[i]))));
+    h("tbody", {}, pairs.slice(0, MOST_ROWS).map((pair) => row(ctx, pair, Boolean(tests), hasDifference))));
 }
 
-const part = (p) => (p === null || p === undefined ? "–" : p < 0.0001 ? "< 0.0001" : p.toFixed(4));
+export const part = (p) => (p === null || p === undefined ? "–" : p < 0.0001 ? "< 0.0001" : p.toFixed(4));
 
 /** A pair; it is shown in the drawing while it has the pointer or the focus. */
-function row(ctx, pair, hasData, test) {
-  const { a, b, given, difference, cell } = pair, at = cell && levelsText(cell);
+function row(ctx, pair, hasTests, hasDifference) {
+  const { a, b, given, difference, cell, test } = pair, at = cell && levelsText(cell);
   const classes = [[[a], "from"], [[b], "to"], [given, "chosen"]];
-  const marks = { vertices: new Map(classes.flatMap(([names, cls]) => names.map((name) => [name, cls]))) };
+  const marks = { vertices: new Map(classes.flatMap(([names, cls]) => names.map((name) => [name, cls]))), edges: [{ a, b, both: false, plain: true, cls: "tested" }] };
   const show = () => ctx.mark(marks), hide = () => ctx.mark();
-  const share = hasData && test ? asProbability(pair, test.shown) : null;
+  const share = hasDifference && test ? asProbability(pair, test.shown) : null;
   const statistic = test?.p !== null && test ? `G² = ${test.statistic.toFixed(3)}, ${test.degrees} degrees of freedom, ${test.method}` : null;
   return h("tr", {
     tabindex: 0, onpointerenter: show, onfocus: show, onpointerleave: hide, onblur: hide, class: test?.adjusted < LEVEL ? "differs" : null,
-    "aria-label": `${a} and ${b}${given.length ? ` given ${given.join(", ")}` : ""}`
-      + (hasData ? `: p ${part(test?.p)}, largest difference ${difference} at ${at}` : ""),
+    "aria-label": `${a} and ${b}${given.length ? ` given ${given.join(", ")}` : ""}${hasTests ? `: p ${part(test?.p)}` : ""}`
+      + (difference ? `, largest difference ${difference} at ${at}` : ""),
   }, h("td", {}, h("b", {}, a), " and ", h("b", {}, b)),
   h("td", {}, given.join(", ") || "–", " ", furtherButton(ctx, a, b)),
-  hasData ? [
-    h("td", { class: "number", title: statistic }, part(test?.p), h("small", {}, `Holm ${part(test?.adjusted)}`)),
-    h("td", {}, h("span", { class: "number" }, share === null ? difference : `${share.toFixed(4)} (${difference})`), h("small", {}, `at ${at}`)),
-  ] : null);
+  hasTests ? h("td", { class: "number", title: statistic }, test ? part(test.p) : "no column", test && h("small", {}, `Holm ${part(test.adjusted)}`)) : null,
+  hasDifference ? h("td", { title: `${difference} in counts, as the program prints it` },
+    h("span", { class: "number" }, share === null ? difference : share.toFixed(4)), h("small", { class: "cell" }, `at ${at}`)) : null);
 }
 
 /** Shows the pair under Separate, with all sets that separate it. */
@@ -114,22 +137,19 @@ function furtherButton(ctx, a, b) {
   return button("sets", go, { title: "Which sets separate them", "aria-label": `which sets separate ${a} and ${b}` });
 }
 
-/** What a table of counts says of the pairs. */
-function dataPart({ ctx, words, counted }) {
-  const { csv } = ctx.memory, title = h("h3", {}, "In a table of counts");
-  if (!csv) return h("div", { class: "stack" }, title, asksForTable(ctx));
-  const change = h("p", {}, h("b", {}, csv.name), " ",
+/** What a table says of the pairs. */
+function dataPart({ ctx, words, counted, tests }) {
+  const { csv } = ctx.memory;
+  if (!csv) return null;
+  const change = h("p", {}, "In ", h("b", {}, csv.name), " ",
     button("Another file or column of counts", () => ctx.show("data"), { data: { key: "to data" } }));
-  if (counted.status !== 0) {
-    return h("div", { class: "stack" }, title, change, verdict("ask", counted.fault.sentence), source(words, ""));
-  }
-  return h("div", { class: "stack" }, title, change,
-    verdict("warn", "A small p speaks against the diagram; a large one doesn't speak for it", "p is the chance of counts at least as far "
-      + "from the independence, if it holds, by the statistic G² with the chi-squared distribution, or where a table is thin "
-      + `by ${PERMUTATIONS} shuffles (seed ${SEED}). It is computed here, not proved. Holm's correction is for all pairs.`),
-    h("p", { class: "small-print" }, "The largest difference, of all levels a, b and w, is P(a,b|w) − P(a|w)·P(b|w). In brackets it "
-      + "stands as the program prints it, in counts: N(a,b,w)·N(w) − N(a,w)·N(b,w). It is 0 where a model that fits the diagram matches the counts."));
+  if (counted && counted.status !== 0) return h("div", { class: "stack" }, change, verdict("ask", counted.fault.sentence), source(words, ""));
+  return h("div", { class: "stack" }, change, tests && h("p", { class: "small-print" }, "A small p speaks against the diagram; a large one doesn't speak for "
+      + "it. p is the chance of counts at least as far from the independence, if it holds, by the statistic G² with the chi-squared distribution, or where a "
+      + `table is thin by ${PERMUTATIONS} shuffles (seed ${SEED}). It is computed here, not proved. Holm's correction is for all pairs that were tested.`),
+    counted && h("p", { class: "small-print" }, "The largest difference, of all levels a, b and w, is P(a,b|w) − P(a|w)·P(b|w). The program prints it "
+      + "in counts: N(a,b,w)·N(w) − N(a,w)·N(b,w). It is 0 where a model that fits the diagram matches the counts."));
 }
 
 /** @type {import("./parts.js").Card} */
-export const implications = { id: "implications", title: "Implies", ahead: [WORDS], answer };
+export const implications = { id: "implications", title: "Implies", about: "Which independences the diagram implies, and whether a table fits them", ahead: [WORDS], answer };

@@ -4,16 +4,18 @@ import { button, copyButton, h, save } from "../dom.js";
 import { lacksMark } from "../faults.js";
 import { formula } from "../formula.js";
 import { CERTIFICATE, DIAGRAM } from "../names.js";
-import { edgesOf } from "../objects.js";
+import { edgesOf, linesOf } from "../objects.js";
+import { formulaTex } from "../paper.js";
 
 /** @typedef {import("../diagram/diagram.js").Marks} Marks  @typedef {import("../objects.js").Said} Said */
 /**
- * What a card answers with: whether its tab says yes or no, its view, and what it shows in the drawing.
- * @typedef {{dot: "yes" | "no" | "", view: () => Node, marks?: Marks}} Shown
+ * What a card answers with: whether its tab says yes or no, and in which words where they aren't the card's, its view, and what it shows
+ * in the drawing.
+ * @typedef {{dot: "yes" | "no" | "", dotWords?: {yes: string, no: string}, view: () => Node, marks?: Marks}} Shown
  */
 /**
  * A card asks the program and shows what it answers. `ahead` are the questions that it will ask by the text alone.
- * @typedef {{id: string, title: string, hasDot?: boolean, dotWords?: {yes: string, no: string}, ahead?: string[][],
+ * @typedef {{id: string, title: string, about: string, hasDot?: boolean, dotWords?: {yes: string, no: string}, ahead?: string[][],
  *   answer: (ctx: Context) => Promise<Shown>}} Card
  */
 /**
@@ -25,6 +27,7 @@ import { edgesOf } from "../objects.js";
  * @property {(words: string[]) => Promise<import("../runner.js").Answer>} ask asks for an answer as text
  * @property {(words: string[]) => Promise<Said>} read asks for it as an object
  * @property {(words: string[]) => Promise<string>} print asks for what is printed, for a card that is shown
+ * @property {(kind: string) => string} nameOf a name for a file of this diagram, by its ending
  * @property {(name: string, text: string) => void} put gives the program a second input
  * @property {(text: string, words: string[]) => Promise<import("../runner.js").Answer>} askAbout asks about another text
  * @property {(message: object) => Promise<any>} compute has the worker compute, beside the program
@@ -88,14 +91,12 @@ export const withRole = ({ graph }, role) => graph.vertices.filter((v) => v.role
 export const listed = (names) =>
   names.map((name, i) => [i ? (i === names.length - 1 ? " and " : ", ") : "", h("b", {}, name)]);
 
-/** What is shown where the program refuses the question, above it the choices that led to it. @param {Said} said */
-export function refused(words, { fault }, choices = () => null) {
-  const help = "Click a vertex (or focus it and press e or o) to mark it as the exposure or the outcome.";
-  return {
-    dot: "",
-    view: () => h("div", {}, choices(), verdict("ask", fault.sentence, ...(lacksMark(fault) ? [help] : [])),
-      source(words, lineOf(fault))),
-  };
+/** What is shown where the program refuses the question, above it the choices that led to it. @param {Context} ctx @param {Said} said */
+export function refused({ graph }, words, { fault }, choices = () => null) {
+  const isEmpty = !graph.vertices.length && lacksMark(fault), help = "Click a variable, and choose Exposure or Outcome (or focus it and press e or o).";
+  const told = isEmpty ? verdict("ask", "Draw your variables", "Double-click the drawing, or press + Variable. Then mark exposure and outcome.")
+    : verdict("ask", fault.sentence, ...(lacksMark(fault) ? [help] : []));
+  return { dot: "", view: () => h("div", {}, choices(), told, source(words, lineOf(fault))) };
 }
 
 /** @param {import("../objects.js").Path} path */
@@ -103,9 +104,10 @@ export const pathMarks = (path) => edgesOf(path).map((e) => ({ ...e, cls: "open"
 
 /**
  * A formula with its ways out: its LaTeX, and a larger view; and beside them the choice of its form, where there is one.
- * @param {string[]} tex its lines @param {string[]} printed the same as text
+ * @param {any} object the program's, with `latex` and the trees
  */
-export function formulaBox(tex, printed, choice = null) {
+export function formulaBox(object, choice = null) {
+  const tex = object.latex.split("\n"), printed = linesOf(object);
   const enlarge = () => {
     const close = h("form", { method: "dialog" }, h("button", { class: "small" }, "Close"));
     const box = h("dialog", { class: "large", "aria-label": "Formula", onclose: () => box.remove() }, close,
@@ -114,7 +116,7 @@ export function formulaBox(tex, printed, choice = null) {
     box.showModal();
   };
   return h("div", {}, h("div", { class: "formula" }, formula(tex, printed)),
-    h("div", { class: "row end" }, choice, copyButton(tex.join("\n"), "LaTeX", "Copy LaTeX"), button("Enlarge", enlarge)));
+    h("div", { class: "row end" }, choice, copyButton(formulaTex(object), "LaTeX", "Copy LaTeX"), button("Enlarge", enlarge)));
 }
 
 /** Saving the certificate of the answer to these words, and having it checked. */
@@ -126,7 +128,7 @@ export function certificateRow(ctx, asked) {
     const words = ["check", DIAGRAM, CERTIFICATE], answer = await ctx.ask(words);
     result.replaceChildren(source(words, answer.out + answer.err));
   };
-  const keep = async () => save(CERTIFICATE, await certificate(), "application/json");
+  const keep = async () => save(ctx.nameOf("certificate.json"), await certificate(), "application/json");
   return h("div", { class: "certificate" },
     h("button", { type: "button", class: "primary", id: "save", onclick: keep }, "Save certificate"),
     h("button", { type: "button", id: "check", onclick: check }, "Check it"), result);

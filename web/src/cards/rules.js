@@ -41,10 +41,10 @@ function judged({ status, object, fault }, where) {
       h("code", {}, pathText(object.open)));
   }
   return verdict("yes", "The rule applies", equationOf(object),
-    ` in every positive finite model that fits the diagram, at every assignment: no path is open ${where}.`);
+    `, if the diagram is right: no path is open ${where}.`);
 }
 
 const equationOf = ({ left, right }) => h("code", {}, `${left} = ${right}`);
 
 /** @type {import("./parts.js").Card} */
-export const rules = { id: "rules", title: "Rules", answer };
+export const rules = { id: "rules", title: "Rules", about: "The three rules of do-calculus, one by one", answer };

@@ -64,10 +64,10 @@ function setsPart(ctx, { list, hasMore, words }, w) {
 function judged({ status, object, fault }, x, y, w) {
   if (status === 1) return verdict("no", "Not separated", "This path is open: ", h("code", {}, pathText(object.open)));
   if (fault) return verdict("ask", fault.sentence);
-  return verdict("yes", "Separated", "No path is open. In every finite model that fits the diagram, positive or not, ",
+  return verdict("yes", "Separated", "No path is open. If the diagram is right, ",
     listed(x.names), " and ", listed(y.names), " are independent",
     w.names.length ? [" given ", listed(w.names)] : "", ".");
 }
 
 /** @type {import("./parts.js").Card} */
-export const separation = { id: "separation", title: "Separate", answer };
+export const separation = { id: "separation", title: "Separate", about: "Whether variables are independent given others, and which path is open", answer };

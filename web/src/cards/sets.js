@@ -34,10 +34,10 @@ function row(ctx, key, label, names, toggle) {
   return h("div", { class: "picker", role: "group", "aria-label": label },
     h("button", {
       type: "button", class: "arm", data: { key: `arm ${key}` }, "aria-pressed": String(isArmed),
-      title: "Choose by clicking vertices in the drawing", onclick: arm,
+      title: "Choose by clicking variables in the drawing", onclick: arm,
     }, label),
     h("div", { class: "chips" }, names.map(chip), rest.length ? add : null));
 }
 
 export const howToChoose = () => h("p", { class: "small-print" },
-  "Press a row's name, then click vertices in the drawing; or take them from the list.");
+  "Press a row's name, then click variables in the drawing; or take them from the list.");

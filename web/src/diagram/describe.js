@@ -1,6 +1,6 @@
 // A drawing in words, for those who don't see it.
 
-const ROLE_WORDS = { exposure: "exposure", outcome: "outcome", adjusted: "adjusted", latent: "hidden" };
+const ROLE_WORDS = { exposure: "exposure", outcome: "outcome", adjusted: "adjusted", latent: "unmeasured" };
 const MARK_WORDS = {
   chosen: "chosen", from: "chosen", to: "chosen", bad: "refused", difference: "at the difference",
   "hedge-big": "in the hedge", "hedge-small": "in the hedge's smaller set",
@@ -36,5 +36,5 @@ export function describe({ name, role }, graph, mark, isSelected) {
 
 /** A whole diagram, in one sentence. */
 export const summary = ({ vertices, edges }) =>
-  `${vertices.length} vertices, ${edges.filter((e) => !e.both).length} arrows, `
+  `${vertices.length} variables, ${edges.filter((e) => !e.both).length} arrows, `
   + `${edges.filter((e) => e.both).length} common hidden causes`;

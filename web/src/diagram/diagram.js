@@ -10,23 +10,27 @@ import { routed } from "./route.js";
 /** @typedef {{x: number, y: number}} Point */
 /**
  * What an answer shows in the drawing: classes of vertices, edges drawn over, and another graph on the observed vertices
- * in the place of the drawn one, whose edges alone are shown.
- * @typedef {{vertices?: Map<string, string>, edges?: (Edge & {cls: string})[], graph?: Graph | null}} Marks
+ * in the place of the drawn one, whose edges alone are shown. An edge that is `plain` has no heads.
+ * @typedef {{vertices?: Map<string, string>, edges?: (Edge & {cls: string, plain?: boolean})[], graph?: Graph | null}} Marks
  */
 /**
  * @typedef {object} Listeners
  * @property {() => void} [moved] a vertex was dragged to its new place
  * @property {(name: string, el: Element, withShift?: boolean) => void} [vertex] one was clicked, or chosen by Enter
+ * @property {(from: string, to: string) => void} [joined] a line was dragged from one to another
  * @property {(edge: Edge, at: Point) => void} [edge]
  * @property {(at: Point) => void} [empty] the ground was clicked twice
  * @property {(name: string, e: KeyboardEvent) => void} [key]
  * @property {(name: string | null) => void} [hover] the pointer or the focus came to one, or left it
+ * @property {(classes: Set<string>) => void} [shows] what the legend has to explain now
  * @property {(names: string[]) => void} [framed] a frame was drawn round these
  */
 
 const HEADS = ["edge", "open", "hedge", "chosen", "difference", "left", "causal", "biasing"];
 const MOST_ANIMATED = 30;
 const FRAMES_MS = 260;
+const MANY_EDGES = 300; // beyond it few bends are tried
+const FEW_BENDS = 6;
 
 /** The drawing of one diagram in an SVG element. Only what changed is drawn anew. */
 export class Diagram {
@@ -35,7 +39,8 @@ export class Diagram {
   /** @type {Map<string, Point>} where a movement ends */ target = this.places;
   /** @type {Marks} */ marks = {};
   /** @type {Set<string>} chosen to be changed together */ selected = new Set();
-  /** @type {Set<string>} those that lead to the one under the pointer */ ancestors = new Set();
+  /** @type {Set<string>} those that lead to one vertex */ ancestors = new Set();
+  /** @type {Set<string>} those that one vertex leads to */ descendants = new Set();
   /** @type {Map<string, string>} classes of edges, by their keys */ colours = new Map();
   /** Whether dragging the ground draws a frame. */ isFraming = false;
   #halves = new Map();
@@ -94,19 +99,36 @@ export class Diagram {
   }
 
   #drag() {
-    let far;
+    let far, joins;
     return drag().clickDistance(4)
       .subject((name) => ({ ...this.places.get(name) }))
-      .on("start", () => (far = false))
+      .on("start", () => {
+        far = false;
+        joins = Boolean(this.on.joined) && (this.joining || isOnRim(d3event.sourceEvent));
+      })
       .on("drag", (name) => {
         far ||= Math.hypot(d3event.x - d3event.subject.x, d3event.y - d3event.subject.y) > 4;
-        if (far) this.#moveTo(name, { x: d3event.x, y: d3event.y });
+        if (far && joins) this.#dragEdge(name, pointOf(d3event.sourceEvent));
+        else if (far) this.#moveTo(name, { x: d3event.x, y: d3event.y });
       })
-      .on("end", () => {
-        if (!far) return;
+      .on("end", (name) => {
+        if (far && joins) this.#dropEdge(name, pointOf(d3event.sourceEvent));
+        if (!far || joins) return;
         this.target = this.places;
         this.on.moved();
       });
+  }
+
+  #dragEdge(name, at) {
+    if (this.#ghost?.from !== name) this.ghost(name, this.joining === "both");
+    this.#drawGhost(this.#at(at));
+  }
+
+  #dropEdge(name, at) {
+    this.ghost(null);
+    const over = document.elementFromPoint(at.clientX, at.clientY)?.closest(".vertex");
+    const to = over && this.layers.vertices.contains(over) ? select(over).datum() : null;
+    if (to && to !== name) this.on.joined(name, to);
   }
 
   /** Moves a vertex, and those that are chosen with it. */
@@ -171,10 +193,10 @@ export class Diagram {
     return { from: this.places.get(e.a), to: this.places.get(e.b), bend: this.#bends.get(keyOf(e)) };
   }
 
-  /** The pixels at the top and the bottom on which buttons and the legend lie. */
+  /** The pixels at the top, on which buttons lie, and at the bottom. */
   #covered() {
-    const high = (css) => this.element.parentElement?.querySelector(`:scope > ${css}`)?.offsetHeight;
-    return { top: Math.max(45, (high(".tools") ?? 0) + 20), bottom: Math.max(45, (high(".below") ?? 0) + 8) };
+    const tools = this.element.parentElement?.querySelector(":scope > .tools")?.offsetHeight ?? 0;
+    return { top: Math.max(45, tools + 20), bottom: 24 };
   }
 
   /** The pixels that a drawing may take. */
@@ -187,7 +209,8 @@ export class Diagram {
   fit() {
     this.element.removeAttribute("viewBox");
     const box = this.element.getBoundingClientRect();
-    if (!this.target.size || !box.width) return;
+    if (!box.width) return;
+    if (!this.target.size) return select(this.element).call(this.#zoom.transform, zoomIdentity);
     const { left, right, top, bottom } = this.bounds(this.target);
     const room = this.room(), k = Math.min(1.3, room.width / (right - left), room.height / (bottom - top));
     const x = box.width / 2 - (k * (left + right)) / 2, y = this.#covered().top + room.height / 2 - (k * (top + bottom)) / 2;
@@ -234,6 +257,22 @@ export class Diagram {
     return this.#at({ clientX: box.left + box.width / 2, clientY: box.top + box.height / 2 });
   }
 
+  /** What is seen, but for what buttons cover, in the drawing's coordinates. */
+  seen() {
+    const box = this.element.getBoundingClientRect(), { top, bottom } = this.#covered();
+    const from = this.#at({ clientX: box.left + 10, clientY: box.top + top }), to = this.#at({ clientX: box.right - 10, clientY: box.bottom - bottom });
+    return { left: from.x, right: to.x, top: from.y, bottom: to.y };
+  }
+
+  /** Moves the view, where a vertex isn't in it, as little as it takes. */
+  reveal(name) {
+    const p = this.target.get(name), { left, right, top, bottom } = this.seen(), half = this.#halves.get(name) ?? 0;
+    if (!p) return;
+    const by = (low, high, least, most) => (low < least ? least - low : high > most ? most - high : 0);
+    const x = by(p.x - half, p.x + half, left, right), y = by(p.y - HEIGHT / 2, p.y + HEIGHT / 2, top, bottom);
+    if (x || y) this.panBy(x, y);
+  }
+
   focus(name) {
     this.#shown.vertices.get(name)?.group.focus();
   }
@@ -263,7 +302,7 @@ export class Diagram {
       if (!p || !q) continue;
       if (!this.#bends.has(key)) {
         const others = round.filter((o) => o.name !== e.a && o.name !== e.b);
-        this.#bends.set(key, bend(p, q, e.both, others, arcs));
+        this.#bends.set(key, bend(p, q, e.both, others, arcs, graph.edges.length > MANY_EDGES ? FEW_BENDS : undefined));
       }
       if (e.both) arcs.push(curve(p, this.#bends.get(key), q, 0.5));
     }
@@ -283,9 +322,13 @@ export class Diagram {
     const { graph, marks, places } = this, isThere = (e) => places.has(e.a) && places.has(e.b);
     const marked = (marks.edges ?? []).filter(isThere), left = marks.graph?.edges.filter(isThere);
     const over = left ? [...undrawn(graph, left), ...marked] : routed(graph, marked);
-    this.#renderEdges(new Set(over.map(keyOf)), left && new Set(left.map(keyOf)));
+    this.#renderEdges(new Set(over.filter((e) => !e.plain).map(keyOf)), left && new Set(left.map(keyOf)));
     this.#renderOver(over);
     this.#renderVertices();
+    this.on.shows?.(new Set([
+      ...(marks.vertices?.values() ?? []), ...over.map((e) => e.cls), ...(this.selected.size ? ["selected"] : []),
+      ...(this.ancestors.size ? ["ancestor"] : []), ...(this.descendants.size ? ["descendant"] : []),
+    ]));
   }
 
   /** @param {Set<string>} over those that are drawn over @param {Set<string>} [left] those that another graph has */
@@ -302,6 +345,7 @@ export class Diagram {
         class: classes.filter(Boolean).join(" "), "data-edge": `${edge.a}${edge.both ? "↔" : "→"}${edge.b}`,
       });
       this.#set(item.grip, { d: path });
+      this.#set(item.second, { d: colour?.includes(" also") ? path : null });
       const tip = colour ? `url(#${this.id}-${colour.split(" ")[0]})` : end;
       this.#set(item.line, { d: path, "marker-end": tip, "marker-start": edge.both ? tip : null });
       if (!item.group.parentNode) layers.edges.append(item.group);
@@ -310,9 +354,9 @@ export class Diagram {
   }
 
   #newEdge() {
-    const item = { edge: null, line: svg("path", { class: "line" }), grip: svg("path", { class: "grip" }) };
+    const item = { edge: null, line: svg("path", { class: "line" }), second: svg("path", { class: "second" }), grip: svg("path", { class: "grip" }) };
     item.grip.addEventListener("click", (e) => this.on.edge?.(item.edge, { x: e.clientX, y: e.clientY }));
-    item.group = svg("g", { "aria-hidden": "true" }, item.line, item.grip);
+    item.group = svg("g", { "aria-hidden": "true" }, item.line, item.second, item.grip);
     return item;
   }
 
@@ -321,7 +365,7 @@ export class Diagram {
     while (lines.length > over.length) lines.pop().remove();
     while (lines.length < over.length) lines.push(this.layers.over.appendChild(svg("path")));
     over.forEach((e, i) => {
-      const end = `url(#${this.id}-${e.cls})`;
+      const end = e.plain ? null : `url(#${this.id}-${e.cls})`;
       this.#set(lines[i], {
         class: `${e.cls}${e.both ? " both" : ""}`, d: this.#path(e), "marker-end": end,
         "marker-start": e.both ? end : null,
@@ -340,13 +384,14 @@ export class Diagram {
       this.#set(item.group, {
         class: [
           "vertex", role, marks.vertices?.get(name), kept && !kept.has(name) && "gone", this.selected.has(name) && "selected",
-          this.ancestors.has(name) && "ancestor",
+          this.ancestors.has(name) && "ancestor", this.descendants.has(name) && "descendant",
         ].filter(Boolean).join(" "),
         transform: `translate(${p.x.toFixed(1)},${p.y.toFixed(1)})`,
         "aria-label": describe(vertex, graph, marks.vertices?.get(name), this.selected.has(name)),
       });
       this.#set(item.halo, box(half, 5));
       this.#set(item.shape, box(half, 0));
+      this.#set(item.rim, box(half, 1));
       this.#set(item.text, { x: lead ? 9 : 0 });
       this.#set(item.mark, { transform: `translate(${13 - half},0)`, d: MARKS[role] ?? "" });
     }
@@ -358,10 +403,10 @@ export class Diagram {
     const acts = Boolean(this.on.vertex);
     const item = {
       halo: svg("rect", { class: "halo" }), shape: svg("rect", { class: "shape" }),
-      mark: svg("path", { class: "mark" }), text: svg("text", { dy: "0.35em" }, shownName(name)),
+      rim: svg("rect", { class: "rim" }), mark: svg("path", { class: "mark" }), text: svg("text", { dy: "0.35em" }, shownName(name)),
     };
     item.group = svg("g", acts ? { tabindex: 0, role: "button", "aria-haspopup": "menu" } : {},
-      item.halo, item.shape, item.mark, item.text, shownName(name) === name ? null : svg("title", {}, name));
+      [item.halo, item.shape, this.on.joined && item.rim, item.mark, item.text, shownName(name) !== name && svg("title", {}, name)].filter(Boolean));
     const selection = select(item.group).datum(name);
     if (this.on.moved) selection.call(this.#drag());
     selection.on("click", () => d3event.defaultPrevented || this.on.vertex?.(name, item.group, d3event.shiftKey));
@@ -407,6 +452,12 @@ function head(id, name) {
     markerWidth: size, markerHeight: size, orient: "auto-start-reverse",
   }, svg("path", { d: "M0,1L9,5L0,9z" }));
 }
+
+/** Whether a mouse is on a vertex's rim: a finger is too broad for that. */
+const isOnRim = (e) => e.type.startsWith("mouse") && e.target.classList.contains("rim");
+
+/** Where a pointer is, or was when it went up. */
+const pointOf = (e) => e.changedTouches?.[0] ?? e;
 
 const isStill = () => matchMedia("(prefers-reduced-motion: reduce)").matches || document.hidden;
 

@@ -19,7 +19,7 @@ export function exported(diagram) {
   const copy = diagram.element.cloneNode(true);
   carryStyles(diagram.element, copy);
   root.classList.remove("paper");
-  for (const el of copy.querySelectorAll(".grip, .ghost, .frame, .edge.under")) el.remove();
+  for (const el of copy.querySelectorAll(".grip, .ghost, .frame, .rim, .edge.under")) el.remove();
   for (const el of copy.querySelectorAll("*")) {
     for (const name of ["class", "tabindex", "role", "aria-label", "aria-haspopup", "aria-hidden"]) {
       el.removeAttribute(name);
@@ -34,7 +34,7 @@ export function exported(diagram) {
   return copy;
 }
 
-const textOf = (svg) => new XMLSerializer().serializeToString(svg);
+export const textOf = (svg) => new XMLSerializer().serializeToString(svg);
 
 /** The drawing in pixels. */
 async function painted(svg) {
@@ -67,18 +67,21 @@ function carryStyles(from, to) {
   });
 }
 
-/** The ways to save a drawing, or the diagram as code. @returns {{text: string, act: () => void}[]} */
-export function waysToSave(diagram, text) {
-  const png = async () => (await painted(exported(diagram))).toBlob((blob) => save("diagram.png", blob, "image/png"));
+/**
+ * The ways to save a drawing, or the diagram as code.
+ * @param {(kind: string) => string} nameOf a file's name, by its ending @returns {{text: string, act: () => void}[]}
+ */
+export function waysToSave(diagram, text, nameOf) {
+  const png = async () => (await painted(exported(diagram))).toBlob((blob) => save(nameOf("png"), blob, "image/png"));
   const pdf = async () => {
     const svg = exported(diagram);
-    save("diagram.pdf", await pdfOf(svg, () => jpegOf(svg)), "application/pdf");
+    save(nameOf("pdf"), await pdfOf(svg, () => jpegOf(svg)), "application/pdf");
   };
   return [
-    { text: "SVG", act: () => save("diagram.svg", textOf(exported(diagram)), "image/svg+xml") },
+    { text: "SVG", act: () => save(nameOf("svg"), textOf(exported(diagram)), "image/svg+xml"), cls: "first" },
     { text: "PNG", act: png },
     { text: "PDF", act: pdf },
-    { text: "TikZ, for LaTeX", act: () => save("diagram.tex", tikzOf(diagram), "text/plain"), cls: "first" },
-    { text: "R code", act: () => save("diagram.R", codeOfR(text), "text/plain") },
+    { text: "TikZ, for LaTeX", act: () => save(nameOf("tex"), tikzOf(diagram), "text/plain"), cls: "first" },
+    { text: "R code", act: () => save(nameOf("R"), codeOfR(text), "text/plain") },
   ];
 }

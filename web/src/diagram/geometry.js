@@ -38,6 +38,35 @@ export function placeNear(name, edges, /** @type {Map<string, Point>} */ places)
   }
 }
 
+const SPACE = { x: 14, y: 12 }; // pixels between a new shape and others
+const STRIDE = { x: 20, y: 16 };
+
+/**
+ * The place nearest to a point where a shape meets no other: within what is seen, where there is one.
+ * @param {number} half of its width @param {Point} near @param {{x: number, y: number, half: number}[]} others
+ * @param {{left: number, right: number, top: number, bottom: number}} seen
+ */
+export function freePlace(half, near, others, seen) {
+  const meets = (p) => others.some((o) => Math.abs(p.x - o.x) < half + o.half + SPACE.x && Math.abs(p.y - o.y) < HEIGHT + SPACE.y);
+  if (!meets(near)) return near;
+  const isSeen = ({ x, y }) => x - half >= seen.left && x + half <= seen.right && y - HEIGHT / 2 >= seen.top && y + HEIGHT / 2 <= seen.bottom;
+  const free = (steps, test) => {
+    const found = [];
+    for (let i = -steps; i <= steps; i++) {
+      for (let j = -steps; j <= steps; j++) {
+        const p = { x: near.x + i * STRIDE.x, y: near.y + j * STRIDE.y };
+        if (test(p) && !meets(p)) found.push(p);
+      }
+    }
+    const far = (p) => Math.hypot(p.x - near.x, p.y - near.y);
+    return found.sort((p, q) => far(p) - far(q))[0];
+  };
+  const reach = Math.ceil(Math.max((seen.right - seen.left) / STRIDE.x, (seen.bottom - seen.top) / STRIDE.y));
+  let place = free(Math.min(80, reach), isSeen);
+  for (let steps = 20; !place; steps *= 2) place = free(steps, () => true);
+  return place;
+}
+
 /** A name for an edge, the same for both ways to say a bidirected one. */
 export function keyOf({ a, b, both }) {
   if (!both) return `${a}\n->\n${b}`;
@@ -63,32 +92,46 @@ export function rim(p, half, toward, gap) {
   return { x: p.x + dx * t, y: p.y + dy * t };
 }
 
-const STRAIGHT_FIRST = [0, 34, -34, 64, -64];
+const HEIGHTS = [0, 34, 64, 100, 140, 190, 250, 320, 400]; // of a bend, in pixels
+const SIDES = [0.5, 0.3, 0.7, 0.15, 0.85]; // where along an edge its bend is
+const STRAIGHT_FIRST = HEIGHTS.flatMap((height) => (height ? SIDES.flatMap((side) => [[height, side], [-height, side]]) : [[0, 0.5]]));
+const ARC_HEIGHTS = [1, -1, 1.7, -1.7, 0.6, -0.6, 2.5, -2.5, 3.5, -3.5];
+const STEP = 9; // pixels, about, between the points at which a curve is looked at
+const MOST_STEPS = 80;
 
 /**
- * The control point of an edge's curve: the first of some bends that meets the least of other vertices and of the
- * arcs that are there already.
+ * The control point of an edge's curve: the first of some bends that meets no other vertex and none of the arcs that are there
+ * already, or else the one that meets the least.
  * @param {{x: number, y: number, half: number}[]} others @param {Point[]} arcs the middles of arcs
+ * @param {number} [tries] how many bends are looked at
  */
-export function bend(p, q, both, others, arcs) {
+export function bend(p, q, both, others, arcs, tries = Infinity) {
   const d = Math.hypot(q.x - p.x, q.y - p.y) || 1, nx = (q.y - p.y) / d, ny = -(q.x - p.x) / d;
   const base = Math.min(110, 26 + 0.26 * d), above = nx * 0.2 + ny < 0 ? 1 : -1;
+  const bends = both ? ARC_HEIGHTS.flatMap((k) => SIDES.slice(0, 3).map((side) => [k * base, side])) : STRAIGHT_FIRST;
   let best = null;
-  for (const height of both ? [base, -base, 1.7 * base, -1.7 * base] : STRAIGHT_FIRST) {
-    const up = 2 * height * above, c = { x: (p.x + q.x) / 2 + up * nx, y: (p.y + q.y) / 2 + up * ny };
-    const met = meetings(p, c, q, others, arcs);
+  for (const [height, side] of bends.slice(0, tries)) {
+    const up = 2 * height * above, c = { x: p.x + side * (q.x - p.x) + up * nx, y: p.y + side * (q.y - p.y) + up * ny };
+    const met = meetings(p, c, q, others, arcs, best?.met ?? Infinity);
     if (!best || met < best.met) best = { c, met };
     if (!met) break;
   }
   return best.c;
 }
 
-function meetings(p, c, q, others, arcs) {
+/** How often a curve meets others; it is left where it meets as many as another does. */
+function meetings(p, c, q, others, arcs, most) {
+  const low = { x: Math.min(p.x, c.x, q.x), y: Math.min(p.y, c.y, q.y) }, high = { x: Math.max(p.x, c.x, q.x), y: Math.max(p.y, c.y, q.y) };
+  const near = others.filter((o) => o.x + o.half + 5 > low.x && o.x - o.half - 5 < high.x && o.y + HEIGHT > low.y && o.y - HEIGHT < high.y);
+  const steps = near.length ? Math.min(MOST_STEPS, Math.ceil((Math.hypot(c.x - p.x, c.y - p.y) + Math.hypot(q.x - c.x, q.y - c.y)) / STEP)) : 10;
   let met = 0;
-  for (let t = 0.1; t < 0.95; t += 0.1) {
-    const at = curve(p, c, q, t);
-    for (const o of others) if (Math.abs(at.x - o.x) < o.half + 5 && Math.abs(at.y - o.y) < HEIGHT / 2 + 7) met++;
-    for (const arc of arcs) if (Math.hypot(at.x - arc.x, at.y - arc.y) < 9) met += 0.4;
+  for (let i = 1; i < steps && met < most && near.length + arcs.length; i++) {
+    const at = curve(p, c, q, i / steps);
+    for (const o of near) if (Math.abs(at.x - o.x) < o.half + 5 && Math.abs(at.y - o.y) < HEIGHT / 2 + 7) met++;
+    for (const arc of arcs) if (Math.hypot(at.x - arc.x, at.y - arc.y) < 9) met += 0.2;
   }
   return met;
 }
+
+/** Whether a curve runs behind one of these. */
+export const runsBehind = (p, c, q, others) => meetings(p, c, q, others, [], 1) > 0;

@@ -48,7 +48,7 @@ function trace(end) {
 export function routed(graph, marked) {
   const drawn = new Set(graph.edges.map(keyOf));
   return marked.flatMap((e) => {
-    const through = drawn.has(keyOf(e)) ? null : route(graph, e);
+    const through = e.plain || drawn.has(keyOf(e)) ? null : route(graph, e);
     return through ? through.map((f) => ({ ...f, cls: e.cls })) : [e];
   });
 }

@@ -7,7 +7,7 @@ const ROLES = [
   { role: "exposure", text: "Exposure", key: "e" },
   { role: "outcome", text: "Outcome", key: "o" },
   { role: "adjusted", text: "Adjusted", key: "a" },
-  { role: "latent", text: "Hidden", key: "u" },
+  { role: "latent", text: "Unmeasured (hidden)", key: "u" },
   { role: null, text: "No mark", key: "0" },
 ];
 const ARROWS = { ArrowLeft: [-1, 0], ArrowRight: [1, 0], ArrowUp: [0, -1], ArrowDown: [0, 1] };
@@ -21,6 +21,7 @@ const edgeText = (e) => `${e.a} ${e.both ? "↔" : "→"} ${e.b}`;
 export class Drawing {
   /** Where clicks choose a set: {label, toggle}. */ pick = null;
   /** @type {import("../ways.js").Ways | null} the ways of the graph that is drawn */ ways = null;
+  #joining = ""; // whether clicks and drags draw edges: "one" for arrows, "both" for common hidden causes
   #drawn = null; // the edge that waits for its other end: {from, both}
 
   constructor() {
@@ -32,7 +33,14 @@ export class Drawing {
       key: (name, e) => this.#key(name, e),
       hover: (name) => this.#hover(name),
       framed: (names) => this.select(names),
+      shows: (classes) => {
+        for (const item of document.querySelectorAll("#drawing-pane .legend [data-for]")) {
+          item.hidden = !item.dataset.for.split(" ").some((cls) => classes.has(cls));
+        }
+      },
+      joined: (a, b) => this.acts.addEdge({ a, b, both: this.#joining === "both" }),
     });
+    for (const [id, kind] of [["arrow", "one"], ["arc", "both"]]) byId(id).onclick = () => this.#join(this.#joining === kind ? "" : kind);
     byId("select").onclick = () => this.#frame(!this.diagram.isFraming);
     byId("selected").onclick = (e) => this.#selectedMenu(e.currentTarget);
   }
@@ -43,7 +51,7 @@ export class Drawing {
   select(names) {
     this.diagram.show({ selected: new Set(names) });
     byId("selected").hidden = !names.length;
-    byId("selected").textContent = names.length === 1 ? "1 vertex …" : `${names.length} vertices …`;
+    byId("selected").textContent = names.length === 1 ? "1 variable …" : `${names.length} variables …`;
     this.sayWaiting();
   }
 
@@ -56,6 +64,7 @@ export class Drawing {
   #frame(isOn) {
     this.diagram.isFraming = isOn;
     byId("select").setAttribute("aria-pressed", String(isOn));
+    if (isOn) this.endJoining();
     this.sayWaiting();
   }
 
@@ -69,6 +78,7 @@ export class Drawing {
 
   /** Drops from the choice what left the diagram. */
   follow({ vertices }) {
+    if (this.#pinned) this.unpin();
     const names = new Set(vertices.map((v) => v.name)), { selected } = this.diagram, left = [...selected].filter((name) => names.has(name));
     if (left.length < selected.size) this.select(left);
   }
@@ -82,13 +92,15 @@ export class Drawing {
     ], el);
   }
 
-  // ---- Ancestors
+  // ---- Ancestors and descendants
 
   #waiting;
+  #pinned = null; // the vertex whose causes and effects stay marked
 
   /** Shows what leads to the vertex under the pointer, which the program tells. */
   #hover(name) {
     clearTimeout(this.#waiting);
+    if (this.#pinned) return;
     if (this.diagram.ancestors.size) queueMicrotask(() => this.diagram.show({ ancestors: new Set() }));
     if (name && this.ways) this.#waiting = setTimeout(() => this.#showAncestors(name), HOVER_MS);
   }
@@ -99,6 +111,22 @@ export class Drawing {
     if (this.ways === ways && this.#waiting === mine && found.size) this.diagram.show({ ancestors: found });
   }
 
+  /** Marks what leads to a vertex and what it leads to, until it is ended. */
+  async pin(name) {
+    this.#pinned = this.#pinned === name ? null : name;
+    const mine = this.#pinned, [ancestors, descendants] = mine && this.ways
+      ? await Promise.all([this.ways.before([name]), this.ways.behind([name])]) : [new Set(), new Set()];
+    for (const found of [ancestors, descendants]) found.delete(name);
+    if (mine === this.#pinned) this.diagram.show({ ancestors, descendants });
+  }
+
+  /** @returns {boolean} whether causes and effects were marked */
+  unpin() {
+    if (!this.#pinned) return false;
+    this.pin(this.#pinned);
+    return true;
+  }
+
   /** @param {import("./acts.js").Acts} acts */
   use(acts) {
     this.acts = acts;
@@ -107,13 +135,14 @@ export class Drawing {
   /** Adds a vertex and asks for its name. */
   async add(at) {
     const name = await this.acts.addVertex(at), el = document.activeElement;
-    if (name && el.classList.contains("vertex")) this.#askName(name, el);
+    if (name && el.classList.contains("vertex")) this.#askName(name, el, { givesWay: !at });
   }
 
   #choose(name, el, withShift) {
     if (!this.pick && !this.#drawn && (withShift || this.diagram.isFraming)) return this.#toggle(name);
-    if (this.pick && this.acts.role(name) === "latent") return toast(`${name} is hidden; choose observed vertices.`);
+    if (this.pick && this.acts.role(name) === "latent") return toast(`${name} is unmeasured; choose measured variables.`);
     if (this.pick) return this.pick.toggle(name);
+    if (!this.#drawn && this.#joining) return this.#startEdge(name, this.#joining === "both");
     if (!this.#drawn) return this.#vertexMenu(name, el);
     const { from, both } = this.#drawn;
     this.endEdge();
@@ -125,6 +154,23 @@ export class Drawing {
     this.diagram.ghost(from, both);
     this.sayWaiting();
     this.diagram.focus(from);
+  }
+
+  /** Lets clicks on vertices draw edges, or ends that. */
+  #join(kind) {
+    this.endEdge();
+    this.#joining = this.diagram.joining = kind;
+    for (const [id, of] of [["arrow", "one"], ["arc", "both"]]) byId(id).setAttribute("aria-pressed", String(kind === of));
+    this.diagram.element.classList.toggle("joining", Boolean(kind));
+    if (kind) this.#frame(false);
+    this.sayWaiting();
+  }
+
+  /** Ends the drawing of edges. @returns {boolean} whether they were drawn */
+  endJoining() {
+    if (!this.#joining) return false;
+    this.#join("");
+    return true;
   }
 
   /** Ends the edge that is drawn. @returns {boolean} whether there was one */
@@ -140,10 +186,11 @@ export class Drawing {
   sayWaiting() {
     const { from, both } = this.#drawn ?? {};
     if (this.#drawn) hint(`Choose the other end of ${from} ${both ? "↔" : "→"} … (Esc ends this)`);
-    else if (this.pick) hint(`Choose vertices: ${this.pick.label} (Esc ends this)`);
+    else if (this.pick) hint(`Choose variables: ${this.pick.label} (Esc ends this)`);
     else if (document.body.classList.contains("faulty")) {
       hint("The drawing and the answers are those of the last text without a fault");
-    } else if (this.diagram.isFraming) hint("Click vertices, or drag a frame round them (Esc ends this)");
+    } else if (this.#joining) hint(`${this.#joining === "both" ? "Common hidden cause ↔" : "Arrow →"}: click its beginning, then its end (Esc ends this)`);
+    else if (this.diagram.isFraming) hint("Click variables, or drag a frame round them (Esc ends this)");
     else hint("");
   }
 
@@ -156,6 +203,7 @@ export class Drawing {
       { text: "Arrow from here →", key: "c", act: () => this.#startEdge(name, false), cls: "first" },
       { text: "Common hidden cause ↔", key: "b", act: () => this.#startEdge(name, true) },
       ...(acts.edgesOf(name).length ? [{ text: "Its edges …", key: "x", act: () => this.#edgesMenu(name, el) }] : []),
+      { text: this.#pinned === name ? "Unmark causes and effects" : "Mark its causes and effects", key: "m", act: () => this.pin(name) },
       { text: "Rename …", key: "r", act: () => this.#askName(name, el), cls: "first" },
       { text: "Delete", key: "Delete", act: () => acts.removeVertex(name) },
     ], el);
@@ -179,8 +227,8 @@ export class Drawing {
     ], back);
   }
 
-  #askName(name, el) {
-    askText(below(el, 0), `Name of ${name}`, name, (fresh) => this.acts.rename(name, fresh), el);
+  #askName(name, el, how = {}) {
+    askText(below(el, 0), `Name of ${name}`, name, (fresh, isLeft) => this.acts.rename(name, fresh, { ...how, isLeft }), el);
   }
 
   #key(name, e) {
@@ -195,6 +243,7 @@ export class Drawing {
       this.#askName(name, el);
     } else if (e.key === "x") this.#edgesMenu(name, el);
     else if (e.key === "Delete" || e.key === "Backspace") isOne ? acts.removeVertex(name) : acts.removeVertices([...selected]);
+    else if (e.key === "m") this.pin(name);
     else if (e.key === "n") this.add();
     else if (e.key === "f") this.diagram.fit();
     else if (e.key === "+" || e.key === "-") this.diagram.zoomBy(e.key === "+" ? 1.3 : 1 / 1.3);

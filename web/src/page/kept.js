@@ -1,69 +1,132 @@
-// The diagrams that this browser keeps: the last ten that were changed or opened, the newest first.
+// The diagrams that this browser keeps, each with its name, and which of them this tab shows.
 
-const KEY = "causal.diagrams";
-const MOST = 10;
+/** @typedef {{id: string, name: string, text: string, at: number, scale?: number}} Entry `at` is when it was changed last, in milliseconds */
+/** @typedef {{id: string | null, name: string, text: string, source: string, scale?: number}} Shown `id` is null where it isn't kept */
+
+const KEY = "causal.named";
+const OLD_KEY = "causal.diagrams"; // a list of texts, which an earlier page kept
+const TAB = "causal.tab";
 const TITLE_LENGTH = 40;
 
-/** What is kept. `store` is the browser's, or what stands for it in a test. */
+/** What is kept. `store` is the browser's and `tab` this tab's own, or what stands for them in a test. */
 export class Kept {
+  /** @type {Shown} */ shown = { id: null, name: "", text: "", source: "" };
   #opened = ""; // an example, or a text of another page, isn't kept before it is changed
-  #entry = null; // the entry of the diagram that is shown; another tab may have put its own before it
+  #written = ""; // what this tab kept last; where another stands there, another tab wrote it
   /** Whether the text that is shown is kept. */ isSafe = true;
 
-  constructor(store = storeOfBrowser()) {
-    this.store = store;
+  constructor(store = storeOf("localStorage"), tab = storeOf("sessionStorage")) {
+    Object.assign(this, { store, tab });
   }
 
-  /** The kept texts. @returns {string[]} */
+  /** What is kept, the newest first. @returns {Entry[]} */
   list() {
-    try {
-      const list = JSON.parse(this.store.getItem(KEY) ?? "[]");
-      return Array.isArray(list) ? list.filter((text) => typeof text === "string") : [];
-    } catch {
-      return [];
-    }
+    const list = read(this.store, KEY);
+    if (Array.isArray(list)) return list.filter((entry) => typeof entry?.text === "string" && typeof entry.id === "string");
+    const old = read(this.store, OLD_KEY);
+    return Array.isArray(old) ? old.filter((text) => typeof text === "string").map((text, i) => ({ id: `old ${i}`, name: "", text, at: 0 })) : [];
   }
 
-  /** Another diagram is opened; what was kept stays. */
-  begin(text) {
-    this.#opened = text;
-    this.#entry = this.list()[0] === text ? text : null;
+  /** What this tab showed when it was left. @returns {Shown | null} */
+  left() {
+    const shown = read(this.tab, TAB);
+    if (typeof shown?.text !== "string") return null;
+    const isOurs = this.list().some(({ id, text }) => id === shown.id && text === shown.text);
+    return { name: "", source: "", ...shown, id: isOurs ? shown.id : null };
+  }
+
+  /** Another diagram is opened; what was kept stays. @param {Partial<Shown> & {text: string}} shown */
+  begin({ id = null, name = "", text, source = "", scale }) {
+    this.shown = { id, name, text, source, scale };
+    this.#opened = this.#written = text;
     this.isSafe = true;
+    this.#tell();
   }
 
-  /** Keeps the text that is shown. */
-  keep(text) {
-    if (text === this.#entry || (text === this.#opened && this.#entry === null)) return;
-    const others = this.list().filter((other) => other !== text && other !== this.#entry);
-    this.#entry = text;
-    this.isSafe = this.#write([text, ...others].slice(0, MOST));
+  /** Keeps the text that is shown. What another tab made of the same diagram meanwhile stays beside it. */
+  keep(text, scale) {
+    const { shown } = this;
+    if (text === this.#written && scale === shown.scale) return;
+    Object.assign(shown, { text, scale });
+    if (shown.id !== null || text !== this.#opened) this.#put();
+    this.#tell();
+  }
+
+  /** Gives the diagram that is shown a name, and keeps it. */
+  rename(name) {
+    this.shown.name = name;
+    this.#put();
+    this.#tell();
+  }
+
+  #put() {
+    const { shown } = this, list = this.list(), there = list.find(({ id }) => id === shown.id);
+    if (shown.id === null || (there && there.text !== this.#written)) shown.id = freshId(list);
+    const { id, name, text, scale } = shown;
+    this.#written = text;
+    this.isSafe = this.#write([{ id, name, text, at: Date.now(), scale }, ...list.filter((entry) => entry.id !== id)]);
+  }
+
+  /** Takes one out of the list. */
+  remove(id) {
+    this.#write(this.list().filter((entry) => entry.id !== id));
+    if (id !== this.shown.id) return;
+    this.shown.id = null;
+    this.#opened = this.shown.text;
+    this.#tell();
+  }
+
+  /** Puts one back that was taken out. @param {Entry} entry */
+  restore(entry) {
+    this.#write([entry, ...this.list()].sort((one, other) => other.at - one.at));
   }
 
   #write(list) {
-    try {
-      this.store.setItem(KEY, JSON.stringify(list));
-      return true;
-    } catch {
-      return false;
-    }
+    return write(this.store, KEY, list);
   }
 
-  forget() {
-    this.#entry = null;
-    this.#write([]);
+  /** Keeps for this tab what it shows. */
+  #tell() {
+    write(this.tab, TAB, this.shown);
   }
 }
 
-function storeOfBrowser() {
+const freshId = (list) => {
+  let id;
+  do id = Math.random().toString(36).slice(2); while (list.some((entry) => entry.id === id));
+  return id;
+};
+
+function read(store, key) {
   try {
-    return globalThis.localStorage;
+    return JSON.parse(store.getItem(key));
+  } catch {
+    return null;
+  }
+}
+
+function write(store, key, value) {
+  try {
+    store.setItem(key, JSON.stringify(value));
+    return true;
+  } catch {
+    return false;
+  }
+}
+
+function storeOf(name) {
+  try {
+    return globalThis[name];
   } catch {
     return undefined;
   }
 }
 
-/** A text in a line of a menu. */
+/** A text in a line of a list. */
 export function titleOf(text) {
   const line = text.replace(/^\s*dag\b[^{]*\{/, "").replace(/\[[^\]]*\]|bb="[^"]*"|\}\s*$/g, "").replace(/\s+/g, " ").trim();
   return line.length > TITLE_LENGTH ? `${line.slice(0, TITLE_LENGTH)} …` : line || "empty";
 }
+
+/** The name of a file for a diagram: its own, without signs that a file's name can't have. */
+export const fileName = (name, kind) => `${name.replace(/[\\/:*?"<>|\p{Cc}]+/gu, " ").replace(/\s+/g, " ").trim().replace(/^\.+/, "") || "diagram"}.${kind}`;

@@ -52,27 +52,38 @@ function moveInMenu(e, box, back) {
   back?.focus();
 }
 
-/** Asks for a name at a place. @param {(name: string) => void} take */
+/**
+ * Asks for a name at a place. What was typed is taken by Enter and by OK, and also when the user goes elsewhere; Escape drops it.
+ * @param {(name: string, isLeft: boolean) => void} take `isLeft` where the user is elsewhere already
+ */
 export function askText(at, label, value, take, back) {
   closeMenu();
-  const input = h("input", { "aria-label": label, autocomplete: "off", onkeydown: (e) => {
-    if (e.key === "Enter") {
-      const text = input.value.trim();
-      closeMenu();
-      take(text);
-    } else if (e.key === "Escape" || e.key === "Tab") {
-      e.preventDefault();
-      e.stopPropagation();
-      closeMenu();
-      back?.focus();
-    }
-  } });
+  const input = h("input", { "aria-label": label, autocomplete: "off", enterkeyhint: "done" }), done = (isLeft) => {
+    const text = input.value.trim();
+    left = null;
+    closeMenu();
+    take(text, isLeft);
+  };
+  const onkeydown = (e) => {
+    if (e.key === "Escape") left = null;
+    else if (e.key !== "Enter" && e.key !== "Tab") return;
+    e.preventDefault();
+    e.stopPropagation();
+    if (e.key !== "Escape") return done(false);
+    closeMenu();
+    back?.focus();
+  };
   input.value = value;
-  show(h("div", { class: "menu", role: "dialog", "aria-label": label, id: "menu" },
-    h("div", { class: "menu-title", "aria-hidden": "true" }, label), input), at);
+  const box = h("div", { class: "menu", role: "dialog", "aria-label": label, id: "menu", onkeydown },
+    h("div", { class: "menu-title", "aria-hidden": "true" }, label),
+    h("div", { class: "asked-name" }, input, h("button", { type: "button", class: "small primary", onclick: () => done(false) }, "OK")));
+  show(box, at);
+  left = { box, done };
   input.focus();
   input.select();
 }
+
+let left = null; // an open question, whose answer is taken when the user goes elsewhere
 
 function show(box, place) {
   document.body.append(box);
@@ -81,6 +92,11 @@ function show(box, place) {
   box.style.top = `${Math.max(8, Math.min(at.y, innerHeight - box.offsetHeight - 8))}px`;
 }
 
-export const closeMenu = () => byId("menu")?.remove();
+export function closeMenu() {
+  const { box, done } = left ?? {};
+  left = null;
+  if (box?.isConnected) done(true);
+  byId("menu")?.remove();
+}
 
 document.addEventListener("pointerdown", (e) => !e.target.closest("#menu") && closeMenu(), true);

@@ -17,38 +17,16 @@ const firstLine = (text) => text.slice(0, 1 << 16).split(/\r?\n/, 1)[0];
 /** The names in a CSV's header. */
 export const headerOf = (text, mark) => readRows(firstLine(text), mark)[0] ?? [];
 
-/**
- * How a table is read: what parts its fields, and which columns are a vertex's but for the case of their letters.
- * @param {string[]} names the vertices that are observed
- * @returns {{mark: string, renamed: [string, string][]}}
- */
-export function howToRead(text, names) {
-  const line = firstLine(text).replace(/"[^"]*"/g, ""), mark = line.includes(",") ? "," : [";", "\t"].find((m) => line.includes(m)) ?? ",";
-  const header = headerOf(text, mark), plain = (name) => name.trim().toLowerCase();
-  const renamed = header.filter((column) => !names.includes(column)).flatMap((column) => {
-    const meant = names.filter((name) => plain(name) === plain(column) && !header.includes(name));
-    const isOnly = meant.length === 1 && header.filter((other) => plain(other) === plain(column)).length === 1;
-    return isOnly ? [[column, meant[0]]] : [];
-  });
-  return { mark, renamed };
+/** What parts the fields of a table. */
+export function markOf(text) {
+  const line = firstLine(text).replace(/"[^"]*"/g, "");
+  return line.includes(",") ? "," : [";", "\t"].find((mark) => line.includes(mark)) ?? ",";
 }
 
-/** A table as the program reads it, with commas and the names of vertices. */
-export function rewritten(text, { mark, renamed }) {
-  const [header, ...rows] = readRows(text, mark), fresh = new Map(renamed);
-  const field = (value) => (/[",\r\n]/.test(value) ? `"${value.replaceAll('"', '""')}"` : value);
-  return [header.map((column) => fresh.get(column) ?? column), ...rows].map((row) => `${row.map(field).join(",")}\n`).join("");
-}
+const field = (value) => (/[",\r\n]/.test(value) ? `"${value.replaceAll('"', '""')}"` : value);
 
-const MISSING = /^\s*(|NA|N\/A|NaN|null|missing|\.|\?)\s*$/i;
-const FEW = 12;
-
-/** Columns whose levels include what stands for a missing value: [column, level, count]. */
-export const missingIn = (levels) =>
-  [...levels].flatMap(([column, sums]) => [...sums].filter(([level]) => MISSING.test(level)).map(([level, sum]) => [column, level, sum]));
-
-/** Columns with so many levels that they want to be grouped: [column, how many]. */
-export const tooFine = (levels) => [...levels].filter(([, sums]) => sums.size > FEW).map(([column, sums]) => [column, sums.size]);
+/** Rows as a text with commas. */
+export const written = (rows) => rows.map((row) => `${row.map(field).join(",")}\n`).join("");
 
 /**
  * The levels of columns in order of first appearance, with the sums of their counts.

@@ -71,10 +71,89 @@ function decoded(name) {
   }
 }
 
+// ---- Quotation marks, and DAGitty's short marks
+
+const straightQuotes = (text) => text.replace(/[\u201c\u201d\u201e\u201f\u00ab\u00bb]/g, '"');
+
+const MARKS = { e: "exposure", o: "outcome", a: "adjusted", u: "latent", unobserved: "latent", l: "latent" };
+
+/** Marks such as [e] and [unobserved] in full; a mark that stands for nothing, as [observed], goes. */
+function longMarks(text) {
+  return text.replace(/"[^"\r\n]*"|\[((?:[^\]"]|"[^"]*")*)\]/g, (part, inside) => {
+    if (inside === undefined) return part;
+    const items = inside.match(/(?:[^,"]|"[^"]*")+/g) ?? [], kept = items.map((item) => MARKS[item.trim()] ?? item.trim()).filter((item) => item !== "observed");
+    return kept.join() === items.map((item) => item.trim()).join() ? part : kept.length ? `[${kept.join(",")}]` : "";
+  });
+}
+
+// ---- Graphviz, dagify and lavaan
+
+const DIGRAPH = /^\s*(?:strict\s+)?digraph\b(?:\s+(?:"[^"]*"|[\w.]+))?\s*\{([\s\S]*)\}\s*$/;
+
+/** A digraph of Graphviz: its attributes go, and an edge with two heads is a common hidden cause. */
+function fromDigraph(text) {
+  const m = DIGRAPH.exec(text);
+  if (!m) return null;
+  const plain = m[1].replace(/\/\*[^]*?\*\/|(?:\/\/|#)[^\r\n]*/g, "").replace(/\b(?:node|edge|graph)\s*\[[^\]]*\]\s*;?/g, "").replace(/\b\w+\s*=\s*(?:"[^"]*"|[^\s;"\]]+)\s*;?(?![^[]*\])/g, "");
+  const edges = plain.replace(/->((?:[^;\n[])*)\[([^\]]*)\]/g, (all, end, marks) => (/dir\s*=\s*"?both/.test(marks) ? `<->${end}` : `->${end}`)).replace(/\[[^\]]*\]/g, "");
+  const lines = edges.split(/[;\r\n]+/).map((line) => line.trim()).filter(Boolean);
+  return `dag {\n${lines.join("\n")}\n}\n`;
+}
+
+const termsOf = (side) => side.split("+").map((term) => term.replace(/^.*\*/, "").trim()).filter((term) => /^[\p{L}.][\p{L}\p{N}._]*$/u.test(term));
+
+/** Edges of formulas such as y ~ x + z, x ~~ y and f =~ x1 + x2; null where one is none of these. */
+function edgesOfFormulas(formulas) {
+  const edges = [], latent = new Set();
+  for (const formula of formulas) {
+    const m = /^([^~=]+?)\s*(~~|=~|~)\s*([^~=]+)$/.exec(formula), left = m && termsOf(m[1]), right = m && termsOf(m[3]);
+    if (!m || !left.length || (!right.length && m[2] !== "~")) return null;
+    for (const y of left) {
+      if (m[2] === "=~") latent.add(y);
+      for (const x of right) if (x !== y) edges.push(m[2] === "=~" ? { a: y, b: x, both: false } : { a: x, b: y, both: m[2] === "~~" });
+    }
+  }
+  return { edges, latent };
+}
+
+function fromFormulas(formulas, roles) {
+  const found = formulas.length ? edgesOfFormulas(formulas) : null;
+  if (!found || !found.edges.length) return null;
+  const names = [...new Set([...found.edges.flatMap(({ a, b }) => [a, b]), ...roles.keys()])];
+  const vertices = names.map((name) => ({ name, role: roles.get(name) ?? (found.latent.has(name) ? "latent" : null) }));
+  return write({ vertices, edges: found.edges }, new Map());
+}
+
+const DAGIFY = /^\s*(?:library\(\w+\)\s*;?\s*)*(?:[\w.]+\s*(?:<-|=)\s*)?(?:ggdag::)?dagify\(([\s\S]*)\)\s*;?\s*$/;
+
+/** A call of dagify, of R's package ggdag. */
+function fromDagify(text) {
+  const m = DAGIFY.exec(text);
+  if (!m) return null;
+  const args = m[1].replace(/#[^\r\n]*/g, "").match(/(?:[^,()"']|\([^()]*(?:\([^()]*\)[^()]*)*\)|"[^"]*"|'[^']*')+/g) ?? [], roles = new Map();
+  for (const [word, role] of [["exposure", "exposure"], ["outcome", "outcome"], ["latent", "latent"]]) {
+    const arg = args.find((a) => new RegExp(`^\\s*${word}\\s*=`).test(a));
+    for (const name of (arg ?? "").matchAll(/["']([^"']*)["']/g)) roles.set(name[1], role);
+  }
+  return fromFormulas(args.map((a) => a.trim()).filter((a) => a.includes("~") && !/^\w+\s*=[^~]/.test(a)), roles);
+}
+
+/** A model of lavaan: a formula in each line, and nothing else. */
+function fromLavaan(text) {
+  const inside = /^\s*(?:[\w.]+\s*(?:<-|=)\s*)?(['"])([\s\S]*)\1\s*$/.exec(text)?.[2] ?? text;
+  const lines = inside.replace(/#[^\r\n]*/g, "").split(/[;\r\n]+/).map((line) => line.trim()).filter(Boolean);
+  return lines.length && lines.every((line) => line.includes("~")) ? fromFormulas(lines, new Map()) : null;
+}
+
 /** @type {[(text: string) => string | null, string][]} */
 const STEPS = [
+  [straightQuotes, "quotation marks are straight"],
   [outOfCall, "the text was taken out of R's call"],
+  [fromDagify, "R's dagify was written as a dag"],
+  [fromLavaan, "lavaan's formulas were written as arrows"],
+  [fromDigraph, "Graphviz's digraph was written as a dag, without its attributes"],
   [(text) => (hasComments(text) ? withoutComments(text) : null), "comments were left out"],
   [plainArrows, "arrows are written with < - >"],
   [fromOldForm, "DAGitty's older form was written in its newer one"],
+  [longMarks, "short marks were written in full"],
 ];

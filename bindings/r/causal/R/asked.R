@@ -3,17 +3,55 @@
 
 asked_of <- function(diagram, x, y, set = NULL, given = NULL, back_door = FALSE, zero = FALSE, short = FALSE) {
   diagram <- as_causal_diagram(diagram)
-  if (!is.null(set) && length(given)) stop("an effect is asked for by a set to adjust for, or under a condition, and not both")
-  if (!is.null(set) && isTRUE(short)) stop("an effect is asked for by a set to adjust for, or by a short formula, and not both")
-  if (is.null(set) && isTRUE(back_door)) stop("the back-door criterion is asked of a set: `set` names it")
+  check_exposures(diagram, x)
+  condition <- condition_of(given)
+  if (!is.null(set) && length(given)) refuse("an effect is asked for by a set to adjust for, or under a condition, and not both")
+  if (!is.null(set) && isTRUE(short)) refuse("an effect is asked for by a set to adjust for, or by a short formula, and not both")
+  if (is.null(set) && isTRUE(back_door)) refuse("the back-door criterion is asked of a set: `set` names it")
   words <- c(option("x", x), option("y", y))
-  words <- if (is.null(set)) c(words, option("given", given), flag("short", short))
+  words <- if (is.null(set)) c(words, option("given", condition$names), flag("short", short))
            else c(words, option("set", as.character(set)), flag("back-door", back_door))
   told <- ask(if (is.null(set)) "identify" else "adjust", diagram, words, certificate = is.null(set))
   object <- object_of(told)
   if (!told$yes && is.null(set)) stop(not_identifiable(new_hedge(object, told, diagram)))
-  if (!told$yes) stop("this set can't be adjusted for: ", text_of(told$asked, diagram))
-  list(diagram = diagram, words = c(words, flag("zero", zero)), formula = read_formula(object), trees = read_trees(object))
+  if (!told$yes) refuse("this set can't be adjusted for: ", text_of(told$asked, diagram), kind = "not_admissible")
+  list(diagram = diagram, words = c(words, flag("zero", zero)), formula = read_formula(object), trees = read_trees(object),
+       x = if (is.null(x)) has_role(diagram, "exposure") else as.character(x), typed = !is.null(x),
+       y = if (is.null(y)) has_role(diagram, "outcome") else as.character(y), given = condition$names, levels = condition$levels,
+       set = set, zero = isTRUE(zero), short = isTRUE(short))
+}
+
+# Without an exposure the answer would be the outcome's distribution as it is, which nobody asks for by an oversight.
+check_exposures <- function(diagram, x) {
+  if (is.null(x) && !length(has_role(diagram, "exposure")))
+    refuse("no exposure is marked in the diagram and `x` names none; x = character() asks for the outcome where nothing is done", kind = "no_exposure")
+}
+
+# A condition: names of which all levels are wanted, or levels by name of which one is.
+condition_of <- function(given) {
+  if (is.null(names(given))) return(list(names = if (is.null(given)) NULL else as.character(given), levels = list()))
+  named <- nzchar(names(given))
+  list(names = ifelse(named, names(given), as.character(unlist(lapply(given, `[`, 1)))), levels = as.list(given)[named])
+}
+
+# Which cells of effects have the levels that were asked for, of the condition and of the outcome.
+wanted_cells <- function(effects, table, asked, outcome = NULL) {
+  if (!is.null(outcome) && is.null(names(outcome))) {
+    if (length(asked$y) != 1) refuse("`outcome` names its level for each outcome where there are several: list(", asked$y[1], " = ..)")
+    outcome <- stats::setNames(list(outcome), asked$y)
+  }
+  wanted <- c(as.list(outcome), asked$levels)
+  keep <- rep(TRUE, length(effects$y))
+  for (name in names(wanted)) {
+    if (!name %in% c(asked$y, asked$given)) refuse(name, " is no outcome", meant(name, asked$y))
+    places <- vapply(wanted[[name]], function(level) {
+      place <- place_of_level(table$levels[[name]], level)
+      if (is.na(place)) no_level(name, as.character(level), level_labels(table$levels[[name]]))
+      place
+    }, 1L)
+    keep <- keep & vapply(seq_along(keep), function(k) as.integer(c(effects$y[[k]], effects$given[[k]])[[name]]) %in% places, NA)
+  }
+  keep
 }
 
 # What is divided by at the node at which a formula has no value: see `divisors_of`. NULL where nothing is.

@@ -9,43 +9,60 @@ autoplot_methods <- list(
   causal_hedge = function(object, ...) diagram_drawing(project(object$diagram), hedge = object, ...),
   causal_stopped = function(object, ...) diagram_drawing(project(object$diagram), hedge = object, ...),
   causal_formula = function(object, ...) diagram_drawing(project(object$diagram), ...),
-  causal_contrast = function(object, term = c("difference", "ratio", "odds_ratio"), ...) {
-    term <- match.arg(term)
-    tidied <- tidy_methods$causal_contrast(object)
-    caption <- paste0("treated: ", level_text(attr(object, "treated")), "; control: ", level_text(attr(object, "control")))
-    interval_drawing(tidied[tidied$term == term, ], length(attr(object, "outcomes")), term, if (term == "difference") 0 else 1, caption)
+  causal_contrast = function(object, measure = c("difference", "ratio", "odds_ratio", "risk_treated", "risk_control"), term = NULL, ...) {
+    if (!is.null(term)) { old_word("term", "measure"); measure <- term }
+    forest_drawing(object, one_of(measure))
+  },
+  causal_estimate = function(object, measure = c("difference", "ratio", "odds_ratio", "risk_treated", "risk_control", "mean"), ...) {
+    has <- intersect(eval(formals()$measure), object[["measure"]])
+    forest_drawing(object, match.arg(measure, if (length(has)) has else "difference"))
   },
   causal_tests = function(object, ...) {
     known <- shown_tests(object)
     pairs <- paste0(known$a, " from ", known$b, " given ", known$given)
-    tidied <- list(pair = pairs, estimate = known$rmsea, conf.low = known$rmsea_lower, conf.high = known$rmsea_upper)
-    interval_drawing(frame_of(tidied), 1, "RMSEA, with its 95% interval", 0, NULL, pairs)
+    tidied <- list(estimate = known$rmsea, conf_low = known$rmsea_low, conf_high = known$rmsea_high)
+    interval_drawing(frame_of(tidied), "RMSEA, with its 95% interval", 0, NULL, pairs)
   },
-  causal_means = function(object, ...) {
-    tidied <- tidy_methods$causal_means(object)
-    interval_drawing(tidied[tidied$term == "mean", ], ncol(object) - 6, paste("mean of", attr(object, "outcome")), NULL, NULL)
+  causal_means = function(object, measure = c("mean", "difference"), ...) {
+    measure <- one_of(measure)
+    shown <- as.data.frame(object)[object[["measure"]] == measure, ]
+    levels <- seq_len(match("control", names(shown)) - 1)
+    interval_drawing(shown, paste(measure, "of", attr(object, "outcome")), if (measure == "difference") 0, NULL, cell_texts(shown, levels))
   }
 )
+
+# A forest plot: a line for each cell and arm, with the interval of one measure, and what notes say of it.
+forest_drawing <- function(object, measure) {
+  shown <- as.data.frame(object)[object[["measure"]] == measure, ]
+  levels <- seq_len(match("treated", names(shown)) - 1)
+  arms <- paste(shown$treated, "against", shown$control)
+  cells <- if (length(levels)) cell_texts(shown, levels) else rep("", nrow(shown))
+  if (length(unique(arms)) > 1 || anyDuplicated(cells)) cells <- paste0(cells, ifelse(nzchar(cells), ": ", ""), arms)
+  if (!is.null(shown$method) && anyDuplicated(cells)) cells <- paste0(cells, " (", shown$method, ")")
+  caption <- c(if (length(unique(arms)) == 1) arms[1], row_notes(shown))
+  none <- switch(measure, difference = 0, ratio = 1, odds_ratio = 1)
+  interval_drawing(shown, measure, none, if (length(caption)) paste(caption, collapse = "\n"), cells)
+}
 
 # Columns of a data frame, of any names, as what is drawn.
 mapped <- function(...) do.call(ggplot2::aes, lapply(list(...), as.name))
 
-# A point for each cell with its interval; the cells are told by the first columns. A line shows where nothing differs.
-interval_drawing <- function(tidied, levels, label, none, caption, cells = cell_texts(tidied, levels)) {
-  shown <- frame_of(list(cell = factor(cells, rev(unique(cells))), estimate = tidied$estimate, low = tidied$conf.low, high = tidied$conf.high))
-  ggplot2::ggplot(shown[!is.na(shown$estimate), ], mapped(x = "estimate", y = "cell")) +
+# A point for each cell with its interval. A line shows where nothing differs.
+interval_drawing <- function(shown, label, none, caption, cells) {
+  drawn <- frame_of(list(cell = factor(cells, rev(unique(cells))), estimate = shown$estimate, low = shown$conf_low, high = shown$conf_high))
+  ggplot2::ggplot(drawn[!is.na(drawn$estimate), ], mapped(x = "estimate", y = "cell")) +
     (if (!is.null(none)) ggplot2::geom_vline(xintercept = none, linetype = "dashed", colour = "#888888")) +
     ggplot2::geom_linerange(mapped(xmin = "low", xmax = "high"), na.rm = TRUE) +
     ggplot2::geom_point(size = 2) +
     ggplot2::labs(x = label, y = NULL, caption = caption)
 }
 
-cell_texts <- function(tidied, levels) {
-  vapply(seq_len(nrow(tidied)), function(row) level_text(lapply(as.list(tidied)[seq_len(levels)], `[`, row)), "")
+cell_texts <- function(shown, levels) {
+  vapply(seq_len(nrow(shown)), function(row) level_text(lapply(as.list(shown)[levels], `[`, row)), "")
 }
 
 diagram_drawing <- function(diagram, path = NULL, hedge = NULL, layout = NULL) {
-  places <- if (is.null(layout)) layered_places(diagram) else given_places(diagram, layout)
+  places <- places_of(diagram, layout)
   roles <- ifelse(is.na(diagram$vertices$role) | diagram$vertices$role == "", "none", diagram$vertices$role)
   vertices <- frame_of(list(name = diagram$vertices$name, role = factor(roles, names(role_colours)), x = places[, 1], y = places[, 2],
                             colour = drawn_colours(diagram$vertices$name %in% c(path$vertices, hedge$big))))

@@ -20,43 +20,52 @@ used_columns <- function(diagram, words, command) {
 
 csv_line <- function(fields) paste0('"', gsub('"', '""', fields, fixed = TRUE), '"', collapse = ",", recycle0 = TRUE)
 
-# A table of the rows of a data frame that differ in the used columns, with their counts.
-count_table <- function(diagram, words, data, count, missing, command = "evaluate") {
+# A table of the rows of a data frame that differ in the used columns, with their counts. `keeps` names variables that keep declared
+# levels without a record; `design` has the names of columns of weights, clusters and strata; `of` the columns, where no formula tells
+# them.
+count_table <- function(diagram, words, data, count, missing, command = "evaluate", keeps = character(), design = NULL,
+                        of = NULL) {
   if (inherits(data, "table")) {
     count <- utils::tail(make.unique(c(names(dimnames(data)), "count")), 1)
     data <- as.data.frame(data, responseName = count, stringsAsFactors = TRUE)
   }
   is_remote <- inherits(data, "causal_table") || is_lazy(data)
-  if (!is.data.frame(data) && !is_remote) stop("`data` has to be a data frame, a table, a lazy table of dplyr, or what `database_table` gives")
+  if (!is.data.frame(data) && !is_remote) refuse("`data` has to be a data frame, a table, a lazy table of dplyr, or what `database_table` gives")
   check_count_name(count)
-  used <- used_columns(diagram, words, command)
+  used <- if (is.null(of)) used_columns(diagram, words, command) else enc2utf8(of)
   if (is.null(used)) return(NULL)
   if (!is.null(count)) refuse_used(enc2utf8(count), used)
-  check_header(diagram, words, header_of(data), count, command)
+  if (is.null(of)) check_header(diagram, words, header_of(data), count, command) else check_columns(header_of(data), c(used, count))
+  check_design(design, data, used, count, is_remote)
   if (is_remote) {
     data <- if (is_lazy(data)) fetch_lazy_counts(data, used, count) else fetch_counts(data, used, count)
     count <- names(data)[ncol(data)]
   }
   columns <- lapply(stats::setNames(used, used), function(name) data[[match(name, enc2utf8(names(data)))]])
-  if (!all(vapply(columns, is_plain, NA))) stop("a column that the answer needs is no vector")
-  weights <- if (is.null(count)) rep(1, nrow(data)) else check_counts(data[[match(count, names(data))]])
-  is_whole <- complete_rows(columns, missing)
+  if (!all(vapply(columns, is_plain, NA))) refuse("a column that the answer needs is no vector")
+  records <- if (is.null(count)) rep(1, nrow(data)) else check_counts(data[[match(count, names(data))]])
+  survey <- design_columns(design, data)
+  is_whole <- complete_rows(c(columns, survey), missing, records, names(columns))
   columns <- lapply(columns, `[`, is_whole)
-  levels <- lapply(columns, levels_of)
+  levels <- mapply(levels_of, columns, names(columns) %in% keeps, SIMPLIFY = FALSE)
   codes <- mapply(match_levels, columns, levels, SIMPLIFY = FALSE)
   rows <- do.call(paste, c(codes, list(sep = ",")))
   first <- !duplicated(rows)
-  counts <- vapply(split(weights[is_whole], factor(rows, unique(rows))), sum, 0)
+  survey <- lapply(survey, `[`, is_whole)
+  weights <- if (is.null(survey$weights)) records[is_whole] else whole_weights(survey$weights)
+  counts <- vapply(split(weights, factor(rows, unique(rows))), sum, 0)
   structure(list(names = used, levels = levels, codes = do.call(cbind, lapply(codes, `[`, first)), rows = rows[first],
-                 counts = as.vector(counts), dropped = if (is_remote) sum(weights[!is_whole]) else sum(!is_whole)), class = "causal_counts")
+                 counts = as.vector(counts), records = as.vector(vapply(split(records[is_whole], factor(rows, unique(rows))), sum, 0)),
+                 survey = if (length(survey)) c(list(row = match(rows, rows[first])), survey), dropped = sum(records[!is_whole])),
+            class = "causal_counts")
 }
 
 check_count_name <- function(count) {
-  if (!is.null(count) && (!is.character(count) || length(count) != 1 || is.na(count))) stop("`count` is the name of one column")
+  if (!is.null(count) && (!is.character(count) || length(count) != 1 || is.na(count))) refuse("`count` is the name of one column")
 }
 
 refuse_used <- function(count, used) {
-  if (count %in% used) stop("the column ", count, " can't hold the counts: it is a variable that the answer needs")
+  if (count %in% used) refuse("the column ", count, " can't hold the counts: it is a variable that the answer needs")
 }
 
 # The library refuses a header that lacks a column, or has one twice.
@@ -64,35 +73,69 @@ check_header <- function(diagram, words, header, count, command) {
   words <- if (is.null(count)) words else c(words, paste0("--count=", count))
   told <- ask_counts(diagram, words, csv_line(enc2utf8(header)), hand_back = 4, command)
   fault <- causal_fault(told, list(diagram = diagram$text))
+  if (fault$number == 2) fault <- retold(fault, "; the columns are ", listed(header), meant(fault$names, header))
   if (fault$number %in% 2:3) stop(fault)
 }
 
+# The same for columns that the caller names.
+check_columns <- function(header, names) {
+  header <- enc2utf8(header)
+  for (name in enc2utf8(names)) if (sum(header == name) != 1)
+    refuse(if (any(header == name)) "the data have several columns " else "the data have no column ", name, "; the columns are ", listed(header),
+           if (!any(header == name)) meant(name, header), kind = "unknown_column", told = list(names = name))
+}
+
 check_counts <- function(counts) {
-  if (!is.numeric(counts)) stop("the column of counts has to hold numbers")
+  if (!is.numeric(counts)) refuse("the column of counts has to hold numbers")
   bad <- which(!is.finite(counts) | counts < 0 | counts != round(counts) | counts > 1e15)
   if (length(bad)) {
     sentence <- "the count of this record is no whole number up to 10^15"
+    hint <- "; a count is a frequency, the number of records that the row stands for: weights of a survey are given as `weights`"
     fault <- list(stage = "counts", second = FALSE, number = 4L, sentence = sentence, printed = "", status = 4L, row = bad[1])
-    stop(new_fault(fault, sentence_text(fault)))
+    stop(new_fault(fault, paste0(sentence_text(fault), hint)))
   }
   as.numeric(counts)
 }
 
-# Which rows have no missing value in the used columns.
-complete_rows <- function(columns, missing) {
-  is_missing <- Reduce(`|`, lapply(columns, is.na))
-  if (missing == "error" && any(is_missing)) {
-    message <- paste(sum(is_missing), "of", counted(length(is_missing), "row"), "have a missing value in a column that the answer needs;",
-                     'missing = "drop" leaves them out')
-    stop(structure(class = c("causal_missing_values", "error", "condition"), list(message = message, call = NULL, rows = which(is_missing))))
+# Which rows have no missing value in the used columns; where missing values are levels, in those of the design alone.
+complete_rows <- function(columns, missing, records, used) {
+  if (missing == "level") columns <- columns[!names(columns) %in% used]
+  is_missing <- Reduce(`|`, lapply(columns, is.na), rep(FALSE, length(records)))
+  if (missing != "drop" && any(is_missing)) {
+    lacking <- vapply(columns, function(column) sum(records[is.na(column)]), 0)
+    lacking <- lacking[lacking > 0]
+    message <- paste0(sum(records[is_missing]), " of ", counted(sum(records), "record"), " have a missing value in a column that the answer needs (",
+                      paste0(names(lacking), ": ", lacking, collapse = ", "), '); missing = "drop" leaves them out, "level" makes missing a level')
+    refuse(message, kind = "missing_values", told = list(rows = which(is_missing), columns = names(lacking)))
   }
   !is_missing
 }
 
-# The levels in the order in which they are numbered: those of a factor that occur; text by first appearance; else sorted.
-levels_of <- function(column) {
-  if (is.factor(column)) return(factor(levels(droplevels(column)), levels(column), ordered = is.ordered(column)))
-  if (is.character(column)) unique(column) else sort(unique(column))
+# The levels in the order in which they are numbered: those of a factor that occur, or all of them; text by first appearance; else sorted.
+# A missing value is the last one, where it is left in.
+levels_of <- function(column, keeps = FALSE) {
+  if (is.factor(column)) {
+    own <- if (keeps) levels(column) else levels(droplevels(column))
+    own <- factor(own, levels(column), exclude = NULL, ordered = is.ordered(column))
+  } else {
+    own <- if (is.character(column)) unique(column) else sort(unique(column))
+    own <- own[!is.na(own)]
+  }
+  if (anyNA(column) && !anyNA(own)) c(own, NA) else own
+}
+
+# The levels as texts of which each stands for one: numbers that print alike with 15 digits have 17.
+level_labels <- function(levels) {
+  labels <- as.character(levels)
+  if (is.numeric(levels) && anyDuplicated(labels)) labels <- formatC(as.vector(levels), digits = 17, format = "g", width = 1)
+  replace(labels, is.na(levels), "NA")
+}
+
+# The place of a level that a caller names: by its value, or by its text; NA where there is none.
+place_of_level <- function(levels, wanted) {
+  if (length(wanted) != 1) refuse("a level is one value")
+  if (is.numeric(wanted) && is.numeric(levels) && !anyNA(match(wanted, as.vector(levels)))) return(match(wanted, as.vector(levels)))
+  match(if (is.na(wanted)) "NA" else as.character(wanted), level_labels(levels))
 }
 
 # The places of levels in order: those of a factor in its own, text by its characters, all else by size.

@@ -3,23 +3,24 @@
 
 # The query. Without a connection names are quoted as standard SQL has it, else as its database does.
 counts_query <- function(diagram, table, x = NULL, y = NULL, count = NULL, set = NULL, of = c("effect", "implications"), connection = NULL,
-                         given = NULL, short = FALSE) {
+                         given = NULL, short = NULL) {
   diagram <- as_causal_diagram(diagram)
-  of <- match.arg(of)
+  of <- one_of(of)
   check_count_name(count)
-  if (of == "implications" && !all(vapply(list(x, y, set, given), is.null, NA))) stop("implications have no `x`, no `y`, no `set` and no `given`")
-  if (of == "implications" && isTRUE(short)) stop("implications have no short formula")
+  if (of == "implications" && !all(vapply(list(x, y, set, given), is.null, NA))) refuse("implications have no `x`, no `y`, no `set` and no `given`")
+  if (of == "implications" && isTRUE(short)) refuse("implications have no short formula")
+  if (is.null(short)) short <- is.null(set)
   used <- if (of == "implications") used_columns(diagram, character(), "implications")
           else used_columns(diagram, asked_of(diagram, x, y, set, given, short = short)$words, "evaluate")
-  if (is.null(used)) stop("the diagram implies no independence, so there is nothing to count")
+  if (is.null(used)) refuse("the diagram implies no independence, so there is nothing to count")
   if (!is.null(count)) refuse_used(enc2utf8(count), used)
   query_text(used, table, count, connection)
 }
 
 # A table of a database, which stands for a data frame.
 database_table <- function(connection, table) {
-  if (!requireNamespace("DBI", quietly = TRUE)) stop("a table of a database needs the package DBI")
-  if (!inherits(connection, "DBIConnection")) stop("`connection` has to be a connection of the package DBI")
+  if (!requireNamespace("DBI", quietly = TRUE)) refuse("a table of a database needs the package DBI")
+  if (!inherits(connection, "DBIConnection")) refuse("`connection` has to be a connection of the package DBI")
   structure(list(connection = connection, table = table_parts(table)), class = "causal_table")
 }
 
@@ -31,7 +32,7 @@ print.causal_table <- function(x, ...) {
 # The name of a table, with those of its schema and so on before it.
 table_parts <- function(table) {
   if (inherits(table, "Id")) table <- unname(attr(table, "name"))
-  if (!is.character(table) || !length(table) || anyNA(table) || !all(nzchar(table))) stop("`table` is the name of a table")
+  if (!is.character(table) || !length(table) || anyNA(table) || !all(nzchar(table))) refuse("`table` is the name of a table")
   enc2utf8(table)
 }
 
@@ -63,7 +64,7 @@ fetch_counts <- function(data, used, count) {
   check_counts_there(data, count)
   query <- query_text(used, data$table, count, data$connection)
   # a column of several types is read with a warning that some values became others
-  found <- tryCatch(DBI::dbGetQuery(data$connection, query), warning = function(it) stop("the counts can't be read as they are: ", conditionMessage(it)))
+  found <- tryCatch(DBI::dbGetQuery(data$connection, query), warning = function(it) refuse("the counts can't be read as they are: ", conditionMessage(it)))
   ordered_counts(stats::setNames(found, c(used, count_name(list(names = used)))), used)
 }
 
@@ -84,14 +85,14 @@ check_counts_there <- function(data, count) {
 }
 
 refuse_wrong_counts <- function(rows) {
-  if (rows > 0) stop(counted(rows, "row"), " of the table have no count that is a whole number from 0")
+  if (rows > 0) refuse(counted(rows, "row"), " of the table have no count that is a whole number from 0")
 }
 
 # Large whole numbers of a database as numbers of R, where these can hold them.
 plain_column <- function(column) {
-  if (!is_plain(column)) stop("a column that the answer needs is no vector")
+  if (!is_plain(column)) refuse("a column that the answer needs is no vector")
   if (!inherits(column, "integer64")) return(column)
   numbers <- suppressWarnings(as.numeric(column))
-  if (any(abs(numbers) >= 2^53, na.rm = TRUE)) stop("a column has whole numbers that R's numbers can't tell apart; cut it to a few classes first")
+  if (any(abs(numbers) >= 2^53, na.rm = TRUE)) refuse("a column has whole numbers that R's numbers can't tell apart; cut it to a few classes first")
   numbers
 }

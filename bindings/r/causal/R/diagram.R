@@ -2,8 +2,8 @@
 
 causal_diagram <- function(text, format = c("dag", "dot", "gml"), ...) {
   if (inherits(text, "causal_diagram")) return(text)
-  format <- match.arg(format)
-  if (format == "dag" && ...length()) stop("the text of a diagram has its own marks; none are given beside it")
+  format <- one_of(format)
+  if (format == "dag" && ...length()) refuse("the text of a diagram has its own marks; none are given beside it")
   bytes <- as_bytes(text)
   switch(format, dag = diagram_of(bytes), dot = causal_diagram(read_dot(form_bytes(bytes), ...)), gml = causal_diagram(read_gml(form_bytes(bytes), ...)))
 }
@@ -17,6 +17,8 @@ form_bytes <- function(bytes) {
 # The form of a file is told by the end of its name, unless it is given.
 read_diagram <- function(file, format = NULL, ...) {
   is_connection <- inherits(file, "connection")
+  if (!is_connection && (!is.character(file) || length(file) != 1)) refuse("`file` is the name of a file, or a connection")
+  if (!is_connection && !file.exists(file)) refuse("there is no file ", file, kind = "read_fault")
   end <- if (is_connection) "" else tolower(sub("^.*[.]", "", basename(file)))
   if (is.null(format)) format <- switch(end, dot = , gv = "dot", gml = "gml", "dag")
   text <- if (is_connection) readLines(file, encoding = "UTF-8", warn = FALSE) else readBin(file, "raw", n = file.size(file))
@@ -24,13 +26,17 @@ read_diagram <- function(file, format = NULL, ...) {
 }
 
 diagram_of <- function(bytes) {
-  if (any(bytes == 0)) stop("the text of a diagram has a null byte in it, which R's texts can't hold")
+  if (any(bytes == 0)) refuse("the text of a diagram has a null byte in it, which R's texts can't hold")
   diagram <- new_diagram(as_text(bytes), object_of(ask("graph", list(text = bytes))))
   warn_of_doubts(diagram$text, diagram)
   diagram
 }
 
-new_diagram <- function(text, object) structure(c(list(text = text), read_graph(object)), class = "causal_diagram")
+new_diagram <- function(text, object, positions = NULL) {
+  read <- read_graph(object)
+  if (is.null(positions)) positions <- positions_of(text, read$vertices$name)
+  structure(c(list(text = text), read, if (!is.null(positions)) list(positions = positions)), class = "causal_diagram")
+}
 
 as_causal_diagram <- function(x, ...) UseMethod("as_causal_diagram")
 
@@ -45,7 +51,7 @@ as_causal_diagram.matrix <- function(x, bidirected = NULL, ...) {
   names <- names_of_matrix(x)
   edges <- edges_of_matrix(x, names, "->")
   if (!is.null(bidirected)) {
-    if (!identical(dim(bidirected), dim(x)) || anyNA(bidirected)) stop("`bidirected` has to have the size of the adjacency matrix")
+    if (!identical(dim(bidirected), dim(x)) || anyNA(bidirected)) refuse("`bidirected` has to have the size of the adjacency matrix")
     joined <- bidirected != 0 | t(bidirected != 0)
     edges <- rbind(edges, edges_of_matrix(joined & upper.tri(joined, diag = TRUE), names, "<->"))
   }
@@ -53,20 +59,20 @@ as_causal_diagram.matrix <- function(x, bidirected = NULL, ...) {
 }
 
 as_causal_diagram.data.frame <- function(x, vertices = character(), ...) {
-  if (!all(c("from", "to") %in% names(x))) stop("a data frame of edges has the columns `from` and `to`, and may have `edge`")
+  if (!all(c("from", "to") %in% names(x))) refuse("a data frame of edges has the columns `from` and `to`, and may have `edge`")
   marks <- if (is.null(x$edge)) rep("->", nrow(x)) else as.character(x$edge)
   edges <- data.frame(from = as.character(x$from), edge = marks, to = as.character(x$to))
   causal_diagram(graph_text(unique(c(vertices, rbind(edges$from, edges$to))), edges, ...))
 }
 
-as_causal_diagram.default <- function(x, ...) stop("no diagram can be made of an object of the class ", class(x)[1])
+as_causal_diagram.default <- function(x, ...) refuse("no diagram can be made of an object of the class ", class(x)[1])
 
 names_of_matrix <- function(x) {
-  if (nrow(x) != ncol(x)) stop("an adjacency matrix has as many rows as columns")
-  if (anyNA(x)) stop("an adjacency matrix has no missing values")
+  if (nrow(x) != ncol(x)) refuse("an adjacency matrix has as many rows as columns")
+  if (anyNA(x)) refuse("an adjacency matrix has no missing values")
   names <- if (is.null(colnames(x))) rownames(x) else colnames(x)
-  if (is.null(names)) stop("an adjacency matrix needs the names of the vertices as its row names or column names")
-  if (!is.null(rownames(x)) && !identical(rownames(x), names)) stop("the row names and the column names of the matrix differ")
+  if (is.null(names)) refuse("an adjacency matrix needs the names of the vertices as its row names or column names")
+  if (!is.null(rownames(x)) && !identical(rownames(x), names)) refuse("the row names and the column names of the matrix differ")
   names
 }
 
@@ -79,19 +85,29 @@ edges_of_matrix <- function(x, names, mark) {
 # The text of a graph with the given names, edges and roles. All names stand between quotes.
 graph_text <- function(names, edges, exposure = character(), outcome = character(), adjusted = character(), latent = character()) {
   roles <- list(exposure = exposure, outcome = outcome, adjusted = adjusted, latent = latent)
-  all <- unique(enc2utf8(c(names, unlist(roles, use.names = FALSE))))
+  check_roles(names, roles)
+  all <- unique(enc2utf8(as.character(names)))
   check_names(c(all, edges$from, edges$to))
-  if (any(grepl("[\r\n]", all))) stop("no name of a vertex has a line feed in it")
-  if (!all(edges$edge %in% c("->", "<-", "<->"))) stop("an edge is ->, <- or <->")
+  if (any(grepl("[\r\n]", all))) refuse("no name of a vertex has a line feed in it")
+  if (!all(edges$edge %in% c("->", "<-", "<->"))) refuse("an edge is ->, <- or <->")
   flags <- vapply(all, function(name) paste(names(roles)[vapply(roles, function(role) name %in% role, NA)], collapse = ","), "")
   paste(c("dag {", paste0('"', all, '"', ifelse(nzchar(flags), paste0(" [", flags, "]"), "")),
           if (nrow(edges)) paste0('"', edges$from, '" ', edges$edge, ' "', edges$to, '"'), "}"), collapse = "\n")
 }
 
+# A role is one of a vertex of the graph: else a typing error would make a vertex of its own.
+check_roles <- function(names, roles) {
+  for (role in names(roles)) {
+    lacking <- setdiff(enc2utf8(as.character(roles[[role]])), enc2utf8(as.character(names)))
+    if (length(lacking)) refuse("`", role, "` names ", lacking[1], ", which is no vertex of the edges", meant(lacking[1], names),
+                                "; vertices without an edge stand in `vertices`", kind = "unknown_vertex", told = list(names = lacking))
+  }
+}
+
 project <- function(diagram) {
   diagram <- as_causal_diagram(diagram)
   object <- object_of(ask("graph", diagram, "--project"))
-  new_diagram(sub("\n$", "", object$text), object)
+  new_diagram(sub("\n$", "", object$text), object, diagram$positions)
 }
 
 has_role <- function(diagram, role) diagram$vertices$name[diagram$vertices$role == role]

@@ -30,11 +30,14 @@ doubts_of <- function(text, graph) {
   dropped <- dropped[dropped$name != "bb", , drop = FALSE]
   where <- vapply(strsplit(paste0(dropped$before, " ", recycle0 = TRUE), "\n", fixed = TRUE),
                   function(lines) paste0("at line ", length(lines), ", column ", nchar(lines[length(lines)])), "")
+  has_edge <- graph$vertices$name %in% c(graph$edges$from, graph$edges$to)
+  idle <- graph$vertices[graph$vertices$role %in% c("exposure", "outcome") & !has_edge, , drop = FALSE]
   lone <- setdiff(graph$vertices$name[is_of_signs(graph$vertices$name)], c(graph$edges$from, graph$edges$to))
   c(paste0("'", dropped$text, "' ", where, " says nothing of the diagram, and was dropped; ", edges, recycle0 = TRUE),
-    paste0("the vertex ", printed(lone), " has no edge, and its name is made of signs; ", edges, recycle0 = TRUE))
+    paste0("the vertex ", printed(lone), " has no edge, and its name is made of signs; ", edges, recycle0 = TRUE),
+    paste0("the ", idle$role, " ", printed(idle$name), " has no edge; is its name written as in the edges?", recycle0 = TRUE))
 }
 
 warn_of_doubts <- function(text, graph) {
-  for (doubt in doubts_of(text, graph)) warning(structure(class = c("causal_doubt", "warning", "condition"), list(message = doubt, call = NULL)))
+  for (told in doubts_of(text, graph)) doubt(told)
 }

@@ -49,8 +49,14 @@ plain_fault <- function(status, line) {
   new_fault(fault, sentence)
 }
 
+# A fault that says more.
+retold <- function(fault, ...) {
+  fault$message <- paste0(fault$message, ...)
+  fault
+}
+
 new_fault <- function(fault, message) {
-  class <- c(paste0("causal_", fault$stage, "_fault"), "causal_fault", "error", "condition")
+  class <- c(paste0("causal_", fault$stage, "_fault"), "causal_fault", "causal_refusal", "error", "condition")
   structure(class = class, c(list(message = message, call = NULL), fault))
 }
 

@@ -2,8 +2,8 @@
 # read as vertices and edges with what stands beside them, and becomes a text, which the library reads.
 
 as_causal_diagram.igraph <- function(x, ...) {
-  if (!requireNamespace("igraph", quietly = TRUE)) stop("a graph of igraph needs the package igraph")
-  if (!igraph::is_directed(x)) stop("the graph isn't directed")
+  if (!requireNamespace("igraph", quietly = TRUE)) refuse("a graph of igraph needs the package igraph")
+  if (!igraph::is_directed(x)) refuse("the graph isn't directed")
   beside <- igraph::vertex_attr(x)
   names <- if (!is.null(beside$name)) beside$name else if (!is.null(beside$label)) beside$label else seq_len(igraph::vcount(x))
   ends <- igraph::as_edgelist(x, names = FALSE)
@@ -18,12 +18,12 @@ rows_of <- function(columns, rows) lapply(seq_len(rows), function(row) lapply(co
 # `status` and `adjusted`, or else those of the diagram that it keeps.
 as_causal_diagram.tidy_dagitty <- function(x, ...) {
   rows <- as.data.frame(if (is.data.frame(x)) x else x$data)
-  if (!all(c("name", "to", "direction") %in% names(rows))) stop("a tidy diagram has the columns `name`, `direction` and `to`")
+  if (!all(c("name", "to", "direction") %in% names(rows))) refuse("a tidy diagram has the columns `name`, `direction` and `to`")
   names <- as.character(rows$name)
   to <- as.character(rows$to)
   has <- !is.na(to)
   edges <- data.frame(from = names[has], edge = as.character(rows$direction)[has], to = to[has])
-  if (any(edges$edge == "--")) stop("an edge has no direction, as in a pdag, which stands for several diagrams; give one of them")
+  if (any(edges$edge == "--")) refuse("an edge has no direction, as in a pdag, which stands for several diagrams; give one of them")
   marks <- tidy_marks(x, rows, names)
   given <- list(...)
   for (role in names(given)) marks[[role]] <- given[[role]]
@@ -42,7 +42,7 @@ tidy_marks <- function(x, rows, names) {
 
 # The text of a diagram of vertices and edges; `own` and `beside` have a list of attributes for each.
 form_text <- function(names, own, from, to, beside, exposure = character(), outcome = character(), adjusted = character(), latent = character()) {
-  if (anyDuplicated(names)) stop("two vertices have the same name: ", names[anyDuplicated(names)])
+  if (anyDuplicated(names)) refuse("two vertices have the same name: ", names[anyDuplicated(names)])
   given <- list(exposure = exposure, outcome = outcome, adjusted = adjusted, latent = latent)
   marks <- lapply(own, marks_in)
   roles <- lapply(stats::setNames(names(given), names(given)), function(role) {
@@ -53,7 +53,7 @@ form_text <- function(names, own, from, to, beside, exposure = character(), outc
   ends <- data.frame(from = ifelse(is_back, to, from), edge = ifelse(kinds %in% c("both", "hidden"), "<->", "->"), to = ifelse(is_back, from, to))
   is_hidden <- kinds == "hidden"
   lone <- is_hidden & !paste(to, from, sep = "\r") %in% paste(from, to, sep = "\r")[is_hidden]
-  if (any(lone)) stop("the edge from ", from[lone][1], " to ", to[lone][1], " has the description \"U\", and there is none back")
+  if (any(lone)) refuse("the edge from ", from[lone][1], " to ", to[lone][1], " has the description \"U\", and there is none back")
   # two edges that stand for a bidirected one become the same one
   turned <- is_hidden & from > to
   ends[turned, c("from", "to")] <- ends[turned, c("to", "from")]
@@ -66,7 +66,7 @@ says_yes <- function(value) !is.na(value) & !tolower(trimws(as.character(value))
 marks_in <- function(own) {
   roles <- c("exposure", "outcome", "adjusted", "latent")
   role <- if (!is.null(own$role) && !own$role %in% c(NA, "")) as.character(own$role)
-  if (!all(role %in% roles)) stop("a vertex can be ", paste(roles, collapse = ", "), ", and not ", role)
+  if (!all(role %in% roles)) refuse("a vertex can be ", paste(roles, collapse = ", "), ", and not ", role)
   told <- roles[vapply(roles, function(name) !is.null(own[[name]]) && says_yes(own[[name]]), NA)]
   unique(c(role, told, if (!is.null(own$observed) && !is.na(own$observed) && !says_yes(own$observed)) "latent"))
 }
@@ -76,8 +76,8 @@ edge_kind <- function(beside, from, to) {
   text <- function(name, otherwise) if (is.null(beside[[name]]) || beside[[name]] %in% c(NA, "")) otherwise else tolower(as.character(beside[[name]]))
   between <- paste("the edge between", from, "and", to)
   direction <- text("dir", "forward")
-  if (direction == "none" || text("arrowhead", "normal") == "none") stop(between, " has no direction")
-  if (!direction %in% c("forward", "back", "both")) stop(between, " has the direction ", direction, ", which isn't known")
+  if (direction == "none" || text("arrowhead", "normal") == "none") refuse(between, " has no direction")
+  if (!direction %in% c("forward", "back", "both")) refuse(between, " has the direction ", direction, ", which isn't known")
   if (direction == "both" || says_yes(text("bidirected", "no"))) return("both")
   if (identical(as.character(beside$description), "U")) "hidden" else direction
 }
@@ -89,7 +89,7 @@ tokens_of <- function(text, form, kind) {
   gap <- which(c(1, ends) != c(if (found[1] > 0) found, nchar(text) + 1))
   if (nchar(text) && (found[1] < 0 || length(gap))) {
     start <- if (found[1] < 0) 1 else c(1, ends)[gap[1]]
-    stop("the text is no ", kind, " from here on: ", substr(text, start, start + 19))
+    refuse("the text is no ", kind, " from here on: ", substr(text, start, start + 19))
   }
   if (nchar(text)) substring(text, found, ends - 1) else character()
 }
@@ -100,18 +100,18 @@ read_gml <- function(text, ...) {
   tokens <- tokens_of(text, gml_form, "GML")
   whole <- gml_list(tokens[!grepl("^(\\s|#)", tokens)])
   graphs <- whole[names(whole) == "graph" & vapply(whole, is.list, NA)]
-  if (length(graphs) != 1) stop("the text has no graph, or several; GML has one")
+  if (length(graphs) != 1) refuse("the text has no graph, or several; GML has one")
   graph <- graphs[[1]]
-  if (is.null(graph$directed) || !says_yes(graph$directed)) stop("the graph isn't directed")
+  if (is.null(graph$directed) || !says_yes(graph$directed)) refuse("the graph isn't directed")
   nodes <- graph[names(graph) == "node"]
   edges <- graph[names(graph) == "edge"]
   first <- function(node, keys) as.character(unlist(node[keys[keys %in% names(node)][1]], use.names = FALSE))
   ids <- vapply(nodes, first, "", "id", USE.NAMES = FALSE)
   names <- vapply(nodes, first, "", c("label", "name", "id"), USE.NAMES = FALSE)
-  if (anyDuplicated(ids)) stop("two vertices have the same number: ", ids[anyDuplicated(ids)])
+  if (anyDuplicated(ids)) refuse("two vertices have the same number: ", ids[anyDuplicated(ids)])
   ends <- lapply(c("source", "target"), function(side) vapply(edges, first, "", side, USE.NAMES = FALSE))
   lacking <- setdiff(unlist(ends), ids)
-  if (length(lacking)) stop("an edge is of the vertex ", lacking[1], ", which isn't there")
+  if (length(lacking)) refuse("an edge is of the vertex ", lacking[1], ", which isn't there")
   form_text(names, unname(nodes), names[match(ends[[1]], ids)], names[match(ends[[2]], ids)], unname(edges), ...)
 }
 
@@ -123,11 +123,11 @@ gml_list <- function(tokens) {
     while (at <= length(tokens) && tokens[at] != "]") {
       key <- tokens[at]
       value <- if (at < length(tokens)) tokens[at + 1] else "]"
-      if (!grepl("^[A-Za-z_]", key) || grepl("^([A-Za-z_]|\\])", value)) stop("the text is no GML: at ", key, " a key with its value is expected")
+      if (!grepl("^[A-Za-z_]", key) || grepl("^([A-Za-z_]|\\])", value)) refuse("the text is no GML: at ", key, " a key with its value is expected")
       at <<- at + 2
       found <- c(found, stats::setNames(list(if (value == "[") read(TRUE) else gml_value(value)), key))
     }
-    if (is_inner != (at <= length(tokens))) stop("the text is no GML: a list isn't closed, or closed twice")
+    if (is_inner != (at <= length(tokens))) refuse("the text is no GML: a list isn't closed, or closed twice")
     at <<- at + is_inner
     found
   }
@@ -155,7 +155,7 @@ read_dot <- function(text, ...) {
   tokens <- tokens_of(text, dot_form, "DOT")
   dot <- new_dot(tokens[!grepl("^(\\s|//|/\\*|#)", tokens)])
   dot_pass(dot, "strict")
-  if (dot_pass(dot, "graph")) stop("the graph isn't directed: a digraph is needed")
+  if (dot_pass(dot, "graph")) refuse("the graph isn't directed: a digraph is needed")
   dot_take(dot, "digraph")
   if (is_dot_text(dot)) dot$at <- dot$at + 1
   dot_block(dot, list(node = list(), edge = list(), graph = list()))
@@ -181,7 +181,7 @@ dot_take <- function(dot, token) if (!dot_pass(dot, token)) dot_stop(dot)
 
 dot_stop <- function(dot) {
   rest <- dot$tokens[seq_along(dot$tokens) >= dot$at]
-  stop(if (length(rest)) paste("the text is no DOT at", paste(utils::head(rest, 4), collapse = " ")) else "the text is no DOT: it ends too early")
+  refuse(if (length(rest)) paste("the text is no DOT at", paste(utils::head(rest, 4), collapse = " ")) else "the text is no DOT: it ends too early")
 }
 
 is_dot_text <- function(dot) nzchar(dot_next(dot)) && !grepl("^(->|--|[][{};,=:+])", dot_next(dot))
@@ -219,7 +219,7 @@ dot_block <- function(dot, defaults) {
 dot_chain <- function(dot, defaults) {
   ends <- list(dot_end(dot, defaults))
   while (dot_pass(dot, "->")) ends <- c(ends, list(dot_end(dot, defaults)))
-  if (dot_next(dot) == "--") stop("an edge has no direction: in a digraph edges are written ->")
+  if (dot_next(dot) == "--") refuse("an edge has no direction: in a digraph edges are written ->")
   beside <- dot_attributes(dot)
   if (length(ends) == 1) for (name in ends[[1]]) dot$vertices[[name]] <- utils::modifyList(dot$vertices[[name]], beside)
   beside <- utils::modifyList(defaults$edge, beside)
@@ -231,9 +231,9 @@ dot_chain <- function(dot, defaults) {
 dot_end <- function(dot, defaults) {
   if (dot_pass(dot, "subgraph") && is_dot_text(dot)) dot$at <- dot$at + 1
   if (dot_next(dot) == "{") return(dot_block(dot, defaults))
-  if (startsWith(dot_next(dot), "<")) stop("a vertex is named by markup, which isn't read as a name")
+  if (startsWith(dot_next(dot), "<")) refuse("a vertex is named by markup, which isn't read as a name")
   name <- dot_text(dot)
-  if (!nzchar(name)) stop("a vertex has an empty name")
+  if (!nzchar(name)) refuse("a vertex has an empty name")
   while (dot_pass(dot, ":")) dot_text(dot)
   if (!name %in% names(dot$vertices)) dot$vertices[[name]] <- defaults$node
   name

@@ -1,8 +1,8 @@
 # What a diagram says of data. Each pair, its set and its difference are the library's; a difference as a number of R is rounded.
 
-implications <- function(diagram, data = NULL, count = NULL, missing = c("error", "drop")) {
+implications <- function(diagram, data = NULL, count = NULL, missing = c("error", "drop", "level")) {
   diagram <- as_causal_diagram(diagram)
-  missing <- match.arg(missing)
+  missing <- one_of(missing)
   table <- if (!is.null(data)) count_table(diagram, character(), data, count, missing, "implications")
   told <- if (is.null(table)) ask("implications", diagram)
           else ask_counts(diagram, c("--count", count_name(table)), counts_text(table), command = "implications")

@@ -3,7 +3,7 @@
 role_colours <- c(exposure = "#b7e1a1", outcome = "#a9cdf5", adjusted = "#f3dfa0", latent = "#d9d9d9", none = "white")
 
 plot.causal_diagram <- function(x, path = NULL, hedge = NULL, layout = NULL, legend = TRUE, ...) {
-  places <- if (is.null(layout)) layered_places(x) else given_places(x, layout)
+  places <- places_of(x, layout)
   roles <- ifelse(is.na(x$vertices$role) | x$vertices$role == "", "none", x$vertices$role)
   graphics::plot.new()
   # all that is drawn is measured in inches
@@ -88,7 +88,7 @@ free_corner <- function(at, room) {
 given_places <- function(diagram, layout) {
   layout <- as.matrix(layout)
   at <- match(diagram$vertices$name, rownames(layout))
-  if (ncol(layout) != 2 || anyNA(at)) stop("`layout` has a row with two numbers for each vertex, named by it")
+  if (ncol(layout) != 2 || anyNA(at)) refuse("`layout` has a row with two numbers for each vertex, named by it")
   places <- layout[at, , drop = FALSE]
   rownames(places) <- diagram$vertices$name
   places

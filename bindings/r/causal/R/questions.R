@@ -24,7 +24,7 @@ as.character.causal_answer <- function(x, ...) x$text
 # Yes or no, of an answer that is one; a formula is a yes, and what stands in its place a no.
 as.logical.causal_answer <- function(x, ...) {
   holds <- if (is.null(x$holds)) x$identifiable else x$holds
-  if (is.null(holds)) stop("this answer isn't yes or no")
+  if (is.null(holds)) refuse("this answer isn't yes or no")
   holds
 }
 
@@ -45,7 +45,7 @@ separated <- function(diagram, x = NULL, y = NULL, given = NULL) {
 
 rule_holds <- function(diagram, rule, y, z, do = NULL, given = NULL) {
   diagram <- as_causal_diagram(diagram)
-  if (length(rule) != 1 || !rule %in% 1:3) stop("`rule` is 1, 2 or 3")
+  if (length(rule) != 1 || !rule %in% 1:3) refuse("`rule` is 1, 2 or 3")
   words <- c("--rule", as.character(as.integer(rule)), option("y", y), option("z", z), option("do", do), option("given", given))
   told <- ask("rule", diagram, words)
   new_answer("causal_rule", read_rule(object_of(told)), told, diagram)
@@ -56,6 +56,8 @@ identify.causal_diagram <- function(x, ...) identify_effect(x, ...)
 
 identify_effect <- function(diagram, x = NULL, y = NULL, given = NULL, short = FALSE) {
   diagram <- as_causal_diagram(diagram)
+  check_exposures(diagram, x)
+  given <- condition_of(given)$names
   words <- c(option("x", x), option("y", y), option("given", given), flag("short", short))
   told <- ask("identify", diagram, words, certificate = TRUE)
   object <- object_of(told)
@@ -63,7 +65,8 @@ identify_effect <- function(diagram, x = NULL, y = NULL, given = NULL, short = F
 }
 
 new_formula <- function(object, told, diagram) {
-  read <- c(list(identifiable = TRUE), read_formula(object), list(certificate = object$certificate))
+  read <- c(list(identifiable = TRUE), read_formula(object), list(trees = read_trees(object), parts = sets_in(object, c("y", "x", "given"))),
+            list(certificate = object$certificate))
   new_answer("causal_formula", read, told, diagram)
 }
 
@@ -76,12 +79,10 @@ new_hedge <- function(object, told, diagram) {
 # Whether it is proved that the two models of a joint effect's hedge differ on the conditional effect that was asked for too.
 is_settled <- function(diagram, words) {
   inputs <- list(diagram = diagram$text)
-  told <- explain(c("settled", "diagram", words), inputs)
+  told <- explain(c("settled", "diagram", setdiff(words, "--short")), inputs)
   if (told$status > 1) stop(causal_fault(told, inputs))
   told$status == 0
 }
-
-toLatex.causal_formula <- function(object, ...) structure(object$latex, class = "Latex")
 
 summary.causal_hedge <- function(object, ...) structure(object, class = c("summary.causal_hedge", class(object)))
 
@@ -95,7 +96,9 @@ print.summary.causal_hedge <- function(x, ...) {
 # With `models` the two models that exclude every formula, where there are such. They come with the certificate, so that without
 # `models` the answer is another one.
 surrogate <- function(diagram, x = NULL, y = NULL, experiments, models = FALSE) {
+  if (missing(experiments)) refuse("`experiments` has the sets of variables on which there are trials, as in list(\"Z\", c(\"A\", \"B\"))")
   diagram <- as_causal_diagram(diagram)
+  check_exposures(diagram, x)
   words <- c(option("x", x), option("y", y), "--experiments", experiments_word(experiments))
   told <- ask("surrogate", diagram, words, certificate = TRUE)
   object <- object_of(told)
@@ -112,7 +115,7 @@ surrogate <- function(diagram, x = NULL, y = NULL, experiments, models = FALSE) 
 check_certificate <- function(diagram, certificate, experiments = NULL) {
   diagram <- as_causal_diagram(diagram)
   if (inherits(certificate, c("causal_formula", "causal_hedge"))) certificate <- certificate$certificate
-  if (is.null(certificate)) stop("this answer has no certificate: only those of `identify_effect` and `surrogate` have one")
+  if (is.null(certificate)) refuse("this answer has no certificate: only those of `identify_effect` and `surrogate` have one")
   words <- c("certificate", if (length(experiments)) c("--experiments", experiments_word(experiments)))
   told <- ask("check", diagram, words, list(certificate = as_bytes(certificate)))
   new_answer("causal_judgement", c(list(holds = told$yes), read_judgement(object_of(told))), told, diagram)
@@ -120,7 +123,7 @@ check_certificate <- function(diagram, certificate, experiments = NULL) {
 
 adjustment_sets <- function(diagram, x = NULL, y = NULL, most = 100) {
   diagram <- as_causal_diagram(diagram)
-  if (length(most) != 1 || !is.numeric(most) || !most %in% 1:10000) stop("`most` is a whole number from 1 to 10000")
+  if (length(most) != 1 || !is.numeric(most) || !most %in% 1:10000) refuse("`most` is a whole number from 1 to 10000")
   told <- ask("adjust", diagram, c(option("x", x), option("y", y), "--most", format(most, scientific = FALSE)))
   object <- object_of(told)
   new_answer("causal_sets", list(sets = lapply(object$sets, texts), more = object$more), told, diagram)

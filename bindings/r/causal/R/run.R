@@ -9,19 +9,19 @@ run_on <- function(words, inputs, kept) call_library(words, inputs, kept, FALSE)
 explain <- function(words, inputs) call_library(words, inputs, NULL, TRUE)
 
 call_library <- function(words, inputs, kept, explains) {
-  if (!is.character(words) || anyNA(words)) stop("`words` has to be a character vector without missing values")
+  if (!is.character(words) || anyNA(words)) refuse("`words` has to be a character vector without missing values")
   inputs <- as.list(inputs)
   names <- names(inputs)
-  if (length(inputs) && (is.null(names) || anyNA(names))) stop("each input needs a name")
+  if (length(inputs) && (is.null(names) || anyNA(names))) refuse("each input needs a name")
   answer <- .Call(call_causal, enc2utf8(words), enc2utf8(as.character(names)), lapply(unname(inputs), as_bytes), kept, explains)
-  if (answer[[1]] == 11L) stop("what is kept of the diagram isn't what the library kept")
+  if (answer[[1]] == 11L) refuse("what is kept of the diagram isn't what the library kept")
   list(status = answer[[1]], out = as_text(answer[[2]]), err = as_text(answer[[3]]))
 }
 
 # The bytes of a text; several lines are joined by line feeds.
 as_bytes <- function(text) {
   if (is.raw(text)) return(text)
-  if (!is.character(text) || anyNA(text)) stop("an input has to be text, or a raw vector")
+  if (!is.character(text) || anyNA(text)) refuse("an input has to be text, or a raw vector")
   charToRaw(enc2utf8(paste(text, collapse = "\n")))
 }
 
@@ -47,10 +47,17 @@ answer_to <- function(command, diagram, words, inputs) {
 # text.
 ask <- function(command, diagram, words = character(), inputs = list(), hand_back = integer(), certificate = FALSE) {
   answer <- answer_to(command, diagram, c(words, flag("certificate", certificate), "--json"), inputs)
-  if (answer$status > 1 && !answer$status %in% hand_back) stop(causal_fault(answer, c(list(diagram = diagram$text), inputs)))
+  if (answer$status > 1 && !answer$status %in% hand_back) stop(with_meant(causal_fault(answer, c(list(diagram = diagram$text), inputs)), diagram))
   answer$yes <- answer$status == 0
   answer$asked <- list(command = command, words = words, inputs = inputs)
   answer
+}
+
+# A fault of a name that the diagram hasn't, with the one that may be meant.
+with_meant <- function(fault, diagram) {
+  names <- diagram$vertices$name
+  if (fault$stage != "target" || !fault$number %in% c(1, 8) || !length(names)) return(fault)
+  retold(fault, meant(fault$names[1], setdiff(names, fault$names)), "; the diagram has ", listed(names))
 }
 
 # The text that the library prints for a question.
@@ -80,5 +87,5 @@ list_word <- function(names) {
 
 check_names <- function(names) {
   bad <- is.na(names) | names == "" | grepl('"', names, fixed = TRUE)
-  if (any(bad)) stop("no name of a vertex is missing, empty or has a double quote in it: ", encodeString(names[bad][1]))
+  if (any(bad)) refuse("no name of a vertex is missing, empty or has a double quote in it: ", encodeString(names[bad][1]))
 }

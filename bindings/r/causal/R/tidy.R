@@ -19,26 +19,17 @@ tidy_methods <- list(
   causal_sets = function(x, ...) stats::setNames(as.data.frame(x), c("set", "term")),
   causal_implications = function(x, ...) as.data.frame(x),
   causal_tests = function(x, ...) {
-    frame_of(list(a = x$a, b = x$b, given = as.character(x$given), estimate = x$effect, statistic = x$statistic, parameter = x$df,
-                  p.value = x$p, adj.p.value = x$p_holm, method = x$method, largest = x$largest, rmsea = x$rmsea,
-                  rmsea.low = x$rmsea_lower, rmsea.high = x$rmsea_upper))
+    frame_of(list(a = x$a, b = x$b, given = as.character(x$given), estimate = x$effect_size, statistic = x$statistic, parameter = x$df,
+                  p.value = x$p_value, adj.p.value = x$p_holm, method = x$method, largest = x$largest_difference, rmsea = x$rmsea,
+                  rmsea.low = x$rmsea_low, rmsea.high = x$rmsea_high, note = x$note))
   },
   # The levels of a cell, then its value; what follows bounds the rounding, and is no interval.
-  causal_effects = function(x, ...) with_estimate(x),
-  causal_spread = function(x, ...) with_estimate(x),
-  causal_contrast = function(x, ...) {
-    levels <- length(attr(x, "outcomes"))
-    whole(x, levels > 0 && ncol(x) == levels + 11)
-    columns <- as.list(as.data.frame(x))
-    tidy_measures(columns[seq_len(levels)], c(lapply(columns[levels + 1:2], list), lapply(c(3, 6, 9), function(k) columns[levels + k + 0:2])),
-                  c("treated", "control", names(measures)))
-  },
-  causal_means = function(x, ...) {
-    levels <- ncol(x) - 6
-    whole(x, !is.null(attr(x, "outcome")) && levels >= 0)
-    columns <- as.list(as.data.frame(x))
-    tidy_measures(columns[seq_len(levels)], lapply(c(1, 4), function(k) columns[levels + k + 0:2]), c("mean", "difference"))
-  }
+  causal_effects = function(x, ...) as.data.frame(x),
+  causal_spread = function(x, ...) as.data.frame(x),
+  causal_contrast = function(x, ...) broom_names(x),
+  causal_means = function(x, ...) broom_names(x),
+  causal_estimate = function(x, ...) broom_names(x),
+  causal_support = function(x, ...) as.data.frame(x)
 )
 
 glance_methods <- list(
@@ -74,29 +65,14 @@ glance_methods <- list(
   causal_means = function(x, ...) frame_of(c(list(outcome = attr(x, "outcome"), control = levels_or_none(attr(x, "control"))), of_intervals(x)))
 )
 
-# A row for each cell and each measure: the measure as `term`, its number, and the ends of its interval, NA where it has none.
-tidy_measures <- function(levels, parts, terms) {
-  rows <- length(parts[[1]][[1]])
-  order <- order(rep(seq_len(rows), length(parts)))
-  column <- function(k) unlist(lapply(parts, function(part) if (length(part) < k) rep(NA_real_, rows) else part[[k]]), use.names = FALSE)[order]
-  frame_of(c(lapply(levels, function(level) rep(level, each = length(parts))),
-             list(term = rep(terms, rows), estimate = column(1), conf.low = column(2), conf.high = column(3))))
+# The names that broom gives the columns: the measure is a term.
+broom_names <- function(x) {
+  columns <- as.data.frame(x)
+  if (!all(c("measure", "estimate", "conf_low", "conf_high") %in% names(columns))) return(columns)
+  names(columns)[match(c("measure", "conf_low", "conf_high"), names(columns))] <- c("term", "conf.low", "conf.high")
+  names(columns)[names(columns) == "std_error"] <- "std.error"
+  columns
 }
-
-# The column of values, which stands before that of fractions or those of bounds, as `estimate`.
-with_estimate <- function(x) {
-  columns <- as.list(as.data.frame(x))
-  whole(x, length(columns) > 1 || !nrow(x))
-  if (!length(columns)) return(as.data.frame(x))
-  back <- if (is_exact_frame(x)) 1 else 2
-  names(columns)[length(columns) - back] <- "estimate"
-  frame_of(columns)
-}
-
-is_exact_frame <- function(x) grepl("^fraction([.][0-9]+)?$", names(x)[ncol(x)])
-
-# What a part of an answer's columns is can't be told.
-whole <- function(x, is_whole) if (!is_whole) stop("only a whole answer of the class ", class(x)[1], " can be tidied; this one lacks columns")
 
 levels_or_none <- function(levels) if (length(levels)) level_text(levels) else NA_character_
 

@@ -1,6 +1,7 @@
 \name{autoplot}
 \alias{autoplot.causal_diagram}
 \alias{autoplot.causal_contrast}
+\alias{autoplot.causal_estimate}
 \title{Draw with ggplot2}
 \description{
   Methods for \code{autoplot} of the package \pkg{ggplot2}: a diagram with its open path or hedge, or the intervals of a contrast, of
@@ -12,17 +13,17 @@
   \code{\link{test_implications}}.
 
   \code{autoplot(diagram, path, hedge, layout)} has the arguments of \code{\link{plot.causal_diagram}}, and its colours. The methods
-  for answers take \code{layout} alone. \code{autoplot(contrast, term)} shows one of \code{"difference"}, \code{"ratio"} and
-  \code{"odds_ratio"}, with its interval for each outcome. A drawing of ggplot2 doesn't know the size of its paper, so its edges go
+  for answers take \code{layout} alone. \code{autoplot(answer, measure)} of a contrast or an estimate is a forest plot
+  of one measure, as \code{"difference"} or \code{"ratio"}: a line for each outcome and pair of arms, with its interval, and what notes say
+  below it. Several answers that are bound together by \code{rbind} stand in one drawing. A drawing of ggplot2 doesn't know the size of its paper, so its edges go
   round names less well than those of \code{plot}.
 }
 \seealso{\code{\link{plot.causal_diagram}}}
 \examples{
 diagram <- causal_diagram("dag { T [exposure] R [outcome] S -> T S -> R T -> R }")
 if (requireNamespace("ggplot2", quietly = TRUE)) {
-  print(ggplot2::autoplot(diagram))
   answer <- contrast(diagram, kidney_stones, treated = "A", control = "B",
-                     count = "count", resamples = 200, seed = 1)
-  print(ggplot2::autoplot(answer, term = "ratio"))
+                     count = "count", resamples = 50, seed = 1)
+  print(ggplot2::autoplot(answer, measure = "ratio"))
 }
 }

@@ -16,19 +16,20 @@
   \code{\link{evaluate}} gives the value of an effect, \code{\link{pin_spread}} its values where a variable may be pinned at any
   level, \code{\link{contrast}} differences and ratios of effects and \code{\link{effect_means}} means of a numeric outcome, with
   intervals, and \code{\link{test_implications}} tests of what the diagram implies. The data may stay in a database
-  (\code{\link{database_table}}). Answers become plain data frames by \code{tidy} and \code{glance} (\code{\link{tidy.causal_answer}}),
+  (\code{\link{database_table}}). \code{\link{support}} shows where records lack; there \code{\link{estimate}} fills in by models, which are never
+  proved, \code{\link{e_value}} and \code{\link{compare}} say how sensitive an answer is, and \code{\link{report}} writes all of it. Answers become plain data frames by \code{tidy} and \code{glance} (\code{\link{tidy.causal_answer}}),
   and drawings of \pkg{ggplot2} by \code{autoplot} (\code{\link{autoplot.causal_diagram}}).
 
   \strong{What is proved, and what isn't.} The status, the answer and the line that the library gives for its words and inputs
   are proved. This package hands it text and reads the JSON of its answers; that, the drawings, and all arithmetic with R's
-  numbers (\code{value} columns, contrasts, means, intervals and tests) are only tested. An answer holds for the diagram: nothing can say
+  numbers (\code{estimate} columns, contrasts, means, intervals and tests) are only tested. An answer holds for the diagram: nothing can say
   whether the diagram is right.
 
   Sets are character vectors. Where \code{x}, \code{y} or \code{given} is \code{NULL} the marks of the diagram count:
   \code{exposure}, \code{outcome} and \code{adjusted}. \code{character()} is the empty set. Vertices marked \code{latent} are
   projected away before each question.
 
-  A refusal is a condition of the class \code{causal_fault}; see \code{\link{causal_fault}}.
+  A refusal is a condition of the class \code{causal_refusal}; see \code{\link{causal_fault}}.
 }
 \seealso{\code{vignette("causal")} goes from a diagram to an interval.}
 \keyword{package}

@@ -10,7 +10,6 @@
 \alias{as_causal_diagram.igraph}
 \alias{as_causal_diagram.matrix}
 \alias{as_causal_diagram.tidy_dagitty}
-\alias{causal_doubt}
 \alias{as.character.causal_diagram}
 \alias{format.causal_diagram}
 \alias{print.causal_diagram}
@@ -45,7 +44,7 @@ as_causal_diagram(x, ...)
     pair is enough.}
   \item{vertices}{names of further vertices, in front of those of the edges.}
   \item{...}{for all but the \code{dag} text and objects of dagitty, which have their own marks: \code{exposure}, \code{outcome}, \code{adjusted} and \code{latent}, the names of the
-    vertices with these roles.}
+    vertices with these roles. They have to be among those of the edges or in \code{vertices}, so that a typing error makes none.}
 }
 \details{
   A text is \code{dag \{ .. \}} with statements such as \code{A}, \code{A [exposure]}, \code{A -> B <- C} and

@@ -8,8 +8,13 @@
 \alias{causal_words_fault}
 \alias{causal_not_identifiable}
 \alias{causal_missing_values}
+\alias{causal_refusal}
+\alias{causal_doubt}
 \title{Refusals}
-\description{What the library refuses is an error of the class \code{causal_fault}, which says what is wrong and where.}
+\description{
+  All that is refused is an error of the class \code{causal_refusal}; what the library refuses has the class \code{causal_fault} too, and
+  says what is wrong and where. Doubts, of what is done but may not be meant, are warnings of the class \code{causal_doubt}.
+}
 \details{
   A fault of the text of a graph has the class \code{causal_graph_fault}; of a set of names \code{causal_target_fault}; of a
   certificate \code{causal_certificate_fault}; of data \code{causal_counts_fault}; of a value over data
@@ -33,7 +38,9 @@
 
   Where an effect has to be evaluated that isn't identifiable, the error has the class \code{causal_not_identifiable} and the
   element \code{hedge}. Where a column that it needs has missing values, the class is \code{causal_missing_values}, and \code{rows} has
-  the rows.
+  the rows. A set that isn't admissible is refused by \code{causal_not_admissible}, no exposure by \code{causal_no_exposure}, a level, a
+  vertex or a column that isn't there by \code{causal_unknown_level}, \code{causal_unknown_vertex} and \code{causal_unknown_column}, and other
+  arguments by \code{causal_argument}.
 
   Faults of graphs: 1 not UTF-8, 2 no token, 3 not the grammar, 4 no \code{dag}, 5 another kind of edge, 6 an unknown flag,
   7 \code{selected}, 8 an edge from a vertex to itself, 9 more than 64 names, 10 two roles of one vertex, 11 a cycle, 12 too

@@ -12,7 +12,7 @@ database_table(connection, table)
 
 counts_query(diagram, table, x = NULL, y = NULL, count = NULL,
              set = NULL, of = c("effect", "implications"),
-             connection = NULL, given = NULL, short = FALSE)
+             connection = NULL, given = NULL, short = NULL)
 
 \method{print}{causal_table}(x, ...)
 }
@@ -26,7 +26,7 @@ counts_query(diagram, table, x = NULL, y = NULL, count = NULL,
   \item{set}{names of the vertices to adjust for, or \code{NULL} for the formula of \code{\link{identify_effect}}. A set that
     can't be adjusted for is an error.}
   \item{given}{names of vertices that a conditional effect is given, as in \code{\link{evaluate}}.}
-  \item{short}{whether the short formula is meant, as in \code{\link{evaluate}}.}
+  \item{short}{whether the short formula is meant, as in \code{\link{evaluate}}; \code{NULL} for its default.}
   \item{of}{whether the counts are for an effect, or for \code{\link{implications}} and their tests.}
   \item{...}{not used.}
 }

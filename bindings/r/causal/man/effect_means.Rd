@@ -8,30 +8,31 @@
 }
 \usage{
 effect_means(diagram, data, x = NULL, y = NULL, control = NULL,
-             count = NULL, level = 0.95, resamples = 1000, seed = NULL,
-             missing = c("error", "drop"), at = NULL,
+             count = NULL, level = 0.95, resamples = 1000, seed = 0,
+             missing = c("error", "drop", "level"), at = NULL,
              interval = c("percentile", "bca"), set = NULL,
              given = NULL, progress = NULL, back_door = FALSE,
-             zero = FALSE, short = FALSE)
+             zero = TRUE, short = is.null(set), weights = NULL,
+             clusters = NULL, strata = NULL)
 \method{print}{causal_means}(x, digits = 4, ...)
 }
 \arguments{
   \item{diagram, data, x, y, count, missing, at, set, given, back_door, zero, short}{as in \code{\link{evaluate}}, with one outcome whose
     levels are numbers, or are written as such; in the method \code{x} is an answer.}
   \item{control}{the levels of \code{x} with which the others are compared, as in \code{\link{contrast}}; the first by default.}
-  \item{level, resamples, seed, interval, progress, digits}{as in \code{\link{contrast}}.}
+  \item{level, resamples, seed, interval, progress, digits, weights, clusters, strata}{as in \code{\link{contrast}}.}
   \item{...}{passed on to \code{\link{print.data.frame}}.}
 }
 \details{
   A mean is the sum of the outcome's levels, each times the probability of it under the intervention. \strong{What is proved} is
-  each of these probabilities, over the data and over each resample, as \code{\link{evaluate}} says. The means, their differences
+  each of these probabilities over the data, as \code{\link{evaluate}} says. Those over resamples, the means, their differences
   and the intervals are \strong{only computed}, with R's numbers.
 }
 \value{
-  A data frame of the class \code{causal_means} with a row for each level of the exposures, and of what is given: their columns, \code{mean},
-  \code{lower} and \code{upper}, and \code{difference}, \code{difference_lower} and \code{difference_upper}. Attributes:
-  \code{outcome}, \code{control}, \code{level}, \code{interval}, \code{resamples}, \code{without_value}, \code{seed},
-  \code{pinned} and \code{dropped}.
+  A data frame of the class \code{causal_means} with a row for each level of the exposures, and of what is given, and each measure: their
+  columns, \code{control}, \code{measure} (\code{"mean"} or \code{"difference"}), \code{estimate}, \code{conf_low}, \code{conf_high} and
+  \code{note}. Attributes: \code{outcome}, \code{control}, \code{level}, \code{interval}, \code{resamples}, \code{without_value},
+  \code{seed}, \code{pinned} and \code{dropped}.
 }
 \examples{
 diagram <- causal_diagram("dag { A -> X A -> days X -> days }")

@@ -10,8 +10,9 @@
 \description{Computes the effect of \code{x} on \code{y} over a data frame, in bounds that hold or in exact fractions.}
 \usage{
 evaluate(diagram, data, x = NULL, y = NULL, count = NULL, exact = FALSE,
-         missing = c("error", "drop"), at = NULL, set = NULL,
-         given = NULL, back_door = FALSE, zero = FALSE, short = FALSE)
+         missing = c("error", "drop", "level"), at = NULL, set = NULL,
+         given = NULL, back_door = FALSE, zero = TRUE,
+         short = is.null(set), weights = NULL)
 
 \method{as.data.frame}{causal_effects}(x, ...)
 }
@@ -22,27 +23,33 @@ evaluate(diagram, data, x = NULL, y = NULL, count = NULL, exact = FALSE,
     table of the package \pkg{dplyr}.}
   \item{x, y}{names of the exposures and of the outcomes; \code{NULL} for the vertices with these marks. In the method \code{x} is
     an answer.}
-  \item{count}{the name of the column of counts, which is no variable of the formula; \code{NULL} where each row is one record.}
+  \item{count}{the name of the column of counts, which is no variable of the formula; \code{NULL} where each row is one record. A count is
+    a frequency: a row with the count 7 stands for seven records. Weights of a survey are no counts, and make intervals much too narrow if
+    they are taken for such; they are given as \code{weights}.}
+  \item{weights}{the name of a column of weights, which say for how many of the population a record stands. The value is that of the
+    weights as whole numbers with a sum of about 10^12.}
   \item{exact}{whether exact fractions are given, as text.}
   \item{missing}{what is done where a column that the effect needs has a missing value: \code{"error"} is an error of the class
-    \code{causal_missing_values} with the \code{rows}; \code{"drop"} leaves the row out, and the answer says how many. Leaving rows
-    out is right only where what is missing is missing completely at random. To keep them, make missing a level of its own
-    (\code{\link{addNA}}).}
+    \code{causal_missing_values} with the \code{rows}; \code{"drop"} leaves the row out, and the answer says how many records
+    that are. Leaving them out is right only where what is missing is missing completely at random. \code{"level"} makes missing a level
+    of its own.}
   \item{...}{not used.}
   \item{set}{names of vertices to adjust for, in place of the formula of \code{\link{identify_effect}}. A set that can't be adjusted
     for (\code{\link{adjusts}}) is an error.}
   \item{given}{names of vertices: the effect is that among those with the same values of these, by the formula of
-    \code{\link{identify_effect}}.}
+    \code{\link{identify_effect}}. Or a list of levels by name, as \code{list(S = "small")}, where one level is wanted.}
   \item{back_door}{whether the set has to meet the back-door criterion.}
   \item{zero}{whether a product with a factor 0 is 0 whatever its other factors are, also where one of them has a condition that no
-    record has. Where there is a value without it, it is the same.}
+    record has. Where there is a value without it, it is the same; so it is the default.}
   \item{short}{whether the formula is the one that \code{\link{identify_effect}} gives with \code{short}, also with \code{given};
-    it goes with no \code{set}.}
+    it goes with no \code{set}. It is the default, since it is the formula that analysts expect and that asks for the fewest
+    combinations of levels.}
   \item{at}{the levels at which the formula's free variables are pinned, as \code{list(Z = 1)}; the first in order by default.}
 }
 \details{
   Each distinct value of a column is a level, so columns with many numbers have to be cut to a few classes first
-  (\code{\link{cut}}). Factors have the order of their levels, without those that don't occur; text is taken in order of first
+  (\code{\link{cut}}). Factors have the order of their levels, without those that don't occur but for outcomes, of
+  which a declared level without a record has the value 0; text is taken in order of first
   appearance; numbers, truth values and dates are sorted. The answer has the values of the data, with their type.
 
   Where the formula has a free variable it is pinned at its first level in order (numbers by size, text by its characters, factors
@@ -53,21 +60,22 @@ evaluate(diagram, data, x = NULL, y = NULL, count = NULL, exact = FALSE,
   population its value is the same; over a sample it may be another, and one formula may have a value where the other has none.
 
   \strong{What is proved}, of each value: it is the value of the formula of \code{\link{identify_effect}}, or of that of the set,
-  over the counts that the library was given (the fraction exactly; the bounds enclose it), and it equals the effect, or its bounds enclose it, in each
+  over the counts that the library was given (the fraction exactly; the bounds enclose it), where the formula has one without \code{zero}; where it hasn't, it is the formula's by
+  that rule, and no more is proved of it. And it equals the effect, or its bounds enclose it, in each
   positive model that fits the diagram and that the counts match. \strong{What is only computed} or tested: that the data frame
-  became these counts, and \code{value}, the nearest number of R.
+  became these counts, and \code{estimate}, the nearest number of R.
 
   A value is a plug-in value: it says nothing about its sampling error. See \code{\link{contrast}} for intervals.
 
   A cell that no record supports is an error of the class \code{causal_evaluation_fault} with its \code{cell}, and with the
-  \code{condition} that no record has: \code{short}, \code{zero}, or \code{set} with a smaller set, may help. An effect that
+  \code{condition} that no record has; its message says what may help. \code{\link{support}} shows where records lack. An effect that
   isn't identifiable is one of the class \code{causal_not_identifiable} with its \code{hedge}.
 }
 \value{
-  A data frame of the class \code{causal_effects}: a column for each vertex of \code{x}, \code{given} and \code{y}, then \code{value}, and
+  A data frame of the class \code{causal_effects}: a column for each vertex of \code{x}, \code{given} and \code{y}, then \code{estimate}, and
   \code{fraction} or the bounds \code{from} and \code{to} of 18 digits as text. A vertex with one of these names keeps it, and
   the computed column gets a number. The attribute \code{pinned} is a list of the pinned levels, and \code{dropped} the number
-  of rows left out. \code{as.data.frame} gives a plain data frame of it, and of the other answers over data: a row for each cell,
+  of records left out. \code{value} is an old name of \code{estimate}, which warns. \code{as.data.frame} gives a plain data frame of it, and of the other answers over data: a row for each cell,
   without what the values rest on.
 }
 \examples{

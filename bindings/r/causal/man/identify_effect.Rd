@@ -13,16 +13,18 @@
 identify_effect(diagram, x = NULL, y = NULL, given = NULL, short = FALSE)
 
 \method{identify}{causal_diagram}(x, ...)
-\method{toLatex}{causal_formula}(object, ...)
+\method{toLatex}{causal_formula}(object, width = 55, ...)
 \method{summary}{causal_hedge}(object, ...)
 }
 \arguments{
   \item{diagram}{a diagram, or what \code{\link{as_causal_diagram}} takes.}
-  \item{x, y}{names of the exposures and of the outcomes; \code{NULL} for the vertices with these marks. In the method
+  \item{x, y}{names of the exposures and of the outcomes; \code{NULL} for the vertices with these marks. Where there is
+    no exposure that is refused: \code{character()} asks for the outcome where nothing is done. In the method
     \code{x} is a diagram.}
   \item{given}{names of variables with whose values the effect is asked for, \eqn{P(y | do(x), given)}; \code{NULL} for none.}
   \item{short}{\code{TRUE} for the shortest formula that is found.}
   \item{object}{an answer.}
+  \item{width}{how many letters a line of the formula has at most, about.}
   \item{...}{for the method \code{identify} further arguments of \code{identify_effect}, not named; else not used.}
 }
 \details{
@@ -38,7 +40,7 @@ identify_effect(diagram, x = NULL, y = NULL, given = NULL, short = FALSE)
 
   With \code{given} the formula is one for the conditional effect. Where there is none, the hedge is one of a joint effect, by
   which that can't be computed from observations; and no formula over observations equals the conditional effect in every model.
-  Where the answer is \code{settled}, the two printed models differ on the conditional effect too; else two others do.
+  Where the answer is \code{settled}, the two printed models differ on the conditional effect too; else no two that do are shown.
 
   With \code{short} the formula is one that is proved to be no longer than the one without. It needn't be the shortest there is.
 }

@@ -9,7 +9,7 @@
 }
 \usage{
 implications(diagram, data = NULL, count = NULL,
-             missing = c("error", "drop"))
+             missing = c("error", "drop", "level"))
 
 \method{print}{causal_implications}(x, ...)
 \method{as.data.frame}{causal_implications}(x, ...)
@@ -35,7 +35,7 @@ implications(diagram, data = NULL, count = NULL,
   text, whose elements are character vectors: \code{given[[1]]} is the first, and \code{as.list} and \code{lapply} see them. With
   data also \code{difference}, the nearest number of R, \code{exact}, the same as text, and \code{at}, the levels at which it is,
   likewise as text whose elements are lists. \code{as.data.frame} gives a plain data frame with text alone, and
-  \code{\link{write.csv}} writes either. The attribute \code{dropped} is the number of rows left out.
+  \code{\link{write.csv}} writes either. The attribute \code{dropped} is the number of records left out.
 }
 \seealso{\code{\link{separated}}, \code{\link{test_implications}}}
 \examples{

@@ -8,13 +8,14 @@
 }
 \usage{
 pin_spread(diagram, data, x = NULL, y = NULL, count = NULL,
-           exact = FALSE, missing = c("error", "drop"),
-           given = NULL, zero = FALSE, short = FALSE)
+           exact = FALSE, missing = c("error", "drop", "level"),
+           given = NULL, zero = TRUE, short = FALSE)
 
 \method{print}{causal_spread}(x, ...)
 }
 \arguments{
-  \item{diagram, data, x, y, count, exact, missing, given, zero, short}{as in \code{\link{evaluate}}; in the method \code{x} is an answer.}
+  \item{diagram, data, x, y, count, exact, missing, given, zero}{as in \code{\link{evaluate}}; in the method \code{x} is an answer.}
+  \item{short}{whether the formula is the short one, which may read fewer variables; by default it is that of \code{\link{identify_effect}}.}
   \item{...}{passed on to \code{\link{print.data.frame}}.}
 }
 \details{

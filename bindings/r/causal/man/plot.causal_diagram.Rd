@@ -23,7 +23,8 @@
   \item{x}{a diagram; or an answer, which is drawn in the diagram that was asked about, without its hidden vertices.}
   \item{path}{an open path, as an answer has it in \code{path}.}
   \item{hedge}{a hedge, as \code{\link{identify_effect}} answers it.}
-  \item{layout}{a matrix with two columns, the places of the vertices, and their names as row names.}
+  \item{layout}{a matrix with two columns, the places of the vertices, and their names as row names; \code{"layers"} for places that
+    are computed; by default those of the attribute \code{pos}, as DAGitty writes it, where each vertex has one, and else layers.}
   \item{legend}{whether the colours are explained.}
   \item{...}{passed on to \code{\link[graphics]{title}}; from the methods for answers, to the one for diagrams.}
 }

@@ -10,7 +10,7 @@ surrogate(diagram, x = NULL, y = NULL, experiments, models = FALSE)
 }
 \arguments{
   \item{diagram}{a diagram, or what \code{\link{as_causal_diagram}} takes.}
-  \item{x, y}{names of the exposures and of the outcomes; \code{NULL} for the vertices with these marks.}
+  \item{x, y}{names of the exposures and of the outcomes; \code{NULL} for the vertices with these marks. Without an exposure it is refused.}
   \item{experiments}{a list of character vectors, from one to eight: each names the variables that were set in one experiment,
     under which all others were observed. A single experiment needn't be in a list.}
   \item{models}{whether a hedge is asked for that excludes every formula from these experiments, with its two models.}

@@ -12,7 +12,7 @@
 
   \code{tidy} gives
   \itemize{
-    \item of \code{\link{contrast}} and \code{\link{effect_means}}: the levels of the outcomes or of the exposures, \code{term} (which
+    \item of \code{\link{contrast}} and \code{\link{effect_means}}: the answer itself, with broom's names: \code{term} (which
       measure), \code{estimate}, \code{conf.low} and \code{conf.high}, \code{NA} where there is no interval;
     \item of \code{\link{evaluate}} and \code{\link{pin_spread}}: the levels, \code{estimate}, and the fraction or the bounds
       \code{from} and \code{to} for rounding, which are no interval;
@@ -28,8 +28,6 @@
   \code{glance} gives what the answer rests on, as \code{conf.level}, \code{conf.method}, \code{resamples}, \code{without_value},
   \code{seed}, \code{pinned} and \code{dropped} where there are intervals; of tests the smallest \code{adj.p.value}; of a formula or
   what stands in its place \code{target} and \code{identifiable}; of any other answer \code{holds}.
-
-  An answer over data of which rows or columns were taken is tidied only where it has all its columns.
 }
 \examples{
 diagram <- causal_diagram("dag { T [exposure] R [outcome] S -> T S -> R T -> R }")

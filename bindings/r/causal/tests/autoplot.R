@@ -1,5 +1,6 @@
 # Drawings of the package ggplot2.
 library(causal)
+part_of <- function(answer, measure, column = "estimate") as.data.frame(answer)[[column]][answer$measure == measure]
 own <- function(name) getFromNamespace(name, "causal")
 same <- function(a, b) stopifnot(identical(a, b))
 
@@ -40,20 +41,20 @@ for (it in list(identify_effect(stones), adjusts(stones, "S"), adjusts(stones, c
 # Intervals: those of the answer
 answer <- contrast(stones, kidney_stones, treated = "A", control = "B", count = "count", resamples = 50, seed = 2)
 for (term in c("difference", "ratio", "odds_ratio")) {
-  layers <- drawn(autoplot(answer, term = term))
-  same(sort(layers[[3]]$x), sort(answer[[term]]))
-  same(sort(layers[[2]]$xmin), sort(answer[[paste0(term, "_lower")]]))
-  same(sort(layers[[2]]$xmax), sort(answer[[paste0(term, "_upper")]]))
+  layers <- drawn(autoplot(answer, measure = term))
+  same(sort(layers[[3]]$x), sort(part_of(answer, term)))
+  same(sort(layers[[2]]$xmin), sort(part_of(answer, term, "conf_low")))
+  same(sort(layers[[2]]$xmax), sort(part_of(answer, term, "conf_high")))
   same(layers[[1]]$xintercept, if (term == "difference") 0 else 1)
 }
 same(nrow(drawn(autoplot(contrast(stones, kidney_stones, count = "count", resamples = 0)))[[3]]), 2L)
 means <- effect_means(stones, transform(kidney_stones, R = R == "success", T = factor(T)), count = "count", resamples = 20, seed = 1)
 layers <- drawn(autoplot(means))
-same(sort(layers[[2]]$x), sort(means$mean))
-same(sort(layers[[1]]$xmax), sort(means$upper))
+same(sort(layers[[2]]$x), sort(part_of(means, "mean")))
+same(sort(layers[[1]]$xmax), sort(part_of(means, "mean", "conf_high")))
 
 # Tests of implications: the size of each difference
 tests <- test_implications("dag { S -> T -> R }", kidney_stones, count = "count", seed = 1)
 layers <- drawn(autoplot(tests))
 same(layers[[3]]$x, tests$rmsea)
-same(c(layers[[2]]$xmin, layers[[2]]$xmax), c(tests$rmsea_lower, tests$rmsea_upper))
+same(c(layers[[2]]$xmin, layers[[2]]$xmax), c(tests$rmsea_low, tests$rmsea_high))

@@ -46,40 +46,34 @@ records <- kidney_stones[rep(seq_len(nrow(kidney_stones)), kidney_stones$count),
 listed <- write_table("odd \"name'; --", transform(records, count = 3.5, other = seq_len(nrow(records))))
 same(capture.output(print(counted)), "table counted of a database")
 
-# Rows left out are counted as whole numbers of a data frame, and by records of a table.
-agree <- function(a, b) {
-  attr(a, "dropped") <- as.integer(attr(a, "dropped"))
-  same(a, b)
-}
-
 # Each answer is that over the counts as a data frame, in the same order
 wanted <- evaluate(stones, ordered_stones, count = "count", exact = TRUE)
-agree(evaluate(stones, counted, count = "count", exact = TRUE), wanted)
-agree(evaluate(stones, listed, exact = TRUE), wanted)
-agree(evaluate(stones, database_table(connection, c("main", "counted")), count = "count", exact = TRUE), wanted)
-agree(evaluate(stones, database_table(connection, DBI::Id(schema = "main", table = "counted")), count = "count", exact = TRUE), wanted)
+same(evaluate(stones, counted, count = "count", exact = TRUE), wanted)
+same(evaluate(stones, listed, exact = TRUE), wanted)
+same(evaluate(stones, database_table(connection, c("main", "counted")), count = "count", exact = TRUE), wanted)
+same(evaluate(stones, database_table(connection, DBI::Id(schema = "main", table = "counted")), count = "count", exact = TRUE), wanted)
 fetched <- DBI::dbGetQuery(connection, counts_query(stones, listed$table, connection = connection))
 same(sort(evaluate(stones, fetched, count = "count", exact = TRUE)$fraction), sort(wanted$fraction))
 fetched <- DBI::dbGetQuery(connection, counts_query(stones, "counted", count = "count", set = "S"))
 same(sort(evaluate(stones, fetched, count = "count", exact = TRUE)$fraction), sort(wanted$fraction))
 for (interval in c("percentile", "bca")) {
   compare <- function(data, count = NULL) contrast(stones, data, treated = "A", control = "B", count = count, resamples = 50, seed = 1, interval = interval)
-  agree(compare(counted, "count"), compare(ordered_stones, "count"))
-  agree(compare(listed), compare(ordered_stones, "count"))
+  same(compare(counted, "count"), compare(ordered_stones, "count"))
+  same(compare(listed), compare(ordered_stones, "count"))
 }
 numbers <- sorted(transform(ordered_stones, R = as.integer(R == "success"))[c("T", "R", "S", "count")])
-agree(effect_means(stones, write_table("numbers", numbers), count = "count", resamples = 20, seed = 1),
+same(effect_means(stones, write_table("numbers", numbers), count = "count", resamples = 20, seed = 1),
      effect_means(stones, numbers, count = "count", resamples = 20, seed = 1))
 napkin <- "dag { X [exposure] Y [outcome] W -> Z -> X -> Y W <-> X W <-> Y }"
 grid <- expand.grid(Z = 0:1, Y = 0:1, X = 0:1, W = 0:1)
 grid$n <- seq_len(nrow(grid)) + 3
 grid_table <- write_table("grid", grid[16:1, ])
-agree(pin_spread(napkin, grid_table, count = "n"), pin_spread(napkin, grid, count = "n"))
+same(pin_spread(napkin, grid_table, count = "n"), pin_spread(napkin, grid, count = "n"))
 same(attr(evaluate(napkin, grid_table, count = "n", at = list(Z = 1)), "pinned"), list(Z = 1L))
 chain <- causal_diagram("dag { S -> T -> R }")
 for (method in c("chi-squared", "permutation")) {
   test <- function(data, count = NULL) test_implications(chain, data, count = count, method = method, permutations = 99, seed = 1)
-  agree(test(counted, "count"), test(sorted(kidney_stones[c("R", "S", "T", "count")]), "count"))
+  same(test(counted, "count"), test(sorted(kidney_stones[c("R", "S", "T", "count")]), "count"))
   same(test(listed), test(counted, "count"))
 }
 same(as.data.frame(implications(chain, listed))$exact, implications(chain, kidney_stones, count = "count")$exact)
@@ -135,6 +129,6 @@ DBI::dbDisconnect(connection)
 if (nzchar(system.file(package = "duckdb"))) {
   connection <- DBI::dbConnect(getExportedValue("duckdb", "duckdb")())
   DBI::dbWriteTable(connection, "counted", kidney_stones)
-  agree(evaluate(stones, database_table(connection, "counted"), count = "count", exact = TRUE), wanted)
+  same(evaluate(stones, database_table(connection, "counted"), count = "count", exact = TRUE), wanted)
   DBI::dbDisconnect(connection, shutdown = TRUE)
 } else cat("skipped: database: no package duckdb\n")

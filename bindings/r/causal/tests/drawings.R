@@ -38,3 +38,14 @@ check_edges(causal_diagram("dag { \"age at diagnosis\" -> \"the new drug\" -> re
 long <- causal_diagram("dag { \"the age of the patient at diagnosis\" -> \"recovery within a year\" }")
 check_edges(long)
 invisible(dev.off())
+
+# Where DAGitty drew the vertices, there they stand, also in drawings of answers
+laid <- causal_diagram("dag {\nbb=\"0,0,1,1\"\nA [exposure,pos=\"-1,0.5\"]\n\"a b\" [outcome, pos=\"2.5,-1e-1\"]\nC [pos=\"0,2\"]\nC -> A [pos=\"9,9\"]\nC -> \"a b\"\nA -> \"a b\"\n}")
+stopifnot(identical(laid$positions, rbind(A = c(x = -1, y = -0.5), "a b" = c(2.5, 0.1), C = c(0, -2))))
+pdf(NULL, width = 12, height = 7)
+stopifnot(identical(plot(laid), laid$positions), identical(plot(separated(laid, "A", "a b")), laid$positions))
+stopifnot(!identical(plot(laid, layout = "layers"), laid$positions))
+check_edges(laid)
+stopifnot(is.null(causal_diagram("dag { A [pos=\"1,1\"] B A -> B }")$positions))
+plot(paths(laid), which = 2)
+invisible(dev.off())

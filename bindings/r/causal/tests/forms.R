@@ -66,7 +66,7 @@ is_diagram(read_diagram(path("a.gml", c("\ufeffgraph [ directed 1 node [ id 1 la
 for (name in c("a.dag", "a.txt", "a")) is_diagram(read_diagram(path(name, wanted)), wanted)
 is_diagram(read_diagram(path("b.txt", "digraph { X -> \u00d6 }"), "dot", exposure = "X"), wanted)
 refuses("its own marks", read_diagram(path("a.dag", wanted), exposure = "X"))
-refuses("should be", read_diagram(path("a.dag", wanted), "png"))
+refuses("`format` is", read_diagram(path("a.dag", wanted), "png"))
 
 # Objects of dagitty are texts; a tidy diagram of ggdag has a row for each edge
 is_diagram(as_causal_diagram(structure("dag {\nX [exposure,pos=\"0,1\"]\nX -> Y\n}\n", class = "dagitty")), "dag { X [exposure] X -> Y }")

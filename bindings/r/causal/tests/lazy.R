@@ -13,22 +13,18 @@ lazy <- function(data) {
   dplyr::tbl(connection, name)
 }
 sorted <- function(data) data[do.call(order, c(unname(as.list(data)), list(method = "radix"))), , drop = FALSE]
-agree <- function(a, b) {
-  attr(a, "dropped") <- as.integer(attr(a, "dropped"))
-  same(a, b)
-}
 stones <- causal_diagram("dag { T [exposure] R [outcome] S -> T S -> R T -> R }")
 counts <- sorted(kidney_stones[c("T", "R", "S", "count")])
 records <- kidney_stones[rep(seq_len(nrow(kidney_stones)), kidney_stones$count), c("S", "T", "R")]
 wanted <- evaluate(stones, counts, count = "count", exact = TRUE)
-agree(evaluate(stones, lazy(kidney_stones), count = "count", exact = TRUE), wanted)
-agree(evaluate(stones, lazy(records), exact = TRUE), wanted)
-agree(evaluate(stones, dplyr::group_by(lazy(records), S), exact = TRUE), wanted)
+same(evaluate(stones, lazy(kidney_stones), count = "count", exact = TRUE), wanted)
+same(evaluate(stones, lazy(records), exact = TRUE), wanted)
+same(evaluate(stones, dplyr::group_by(lazy(records), S), exact = TRUE), wanted)
 compare <- function(data, count = NULL) contrast(stones, data, treated = "A", control = "B", count = count, resamples = 20, seed = 1)
-agree(compare(lazy(records)), compare(counts, "count"))
+same(compare(lazy(records)), compare(counts, "count"))
 chain <- causal_diagram("dag { S -> T -> R }")
 test <- function(data, count = NULL) test_implications(chain, data, count = count, method = "permutation", permutations = 9, seed = 1)
-agree(test(lazy(records)), test(sorted(kidney_stones[c("R", "S", "T", "count")]), "count"))
+same(test(lazy(records)), test(sorted(kidney_stones[c("R", "S", "T", "count")]), "count"))
 
 # Missing values; names; counts that are none; columns that aren't there
 holes <- rbind(records, data.frame(S = c(NA, NA, "small"), T = "A", R = c("success", "success", NA)))

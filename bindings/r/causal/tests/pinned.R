@@ -50,7 +50,7 @@ same(length(shown), 10L)
 stopifnot(grepl("^at most 0.0.* apart; in the population every level gives the same$", shown[length(shown)]))
 more <- rbind(data, transform(data[1, ], Z = 7L))
 spread <- pin_spread(napkin, more)
-same(attr(spread, "without_value"), list(list(Z = 7L)))
+same(attr(spread, "without_value"), list(list(Z = "7")))
 stopifnot("no value at Z=7" %in% utils::capture.output(print(spread)))
 stopifnot(grepl("no variable beside x and y", refusal(pin_spread("dag { X -> Y }", data, "X", "Y"))))
 

@@ -57,7 +57,7 @@ check_values <- function(diagram, names, x, y, effect) {
   } else {
     asked["value"] <<- asked["value"] + 1
     stopifnot(nrow(values) == 9, identical(names(values)[1:2], c(x, y)), setequal(names(attr(values, "pinned")), effect$free))
-    stopifnot(setequal(values[[1]], levels), abs(tapply(values$value, match(values[[1]], levels), sum) - 1) < 1e-9)
+    stopifnot(setequal(values[[1]], levels), abs(tapply(values$estimate, match(values[[1]], levels), sum) - 1) < 1e-9)
   }
 }
 

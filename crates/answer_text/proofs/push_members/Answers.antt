@@ -1,4 +1,4 @@
-use Rattle.std.proofs.Common.{ℕ, ◌++◌, length, sym, ap, ◌∙◌, arith, subst}
+use Rattle.std.proofs.Common.{◌++◌, length, sym, ap, ◌∙◌, arith, subst}
 use Rattle.mixed_graph.specs.Bits.{has}
 use Rattle.mixed_graph.proofs.MemberLists.{AreMembers, members-are}
 use Rattle.answer_text.specs.Texts.{comma_in}

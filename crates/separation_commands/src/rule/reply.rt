@@ -1,56 +1,70 @@
 //! The answer of `rule`.
 
-ghost use Rattle.std.specs.Prelude.{◌<◌, IfOk};
+ghost use Rattle.std.specs.Prelude.{◌<◌, IfOk, IfErr};
 ghost use Rattle.mixed_graph.specs.Bits.{has};
 ghost use Rattle.mixed_graph.specs.Shown.{graph_of};
 ghost use Rattle.do_rules.specs.Rules.{AreFourSets};
+ghost use Rattle.targets.specs.Targets.{OrMemory, IsRuleFault};
+ghost use Rattle.diagram.specs.Sets.{rule_lists};
 ghost use Rattle.replies.specs.Told.{told_of};
-ghost use Rattle.separation_commands.specs.RuleAnswers.{RuleAnswer, SetsAnswer};
+ghost use Rattle.told.specs.Forms.{plain_form};
+ghost use Rattle.told.specs.Refusals.{target_refusal};
+ghost use Rattle.told.specs.Telling.{Tells};
+ghost use Rattle.separation_commands.specs.RuleRight.{Decides, IsForLists, IsRuleAnswer};
+ghost use Rattle.separation_commands.specs.RuleTelling.{rule_telling};
 ghost use Rattle.separation_commands.specs.RuleRequests.{request_of};
 
-use crate::rule::formats::{rule_fails, rule_holds};
+use crate::rule::answer::Answer;
 use crate::rule::request::Request;
-use dag_reader::ReadGraph;
 use diagram::{Diagram, asked_rule};
 use do_rules::Rule;
-use replies::{Format, Outcome, Reply, refuse};
+use mixed_graph::Graph;
+use replies::Reply;
 use std::alloc::{AllocError, Global};
-use targets::RuleSets;
+use targets::{RuleSets, TargetFault};
+use told::{Form, reply};
 
-/// Whether a rule of the do-calculus holds for the listed names, in the observed graph.
+/// What is told of a rule.
 pub fn rule_reply(
     alloc: Global,
     diagram: &Diagram,
     asked: &Request<'_>,
 ) -> Result<Reply, AllocError>
-    ensures { let q = request_of asked.now in IfOk result (λ r. RuleAnswer q.format q.rule diagram.now q.y q.x q.z q.given r.outcome (told_of r)) }
+    ensures { let q = request_of asked.now in IfOk result (λ r. Tells rule_telling target_refusal (IsRuleAnswer q.rule diagram.now q.y q.x q.z q.given)
+        (plain_form q.format) diagram.now.observed.names r.outcome (told_of r)) }
 {
-    match asked_rule(alloc, diagram, &asked.y, &asked.x, &asked.z, &asked.given) {
-        Ok(sets) => decide(alloc, &diagram.observed, asked.rule, sets, asked.format),
-        Err(fault) => refuse(alloc, &fault),
-    }
+    let answer = rule_answer(alloc, diagram, asked);
+    reply(
+        alloc,
+        Form::plain(asked.format),
+        &diagram.observed.names,
+        &answer,
+    )
 }
 
-/// The answer of a rule for sets of the observed graph.
-fn decide(
+/// Whether a rule of the do-calculus holds for the listed names, in the observed graph.
+pub fn rule_answer(
     alloc: Global,
-    seen: &ReadGraph,
-    rule: Rule,
-    sets: RuleSets,
-    format: Format,
-) -> Result<Reply, AllocError>
-    requires sets { AreFourSets seen.now.graph.n (has sets.x.bits) (has sets.y.bits) (has sets.z.bits) (has sets.given.bits) }
-    requires some { 0 < sets.y.bits }
-    ensures { IfOk result (λ r. SetsAnswer format rule (graph_of seen.now.graph) seen.now.names sets.y.bits sets.x.bits sets.z.bits sets.given.bits r.outcome (told_of r)) }
+    diagram: &Diagram,
+    asked: &Request<'_>,
+) -> Result<Answer, TargetFault>
+    ensures answer { let q = request_of asked.now in
+        IfOk result (IsForLists q.rule (graph_of diagram.now.observed.graph) (rule_lists diagram.now.read diagram.now.observed.names q.y q.x q.z q.given)) }
+    ensures fault { let q = request_of asked.now in
+        IfErr result (OrMemory (IsRuleFault (rule_lists diagram.now.read diagram.now.observed.names q.y q.x q.z q.given))) }
 {
-    match rule.applies(&seen.graph, sets.x, sets.y, sets.z, sets.given) {
-        Ok(()) => {
-            let text = rule_holds(alloc, format, &seen.names, rule, sets)?;
-            Ok(Reply::answer(alloc, Outcome::Yes, text))
-        }
-        Err(path) => {
-            let text = rule_fails(alloc, format, &seen.names, rule, sets, &path)?;
-            Ok(Reply::answer(alloc, Outcome::No, text))
-        }
+    let sets = asked_rule(alloc, diagram, &asked.y, &asked.x, &asked.z, &asked.given)?;
+    Ok(decide(&diagram.observed.graph, asked.rule, sets))
+}
+
+/// The answer for sets of a graph.
+fn decide(g: &Graph, rule: Rule, sets: RuleSets) -> Answer
+    requires sets { AreFourSets g.now.n (has sets.x.bits) (has sets.y.bits) (has sets.z.bits) (has sets.given.bits) }
+    requires some { 0 < sets.y.bits }
+    ensures { Decides rule (graph_of g.now) sets result }
+{
+    match rule.applies(g, sets.x, sets.y, sets.z, sets.given) {
+        Ok(()) => Answer::Holds(rule, sets),
+        Err(path) => Answer::Fails(rule, sets, path),
     }
 }

@@ -4,7 +4,7 @@ ghost use Rattle.std.specs.Prelude.{◌≡◌, ◌++◌, ℕ, OnOk, length};
 ghost use Rattle.mixed_graph.specs.Bits.{has};
 ghost use Rattle.mixed_graph.specs.Sets.{Within};
 ghost use Rattle.do_rules.specs.Rules.{left_of, right_of};
-ghost use Rattle.separation_commands.specs.RuleLines.{side_text, side_of, IsTermWithin};
+ghost use Rattle.separation_commands.specs.RuleLines.{side_text, side_of};
 
 use answer_text::{Term, push_term};
 use do_rules::Rule;
@@ -14,8 +14,7 @@ use targets::RuleSets;
 
 /// The left side of a rule.
 pub fn left_of(rule: Rule, sets: RuleSets) -> Term
-    ensures side { side_of result ≡ left_of rule (has sets.x.bits) (has sets.y.bits) (has sets.z.bits) (has sets.given.bits) }
-    ensures within { (n : ℕ) → Within n (has sets.x.bits) → Within n (has sets.y.bits) → Within n (has sets.z.bits) → Within n (has sets.given.bits) → IsTermWithin n result }
+    ensures { side_of result ≡ left_of rule (has sets.x.bits) (has sets.y.bits) (has sets.z.bits) (has sets.given.bits) }
 {
     match rule {
         Rule::One => Term {
@@ -38,8 +37,7 @@ pub fn left_of(rule: Rule, sets: RuleSets) -> Term
 
 /// The right side of a rule.
 pub fn right_of(rule: Rule, sets: RuleSets) -> Term
-    ensures side { side_of result ≡ right_of rule (has sets.x.bits) (has sets.y.bits) (has sets.z.bits) (has sets.given.bits) }
-    ensures within { (n : ℕ) → Within n (has sets.x.bits) → Within n (has sets.y.bits) → Within n (has sets.z.bits) → Within n (has sets.given.bits) → IsTermWithin n result }
+    ensures { side_of result ≡ right_of rule (has sets.x.bits) (has sets.y.bits) (has sets.z.bits) (has sets.given.bits) }
 {
     match rule {
         Rule::One => Term {
@@ -62,7 +60,6 @@ pub fn right_of(rule: Rule, sets: RuleSets) -> Term
 
 /// Appends a side.
 pub fn push_side(out: &mut Vec<u8>, names: &Names, side: Term) -> Result<(), AllocError>
-    requires { IsTermWithin (length names.now) side }
     ensures { OnOk result (out.new.items ≡ out.old.items ++ side_text names.now (side_of side)) }
 {
     push_term(out, names, side)

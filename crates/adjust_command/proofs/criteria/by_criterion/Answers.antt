@@ -3,18 +3,9 @@ use Rattle.mixed_graph.specs.Shown.{graph_of}
 use Rattle.replies.specs.declared.outcome.Outcome.{Outcome}
 use Rattle.replies.specs.Told.{answer_of, told_of}
 use Rattle.adjust_command.specs.Answers.{texts_of, CriterionAnswer}
-use Rattle.adjust_command.specs.Faults.{IsPrintable}
 use Rattle.adjust_command.specs.Verdicts.{IsVerdict}
-use Rattle.adjust_command.proofs.Verdicts.{shown, broken, refused, fault_printable}
+use Rattle.adjust_command.proofs.Verdicts.{shown, broken, refused}
 use Rattle.adjust_command.proofs.criteria.by_criterion.Goals as goal
-
-pub not_admissible-requires-clause-fault : goal.not_admissible-requires-clause-fault
-not_admissible-requires-clause-fault c =
-    let q = graph_of c.args.seen.now.graph in let b = c.args.by_back_door in let x = c.args.sets.x.bits in let y = c.args.sets.y.bits in let z =
-    c.args.sets.given.bits in
-    subst (λ n. IsPrintable n c.in-Breaks.fault) (sym c.args.seen.now.sized)
-    (fault_printable b q c.args.seen.now.graph.valid x y z c.requires.sets.w_within c.in-Breaks.fault
-    (subst (IsVerdict b q x y z) c.in-Breaks.is c.judge.ensures))
 
 pub returns-in_ok-text-in-Meets : goal.returns-in_ok-text-in-Meets
 returns-in_ok-text-in-Meets c =

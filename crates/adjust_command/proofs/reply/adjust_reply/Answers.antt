@@ -2,7 +2,7 @@ use Rattle.std.proofs.Common.{◌≡◌, IfOk, Some, List, ℕ, ap, subst, ◌�
 use Rattle.mixed_graph.specs.Names.{texts}
 use Rattle.mixed_graph.specs.Shown.{graph_of}
 use Rattle.targets.specs.Targets.{Lists}
-use Rattle.targets.proofs.Effects.{query_exposure, query_outcome}
+use Rattle.targets.proofs.Effects.{query_exposure}
 use Rattle.diagram.specs.Sets.{Names, lent, query_lists}
 use Rattle.diagram.proofs.Lent.{lent_owned}
 use Rattle.replies.specs.Told.{told_of}
@@ -34,11 +34,8 @@ pub decide-requires-clause-sets : goal.decide-requires-clause-sets
 decide-requires-clause-sets c = three_sets _ c.args.diagram.now.observed.graph.n c.in-Ok.sets.x.bits c.in-Ok.sets.y.bits c.in-Ok.sets.given.bits
     c.args.diagram.now.observed.sized c.in-Ok.ensures.sets
 
-pub decide-requires-clause-some_x : goal.decide-requires-clause-some_x
-decide-requires-clause-some_x c = query_exposure _ c.in-Ok.sets.x.bits c.in-Ok.sets.y.bits c.in-Ok.sets.given.bits c.in-Ok.ensures.sets
-
-pub decide-requires-clause-some_y : goal.decide-requires-clause-some_y
-decide-requires-clause-some_y c = query_outcome _ c.in-Ok.sets.x.bits c.in-Ok.sets.y.bits c.in-Ok.sets.given.bits c.in-Ok.ensures.sets
+pub decide-requires-clause-some : goal.decide-requires-clause-some
+decide-requires-clause-some c = query_exposure _ c.in-Ok.sets.x.bits c.in-Ok.sets.y.bits c.in-Ok.sets.given.bits c.in-Ok.ensures.sets
 
 pub decide-requires-clause-most : goal.decide-requires-clause-most
 decide-requires-clause-most c = in_range (query_of c.args.asked.now.query) c.args.asked.now.range

@@ -4,5 +4,5 @@ use Rattle.adjust_command.proofs.NameLists.{bare_more}
 use Rattle.adjust_command.proofs.set_lines.with_bare.Goals as goal
 
 pub returns-then-is_plain : goal.returns-then-is_plain
-returns-then-is_plain c = bare_more c.args.names.now (has c.args.bare.bits) (has c.one.result.bits) (has c.union.result.bits) c.args.v c.get.result.now
-    c.get.ensures.name (sym c.if-is_plain.ensures) c.union.ensures.members c.one.ensures.members c.requires.bare
+returns-then-is_plain c = bare_more c.args.names.now (has c.args.bare.bits) (has c.one.result.bits) (has c.union.result.bits) c.args.v c.name.result.now
+    c.name.ensures (sym c.if-is_plain.ensures) c.union.ensures.members c.one.ensures.members c.requires.bare

@@ -12,6 +12,7 @@ run-requires g c κs = ((refl, tt), lawful)
 
 pub returns-clause-headline : goal.returns-clause-headline
 returns-clause-headline g c = let e = c.run.ensures.ended in headline _ _ e.outcome e.told e.status (gave _ _ e.outcome e.told e.status e.ends)
+    c.run.ensures.complete
 
 pub returns-clause-checked : goal.returns-clause-checked
 returns-clause-checked g c = let e = c.run.ensures.ended in checked _ _ e.outcome e.told e.status (gave _ _ e.outcome e.told e.status e.ends)

@@ -1,6 +1,6 @@
 use Rattle.std.proofs.Common.{arith}
-use Rattle.certificate_writing.specs.Written.{choices_from}
-use Rattle.certificate_writing.proofs.Pairs.{choice_listed, choices_listed}
+use Rattle.certificate_json.specs.Certificates.{choices_from}
+use Rattle.certificate_json.proofs.Pairs.{choice_listed, choices_listed}
 use Rattle.certificate_json.proofs.hedges.choices_of.Goals as goal
 
 pub loop-v-preserved : goal.loop-v-preserved

@@ -1,5 +1,5 @@
 use Rattle.std.proofs.Common.{◌≡◌, ◌++◌, drop, length}
-use Rattle.certificate_writing.specs.Written.{choices_from}
+use Rattle.certificate_json.specs.Certificates.{choices_from}
 use Rattle.certificate_json.proofs.hedges.choices_of.Given as goal
 
 abbrev pub invariant-loop-v : goal.invariant-loop-v

@@ -1,5 +1,5 @@
 use Rattle.std.proofs.Common.{◌++◌, ◌∷◌, [], get_or, sym, ap, ◌∙◌, arith}
-use Rattle.certificate_writing.proofs.Pairs.{zip_more}
+use Rattle.certificate_json.proofs.Pairs.{zip_more}
 use Rattle.certificate_json.proofs.hedges.paired.Goals as goal
 
 pub loop-i-preserved : goal.loop-i-preserved

@@ -1,13 +1,11 @@
-use Rattle.std.proofs.Common.{◌≡◌, true, drop, length}
+use Rattle.std.proofs.Common.{List}
 use Rattle.do_derivation.specs.View.{steps_view}
-use Rattle.step_json.specs.Laws.{are_within}
-use Rattle.answer_json.specs.Progress.{with_values}
+use Rattle.do_derivation.specs.declared.steps.Step.{Step}
+use Rattle.certificate_json.specs.StepSizes.{are_short}
 use Rattle.certificate_json.specs.Steps.{steps_json}
+use Rattle.certificate_json.proofs.Keeping.{IsOnTheWay}
 use Rattle.certificate_json.proofs.steps.+push.Given as goal
 
 abbrev pub invariant-push_steps-loop-step : goal.invariant-push_steps-loop-step
-invariant-push_steps-loop-step l = record {
-  told : with_values (steps_json l.names (steps_view (drop l.step-index l.steps.items))) l.object ≡ with_values
-      (steps_json l.names (steps_view l.steps.items)) l.fn.object;
-  within : are_within (length l.names) (steps_view (drop l.step-index l.steps.items)) ≡ true;
-}
+invariant-push_steps-loop-step l = IsOnTheWay (λ (steps : List Step). steps_json l.names (steps_view steps)) (λ steps. are_short (steps_view steps))
+    l.steps.items l.step-index l.fn.object l.object

@@ -6,20 +6,13 @@ use Rattle.prob_expr.specs.View.{formula_view, target_view}
 use Rattle.do_derivation.specs.Accepts.{AcceptsNot}
 use Rattle.do_derivation.specs.View.{lemma_view, derivation_view}
 use Rattle.answer_json.specs.Progress.{json_line}
-use Rattle.check_json.specs.Refusals.{IsNamedFault, derivation_json}
+use Rattle.check_json.specs.Refusals.{derivation_json}
 use Rattle.replies.specs.declared.outcome.Outcome.{Outcome}
 use Rattle.replies.specs.Told.{answer_of, text_in, told_of}
 use Rattle.check_command.specs.Answers.{FormulaAnswer}
 use Rattle.check_command.specs.Lines.{derivation_text}
-use Rattle.check_command.proofs.Using.{low_unless, told}
+use Rattle.check_command.proofs.Using.{told}
 use Rattle.check_command.proofs.formula.check_formula.Goals as goal
-
-pub refused_formula-requires : goal.refused_formula-requires
-refused_formula-requires c =
-    let g = c.args.seen.now.graph in
-    subst (λ n. IsNamedFault n c.in-Err.fault) (sym c.args.seen.now.sized)
-    (low_unless (graph_of g) g.valid (masks_of c.args.experiments.now) (target_view c.args.target.now) (formula_view c.args.formula.now)
-    (derivation_view c.args.derivation.now) c.in-Err.fault c.in-Err.ensures.fault)
 
 pub returns-in_ok-text-in-Err : goal.returns-in_ok-text-in-Err
 returns-in_ok-text-in-Err c =

@@ -10,25 +10,12 @@ use Rattle.prob_expr.specs.View.{target_view}
 use Rattle.prob_expr.proofs.Excluded.{experiments_exclude_formula}
 use Rattle.counter_models.specs.Experiments.{IsHarmlessTo}
 use Rattle.counter_models.proofs.Excluded.{differ_on, no_formula}
-use Rattle.identify_text.specs.Below.{IsHedgeBelow}
-use Rattle.identify_text.proofs.Belows.{hedge_below}
 use Rattle.replies.specs.declared.outcome.Outcome.{Outcome}
 use Rattle.replies.specs.Told.{answer_of, told_of}
 use Rattle.check_command.specs.Answers.{HedgeAnswer}
 use Rattle.check_command.proofs.Harmless.{each_harmless, harmless_from}
-use Rattle.check_command.proofs.Using.{x_within, y_within, sets_apart}
+use Rattle.check_command.proofs.Using.{sets_apart}
 use Rattle.check_command.proofs.hedge_data.accept.Goals as goal
-
-pub accepted_hedge-requires : goal.accepted_hedge-requires
-accepted_hedge-requires c =
-    let g = c.args.seen.now.graph in
-    let t = c.args.target.now in
-    record {
-      x = x_within (length c.args.seen.now.names) (target_view t) c.requires.target;
-      y = y_within (length c.args.seen.now.names) (target_view t) c.requires.target;
-      hedge = subst (λ n. IsHedgeBelow n c.args.hedge.now) (sym c.args.seen.now.sized)
-          (hedge_below (graph_of g) t.x.bits t.y.bits c.args.hedge.now g.small c.requires.hedge);
-    }
 
 pub returns : goal.returns
 returns c =

@@ -1,4 +1,4 @@
-use Rattle.std.proofs.Common.{ℕ, ◌++◌, length, sym, ap, ◌∙◌, arith, subst, slice_index}
+use Rattle.std.proofs.Common.{◌++◌, length, sym, ap, ◌∙◌, arith, subst, slice_index}
 use Rattle.mixed_graph.specs.Bits.{has}
 use Rattle.mixed_graph.proofs.MemberLists.{AreMembers, members-are}
 use Rattle.answer_text.specs.Texts.{comma_before}
@@ -25,7 +25,8 @@ members-preserved c =
       are = are.3;
       text = subst (λ t. IsWriting f c.args.out.now.items t c.args.set.bits c.next.new.self)
           (sym (c.in_ok-extend_from_slice.ensures.items ∙ ap (λ t. c.push_assignment.new.out.items ++ t) c.separator.ensures
-          ∙ ap (λ t. t ++ comma_before c.next.new.self) c.in_ok-push_assignment.ensures))
+          ∙ ap (λ t. t ++ comma_before c.next.new.self) (c.in_ok-push_assignment.ensures
+          ∙ ap (λ k. c.members.out.items ++ assignment c.args.names.now c.args.counts.now (λ v. k) c.in-Some.v) c.number_at.ensures)))
           (writing_more f c.args.out.now.items c.members.out.items c.args.set.bits c.in-Some.v c.members.rest c.next.new.self first
           c.members.invariant.text);
     }

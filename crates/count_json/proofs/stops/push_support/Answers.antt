@@ -1,17 +1,9 @@
-use Rattle.std.proofs.Common.{◌≡◌, ◌<◌, ◌∙◌, ℕ, List, [], map, codes, length, sym, ap, subst, All}
+use Rattle.std.proofs.Common.{◌≡◌, ◌∙◌, ℕ, List, [], map, codes, ap}
 use Rattle.count_eval.specs.Programs.{cell_of}
 use Rattle.answer_json.specs.Progress.{items, with_key, with_values, ended_array}
 use Rattle.answer_json.proofs.Arrays.{array_written}
 use Rattle.count_json.specs.Cells.{level_json}
 use Rattle.count_json.proofs.stops.push_support.Goals as goal
-
-pub push_levels-requires-clause-named : goal.push_levels-requires-clause-named
-push_levels-requires-clause-named c = subst (All (λ v. v < length c.args.names.now))
-    (sym (c.as_slice.ensures.value ∙ c.in_ok-list.ensures ∙ c.used.ensures.members)) c.requires.named
-
-pub push_levels-requires-clause-entries : goal.push_levels-requires-clause-entries
-push_levels-requires-clause-entries c = subst (λ n. All (λ v. v < n) c.as_slice.result.now) (sym c.entries.ensures.long)
-    (subst (All (λ v. v < 64)) (sym (c.as_slice.ensures.value ∙ c.in_ok-list.ensures ∙ c.used.ensures.members)) c.used.ensures.table.in_range)
 
 pub returns : goal.returns
 returns c =

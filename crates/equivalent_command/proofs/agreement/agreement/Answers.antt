@@ -1,4 +1,4 @@
-use Rattle.std.proofs.Common.{◌≡◌, ◌∙◌, length, sym, ap, subst, inl}
+use Rattle.std.proofs.Common.{◌≡◌, sym, ap, subst, inl}
 use Rattle.std.proofs.lemmas.Result.{IfOk-weaker}
 use Rattle.mixed_graph.specs.Bits.{has}
 use Rattle.mixed_graph.specs.Shown.{graph_of}
@@ -8,26 +8,13 @@ use Rattle.answer_json.specs.Progress.{json_line}
 use Rattle.replies.specs.Told.{answer_of, text_in}
 use Rattle.equivalent_command.specs.Lines.{separated_text}
 use Rattle.equivalent_command.specs.Objects.{separated_json}
-use Rattle.equivalent_command.proofs.Queries.{open_below, own_ends}
+use Rattle.equivalent_command.proofs.Queries.{own_ends}
 use Rattle.equivalent_command.proofs.agreement.agreement.Goals as goal
 
 pub carry_path-carried-requires-clause-path : goal.carry_path-carried-requires-clause-path
 carry_path-carried-requires-clause-path c =
     let s = c.in-Some.sets in own_ends (graph_of c.args.first.now) (has s.x.bits) (has s.y.bits) (has s.given.bits)
     c.in-Some-open_path.path c.in-Some-open_path.ensures.found
-
-pub connected-requires-clause-first : goal.connected-requires-clause-first
-connected-requires-clause-first c =
-    let s = c.in-Some.sets in
-    open_below (graph_of c.args.first.now) c.args.first.now.valid (length c.args.names.now) (sym c.requires.named) (has s.x.bits) (has s.y.bits)
-    (has s.given.bits)
-    c.in-Some-open_path.path c.in-Some-open_path.ensures.found
-
-pub connected-requires-clause-second : goal.connected-requires-clause-second
-connected-requires-clause-second c =
-    let s = c.in-Some.sets in
-    open_below (graph_of c.args.second.now) c.args.second.now.valid (length c.args.names.now) (sym (c.requires.named ∙ c.requires.size)) _ _ (has s.given.bits)
-    c.carry_path-carried.result c.carry_path-carried.ensures.carried
 
 pub returns-in-None : goal.returns-in-None
 returns-in-None c =

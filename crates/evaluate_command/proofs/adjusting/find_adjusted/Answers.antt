@@ -1,12 +1,9 @@
 use Rattle.std.proofs.Common.{◌≢◌, refl, sym, ap, subst, ◌∙◌}
-use Rattle.mixed_graph.specs.Bits.{has}
 use Rattle.mixed_graph.specs.Shown.{graph_of}
 use Rattle.prob_expr.specs.Tree.{PlainFormula, effect_on}
-use Rattle.do_rules.specs.Rules.{AreThreeSets}
 use Rattle.adjust_command.specs.Answers.{texts_of, AdjustAnswer}
-use Rattle.adjust_command.specs.Faults.{IsPrintable}
 use Rattle.adjust_command.specs.Verdicts.{IsVerdict}
-use Rattle.adjust_command.proofs.Verdicts.{broken, fault_printable}
+use Rattle.adjust_command.proofs.Verdicts.{broken}
 use Rattle.replies.specs.declared.outcome.Outcome.{Outcome}
 use Rattle.replies.specs.declared.outcome.Outcome.TheVariants.{Yes, No}
 use Rattle.replies.specs.Told.{answer_of, told_of}
@@ -16,18 +13,6 @@ use Rattle.evaluate_command.proofs.Adjusted.{not_one_replied}
 use Rattle.evaluate_command.proofs.RightFormulas.{found_by_adjusting}
 use Rattle.evaluate_command.proofs.Unmet.{criterion_answer}
 use Rattle.evaluate_command.proofs.adjusting.find_adjusted.Goals as goal
-
-pub not_admissible-requires-clause-sets : goal.not_admissible-requires-clause-sets
-not_admissible-requires-clause-sets c =
-    let s = c.args.sets in
-    subst (λ n. AreThreeSets n (has s.x.bits) (has s.y.bits) (has s.given.bits)) (sym c.args.diagram.now.observed.sized) c.requires.sets
-
-pub not_admissible-requires-clause-fault : goal.not_admissible-requires-clause-fault
-not_admissible-requires-clause-fault c =
-    let seen = c.args.diagram.now.observed in let q = graph_of seen.graph in let b = c.args.by_back_door in
-    let x = c.args.sets.x.bits in let y = c.args.sets.y.bits in let z = c.args.sets.given.bits in
-    subst (λ n. IsPrintable n c.in-Breaks.fault) (sym seen.sized)
-    (fault_printable b q seen.graph.valid x y z c.requires.sets.w_within c.in-Breaks.fault (subst (IsVerdict b q x y z) c.in-Breaks.is c.judge.ensures))
 
 pub returns-in_ok-formula_for-in-Meets : goal.returns-in_ok-formula_for-in-Meets
 returns-in_ok-formula_for-in-Meets c = λ on of set asked.

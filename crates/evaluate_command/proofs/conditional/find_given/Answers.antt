@@ -1,17 +1,11 @@
-use Rattle.std.proofs.Common.{◌≤◌, ℕ, length, refl, sym, subst, ap, ◌∙◌}
-use Rattle.mixed_graph.specs.Bits.{has}
-use Rattle.mixed_graph.specs.Sets.{Within}
+use Rattle.std.proofs.Common.{◌≤◌, length, refl, sym, subst, ap, ◌∙◌}
 use Rattle.mixed_graph.specs.Shown.{graph_of}
 use Rattle.prob_expr.specs.View.{formula_view, target_view}
 use Rattle.do_derivation.specs.View.{derivation_view}
-use Rattle.counter_models.specs.Events.{AreCounterModels}
 use Rattle.conditional_id.specs.Conditionals.{IsConditionalBySteps}
 use Rattle.conditional_id.specs.TurnLaws.{IsShallowGiven}
 use Rattle.short_formulas.proofs.Usable.{usable_given, or_shorter}
-use Rattle.conditional_id.specs.Answers.{IsRight, IsJointEffect, IsJointShown, IfFormula, IfJoint}
-use Rattle.identify_text.specs.Below.{IsHedgeBelow, ArePairBelow}
-use Rattle.identify_text.proofs.Belows.{hedge_below}
-use Rattle.effect_answers.proofs.Belows.{pair_below}
+use Rattle.conditional_id.specs.Answers.{IsRight, IsJointShown, IfFormula, IfJoint}
 use Rattle.replies.specs.declared.outcome.Outcome.{Outcome}
 use Rattle.replies.specs.Told.{answer_of, told_of}
 use Rattle.evaluate_command.specs.Answers.{EvaluateFirst}
@@ -27,29 +21,6 @@ shortened_if-requires-clause-usable c =
     (subst (IsRight g t) c.in-Formula.is c.in_ok-formula.ensures.right)
     (subst (λ a. IfFormula a IsShallowGiven) c.in-Formula.is c.in_ok-formula.ensures.shallow)
     (subst (λ a. IfFormula a (λ f d. length f.defs ≤ 4096)) c.in-Formula.is c.in_ok-formula.ensures.few)
-
-pub joint_in-requires : goal.joint_in-requires
-joint_in-requires c =
-    let seen = c.args.diagram.now.observed in
-    let g = graph_of seen.graph in
-    let t = target_view c.args.target in
-    let sets = c.requires.sets in
-    let effect = subst (λ a. IfJoint a (λ x y b h pair. IsJointEffect g t x.bits y.bits)) c.in-Joint.is c.in_ok-formula.ensures.joint in
-    let shown = subst (λ a. IfJoint a (IsJointShown g t)) c.in-Joint.is c.in_ok-formula.ensures.shown in
-    let on_names : (P : ℕ → Type 0) → P seen.graph.n → P (length seen.names) = λ P. subst P (sym seen.sized) in
-    record {
-      what = on_names (λ n. Within n (has c.args.target.y.bits)) sets.y_within;
-      doing = on_names (λ n. Within n (has c.args.target.x.bits)) sets.x_within;
-      given = on_names (λ n. Within n (has c.args.target.given.bits)) sets.w_within;
-      x = on_names (λ n. Within n (has c.in-Joint.x.bits)) effect.target.sets.x_within;
-      y = on_names (λ n. Within n (has c.in-Joint.y.bits)) effect.target.sets.y_within;
-      hedge = on_names (λ n. IsHedgeBelow n c.in-Joint.hedge) (hedge_below g c.in-Joint.x.bits c.in-Joint.y.bits c.in-Joint.hedge seen.graph.small
-          shown.hedge);
-      models = on_names (λ n. ArePairBelow n c.in-Joint.pair)
-          (pair_below g seen.graph.valid c.in-Joint.x.bits c.in-Joint.y.bits c.in-Joint.hedge c.in-Joint.pair effect.target.sets.y_within
-          shown.models
-          (subst (λ a. IfJoint a (λ x y b h pair. AreCounterModels g x.bits y.bits pair)) c.in-Joint.is c.in_ok-formula.ensures.counter));
-    }
 
 pub returns-in_ok-shown-in-Formula : goal.returns-in_ok-shown-in-Formula
 returns-in_ok-shown-in-Formula c = λ x y given asked.

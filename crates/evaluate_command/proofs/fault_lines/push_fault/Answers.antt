@@ -1,12 +1,11 @@
-use Rattle.std.proofs.Common.{◌≡◌, ◌++◌, List, ℕ, Result, Ok, Err, codes, sym, ap, subst, ◌∙◌, arith, append_assoc}
+use Rattle.std.proofs.Common.{◌≡◌, ◌++◌, List, ℕ, Result, Ok, Err, codes, sym, ap, subst, ◌∙◌, append_assoc}
 use Rattle.std.specs.Prelude.{OnOk}
 use Rattle.mixed_graph.specs.Bits.{has, members_below}
-use Rattle.mixed_graph.proofs.Masks.{below_64}
 use Rattle.count_eval.specs.Answers.{IsEvaluationFault}
 use Rattle.count_eval.specs.Programs.{is_used, cell_of}
 use Rattle.count_answers.specs.Lines.{assignments}
 use Rattle.evaluate_command.specs.Lines.{place_text}
-use Rattle.evaluate_command.proofs.Stops.{wide_text, fine_text, support_text_is, members_low}
+use Rattle.evaluate_command.proofs.Stops.{wide_text, fine_text, support_text_is}
 use Rattle.evaluate_command.proofs.fault_lines.push_fault.Goals as goal
 
 -- what follows where a call succeeds
@@ -48,11 +47,3 @@ returns-in_ok-extend_from_slice-in-NoSupport-2 c = on_ok c.push_assignments.resu
     c.in_ok-extend_from_slice-in-NoSupport.ensures.items c.in_ok-push_place-in-NoSupport.ensures c.in_ok-extend_from_slice-in-NoSupport-2.ensures.items last
     ∙ ap (λ x. old ++ x) (support_text_is names t s place cell set why.0 why.1 why.2 c.used.ensures.table (sym c.used.ensures.members)))
     c.push_assignments.ensures
-
-pub push_assignments-requires-clause-named : goal.push_assignments-requires-clause-named
-push_assignments-requires-clause-named c =
-    members_low _ c.used.result.bits c.args.counts.now.vertices (omega arith) c.used.ensures.members c.requires.named
-
-pub push_assignments-requires-clause-entries : goal.push_assignments-requires-clause-entries
-push_assignments-requires-clause-entries c = λ v h. (let lt = below_64 c.used.result.bits v (omega arith) h in let n = c.entries.ensures.long in
-    omega (arith, lt, n))

@@ -1,9 +1,7 @@
-use Rattle.std.proofs.Common.{false, length, refl, subst, sym, ap, ◌∙◌}
-use Rattle.mixed_graph.specs.Bits.{has}
-use Rattle.mixed_graph.specs.Sets.{Within}
+use Rattle.std.proofs.Common.{false, refl, subst, sym, ap, ◌∙◌}
 use Rattle.mixed_graph.specs.Shown.{graph_of}
 use Rattle.identify.specs.Answers.{IsRightAlone}
-use Rattle.effect_answers.proofs.Found.{found_alone, hedge_named_alone, pair_named_alone}
+use Rattle.effect_answers.proofs.Found.{found_alone}
 use Rattle.prob_expr.specs.View.{formula_view}
 use Rattle.replies.specs.declared.outcome.Outcome.{Outcome}
 use Rattle.replies.specs.Told.{answer_of, told_of}
@@ -11,24 +9,6 @@ use Rattle.evaluate_command.specs.Answers.{EvaluateFirst}
 use Rattle.evaluate_command.specs.Ways.{by_procedure}
 use Rattle.evaluate_command.proofs.RightFormulas.{bare_sets, found_by_procedure}
 use Rattle.evaluate_command.proofs.procedure.first_formula.Goals as goal
-
-pub hedge_in-requires-clause-x : goal.hedge_in-requires-clause-x
-hedge_in-requires-clause-x c = subst (λ n. Within n (has c.args.sets.x.bits)) (sym c.args.diagram.now.observed.sized) c.requires.x
-
-pub hedge_in-requires-clause-y : goal.hedge_in-requires-clause-y
-hedge_in-requires-clause-y c = subst (λ n. Within n (has c.args.sets.y.bits)) (sym c.args.diagram.now.observed.sized) c.requires.y
-
-pub hedge_in-requires-clause-hedge : goal.hedge_in-requires-clause-hedge
-hedge_in-requires-clause-hedge c =
-    let seen = c.args.diagram.now.observed in
-    hedge_named_alone (graph_of seen.graph) c.args.sets.x.bits c.args.sets.y.bits c.in-Hedge.hedge c.in-Hedge.pair c.in-Hedge.is
-    (length seen.names) seen.sized seen.graph.small c.in_ok-formula.ensures.hedge
-
-pub hedge_in-requires-clause-models : goal.hedge_in-requires-clause-models
-hedge_in-requires-clause-models c =
-    let seen = c.args.diagram.now.observed in
-    pair_named_alone (graph_of seen.graph) c.args.sets.x.bits c.args.sets.y.bits c.in-Hedge.hedge c.in-Hedge.pair c.in-Hedge.is
-    (length seen.names) seen.sized seen.graph.valid c.requires.y c.in_ok-formula.ensures.pair c.in_ok-formula.ensures.counter
 
 pub returns-in-Formula : goal.returns-in-Formula
 returns-in-Formula c = λ x y asked.

@@ -1,12 +1,10 @@
 use Rattle.std.proofs.Common.{◌≤◌, true, length, refl, subst, sym, ap, ◌∙◌}
-use Rattle.mixed_graph.specs.Bits.{has}
-use Rattle.mixed_graph.specs.Sets.{Within}
 use Rattle.mixed_graph.specs.Shown.{graph_of}
 use Rattle.do_derivation.specs.View.{derivation_view}
 use Rattle.identification_theory.specs.Derivations.{IsDerived}
 use Rattle.identify.specs.Answers.{IsRight, IfFormula, AreShallowSteps, IsShallowFormula}
 use Rattle.short_formulas.proofs.Usable.{usable_plain, right_bare}
-use Rattle.effect_answers.proofs.Found.{found, hedge_named, pair_named}
+use Rattle.effect_answers.proofs.Found.{found}
 use Rattle.prob_expr.specs.View.{formula_view}
 use Rattle.replies.specs.declared.outcome.Outcome.{Outcome}
 use Rattle.replies.specs.Told.{answer_of, told_of}
@@ -27,24 +25,6 @@ shortened-requires-clause-usable c =
     (subst (λ a. IfFormula a (λ f d. AreShallowSteps d)) c.in-Formula.is c.in_ok-formula.ensures.shallow_steps)
     (subst (λ a. IfFormula a (λ f d. IsShallowFormula f)) c.in-Formula.is c.in_ok-formula.ensures.shallow_formula)
     (subst (λ a. IfFormula a (λ f d. length f.defs ≤ 4096)) c.in-Formula.is c.in_ok-formula.ensures.few)
-
-pub hedge_in-requires-clause-x : goal.hedge_in-requires-clause-x
-hedge_in-requires-clause-x c = subst (λ n. Within n (has c.args.sets.x.bits)) (sym c.args.diagram.now.observed.sized) c.requires.x
-
-pub hedge_in-requires-clause-y : goal.hedge_in-requires-clause-y
-hedge_in-requires-clause-y c = subst (λ n. Within n (has c.args.sets.y.bits)) (sym c.args.diagram.now.observed.sized) c.requires.y
-
-pub hedge_in-requires-clause-hedge : goal.hedge_in-requires-clause-hedge
-hedge_in-requires-clause-hedge c =
-    let seen = c.args.diagram.now.observed in
-    hedge_named (graph_of seen.graph) c.args.sets.x.bits c.args.sets.y.bits c.in-Hedge.hedge c.in-Hedge.pair c.in-Hedge.is
-    (length seen.names) seen.sized seen.graph.small c.in_ok-formula.ensures.hedge
-
-pub hedge_in-requires-clause-models : goal.hedge_in-requires-clause-models
-hedge_in-requires-clause-models c =
-    let seen = c.args.diagram.now.observed in
-    pair_named (graph_of seen.graph) c.args.sets.x.bits c.args.sets.y.bits c.in-Hedge.hedge c.in-Hedge.pair c.in-Hedge.is
-    (length seen.names) seen.sized seen.graph.valid c.requires.y c.in_ok-formula.ensures.pair c.in_ok-formula.ensures.counter
 
 pub returns-in_ok-shown-in-Formula : goal.returns-in_ok-shown-in-Formula
 returns-in_ok-shown-in-Formula c = λ x y asked.

@@ -1,34 +1,22 @@
-use Rattle.std.proofs.Common.{◌≡◌, ◌<◌, ℕ, true, List, All, sym, ap, subst, ◌∙◌, arith}
+use Rattle.std.proofs.Common.{◌≡◌, ℕ, true, List, All, sym, ap, subst, ◌∙◌}
 use Rattle.count_eval.specs.Programs.{is_used}
 use Rattle.count_eval.specs.Rules.{rule}
-use Rattle.identify_text.proofs.Free.{beside_within}
 use Rattle.replies.specs.Told.{answer_of}
 use Rattle.evaluate_command.specs.Cells.{cells_along, first_cell, printed_cells}
-use Rattle.evaluate_command.specs.Effects.{effect_view, target_of}
+use Rattle.evaluate_command.specs.Effects.{effect_view}
 use Rattle.evaluate_command.specs.Pages.{page_of, page_begun}
 use Rattle.evaluate_command.specs.Printing.{Appends}
-use Rattle.evaluate_command.proofs.Evaluable.{evaluable, varied_used, vertices_low}
+use Rattle.evaluate_command.proofs.Evaluable.{evaluable, varied_used}
 use Rattle.evaluate_command.proofs.Telling.{all_end, all_told}
 use Rattle.evaluate_command.proofs.reply.values_reply.Goals as goal
 
 pub prepare-requires : goal.prepare-requires
 prepare-requires g c = evaluable (effect_view c.args.effect.now) c.requires.identified c.args.counts.now c.used-used.ensures.table c.requires.used
 
-pub begin_sheet-requires-clause-pinned : goal.begin_sheet-requires-clause-pinned
-begin_sheet-requires-clause-pinned g c =
-    let e = effect_view c.args.effect.now in
-    λ v h. (let lt = beside_within e.graph.vertices (target_of e) e.formula c.requires.identified.formed v h in let n = c.requires.identified.named in
-    omega (arith, lt, n))
-
 pub push_cells-requires-clause-vertices : goal.push_cells-requires-clause-vertices
 push_cells-requires-clause-vertices g c =
     subst (λ (vs : List ℕ). All (λ v. is_used c.args.counts.now v ≡ true) vs) (sym (c.deref.ensures.value ∙ c.in_ok-vertices.ensures))
     (varied_used (effect_view c.args.effect.now) c.requires.identified c.args.counts.now c.used-used.ensures.table c.requires.used)
-
-pub refuse_value-requires-clause-named : goal.refuse_value-requires-clause-named
-refuse_value-requires-clause-named g c =
-    subst (λ n. All (λ v. v < n) c.args.counts.now.vertices) (sym c.requires.identified.named)
-    (vertices_low (effect_view c.args.effect.now) c.requires.identified c.args.counts.now c.used-used.ensures.table c.requires.used)
 
 pub end_sheet-requires : goal.end_sheet-requires
 end_sheet-requires g c =

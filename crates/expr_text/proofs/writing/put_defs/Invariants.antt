@@ -1,6 +1,5 @@
-use Rattle.std.proofs.Common.{◌≡◌, ◌++◌, drop, map, length, true}
+use Rattle.std.proofs.Common.{◌≡◌, ◌++◌, drop, map}
 use Rattle.prob_expr.specs.View.{view}
-use Rattle.expr_text.specs.Sound.{all_sound}
 use Rattle.expr_text.specs.Write.{defs_in}
 use Rattle.expr_text.proofs.writing.put_defs.Given as goal
 
@@ -9,5 +8,4 @@ invariant-loop-def l = record {
   index : l.k ≡ l.def-index;
   told : l.out.items ++ defs_in l.writer.notation l.writer.names.now l.k (map view (drop l.def-index l.def-items)) ≡ l.fn.out.items
       ++ defs_in l.writer.notation l.writer.names.now 0 (map view l.def-items);
-  sound : all_sound (length l.writer.names.now) (map view (drop l.def-index l.def-items)) ≡ true;
 }

@@ -1,14 +1,11 @@
-use Rattle.std.proofs.Common.{◌≡◌, length, refl, sym, ap, subst, ◌∙◌}
-use Rattle.mixed_graph.specs.Bits.{has}
-use Rattle.mixed_graph.specs.Sets.{Within}
+use Rattle.std.proofs.Common.{◌≡◌, sym, ap, subst, ◌∙◌}
 use Rattle.mixed_graph.specs.Shown.{graph_of}
 use Rattle.prob_expr.specs.Tree.{PlainTarget, effect_on}
 use Rattle.prob_expr.specs.View.{formula_view}
 use Rattle.identification_theory.specs.Derivations.{IsDerived}
 use Rattle.identify.specs.Answers.{IsRightAlone}
-use Rattle.identify_text.proofs.Free.{none_within}
 use Rattle.identify_text.specs.Answers.{answer_in}
-use Rattle.effect_answers.proofs.Found.{found_alone, hedge_named_alone, pair_named_alone}
+use Rattle.effect_answers.proofs.Found.{found_alone}
 use Rattle.answer_json.specs.Progress.{json_line}
 use Rattle.replies.specs.Told.{told_of, text_in, answer_of}
 use Rattle.identify_command.specs.Answers.{SetsAnswer}
@@ -16,28 +13,6 @@ use Rattle.identify_command.specs.Forms.{form_in}
 use Rattle.identify_command.specs.Objects.{formula_object}
 use Rattle.identify_command.proofs.Notations.{formula_in_form, hedge_in_form, no_certificate, of_procedure}
 use Rattle.identify_command.proofs.reply.decide_alone.Goals as goal
-
-pub formula_in-requires-clause-what : goal.formula_in-requires-clause-what
-formula_in-requires-clause-what c = subst (λ (t : PlainTarget). Within (length c.args.seen.now.names) (has t.y)) (sym c.target_of-target.ensures)
-    (subst (λ n. Within n (has c.args.sets.y.bits)) (sym c.args.seen.now.sized) c.requires.y)
-
-pub formula_in-requires-clause-doing : goal.formula_in-requires-clause-doing
-formula_in-requires-clause-doing c = subst (λ (t : PlainTarget). Within (length c.args.seen.now.names) (has t.x)) (sym c.target_of-target.ensures)
-    (subst (λ n. Within n (has c.args.sets.x.bits)) (sym c.args.seen.now.sized) c.requires.x)
-
-pub formula_in-requires-clause-given : goal.formula_in-requires-clause-given
-formula_in-requires-clause-given c = subst (λ (t : PlainTarget). Within (length c.args.seen.now.names) (has t.given)) (sym c.target_of-target.ensures)
-    (λ v i. none_within (length c.args.seen.now.names) 0 v refl i)
-
-pub hedge_in-requires-clause-hedge : goal.hedge_in-requires-clause-hedge
-hedge_in-requires-clause-hedge c = hedge_named_alone (graph_of c.args.seen.now.graph)
-    c.args.sets.x.bits c.args.sets.y.bits c.in-Hedge.hedge c.in-Hedge.pair c.in-Hedge.is
-    (length c.args.seen.now.names) c.args.seen.now.sized c.args.seen.now.graph.small c.in_ok-formula.ensures.hedge
-
-pub hedge_in-requires-clause-models : goal.hedge_in-requires-clause-models
-hedge_in-requires-clause-models c = pair_named_alone (graph_of c.args.seen.now.graph)
-    c.args.sets.x.bits c.args.sets.y.bits c.in-Hedge.hedge c.in-Hedge.pair c.in-Hedge.is
-    (length c.args.seen.now.names) c.args.seen.now.sized c.args.seen.now.graph.valid c.requires.y c.in_ok-formula.ensures.pair c.in_ok-formula.ensures.counter
 
 pub returns-in_ok-text-in-Formula : goal.returns-in_ok-text-in-Formula
 returns-in_ok-text-in-Formula c =

@@ -1,11 +1,11 @@
-use Rattle.std.proofs.Common.{◌≡◌, ◌≤◌, ◌<◌, ℕ, [], None, length, refl, sym, ap, ◌∙◌, subst}
+use Rattle.std.proofs.Common.{◌≡◌, ◌≤◌, ◌<◌, ℕ, [], length, refl, sym, ap, ◌∙◌, subst}
+use Rattle.std.proofs.lemmas.Bool.{false≢true}
 use Rattle.mixed_graph.specs.Bits.{has}
 use Rattle.mixed_graph.specs.Sets.{Within, Apart}
 use Rattle.mixed_graph.specs.Shown.{graph_of}
 use Rattle.hedge.specs.Hedges.{IsHedge}
 use Rattle.do_rules.specs.Rules.{AreThreeSets}
 use Rattle.mixed_graph.proofs.MaskLaws.{has_none}
-use Rattle.prob_expr.specs.Check.{fault_in}
 use Rattle.prob_expr.specs.Tree.{PlainTarget, effect_on}
 use Rattle.prob_expr.specs.View.{formula_view}
 use Rattle.do_derivation.specs.Accepts.{Accepts}
@@ -15,14 +15,14 @@ use Rattle.identify.specs.Answers.{IsRight, IfFormula, IfHedge, AreShallowSteps,
 use Rattle.conditional_id.specs.TurnLaws.{IsRightGiven}
 use Rattle.short_formulas.specs.Short.{IsUsable}
 use Rattle.short_formulas.proofs.Usable.{usable_plain, right_bare, or_shorter}
-use Rattle.identify_text.proofs.Free.{none_within}
-use Rattle.certificate.specs.Plain.{hedge_view, formula as formula_case}
-use Rattle.certificate_writing.specs.Writable.{IsTargetWithin, IsBareTarget, IsDerivationWithin, IsHedgeWithin}
+use Rattle.certificate.specs.Plain.{hedge_view, formula as formula_case, hedge as hedge_case}
+use Rattle.certificate_json.specs.Writable.{IsWritable, IsShallow}
 use Rattle.identify_command.specs.Answers.{formula_shown, ReadsBack, SetsAnswer}
 use Rattle.replies.specs.Told.{told_of, answer_of}
+use Rattle.replies.specs.declared.format.Format.TheVariants.{Text}
 use Rattle.identify_command.proofs.Shallow.{readable_shallow}
 use Rattle.effect_answers.proofs.Within.{derivation_within}
-use Rattle.effect_answers.proofs.Found.{found, hedge_named, pair_named}
+use Rattle.effect_answers.proofs.Found.{found}
 use Rattle.effect_answers.proofs.Writing.{bare_target, hedge_within}
 use Rattle.identify_command.proofs.reply.decide_derived.Goals as goal
 
@@ -31,7 +31,7 @@ sets_of : (n x y : ℕ) → Within n (has x) → Within n (has y) → Apart (has
 sets_of n x y in_x in_y apart = record {
   x_within = in_x;
   y_within = in_y;
-  w_within = λ v i. none_within n 0 v refl i;
+  w_within = λ v i. absurd (false≢true (sym (has_none v) ∙ i));
   x_y = apart;
   x_w = λ v i. has_none v;
   y_w = λ v i. has_none v;
@@ -59,42 +59,6 @@ shortened_if-requires-clause-usable c =
     (subst (λ a. IfFormula a (λ f d. IsShallowFormula f)) c.in-Formula.is c.in_ok-formula.ensures.shallow_formula)
     (subst (λ a. IfFormula a (λ f d. length f.defs ≤ 4096)) c.in-Formula.is c.in_ok-formula.ensures.few))
 
-pub formula_shown-requires-clause-what : goal.formula_shown-requires-clause-what
-formula_shown-requires-clause-what c = subst (λ (t : PlainTarget). Within (length c.args.seen.now.names) (has t.y)) (sym c.target_of-target.ensures)
-    (subst (λ n. Within n (has c.args.sets.y.bits)) (sym c.args.seen.now.sized) c.requires.y)
-
-pub formula_shown-requires-clause-doing : goal.formula_shown-requires-clause-doing
-formula_shown-requires-clause-doing c = subst (λ (t : PlainTarget). Within (length c.args.seen.now.names) (has t.x)) (sym c.target_of-target.ensures)
-    (subst (λ n. Within n (has c.args.sets.x.bits)) (sym c.args.seen.now.sized) c.requires.x)
-
-pub formula_shown-requires-clause-given : goal.formula_shown-requires-clause-given
-formula_shown-requires-clause-given c = subst (λ (t : PlainTarget). Within (length c.args.seen.now.names) (has t.given)) (sym c.target_of-target.ensures)
-    (λ v i. none_within (length c.args.seen.now.names) 0 v refl i)
-
-pub formula_shown-requires-clause-target : goal.formula_shown-requires-clause-target
-formula_shown-requires-clause-target c = subst (IsTargetWithin (length c.args.seen.now.names)) (sym c.target_of-target.ensures)
-    (subst (λ n. IsTargetWithin n (effect_on c.args.sets.x.bits c.args.sets.y.bits)) (sym c.args.seen.now.sized)
-    (bare_target c.args.seen.now.graph.n c.args.sets.x.bits c.args.sets.y.bits c.requires.x c.requires.y c.requires.apart c.requires.some).sets)
-
-pub formula_shown-requires-clause-formula : goal.formula_shown-requires-clause-formula
-formula_shown-requires-clause-formula c = subst (λ n. fault_in n (formula_view c.in_ok-shown-in-Formula.shown.formula) ≡ None) (sym c.args.seen.now.sized)
-    c.in_ok-shown-in-Formula.ensures.usable.right.formed
-
-pub formula_shown-requires-clause-derivation : goal.formula_shown-requires-clause-derivation
-formula_shown-requires-clause-derivation c =
-    let g = graph_of c.args.seen.now.graph in
-    let f = formula_view c.in_ok-shown-in-Formula.shown.formula in
-    let d = derivation_view c.in_ok-shown-in-Formula.shown.derivation in
-    subst (λ n. IsDerivationWithin n d) (sym c.args.seen.now.sized)
-    (derivation_within g c.args.seen.now.graph.valid [] (effect_on c.args.sets.x.bits c.args.sets.y.bits) f d
-    (bare_target c.args.seen.now.graph.n c.args.sets.x.bits c.args.sets.y.bits c.requires.x c.requires.y c.requires.apart c.requires.some).sets
-    (subst (λ (t : PlainTarget). Accepts g [] t f d) c.target_of-target.ensures c.in_ok-shown-in-Formula.ensures.usable.right.accepted))
-
-pub formula_shown-requires-clause-shallow : goal.formula_shown-requires-clause-shallow
-formula_shown-requires-clause-shallow c = readable_shallow (formula_view c.in_ok-shown-in-Formula.shown.formula)
-    (derivation_view c.in_ok-shown-in-Formula.shown.derivation)
-    c.in_ok-shown-in-Formula.ensures.usable.readable
-
 pub returns-in_ok-text-in-Formula : goal.returns-in_ok-text-in-Formula
 returns-in_ok-text-in-Formula c =
     let g = graph_of c.args.seen.now.graph in
@@ -103,45 +67,25 @@ returns-in_ok-text-in-Formula c =
     let f = formula_view c.in_ok-shown-in-Formula.shown.formula in
     let d = derivation_view c.in_ok-shown-in-Formula.shown.derivation in
     let t = c.target_of-target.ensures in
+    let usable = c.in_ok-shown-in-Formula.ensures.usable in
     let text = subst (λ (u : PlainTarget). c.in_ok-text-in-Formula.text.items ≡ formula_shown c.args.form c.args.seen.now.names u f d)
     t c.in_ok-text-in-Formula.ensures.text in
+    let effect = (bare_target c.args.seen.now.graph.n x y c.requires.x c.requires.y c.requires.apart c.requires.some).sets in
+    let accepted = subst (λ (u : PlainTarget). Accepts g [] u f d) t usable.right.accepted in
+    let writable = subst (λ n. IsWritable n (formula_case (effect_on x y) f d)) (sym c.args.seen.now.sized)
+    (effect, usable.right.formed, derivation_within g c.args.seen.now.graph.valid [] (effect_on x y) f d effect accepted) in
+    let read = subst (λ (u : PlainTarget). c.args.form.format ≡ Text → IsWritable (length c.args.seen.now.names) (formula_case u f d)
+    → IsShallow (formula_case u f d) → ReadsBack c.args.form.writing c.args.seen.now.names (formula_case u f d))
+    t c.in_ok-text-in-Formula.ensures.reads_back in
     subst (λ o. SetsAnswer c.args.form g c.args.seen.now.names x y o (told_of c.answer.result)) (sym c.answer.ensures.outcome) (record {
       formula = f;
       derivation = d;
-      right = right_bare g x y f d (subst (λ (u : PlainTarget). IsRightGiven g u f d) t c.in_ok-shown-in-Formula.ensures.usable.right);
+      right = right_bare g x y f d (subst (λ (u : PlainTarget). IsRightGiven g u f d) t usable.right);
       derived = or_shorter c.args.form.short (IsDerived g x y) (formula_view c.in-Formula.formula) (derivation_view c.in-Formula.derivation) f d
           c.in_ok-shown-in-Formula.ensures.first (subst (λ a. IfFormula a (IsDerived g x y)) c.in-Formula.is c.in_ok-formula.ensures.derived);
       prints = c.answer.ensures.told ∙ ap answer_of text;
-      reads_back = λ plain. subst (λ (u : PlainTarget). ReadsBack c.args.form.writing c.args.seen.now.names (formula_case u f d))
-          t (c.in_ok-text-in-Formula.ensures.reads_back plain);
+      reads_back = λ plain. read plain writable (readable_shallow f d usable.readable);
     })
-
-pub hedge_shown-requires-clause-x : goal.hedge_shown-requires-clause-x
-hedge_shown-requires-clause-x c = subst (λ n. Within n (has c.args.sets.x.bits)) (sym c.args.seen.now.sized) c.requires.x
-
-pub hedge_shown-requires-clause-y : goal.hedge_shown-requires-clause-y
-hedge_shown-requires-clause-y c = subst (λ n. Within n (has c.args.sets.y.bits)) (sym c.args.seen.now.sized) c.requires.y
-
-pub hedge_shown-requires-clause-target : goal.hedge_shown-requires-clause-target
-hedge_shown-requires-clause-target c = subst (λ n. IsBareTarget n (effect_on c.args.sets.x.bits c.args.sets.y.bits)) (sym c.args.seen.now.sized)
-    (bare_target c.args.seen.now.graph.n c.args.sets.x.bits c.args.sets.y.bits c.requires.x c.requires.y c.requires.apart c.requires.some)
-
-pub hedge_shown-requires-clause-hedge : goal.hedge_shown-requires-clause-hedge
-hedge_shown-requires-clause-hedge c = hedge_named (graph_of c.args.seen.now.graph)
-    c.args.sets.x.bits c.args.sets.y.bits c.in-Hedge.hedge c.in-Hedge.pair c.in-Hedge.is
-    (length c.args.seen.now.names) c.args.seen.now.sized c.args.seen.now.graph.small c.in_ok-formula.ensures.hedge
-
-pub hedge_shown-requires-clause-models : goal.hedge_shown-requires-clause-models
-hedge_shown-requires-clause-models c = pair_named (graph_of c.args.seen.now.graph)
-    c.args.sets.x.bits c.args.sets.y.bits c.in-Hedge.hedge c.in-Hedge.pair c.in-Hedge.is
-    (length c.args.seen.now.names) c.args.seen.now.sized c.args.seen.now.graph.valid c.requires.y c.in_ok-formula.ensures.pair c.in_ok-formula.ensures.counter
-
-pub hedge_shown-requires-clause-data : goal.hedge_shown-requires-clause-data
-hedge_shown-requires-clause-data c =
-    let g = graph_of c.args.seen.now.graph in
-    subst (λ n. IsHedgeWithin n (hedge_view c.in-Hedge.hedge)) (sym c.args.seen.now.sized)
-    (hedge_within g c.args.sets.x.bits c.args.sets.y.bits c.in-Hedge.hedge c.has_arrays.ensures.links
-    (subst (λ a. IfHedge a (λ h pair. IsHedge g c.args.sets.x.bits c.args.sets.y.bits h)) c.in-Hedge.is c.in_ok-formula.ensures.hedge))
 
 pub returns-in_ok-text-in-Hedge : goal.returns-in_ok-text-in-Hedge
 returns-in_ok-text-in-Hedge c =
@@ -149,6 +93,11 @@ returns-in_ok-text-in-Hedge c =
     let g = graph_of c.args.seen.now.graph in
     let x = c.args.sets.x.bits in
     let y = c.args.sets.y.bits in
+    let hedge = subst (λ a. IfHedge a (λ h pair. IsHedge g x y h)) c.in-Hedge.is e.hedge in
+    let writable = subst (λ n. IsWritable n (hedge_case (effect_on x y) (hedge_view c.in-Hedge.hedge))) (sym c.args.seen.now.sized) (
+      bare_target c.args.seen.now.graph.n x y c.requires.x c.requires.y c.requires.apart c.requires.some,
+      hedge_within g x y c.in-Hedge.hedge c.has_arrays.ensures.links hedge,
+    ) in
     subst (λ o. SetsAnswer c.args.form g c.args.seen.now.names x y o (told_of c.answer-in-Hedge.result)) (sym c.answer-in-Hedge.ensures.outcome) (record {
       hedge = c.in-Hedge.hedge;
       pair = c.in-Hedge.pair;
@@ -156,5 +105,5 @@ returns-in_ok-text-in-Hedge c =
           e.stop e.data e.pair;
       arrays = c.has_arrays.ensures;
       prints = c.answer-in-Hedge.ensures.told ∙ ap answer_of c.in_ok-text-in-Hedge.ensures.text;
-      reads_back = c.in_ok-text-in-Hedge.ensures.reads_back;
+      reads_back = λ plain. c.in_ok-text-in-Hedge.ensures.reads_back plain writable tt;
     })

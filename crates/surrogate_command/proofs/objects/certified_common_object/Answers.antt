@@ -16,5 +16,5 @@ returns c =
     line_with_member c.line.result (common_members names (masks_of c.args.experiments.now) t c.args.district.bits h c.args.pair.now) (codes "certificate")
     (certificate_json names (hedge t (hedge_view h)))
     c.in_ok-object.object c.key.new.self c.push_hedge_certificate.new.object c.in_ok-object.ensures c.in_ok-key.ensures
-    c.in_ok-push_hedge_certificate.ensures
+    c.in_ok-push_hedge_certificate.ensures.written
     c.line.ensures.text

@@ -17,5 +17,5 @@ returns c =
     line_with_member c.line.result (formula_answer names (masks_of c.args.experiments.now) t f) (codes "certificate")
     (certificate_json names (formula t f (derivation_view c.args.derivation.now)))
     c.in_ok-object.object c.key.new.self c.push_formula_certificate.new.object c.in_ok-object.ensures c.in_ok-key.ensures
-    c.in_ok-push_formula_certificate.ensures
+    c.in_ok-push_formula_certificate.ensures.written
     c.line.ensures.text

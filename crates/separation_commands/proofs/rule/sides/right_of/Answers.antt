@@ -3,50 +3,29 @@ use Rattle.mixed_graph.specs.Bits.{has}
 use Rattle.do_rules.specs.Rules.{Side, right_of}
 use Rattle.do_rules.specs.declared.rules.Rule.{Rule}
 use Rattle.do_rules.specs.declared.rules.Rule.TheVariants.{One, Two, Three}
-use Rattle.separation_commands.proofs.Equations.{same_side, within_either}
+use Rattle.separation_commands.proofs.Equations.{same_side}
 use Rattle.separation_commands.proofs.rule.sides.right_of.Goals as goal
 
-pub returns-in-One-clause-side : goal.returns-in-One-clause-side
-returns-in-One-clause-side c =
+pub returns-in-One : goal.returns-in-One
+returns-in-One c =
     let side : Side = record { of = has c.args.sets.y.bits; doing = has c.args.sets.x.bits; given = has c.args.sets.given.bits } in
     subst (λ (r : Rule). side ≡ right_of r (has c.args.sets.x.bits) (has c.args.sets.y.bits) (has c.args.sets.z.bits) (has c.args.sets.given.bits))
     (sym c.in-One.is)
     (same_side side (right_of One (has c.args.sets.x.bits) (has c.args.sets.y.bits) (has c.args.sets.z.bits) (has c.args.sets.given.bits))
     (λ v. refl) (λ v. refl) (λ v. refl))
 
-pub returns-in-One-clause-within : goal.returns-in-One-clause-within
-returns-in-One-clause-within c = λ n x y z given. record {
-  of = y;
-  doing = x;
-  given = given;
-}
-
-pub returns-in-Two-clause-side : goal.returns-in-Two-clause-side
-returns-in-Two-clause-side c =
+pub returns-in-Two : goal.returns-in-Two
+returns-in-Two c =
     let side : Side = record { of = has c.args.sets.y.bits; doing = has c.args.sets.x.bits; given = has c.union.result.bits } in
     subst (λ (r : Rule). side ≡ right_of r (has c.args.sets.x.bits) (has c.args.sets.y.bits) (has c.args.sets.z.bits) (has c.args.sets.given.bits))
     (sym c.in-Two.is)
     (same_side side (right_of Two (has c.args.sets.x.bits) (has c.args.sets.y.bits) (has c.args.sets.z.bits) (has c.args.sets.given.bits))
     (λ v. refl) (λ v. refl) (c.union.ensures.members))
 
-pub returns-in-Two-clause-within : goal.returns-in-Two-clause-within
-returns-in-Two-clause-within c = λ n x y z given. record {
-  of = y;
-  doing = x;
-  given = within_either n (has c.args.sets.z.bits) (has c.args.sets.given.bits) c.union.result.bits c.union.ensures.members z given;
-}
-
-pub returns-in-Three-clause-side : goal.returns-in-Three-clause-side
-returns-in-Three-clause-side c =
+pub returns-in-Three : goal.returns-in-Three
+returns-in-Three c =
     let side : Side = record { of = has c.args.sets.y.bits; doing = has c.args.sets.x.bits; given = has c.args.sets.given.bits } in
     subst (λ (r : Rule). side ≡ right_of r (has c.args.sets.x.bits) (has c.args.sets.y.bits) (has c.args.sets.z.bits) (has c.args.sets.given.bits))
     (sym c.in-Three.is)
     (same_side side (right_of Three (has c.args.sets.x.bits) (has c.args.sets.y.bits) (has c.args.sets.z.bits) (has c.args.sets.given.bits))
     (λ v. refl) (λ v. refl) (λ v. refl))
-
-pub returns-in-Three-clause-within : goal.returns-in-Three-clause-within
-returns-in-Three-clause-within c = λ n x y z given. record {
-  of = y;
-  doing = x;
-  given = given;
-}

@@ -1,0 +1,54 @@
+#!/usr/bin/env Rscript
+# coverage.R [STUDIES] [SCENARIO ..]: how often 95% intervals of the R package cover the truth in simulated studies; all scenarios unless some
+# are named. It prints a line for each, with the standard error of the coverage. The package has to be installed.
+suppressMessages(library(causal))
+words <- commandArgs(TRUE)
+studies <- if (length(words)) as.integer(words[1]) else 300
+flip <- function(chance) stats::rbinom(length(chance), 1, chance)
+confounded <- causal_diagram("dag { X [exposure] Y [outcome] C -> X C -> Y X -> Y }")
+two <- causal_diagram("dag { X [exposure] Y [outcome] A -> X A -> Y B -> X B -> Y X -> Y }")
+front <- causal_diagram("dag { X [exposure] Y [outcome] X -> M -> Y X <-> Y }")
+difference <- function(answer) unlist(as.data.frame(answer)[answer$measure == "difference", c("conf_low", "conf_high")])
+
+binary_study <- function(n) {
+  C <- flip(rep(0.5, n))
+  X <- flip(0.3 + 0.4 * C)
+  data.frame(C, X, Y = flip(0.2 + 0.2 * X + 0.3 * C))
+}
+# two confounders of four levels, with a logistic truth
+logistic_study <- function(n) {
+  A <- stats::rbinom(n, 3, 0.35)
+  B <- stats::rbinom(n, 3, 0.35)
+  X <- flip(stats::plogis(-1 + 0.5 * A + 0.3 * B))
+  data.frame(A, B, X, Y = flip(stats::plogis(-1.5 + 0.7 * X + 0.4 * A + 0.3 * B)))
+}
+logistic_truth <- local({
+  cells <- expand.grid(A = 0:3, B = 0:3)
+  chance <- function(x) sum(stats::dbinom(cells$A, 3, 0.35) * stats::dbinom(cells$B, 3, 0.35) * stats::plogis(-1.5 + 0.7 * x + 0.4 * cells$A + 0.3 * cells$B))
+  chance(1) - chance(0)
+})
+front_study <- function(n) {
+  U <- flip(rep(0.5, n))
+  X <- flip(0.3 + 0.4 * U)
+  M <- flip(0.2 + 0.6 * X)
+  data.frame(X, M, Y = flip(0.1 + 0.4 * M + 0.3 * U))
+}
+scenarios <- list(
+  confounder_500 = list(0.2, function() difference(contrast(confounded, binary_study(500), outcome = 1, resamples = 300, seed = NULL))),
+  confounder_100 = list(0.2, function() difference(contrast(confounded, binary_study(100), outcome = 1, resamples = 300, seed = NULL))),
+  front_door_400 = list(0.24, function() difference(contrast(front, front_study(400), outcome = 1, resamples = 300, seed = NULL))),
+  logistic_300 = list(logistic_truth, function() difference(estimate(two, logistic_study(300), resamples = 200, seed = NULL))),
+  logistic_1000 = list(logistic_truth, function() difference(estimate(two, logistic_study(1000), resamples = 200, seed = NULL))),
+  aipw_1000 = list(logistic_truth, function() difference(estimate(two, logistic_study(1000), method = "aipw"))),
+  aipw_wrong_outcome = list(logistic_truth, function() difference(estimate(two, logistic_study(1000), method = "aipw", model = list(Y = ~ X, "logistic")))),
+  aipw_wrong_arm = list(logistic_truth, function() difference(estimate(two, logistic_study(1000), method = "aipw", model = list(X = ~ 1, "logistic"))))
+)
+named <- if (length(words) > 1) words[-1] else names(scenarios)
+for (name in named) {
+  set.seed(1)
+  ends <- vapply(seq_len(studies), function(study) tryCatch(suppressWarnings(scenarios[[name]][[2]]()), causal_refusal = function(it) c(NA, NA)), c(0, 0))
+  truth <- scenarios[[name]][[1]]
+  known <- !is.na(ends[1, ])
+  covers <- ends[1, known] <= truth & truth <= ends[2, known]
+  cat(sprintf("%-20s %5.1f %% (se %.1f) of %d studies; %d without an interval\n", name, 100 * mean(covers), 100 * sqrt(mean(covers) * (1 - mean(covers)) / length(covers)), length(covers), sum(!known)))
+}

@@ -1,0 +1,120 @@
+#!/usr/bin/env python3
+"""Coverage of the Python package's 95 % intervals in simulated studies with known truth: `coverage.py [STUDIES] [SCENARIO ..]`.
+
+bindings/python has to be on the path of modules. STUDIES is 300 unless given. Each scenario draws as many studies from a model, asks for
+the risk difference with its interval, and prints in how many the interval holds the truth, with the standard error of that share.
+"""
+import random
+import sys
+import warnings
+from math import exp
+
+import causal
+from causal import Diagram
+
+CONFOUNDED = Diagram("dag { X [exposure] Y [outcome] Z -> X -> Y <- Z }")
+TWO = Diagram("dag { X [exposure] Y [outcome] A -> X -> Y <- A B -> X B -> Y }")
+FRONT_DOOR = Diagram("dag { X [exposure] Y [outcome] X -> M -> Y X <-> Y }")
+ARMS = {"treated": 1, "control": 0, "outcome": 1}
+
+
+def logistic(score):
+    return 1 / (1 + exp(-score))
+
+
+def chance(source, p):
+    return int(source.random() < p)
+
+
+def confounder(source, size):
+    """A binary confounder; the truth is 0.2."""
+    data = {"Z": [], "X": [], "Y": []}
+    for _ in range(size):
+        z = chance(source, 0.5)
+        x = chance(source, 0.3 + 0.4 * z)
+        for name, value in zip("ZXY", (z, x, chance(source, 0.2 + 0.2 * x + 0.3 * z))):
+            data[name].append(value)
+    return data, 0.2
+
+
+def front_door(source, size):
+    """A hidden cause of X and Y; the truth is 0.6 * 0.3."""
+    data = {"X": [], "M": [], "Y": []}
+    for _ in range(size):
+        u = chance(source, 0.5)
+        x = chance(source, 0.3 + 0.4 * u)
+        m = chance(source, 0.2 + 0.6 * x)
+        for name, value in zip("XMY", (x, m, chance(source, 0.2 + 0.3 * m + 0.3 * u))):
+            data[name].append(value)
+    return data, 0.18
+
+
+def smooth(source, size, is_bent=False):
+    """Two confounders with four levels each, a logistic truth; with `is_bent` the outcome has a square that main effects lack."""
+    data = {"A": [], "B": [], "X": [], "Y": []}
+    for _ in range(size):
+        a, b = (sum(chance(source, 0.35) for _ in range(3)) for _ in range(2))
+        x = chance(source, logistic(-0.8 + 0.4 * a + 0.4 * b))
+        y = chance(source, outcome(a, b, x, is_bent))
+        for name, value in zip("ABXY", (a, b, x, y)):
+            data[name].append(value)
+    return data, truth(is_bent)
+
+
+def outcome(a, b, x, is_bent):
+    return logistic(-1.2 + 0.8 * x + 0.4 * a + 0.3 * b + (0.6 * (a - 1) ** 2 - 0.4 * a * b if is_bent else 0.0))
+
+
+def truth(is_bent):
+    """The risk difference of `smooth`."""
+    part = {0: 0.65**3, 1: 3 * 0.65**2 * 0.35, 2: 3 * 0.65 * 0.35**2, 3: 0.35**3}
+    return sum(part[a] * part[b] * (outcome(a, b, 1, is_bent) - outcome(a, b, 0, is_bent)) for a in part for b in part)
+
+
+def counted(diagram, data, **more):
+    return diagram.contrast(data, **ARMS, resamples=400, **more).interval.difference
+
+
+def modelled(diagram, data, **more):
+    return diagram.estimate(data, **ARMS, **more).difference.interval
+
+
+SCENARIOS = {
+    "confounder-100": lambda source: (confounder, 100, lambda data: counted(CONFOUNDED, data)),
+    "confounder-500": lambda source: (confounder, 500, lambda data: counted(CONFOUNDED, data)),
+    "confounder-500-bca": lambda source: (confounder, 500, lambda data: counted(CONFOUNDED, data, interval="bca")),
+    "front-door-400": lambda source: (front_door, 400, lambda data: counted(FRONT_DOOR, data)),
+    "logistic-300": lambda source: (smooth, 300, lambda data: modelled(TWO, data)),
+    "logistic-1000": lambda source: (smooth, 1000, lambda data: modelled(TWO, data)),
+    "ipw-1000": lambda source: (smooth, 1000, lambda data: modelled(TWO, data, method="ipw")),
+    "aipw-300": lambda source: (smooth, 300, lambda data: modelled(TWO, data, method="aipw")),
+    "aipw-wrong-outcome-1000": lambda source: (
+        lambda source, size: smooth(source, size, is_bent=True), 1000, lambda data: modelled(TWO, data, method="aipw")
+    ),
+}  # fmt: skip
+
+
+def main(words):
+    studies = int(words[0]) if words else 300
+    for name in words[1:] or SCENARIOS:
+        source = random.Random(name)
+        draw, size, ask = SCENARIOS[name](source)
+        held = without = 0
+        for _ in range(studies):
+            data, wanted = draw(source, size)
+            try:
+                interval = ask(data)
+            except causal.EvaluationError:
+                interval = None
+            if interval is None:
+                without += 1
+            else:
+                held += interval.lower <= wanted <= interval.upper
+        share = held / max(studies - without, 1)
+        error = (share * (1 - share) / max(studies - without, 1)) ** 0.5
+        print(f"{name}: {100 * share:.1f} % of {studies - without} (se {100 * error:.1f}), {without} without a value", flush=True)
+
+
+if __name__ == "__main__":
+    warnings.simplefilter("ignore")
+    main(sys.argv[1:])

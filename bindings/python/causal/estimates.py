@@ -1,0 +1,376 @@
+"""Estimates by models over a proved formula: where tables are thin, or variables are numbers.
+
+What is proved stays what it is: the formula. What is estimated is computed by models, and nothing about it is proved.
+"""
+from __future__ import annotations
+
+import math
+from dataclasses import dataclass, field
+from statistics import NormalDist
+from typing import TYPE_CHECKING, Any, Callable, Dict, List, Mapping, Optional, Sequence, Tuple
+
+from causal.columns import Data
+from causal.contrasts import IN_COLUMNS, MEASURES, arm_level
+from causal.display import html_table
+from causal.draws import seed_of
+from causal.effects import Level, levels_at, levels_text, typed_order
+from causal.errors import DataWarning, RequestError
+from causal.estimators import Asked, ByTree, DoublyRobust, Estimator, Standardized, Weighted, pattern_of
+from causal.evaluation import adjusted, identified
+from causal.formula import Formula
+from causal.framed import Framed
+from causal.intervals import Interval, interval_of
+from causal.models import Fit
+from causal.names import Names, names_of, printed_set
+from causal.rows import Rows, rows_of
+from causal.samples import Design
+from causal.sensitivity import EValue, e_value
+from causal.vocabulary import meant, needed, warn
+from causal.weighting import Weighting, weighting_of
+
+if TYPE_CHECKING:
+    import matplotlib.axes
+
+    from causal.bootstrap import Progress
+    from causal.diagram import Diagram
+
+METHODS = {"formula": "the formula's terms", "ipw": "inverse probability weights", "aipw": "the doubly robust estimator"}
+MEANS = ("mean under treated", "mean under control", "mean difference", "mean ratio")
+MEANS_IN_COLUMNS = dict(zip(MEANS, ("mean_treated", "mean_control", "difference", "ratio")))
+INTERVALS = {"influence": "intervals by influence functions", "percentile": "percentile intervals"}
+
+
+@dataclass(frozen=True)
+class Estimate:
+    """A number with its interval, computed by models."""
+
+    measure: str
+    estimate: Optional[float]
+    interval: Optional[Interval] = None
+
+    def __float__(self) -> float:
+        if self.estimate is None:
+            raise RequestError(f"there is no {self.measure}")
+        return self.estimate
+
+    def __str__(self) -> str:
+        value = "none" if self.estimate is None else f"{self.estimate:.6g}"
+        return f"{self.measure}: {value}" + (f" {self.interval}" if self.interval else "")
+
+
+@dataclass(frozen=True)
+class Estimates(Framed):
+    """Estimates of two arms by models: their risks (or means), the difference and ratios, with intervals.
+
+    **Computed: by these models.** `formula` is proved to be the effect; what the models make of its terms isn't. `fits` say of each model
+    how it fits, and `doubts` what is wrong; `weighting` has the diagnostics of weights, where there are some.
+    """
+
+    formula: Formula
+    method: str
+    arms: Tuple[Dict[str, Level], Dict[str, Level]]
+    outcome: Dict[str, Level]
+    rows: Tuple[Estimate, ...]
+    fits: Tuple[Fit, ...]
+    interval_kind: str
+    level: float
+    records: int
+    dropped: int = 0
+    given: Dict[str, Level] = field(default_factory=dict)
+    pinned: Dict[str, Level] = field(default_factory=dict)
+    resamples: int = 0
+    without_value: int = 0
+    seed: Optional[int] = None
+    design: str = ""
+    weighting: Optional[Weighting] = None
+
+    @property
+    def treated(self) -> Estimate:
+        """The risk, or the mean, under the treated level."""
+        return self.rows[0]
+
+    @property
+    def control(self) -> Estimate:
+        """The same under the control level."""
+        return self.rows[1]
+
+    @property
+    def difference(self) -> Estimate:
+        """Treated less control."""
+        return self.rows[2]
+
+    @property
+    def ratio(self) -> Estimate:
+        """Treated over control."""
+        return self.rows[3]
+
+    @property
+    def odds_ratio(self) -> Estimate:
+        """The odds ratio; a mean has none."""
+        return self.rows[4] if len(self.rows) > 4 else Estimate("odds ratio", None)
+
+    @property
+    def e_value(self) -> Optional[EValue]:
+        """The E-value of the risk ratio: see `e_value`."""
+        if self.ratio.estimate is None or self.ratio.estimate <= 0 or len(self.rows) < 5:
+            return None
+        interval = self.ratio.interval
+        return e_value(self.ratio.estimate, *((interval.lower, interval.upper) if interval else ()))
+
+    @property
+    def head(self) -> str:
+        """What is estimated, in words."""
+        arms = f"treated: {levels_text(self.arms[0])}; control: {levels_text(self.arms[1])}"
+        outcome = f"; outcome: {levels_text(self.outcome)}" if self.outcome else f"; mean of {self.formula.target.y[0]}"
+        return arms + outcome + (f"; among: {levels_text(self.given)}" if self.given else "")
+
+    @property
+    def notes(self) -> Tuple[str, ...]:
+        """What the estimates rest on."""
+        kind = f"{100 * self.level:g}% {INTERVALS[self.interval_kind]}"
+        if self.interval_kind == "percentile":
+            kind += f" of {self.resamples} resamples, of which {self.without_value} had no value; seed {self.seed}"
+        found = [f"computed: by {METHODS[self.method]}, with these models", *map(str, self.fits)]
+        found += [f"{kind}; {self.records} records" + (f"; {self.design}" if self.design else "")]
+        found += [f"pinned {levels_text(self.pinned)}"] if self.pinned else []
+        found += [f"{self.dropped} records left out that lack a value"] if self.dropped else []
+        return tuple(found)
+
+    @property
+    def doubts(self) -> Tuple[str, ...]:
+        """What is wrong with the models, or with the weights."""
+        found = [f"{fit.term}: {note}" for fit in self.fits for note in fit.notes]
+        return (*found, *(self.weighting.doubts if self.weighting else ()))
+
+    HEADS = ("treated", "control", "measure", "estimate", "conf_low", "conf_high")
+
+    def _cells(self) -> List[List[Any]]:
+        ends = [(it.interval.lower, it.interval.upper) if it.interval else (None, None) for it in self.rows]
+        return [[it.measure, it.estimate, *end] for it, end in zip(self.rows, ends)]
+
+    def _table(self) -> Tuple[Sequence[str], List[List[Any]]]:
+        names = {**IN_COLUMNS, **MEANS_IN_COLUMNS}
+        return self.HEADS, [[*map(arm_level, self.arms), names[measure], *cells] for measure, *cells in self._cells()]
+
+    def frame(self) -> Any:
+        """A DataFrame with a row for each measure (it needs pandas). What they rest on stands in its `attrs`, as `notes` and `doubts`."""
+        frame = super().frame()
+        frame.attrs.update(notes=list(self.notes), doubts=list(self.doubts))
+        return frame
+
+    def __str__(self) -> str:
+        weighting = [str(self.weighting)] if self.weighting else []
+        return "\n".join([self.head, *map(str, self.rows), *self.notes, *weighting, *self.doubts])
+
+    def _repr_html_(self) -> str:
+        return html_table(self.HEADS[2:], self._cells(), [self.head, *self.notes, *self.doubts])
+
+    def plot(self, ax: Optional["matplotlib.axes.Axes"] = None) -> "matplotlib.axes.Axes":
+        """Draws the arms and their difference with their intervals: a forest plot. It needs matplotlib."""
+        from causal.plotting import plot_intervals
+
+        known = [(it, it.interval) for it in self.rows[:3] if it.estimate is not None and it.interval is not None]
+        return plot_intervals([(it.measure, float(it), own.lower, own.upper) for it, own in known if own], "estimate, with its interval", ax)
+
+
+def estimated_by(
+    diagram: "Diagram",
+    data: Data,
+    x: Optional[Names],
+    y: Optional[Names],
+    *,
+    treated: Any,
+    control: Any,
+    outcome: Any,
+    method: str,
+    model: Any,
+    smoothing: float,
+    factors: Names,
+    set: Optional[Names],
+    back_door: bool,
+    given: Optional[Mapping[str, Level]],
+    at: Optional[Mapping[str, Level]],
+    short: bool,
+    count: Optional[str],
+    missing: str,
+    interval: Optional[str],
+    resamples: int,
+    level: float,
+    seed: Optional[int],
+    progress: Optional[Progress],
+    design: Design,
+) -> Estimates:
+    """The estimates of two arms: see `Diagram.estimate`."""
+    numpy = needed("numpy", "an estimate by models")
+    if method not in METHODS:
+        raise RequestError(f"method is {', '.join(map(repr, METHODS))}, and not {method!r}")
+    if interval not in (None, *INTERVALS):
+        raise RequestError(f"interval is {', '.join(map(repr, INTERVALS))} or None, and not {interval!r}")
+    formula, members = formula_of(diagram, x, y, method, set, back_door, given, short)
+    target = formula.target
+    if len(target.y) != 1:
+        raise RequestError("an estimate by models is of one outcome")
+    names = [name for name in diagram.vertices if name in formula.variables]
+    design.check(names, count)
+    rows = rows_of(numpy, data, names, target.x, names_of(factors), count, missing, design, target.y)
+    arms = levels_at(target.x, treated, typed_order(x)), levels_at(target.x, control, typed_order(x))
+    pinned = pins_of(rows, formula, at)
+    codes = [{name: code_of(rows, name, own) for name, own in arm.items()} for arm in arms]
+    fixed = {name: code_of(rows, name, own) for name, own in {**(given or {}), **pinned}.items()}
+    told = None if outcome is None else levels_at(target.y, outcome, typed_order(y))
+    if told is None and rows.variables[target.y[0]].numbers is None:
+        raise RequestError(f"{target.y[0]} isn't a number: give the level whose risk is estimated, as outcome")
+    code = None if told is None else code_of(rows, target.y[0], told[target.y[0]])
+    asked = Asked(target.y[0], code, (codes[0], codes[1]), fixed, model, smoothing)
+    estimator = estimator_of(rows, asked, formula, names, method, members)
+    estimator.fit(rows.weights)
+    for it in estimator.models:
+        it.examine(rows.codes, rows.weights)
+    kind = interval or ("influence" if estimator.has_moves else "percentile")
+    if kind == "influence" and not estimator.has_moves:
+        raise RequestError("influence functions are known of the package's own models over a set; interval='percentile' draws records anew")
+    numbers = estimator.numbers(rows.weights)
+    fits = tuple(model.told(rows.records) for model in estimator.models)
+    weighting = weighting_of(estimator, members) if isinstance(estimator, Weighted) else None
+    first, drawn = seed_of(seed), []  # type: int, List[Optional[Tuple[float, float]]]
+    if kind == "influence":
+        intervals = by_influence(rows, estimator, numbers, level, told is None)
+    else:
+        drawn = by_draws(rows, estimator, resamples, first, progress)
+        intervals = of_draws(drawn, level, told is None)
+    names_told = MEANS if told is None else MEASURES
+    measures = tuple(Estimate(*it) for it in zip(names_told, values_of(numbers, told is None), intervals))
+    kept = {"resamples": len(drawn), "without_value": sum(it is None for it in drawn), "seed": first} if drawn else {}
+    found = Estimates(
+        *(formula, method, arms, told or {}, measures, fits, kind, level, rows.records, rows.dropped, dict(given or {}), pinned),
+        **kept,  # type: ignore[arg-type]
+        design=str(design),
+        weighting=weighting,
+    )
+    for doubt in found.doubts:
+        warn(doubt, DataWarning)
+    return found
+
+
+def formula_of(
+    diagram: "Diagram",
+    x: Optional[Names],
+    y: Optional[Names],
+    method: str,
+    set: Optional[Names],
+    back_door: bool,
+    given: Optional[Mapping[str, Level]],
+    short: bool,
+) -> Tuple[Formula, Tuple[str, ...]]:
+    """The formula, and the set where it is that of one. Weights are over a set that the program calls admissible."""
+    if set is None and method == "formula":
+        if given is not None and not isinstance(given, Mapping):
+            raise RequestError("an estimate is at levels of what is given, as in given={'sex': 'f'}")
+        return identified(diagram, x, y, list(given) if given else None, short), ()
+    if given:
+        raise RequestError("an effect is estimated by a set to adjust for, or under a condition, and not both")
+    if set is None:
+        sets = diagram.adjustment_sets(x, y, most=1)
+        if not sets:
+            raise RequestError(f"no set may be adjusted for, which method={method!r} needs; method='formula' takes the formula of identify")
+        set = sets[0]
+    return adjusted(diagram, x, y, set, back_door)
+
+
+def code_of(rows: Rows, name: str, level: Level) -> int:
+    """The number of a level."""
+    levels = list(rows.variables[name].levels)
+    if level not in levels:
+        shown = ", ".join(map(repr, levels[:12])) + (" .." if len(levels) > 12 else "")
+        raise RequestError(f"{name} has no level {level!r} in the data, but {shown}{meant(str(level), map(str, levels)) if len(levels) < 13 else ''}")
+    return levels.index(level)
+
+
+def pins_of(rows: Rows, formula: Formula, at: Optional[Mapping[str, Level]]) -> Dict[str, Level]:
+    """The levels at which the formula's further variables are pinned."""
+    wrong = [name for name in at or {} if name not in formula.free]
+    if wrong:
+        raise RequestError(f"no level can be given for {', '.join(wrong)}: the formula reads a level of {printed_set(formula.free)} alone")
+    return {name: (at or {}).get(name, rows.variables[name].levels[0]) for name in formula.free}
+
+
+def estimator_of(rows: Rows, asked: Asked, formula: Formula, names: Sequence[str], method: str, members: Sequence[str]) -> Estimator:
+    """The estimator."""
+    if method == "ipw":
+        return Weighted(rows, asked, formula.target.x, members)
+    if method == "aipw":
+        return DoublyRobust(rows, asked, formula.target.x, members)
+    given = pattern_of(formula)
+    return ByTree(rows, asked, formula, names) if given is None else Standardized(rows, asked, given)
+
+
+def values_of(numbers: Tuple[float, float], is_mean: bool) -> List[Optional[float]]:
+    """The measures of two numbers.
+
+    >>> from causal.estimates import values_of
+    >>> values_of((0.5, 0.25), is_mean=False), values_of((3.0, 0.0), is_mean=True)
+    ([0.5, 0.25, 0.25, 2.0, 3.0], [3.0, 0.0, 3.0, None])
+    """
+    first, second = numbers
+    found: List[Optional[float]] = [first, second, first - second, first / second if second > 0 else None]
+    if not is_mean:
+        is_known = first < 1 and 0 < second < 1
+        found.append(first * (1 - second) / ((1 - first) * second) if is_known else None)
+    return found
+
+
+def by_influence(rows: Rows, estimator: Estimator, numbers: Tuple[float, float], level: float, is_mean: bool) -> List[Optional[Interval]]:
+    """Intervals by how the numbers move with each record: of risks on the scale of the logit, of ratios on that of the logarithm."""
+    width = NormalDist().inv_cdf((1 + level) / 2)
+    (first, second), (a, b) = estimator.moves(rows.weights), numbers
+
+    def on_scale(value: float, moves: Any, there: Callable[[float], float], back: Callable[[float], float], slope: float) -> Interval:
+        half = width * math.sqrt(rows.variance(moves * slope))
+        return Interval(back(there(value) - half), back(there(value) + half))
+
+    def plain(value: float, moves: Any) -> Interval:
+        return on_scale(value, moves, lambda it: it, lambda it: it, 1.0)
+
+    def risk(value: float, moves: Any) -> Interval:
+        if is_mean or not 0 < value < 1:
+            return plain(value, moves)
+        return on_scale(value, moves, logit, lambda it: 1 / (1 + math.exp(-it)), 1 / (value * (1 - value)))
+
+    found: List[Optional[Interval]] = [risk(a, first), risk(b, second), plain(a - b, first - second)]
+    found.append(on_scale(a / b, first / a - second / b, math.log, math.exp, 1.0) if a > 0 and b > 0 else None)
+    if not is_mean:
+        is_inside = 0 < a < 1 and 0 < b < 1
+        moves = first / (a * (1 - a)) - second / (b * (1 - b)) if is_inside else None
+        found.append(on_scale(a * (1 - b) / ((1 - a) * b), moves, math.log, math.exp, 1.0) if is_inside else None)
+    return found
+
+
+def logit(value: float) -> float:
+    """The logarithm of the odds."""
+    return math.log(value / (1 - value))
+
+
+def by_draws(rows: Rows, estimator: Estimator, resamples: int, seed: int, progress: Optional[Progress]) -> List[Optional[Tuple[float, float]]]:
+    """The numbers of both arms over records that are drawn anew, with the models fitted to each draw."""
+    if isinstance(resamples, bool) or not hasattr(resamples, "__index__") or resamples < 1:
+        raise RequestError(f"resamples is a whole number from 1 on, and not {resamples!r}")
+    source, members = rows.numpy.random.RandomState(seed % 2**32), rows.members
+    found: List[Optional[Tuple[float, float]]] = []
+    for done in range(resamples):
+        weights = rows.drawn(source, members)
+        try:
+            estimator.fit(weights)
+            numbers = estimator.numbers(weights)
+            found.append(numbers if all(map(math.isfinite, numbers)) else None)
+        except (RequestError, ArithmeticError, rows.numpy.linalg.LinAlgError):
+            found.append(None)
+        if progress is not None:
+            progress(done + 1, resamples)
+    return found
+
+
+def of_draws(drawn: Sequence[Optional[Tuple[float, float]]], level: float, is_mean: bool) -> List[Optional[Interval]]:
+    """The percentile intervals of each measure."""
+    columns = zip(*(values_of(numbers, is_mean) for numbers in drawn if numbers is not None))
+    found = [interval_of(column, level) for column in columns]
+    return list(found) or [None] * (4 if is_mean else 5)

@@ -1,0 +1,155 @@
+"""The value of a formula over many tables of counts at once, by numpy.
+
+It is computed with floats, and nothing about it is proved: it is used for what is drawn anew, after it has given on the table itself
+what the program gives.
+"""
+from __future__ import annotations
+
+from typing import TYPE_CHECKING, Any, Dict, List, Optional, Sequence, Tuple
+
+if TYPE_CHECKING:
+    from causal.effects import Effects
+    from causal.objects import Told
+
+# Tables of more cells are asked of the library one by one; and as many numbers are held at once.
+MOST_CELLS, AT_ONCE = 1 << 14, 1 << 21
+# How far what is computed may be from what the program says.
+NEAR = 1e-9
+
+
+class Partial:
+    """Numbers, of which some are unknown: an axis for the tables, and one for each variable."""
+
+    def __init__(self, value: Any, known: Any) -> None:
+        self.value, self.known = value, known
+
+
+class Formulas:
+    """A formula over tables of counts: an axis for each variable, in the order of `names`. `kept` are the variables whose levels all
+    count; of another one those that a table has records of.
+
+    >>> import numpy
+    >>> from causal import Diagram
+    >>> from causal.values import Formulas
+    >>> formula = Diagram("dag { X -> Y }").identify("X", "Y")
+    >>> counts = numpy.array([[[3.0, 1.0], [2.0, 2.0]]])
+    >>> Formulas(numpy, formula._known(), ("X", "Y"), ("X", "Y"), True).over(counts).value.tolist()
+    [[[0.75, 0.25], [0.5, 0.5]]]
+    """
+
+    def __init__(self, numpy: Any, trees: Sequence["Told"], names: Sequence[str], kept: Sequence[str], zero: bool) -> None:
+        self.numpy, self.trees, self.names, self.zero = numpy, trees, tuple(names), zero
+        self.kept = set(kept)
+        self.axes = {name: place + 1 for place, name in enumerate(names)}
+
+    def over(self, counts: Any) -> Partial:
+        """The value at each level of what it depends on, for each table of counts."""
+        self.counts, self.sums, self.definitions = counts, {}, []  # type: Any, Dict[frozenset[str], Any], List[Partial]
+        for tree in self.trees[:-1]:
+            self.definitions.append(self._value(tree))
+        return self._value(self.trees[-1])
+
+    def _value(self, tree: "Told") -> Partial:
+        if "definition" in tree:
+            return self.definitions[tree["definition"]]
+        if "term" in tree:
+            return self._share(tree["term"], tree["given"])
+        if "sum" in tree:
+            return self._sum(self._value(tree["of"]), tree["sum"])
+        if "quotient" in tree:
+            above, below = map(self._value, tree["quotient"])
+            return self._over(above, below)
+        return self._product([self._value(part) for part in tree["product"]])
+
+    def _sums(self, names: Sequence[str]) -> Any:
+        """The counts by these variables."""
+        key = frozenset(names)
+        if key not in self.sums:
+            others = tuple(axis for name, axis in self.axes.items() if name not in key)
+            self.sums[key] = self.counts.sum(axis=others, keepdims=True)
+        return self.sums[key]
+
+    def _share(self, term: Sequence[str], given: Sequence[str]) -> Partial:
+        below = self._sums(given)
+        known = below > 0
+        return Partial(self._sums([*term, *given]) / self.numpy.where(known, below, 1.0), known)
+
+    def _over(self, above: Partial, below: Partial) -> Partial:
+        known = above.known & below.known & (below.value > 0)
+        return Partial(above.value / self.numpy.where(known, below.value, 1.0), known)
+
+    def _product(self, parts: Sequence[Partial]) -> Partial:
+        value, known = parts[0].value, parts[0].known
+        none = known & (value == 0)
+        for part in parts[1:]:
+            value, none = value * part.value, none | (part.known & (part.value == 0))
+            known = known & part.known
+        if not self.zero:
+            return Partial(value, known)
+        return Partial(self.numpy.where(none, 0.0, value), known | none)
+
+    def _sum(self, part: Partial, names: Sequence[str]) -> Partial:
+        numpy, value, known = self.numpy, part.value, part.known
+        for name in names:
+            axis = self.axes[name]
+            there = self.numpy.ones_like(self._sums([name]), dtype=bool) if name in self.kept else self._sums([name]) > 0
+            value, known = numpy.where(there & known, value, 0.0), known | ~there
+            size = self.counts.shape[axis]
+            if value.shape[axis] == 1 and size > 1:
+                value, known = numpy.where(there, value, 0.0), numpy.broadcast_to(known, numpy.broadcast_shapes(known.shape, there.shape))
+            value, known = value.sum(axis=axis, keepdims=True), known.all(axis=axis, keepdims=True)
+        return Partial(value, known)
+
+
+class Evaluator:
+    """The values of all effects over many tables with the levels of one, in the order of the effects."""
+
+    def __init__(self, numpy: Any, effects: "Effects", names: Sequence[str], levels: Sequence[Sequence[Any]], zero: bool) -> None:
+        formula, target = effects.formula, effects.formula.target
+        self.numpy, self.sizes = numpy, tuple(map(len, levels))
+        self.formulas = Formulas(numpy, formula._known(), names, [*target.x, *target.y, *target.given, *formula.free], zero)
+        places = {name: {level: k for k, level in enumerate(held)} for name, held in zip(names, levels)}
+        chosen = {name: [] for name in names}  # type: Dict[str, List[int]]
+        for effect in effects:
+            at = {**effect.x, **effect.y, **effect.given}
+            for name in names:
+                chosen[name].append(places[name][at[name]] if name in at else 0)
+        self.chosen = [numpy.array(chosen[name], dtype=int) for name in names]
+
+    @property
+    def at_once(self) -> int:
+        """How many tables are evaluated at once."""
+        return max(1, AT_ONCE // int(self.numpy.prod(self.sizes)))
+
+    def values(self, counts: Any) -> Tuple[Any, Any]:
+        """The value of each effect over each table, and whether it is known; a row for each table."""
+        numpy = self.numpy
+        found = self.formulas.over(counts.reshape((len(counts), *self.sizes)))
+        shape = numpy.broadcast_shapes(found.value.shape, found.known.shape)
+        rows = (slice(None), *(numpy.zeros_like(at) if size == 1 else at for at, size in zip(self.chosen, shape[1:])))
+        value, known = (numpy.broadcast_to(it, (len(counts), *shape[1:]))[rows] for it in (found.value, found.known))
+        return value, known
+
+    def agrees(self, counts: Any, effects: "Effects") -> bool:
+        """Whether it gives on a table what the program gives there."""
+        value, known = self.values(counts.reshape((1, -1)))
+        wanted = self.numpy.array([float(effect.value) for effect in effects])
+        return bool(known.all()) and bool((abs(value[0] - wanted) <= NEAR * (1 + abs(wanted))).all())
+
+
+def evaluator_of(
+    effects: "Effects", names: Sequence[str], levels: Sequence[Sequence[Any]], dense: Sequence[float], zero: bool
+) -> Optional[Evaluator]:
+    """What evaluates many tables of a formula at once, where numpy is there, the table isn't large, and it gives for the counts of the
+    table itself what the program gave."""
+    size = 1
+    for held in levels:
+        size *= max(len(held), 1)
+    if size > MOST_CELLS:
+        return None
+    try:
+        import numpy
+    except ImportError:
+        return None
+    evaluator = Evaluator(numpy, effects, names, levels, zero)
+    return evaluator if evaluator.agrees(numpy.array(dense, dtype=float), effects) else None

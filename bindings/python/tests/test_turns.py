@@ -1,0 +1,308 @@
+"""No wrong turn in silence: what once gave another answer than was asked for, or a number that said more than it held."""
+import datetime
+import random
+import unittest
+import warnings
+
+from worked import read_example
+
+import causal
+from causal import Diagram
+
+try:
+    import pandas
+except ImportError:
+    pandas = None
+
+needs_pandas = unittest.skipIf(pandas is None, "no pandas")
+TWO = "dag { B [exposure] A [exposure] Y [outcome] A -> Y B -> Y }"
+
+
+def two_arms():
+    """Records with P(Y=1|A=1,B=0) = 0.3 and P(Y=1|A=0,B=1) = 0.5."""
+    rows = [(a, b, y) for a in (0, 1) for b in (0, 1) for y in range(10)]
+    chance = {(0, 0): 1, (1, 0): 3, (0, 1): 5, (1, 1): 8}
+    return {"A": [a for a, _, _ in rows], "B": [b for _, b, _ in rows], "Y": [int(y < chance[a, b]) for a, b, y in rows]}
+
+
+class Arms(unittest.TestCase):
+    """Levels in the order in which the exposures were typed."""
+
+    def risk(self, **asked):
+        return float(Diagram(TWO).contrast(two_arms(), y="Y", outcome=1, resamples=0, **asked).treated)
+
+    def test_they_follow_x(self):
+        self.assertAlmostEqual(self.risk(x=["A", "B"], treated=(1, 0), control=(0, 0)), 0.3)
+        self.assertAlmostEqual(self.risk(x=["B", "A"], treated=(1, 0), control=(0, 0)), 0.5)
+        self.assertAlmostEqual(self.risk(treated={"A": 1, "B": 0}, control={"A": 0, "B": 0}), 0.3)
+
+    def test_without_an_order_they_are_named(self):
+        for x in ({}, {"x": {"A", "B"}}):
+            with self.assertRaisesRegex(causal.RequestError, "given by name"):
+                self.risk(**x, treated=(1, 0), control=(0, 0))
+
+    def test_outcomes_too(self):
+        data = {"X": [0, 1] * 4, "Y": [0, 0, 1, 1] * 2, "Z": [0, 1, 1, 1] * 2}
+        diagram = Diagram("dag { Y X -> Y X -> Z }")
+        asked = {"treated": 1, "control": 0, "resamples": 0}
+        found = diagram.contrast(data, "X", ["Z", "Y"], outcome=(1, 0), **asked)
+        self.assertEqual(found.outcome, {"Y": 0, "Z": 1})
+        with self.assertRaisesRegex(causal.RequestError, "a level is needed for each"):
+            diagram.contrast(data, "X", ["Z", "Y"], outcome=1, **asked)
+
+    def test_an_interval_of_two(self):
+        drawn = Diagram(TWO).bootstrap(two_arms(), ["A", "B"], "Y", resamples=20)
+        self.assertAlmostEqual(float(drawn.contrast(1, (1, 0), (0, 0)).contrast.treated), 0.3)
+
+
+class Roles(unittest.TestCase):
+    """A role is one of a vertex."""
+
+    def test_a_typing_error(self):
+        edges = [("age", "statin"), ("age", "mi"), ("statin", "mi")]
+        for role in ("exposure", "outcome", "latent", "adjusted"):
+            with self.assertRaisesRegex(causal.RequestError, "no vertex has the name Statin.*did you mean statin"):
+                Diagram.from_edges(edges, **{role: "Statin"})
+        self.assertEqual(Diagram.from_edges(edges, vertices=["Statin"], latent="Statin").roles, {"Statin": "latent"})
+
+    def test_a_role_without_an_edge(self):
+        with self.assertWarnsRegex(causal.DiagramWarning, "the exposure Statin has no edge"):
+            Diagram("dag { Statin [exposure] statin -> mi mi [outcome] }")
+
+    def test_no_exposure(self):
+        diagram = Diagram("dag { A [outcome] B -> A }")
+        data = {"A": [0, 1], "B": [0, 1]}
+        for ask in (diagram.identify, lambda: diagram.effects(data), lambda: diagram.evaluate(data), lambda: diagram.bootstrap(data)):
+            with self.assertRaisesRegex(causal.RequestError, r"give x, or x=\[\]"):
+                ask()
+        self.assertEqual(str(diagram.identify(x=[])), "P(A) = P(A)")
+
+
+class Sparse(unittest.TestCase):
+    """Tests of what has nearly a level for each record."""
+
+    def data(self, cut):
+        source = random.Random(4)
+        ages = [source.gauss(50, 10) for _ in range(400)]
+        x = [int(source.random() < age / 100) for age in ages]
+        y = [int(source.random() < 0.2 * it + age / 125) for it, age in zip(x, ages)]
+        return {"age": [cut(age) for age in ages], "X": x, "Y": y}
+
+    def test_no_test_of_a_number(self):
+        diagram = Diagram("dag { age -> X -> Y }")
+        for method in ("auto", "permutation"):
+            test = diagram.test_implications(self.data(lambda age: age), method=method)[0]
+            self.assertEqual((test.p_value, test.p_holm, test.method), (None, None, None))
+            self.assertRegex(str(test), "no test: age has 400 levels in 400 records.*cut it")
+        # and as what is given
+        test = Diagram("dag { X <- age -> Y }").test_implications(self.data(lambda age: age))[0]
+        self.assertEqual(test.p_value, None)
+        self.assertIn("cut it", test.note)
+        self.assertLess(diagram.test_implications(self.data(lambda age: age // 10))[0].p_value, 0.05)
+
+    def test_some_are_told(self):
+        with self.assertWarnsRegex(causal.DataWarning, "little power"):
+            test = Diagram("dag { age -> X -> Y }").test_implications(self.data(lambda age: round(age * 3)), permutations=20)[0]
+        self.assertIsNotNone(test.p_value)
+        self.assertIn("little power", str(test))
+
+
+class Told(unittest.TestCase):
+    """What a number rests on stands beside it."""
+
+    def test_lost_resamples(self):
+        source = random.Random(1)
+        data = {"S": [min(source.randrange(40), 20) for _ in range(120)], "T": [source.randrange(2) for _ in range(120)]}
+        data["R"] = [source.randrange(2) for _ in range(120)]
+        data = {name: column + extra for (name, column), extra in zip(data.items(), (list(range(21)) * 2, [0] * 21 + [1] * 21, [0, 1] * 21))}
+        diagram = Diagram(read_example("kidney_stones.dag"))
+        with self.assertWarnsRegex(causal.DataWarning, "of the resamples have no value"):
+            drawn = diagram.bootstrap(data, resamples=100)
+        found = drawn.contrast(1, 1, 0)
+        for text in (str(drawn), str(found), found._repr_html_(), drawn._repr_html_()):
+            self.assertIn(f"of which {drawn.without_value} had no value", text)
+            self.assertIn("of the resamples have no value", text)
+
+    def test_no_events(self):
+        data = {"X": [0] * 226 + [1] * 100, "Y": [0] * 316 + [1] * 10}
+        with self.assertWarnsRegex(causal.DataWarning, "width 0"):
+            found = Diagram("dag { X -> Y }").contrast(data, "X", "Y", treated=1, control=0, outcome=1, resamples=50)
+        for text in (str(found), found._repr_html_()):
+            self.assertIn("risk under control has width 0: none of the records there has the outcome", text)
+            self.assertIn("0.0133", text)
+
+    def test_few_events(self):
+        data = {"X": [0] * 226 + [1] * 100, "Y": [1] * 3 + [0] * 313 + [1] * 10}
+        found = Diagram("dag { X -> Y }").contrast(data, "X", "Y", treated=1, control=0, outcome=1, resamples=50)
+        self.assertIn("only 3 of 226 records under control are with the outcome", str(found))
+
+    @needs_pandas
+    def test_in_frames(self):
+        data = pandas.DataFrame({"X": [0] * 20 + [1] * 20, "Y": [0] * 35 + [1] * 5})
+        with warnings.catch_warnings():
+            warnings.simplefilter("ignore")
+            frame = Diagram("dag { X -> Y }").contrast(data, "X", "Y", treated=1, control=0, outcome=1, resamples=50).frame()
+        self.assertIn("width 0", frame.attrs["doubts"][0])
+        self.assertIn("50 resamples", frame.attrs["notes"][0])
+
+    def test_a_contrast_in_words(self):
+        data = {"X": ["a", "b"] * 20, "Y": [0, 1, 1, 1] * 10}
+        found = Diagram("dag { X -> Y }").contrast(data, "X", "Y", treated="a", control="b", outcome=1, resamples=0)
+        self.assertTrue(str(found).startswith("treated: X=a; control: X=b; outcome: Y=1\nrisk under treated: 0.5\n"))
+        self.assertNotIn("Fraction", found._repr_html_())
+        sets = Diagram("dag { Z -> X -> Y <- Z }").adjustment_sets("X", "Y")
+        for it in (sets, Diagram("dag { X -> Y X <-> Y }").identify("X", "Y"), Diagram("dag { A -> B }").separated("A", "B")):
+            self.assertNotIn("(x=", it._repr_html_())
+
+
+class Records(unittest.TestCase):
+    """Records, and levels."""
+
+    def test_dropped_records_by_their_counts(self):
+        data = {"X": [None, 0, 0, 1, 1], "Y": [0, 0, 1, 0, 1], "n": [500, 10, 30, 20, 40]}
+        edge = Diagram("dag { X -> Y }")
+        with self.assertRaisesRegex(causal.MissingValues, "no value in 500 of 600 records"):
+            edge.effects(data, "X", "Y", count="n")
+        self.assertEqual(edge.effects(data, "X", "Y", count="n", missing="drop").notes, ("500 records left out that lack a value",))
+
+    def test_numbers_in_order(self):
+        found = Diagram("dag { X -> Y }").effects({"X": [2, 10, 1, 2, 10, 1], "Y": [1, 0, 1, 0, 1, 0]}, "X", "Y")
+        self.assertEqual(found.levels, {"Y": [0, 1], "X": [1, 2, 10]})
+
+    def test_a_file_and_a_frame_alike(self):
+        import os
+        import tempfile
+
+        source = random.Random(5)
+        data = {name: [source.randrange(12) % size for _ in range(300)] for name, size in zip(("S", "T", "R"), (2, 3, 12))}
+        kidney = Diagram(read_example("kidney_stones.dag"))
+        with tempfile.TemporaryDirectory() as folder:
+            path = os.path.join(folder, "data.csv")
+            with open(path, "w", encoding="utf-8") as file:
+                file.write("S,T,R\n" + "".join(f"{s},{t},{r}\n" for s, t, r in zip(*data.values())))
+            of_file, of_columns = kidney.effects(path, given="S"), kidney.effects(data, given="S")
+            drawn = kidney.bootstrap(path, resamples=5)
+        self.assertEqual([it.cell for it in of_file], [it.cell for it in of_columns])
+        self.assertEqual(drawn.draws, kidney.bootstrap(data, resamples=5).draws)
+
+    @needs_pandas
+    def test_a_declared_level_without_a_record(self):
+        edge = Diagram("dag { X -> Y }")
+        for values in (pandas.Categorical([0] * 6, [0, 1]), pandas.Series([False] * 6)):
+            found = edge.effects(pandas.DataFrame({"X": [0, 1] * 3, "Y": values}), "X", "Y", exact=True)
+            self.assertEqual(found.at(1, 1).exact, 0)
+        exposed = pandas.DataFrame({"X": pandas.Categorical([0] * 4, [0, 1]), "Y": [0, 1] * 2})
+        self.assertEqual(edge.effects(exposed, "X", "Y").levels["X"], [0])
+
+    @needs_pandas
+    def test_an_ordered_category_stays_one(self):
+        data = pandas.DataFrame({"X": pandas.Categorical(["low", "high"] * 2, ["low", "mid", "high"], ordered=True), "Y": [0, 1, 1, 0]})
+        frame = Diagram("dag { X -> Y }").evaluate(data, "X", "Y")
+        self.assertTrue(frame["X"].cat.ordered)
+        self.assertEqual(list(frame["X"].cat.categories), ["low", "mid", "high"])
+
+    def test_two_numbers_that_print_alike(self):
+        data = {"X": [0.1 + 0.2, 0.3] * 10, "Y": [1, 0] * 10}
+        found = Diagram("dag { X -> Y }").contrast(data, "X", "Y", treated=0.1 + 0.2, control=0.3, outcome=1, resamples=0)
+        self.assertEqual(float(found.difference), 1.0)
+
+    def test_days(self):
+        days = [datetime.datetime(2020, 4, 3), datetime.datetime(2020, 1, 1)] * 2
+        found = Diagram("dag { X -> Y }").effects({"X": days, "Y": [0, 1, 1, 0]}, "X", "Y")
+        self.assertEqual(found[0].cell, "P(Y=0|do(X=2020-01-01))")
+
+    def test_a_list_of_records(self):
+        records = [{"X": 0, "Y": 0}, {"X": 0, "Y": 1}, {"X": 1, "Y": 1}]
+        self.assertEqual(float(Diagram("dag { X -> Y }").effects(records, "X", "Y").at(1, 0)), 0.5)
+        with self.assertRaises(causal.MissingValues):
+            Diagram("dag { X -> Y }").effects([{"X": 0}, {"Y": 1}], "X", "Y")
+
+    def test_too_many_cells_are_counted(self):
+        source = random.Random(2)
+        names = [f"c{k}" for k in range(11)]
+        text = "dag { " + " ".join(f"{name} -> X {name} -> Y" for name in names) + " X -> Y }"
+        data = {name: [source.randrange(4) for _ in range(100)] for name in [*names, "X", "Y"]}
+        with self.assertRaisesRegex(causal.CountsError, r"67108864 combinations of levels.*\(levels: .*c0 4"):
+            Diagram(text).effects(data, "X", "Y")
+
+
+class Refusals(unittest.TestCase):
+    """Each refusal has a type below one, and says what was meant."""
+
+    def test_one_class(self):
+        edge, data = Diagram("dag { X -> Y }"), {"X": [0, 1], "Y": [0, 1]}
+        for ask in (
+            lambda: edge.equivalent("dag { X -> Y }"),
+            lambda: edge.contrast(data, "X", "Y", treated=1, control=0, outcome=1, given="C"),
+            lambda: edge.rule_holds(4, "Y", "X"),
+            lambda: edge.adjustment_sets("X", "Y", most=0),
+            lambda: edge.surrogate("X", "Y"),
+            lambda: edge.bootstrap(data, "X", "Y", resamples=1.5),
+            lambda: edge.bootstrap(data, "X", "Y", seed="x"),
+            lambda: edge.bootstrap(data, "X", "Y", level="high"),
+            lambda: edge.effects(3, "X", "Y"),
+            lambda: Diagram(3),
+            lambda: edge.effects(data, "X", "Z"),
+            lambda: edge.parents("Q"),
+        ):
+            with self.assertRaises(causal.Refusal) as caught:
+                ask()
+            self.assertNotIn("diagram', '--", str(caught.exception))
+
+    def test_what_was_meant(self):
+        data = {"x": [0, 1], "C ": [0, 1], "Y": [0, 1]}
+        with self.assertRaisesRegex(causal.CountsError, "there is no column X; did you mean x"):
+            Diagram("dag { X -> Y }").effects(data, "X", "Y")
+        with self.assertRaisesRegex(causal.CountsError, "there is no column C; did you mean 'C '"):
+            Diagram("dag { C -> Y }").effects(data, "C", "Y")
+        with self.assertRaisesRegex(causal.TargetError, "did you mean X"):
+            Diagram("dag { X -> Y }").identify("x", "Y")
+
+    def test_what_would_answer(self):
+        source = random.Random(3)
+        data = {name: [source.randrange(2) for _ in range(60)] for name in ("A", "B", "X", "Y")}
+        data = {name: [*column, value] for (name, column), value in zip(data.items(), (2, 2, 1, 1))}
+        diagram = Diagram("dag { A -> X B -> A B -> Y X -> Y A -> Y }")
+        with self.assertRaisesRegex(causal.EvaluationError, r"no record has .*; support\(data\).*estimate"):
+            diagram.effects(data, "X", "Y")
+        lone = Diagram("dag { A -> X B -> Y A -> B X -> Y }")
+        data["B"][-1] = 1
+        with self.assertRaisesRegex(causal.EvaluationError, r"; set=\['B'\] gives a value"):
+            lone.effects(data, "X", "Y", set=["A"])
+
+    def test_old_names_warn(self):
+        data = {"S": [0, 1] * 4, "T": [0, 0, 1, 1] * 2, "R": [0, 1, 1, 0, 1, 0, 1, 1]}
+        kidney = Diagram(read_example("kidney_stones.dag"))
+        with self.assertWarnsRegex(DeprecationWarning, "adjust_for is named set now"):
+            old = kidney.effects(data, adjust_for="S")
+        self.assertEqual(old, kidney.effects(data, set="S"))
+        with self.assertWarnsRegex(DeprecationWarning, "kind is named interval now"):
+            kidney.bootstrap(data, kind="percentile", resamples=2)
+        test = Diagram("dag { S -> T -> R }").test_implications(data)[0]
+        for old_name, name in (("p", "p_value"), ("degrees", "df"), ("adjusted", "p_holm"), ("rmsea_lower", "rmsea_low"), ("rmsea_upper", "rmsea_high")):
+            with self.assertWarnsRegex(DeprecationWarning, f"{old_name} is named {name} now"):
+                self.assertEqual(getattr(test, old_name), getattr(test, name))
+        with self.assertWarnsRegex(DeprecationWarning, "members is named set now"):
+            self.assertTrue(kidney.adjusts(members="S"))
+        with self.assertWarnsRegex(DeprecationWarning, "number is named rule now"):
+            self.assertTrue(kidney.rule_holds(number=2, y="R", z="T", given="S"))
+        for old_name, call in (("rule", lambda: kidney.rule), ("check", lambda: kidney.check), ("spread", lambda: kidney.spread)):
+            with self.assertWarnsRegex(DeprecationWarning, f"{old_name} is named"):
+                call()
+
+    def test_warnings_stand_at_the_line_that_asked(self):
+        data = {"X": [0, 1] * 4, "Y": [1, 0] * 4}
+        edge = Diagram("dag { X -> Y }")
+        calls = {
+            causal.DataWarning: lambda: edge.contrast(data, "X", "Y", treated=1, control=0, outcome=1, resamples=5),
+            causal.DiagramWarning: lambda: Diagram("dag { X Y == Z }"),
+            DeprecationWarning: lambda: edge.effects(data, "X", "Y", adjust_for=[]),
+        }
+        for category, call in calls.items():
+            with self.assertWarns(category) as caught:
+                call()
+            self.assertEqual(caught.filename, __file__)
+
+
+if __name__ == "__main__":
+    unittest.main()

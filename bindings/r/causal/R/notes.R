@@ -1,0 +1,67 @@
+# What values rest on, told wherever they are printed, and columns that had other names.
+
+# Above a table of values.
+head_notes <- function(x) {
+  pinned <- attr(x, "pinned")
+  c(character(), if (length(pinned)) paste0("pinned: ", level_text(pinned), " (in the population every level gives the same)"),
+    if (isTRUE(attr(x, "weighted"))) "weighted; the value is that of the weights, rounded to some 12 digits of their sum",
+    if (isTRUE(attr(x, "dropped") > 0)) paste("records left out for missing values:", format(attr(x, "dropped"), big.mark = ",")))
+}
+
+# And below it.
+foot_notes <- function(x) {
+  without <- if (inherits(x, "causal_spread")) attr(x, "without_value")
+  c(vapply(without, function(levels) paste0("no value at ", level_text(levels)), ""),
+    if (inherits(x, "causal_spread") && nrow(x)) paste("at most", format(widest(x), digits = 4), "apart; in the population every level gives the same"),
+    if (inherits(x, c("causal_contrast", "causal_means")) && isTRUE(attr(x, "resamples") > 0)) interval_note(x),
+    if ("note" %in% names(x)) row_notes(x))
+}
+
+# The notes of rows, each once, with what they are of where they aren't of all.
+row_notes <- function(x) {
+  notes <- x[["note"]]
+  lapply_unique <- unique(unlist(strsplit(notes[nzchar(notes)], "; ", fixed = TRUE)))
+  vapply(lapply_unique, function(note) paste0("note: ", note), "", USE.NAMES = FALSE)
+}
+
+interval_note <- function(x) {
+  kind <- if (attr(x, "interval") == "bca") "BCa" else "percentile"
+  paste0(100 * attr(x, "level"), "% ", kind, " intervals of ", attr(x, "resamples"), " resamples, of which ", attr(x, "without_value"),
+         " had no value", if (!is.null(attr(x, "seed"))) paste0("; seed ", attr(x, "seed")))
+}
+
+level_text <- function(levels) paste0(names(levels), "=", vapply(levels, function(level) replace(as.character(level), is.na(level), "NA"), ""), collapse = ", ")
+
+# Columns between what they rest on; what stands in the columns may be shown otherwise than an answer has it.
+print_with_notes <- function(x, shown, ...) {
+  writeLines(head_notes(x))
+  if (nrow(shown)) print.data.frame(shown, ...)
+  writeLines(foot_notes(x))
+  invisible(x)
+}
+
+# A column by its old name, where it had one.
+with_old_names <- function(old) {
+  function(x, name) {
+    if (name %in% names(x) || !name %in% names(old)) return(.subset2(x, name))
+    old_word(name, old[[name]])
+    .subset2(x, old[[name]])
+  }
+}
+
+`$.causal_effects` <- with_old_names(c(value = "estimate"))
+
+`$.causal_spread` <- with_old_names(c(value = "estimate"))
+
+`$.causal_tests` <- with_old_names(c(p = "p_value", effect = "effect_size", largest = "largest_difference", rmsea_lower = "rmsea_low",
+                                     rmsea_upper = "rmsea_high"))
+
+# Some rows of an answer with the same columns are one still; some of its columns are a plain data frame. Answers that are bound
+# together are one: what each rests on stands in its rows.
+`[.causal_rows` <- function(x, ...) {
+  found <- NextMethod()
+  if (is.data.frame(found) && !identical(names(found), names(x))) class(found) <- "data.frame"
+  found
+}
+
+rbind.causal_rows <- function(...) do.call(rbind, lapply(list(...), as.data.frame))

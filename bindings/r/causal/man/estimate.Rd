@@ -1,0 +1,73 @@
+\name{estimate}
+\alias{estimate}
+\alias{print.causal_estimate}
+\alias{summary.causal_estimate}
+\alias{plot.causal_estimate}
+\alias{as.data.frame.causal_estimate}
+\title{Estimates by Models, Where Tables Are Thin}
+\description{
+  Estimates an effect by models of the terms of the formula of \code{\link{identify_effect}}, or by regression, weights or both for a
+  set to adjust for.
+}
+\usage{
+estimate(diagram, data, x = NULL, y = NULL, treated = NULL, control = NULL,
+         outcome = NULL, method = c("formula", "ipw", "aipw"),
+         model = "logistic", set = NULL, given = NULL, count = NULL,
+         level = 0.95, resamples = NULL, seed = 0,
+         missing = c("error", "drop", "level"), weights = NULL,
+         clusters = NULL, strata = NULL, smoothing = 1, at = NULL,
+         short = is.null(set), progress = NULL)
+
+\method{plot}{causal_estimate}(x, ...)
+}
+\arguments{
+  \item{diagram, data, x, y, treated, control, outcome, given, count, level, seed, missing, weights, clusters, strata, at, short, progress}{as
+    in \code{\link{contrast}}; in the method \code{x} is an estimate.}
+  \item{method}{\code{"formula"} sums the models as the formula says; \code{"ipw"} weights by the inverse chance of the arm;
+    \code{"aipw"} is the doubly robust estimator, which is right where the outcome's model or the arm's model is. The last two need a set.}
+  \item{model}{a word for all variables, \code{"logistic"}, \code{"multinomial"} or \code{"table"}; a formula as \code{~ X + age}; or a
+    list of these by variable, as \code{list(Y = ~ X * age, X = "logistic")}, in which an element without a name is for all others. A
+    logistic model of more than two levels is multinomial, by the package \pkg{nnet}. A formula may be any of \code{\link{glm}}'s.}
+  \item{set}{a set to adjust for, which has to be one that the library calls admissible (\code{\link{adjusts}}). Without it the formula
+    is taken; where that is a standardisation over an admissible set, its members may have any number of values.}
+  \item{resamples}{how many resamples are drawn for intervals; 200 by default, and 0 for \code{"aipw"}, whose intervals are those of
+    its influence function then.}
+  \item{smoothing}{for a \code{"table"}: how many records are added to each combination of what is given, with all levels alike.}
+  \item{...}{passed on to \code{\link{plot}}.}
+}
+\details{
+  \strong{Proved} is the formula, or that the set may be adjusted for. \strong{All numbers here are computed}: by the models that the
+  answer names, with R's regressions, and they are right where the models are. Where \code{\link{evaluate}} has a value it needs no
+  model.
+
+  A numeric outcome of more than two values has its mean estimated, by linear regression.
+
+  With \code{clusters} or \code{strata} a resample draws clusters within strata, one fewer than there are, with their weights raised by
+  as much; the variance of the influence function is that between clusters within strata, as the package \pkg{survey} has it.
+
+  A fit that doesn't converge, perfect separation, and chances of an arm below 0.01 are told in the column \code{note}, and by a warning
+  of the class \code{causal_doubt}. A model that reads what its term isn't given is refused.
+}
+\value{
+  A data frame of the class \code{causal_estimate} with the columns of \code{\link{contrast}} and \code{std_error}. Attributes:
+  \code{models}, what was fitted, with the part of the deviance that it explains; \code{diagnostics}, for weights the effective sample
+  size and the extreme weights; \code{balance}, how far the arms are apart in each member of the set, before and after weighting, in
+  standard deviations. \code{summary} prints these, and \code{plot} draws the balance.
+}
+\references{
+  Robins, J. M., Rotnitzky, A. and Zhao, L. P. (1994). Estimation of regression coefficients when some regressors are not always
+  observed. \emph{Journal of the American Statistical Association} 89, 846--866.
+
+  Rao, J. N. K. and Wu, C. F. J. (1988). Resampling inference with complex survey data. \emph{Journal of the American Statistical
+  Association} 83, 231--241.
+}
+\seealso{\code{\link{contrast}}, \code{\link{support}}, \code{\link{e_value}}, \code{\link{compare}}}
+\examples{
+diagram <- causal_diagram("dag { X [exposure] Y [outcome] age -> X age -> Y X -> Y }")
+set.seed(1)
+age <- rnorm(300)
+X <- rbinom(300, 1, plogis(age))
+cohort <- data.frame(age, X, Y = rbinom(300, 1, plogis(X + age - 1)))
+estimate(diagram, cohort, resamples = 50)
+summary(estimate(diagram, cohort, method = "aipw"))
+}

@@ -1,0 +1,25 @@
+# A document of an analysis, in three formats.
+library(causal)
+stones <- causal_diagram("dag { T [exposure] R [outcome] S -> T S -> R T -> R }")
+make <- function(format, ...) report(stones, kidney_stones, treated = "A", control = "B", outcome = "success", count = "count", resamples = 30, permutations = 9, format = format, ...)
+text <- paste(make("markdown")$lines, collapse = "\n")
+for (wanted in c("## Diagram", "## The effect", "$$\n\\begin{aligned}", "## Support", "has 2 strata, of which 0 lack an arm; these have 0 of 700 records",
+                 "## Crude comparison", "| success | A | B | difference | 0.05367 |", "## Sensitivity", "## Tests of what the diagram implies", "## Derivation"))
+  if (!grepl(wanted, text, fixed = TRUE)) stop("the report lacks ", wanted)
+html <- paste(make("html", title = "A <title>")$lines, collapse = "\n")
+stopifnot(grepl("<h1>A &lt;title&gt;</h1>", html, fixed = TRUE), grepl("<td>0.05367</td>", html, fixed = TRUE), !grepl("<script", html))
+bow <- report("dag { X [exposure] Y [outcome] X -> Y X <-> Y }", kidney_stones, format = "markdown")
+stopifnot(any(grepl("No formula over observations exists", bow$lines)), any(grepl("hedge", bow$lines)))
+# a part without an answer says why
+lacking <- report(stones, kidney_stones[kidney_stones$T == "A" | kidney_stones$S == "small", ], treated = "A", control = "B", count = "count", resamples = 0, format = "markdown")
+stopifnot(any(grepl("^No answer: no record has", lacking$lines)), any(grepl("of which 1 lack an arm", lacking$lines)))
+file <- tempfile(fileext = ".tex")
+odd <- causal_diagram("dag { \"the drug & more\" [exposure] \"d\u00e9c\u00e8s_30\" [outcome] S -> \"the drug & more\" S -> \"d\u00e9c\u00e8s_30\" \"the drug & more\" -> \"d\u00e9c\u00e8s_30\" }")
+data <- stats::setNames(kidney_stones, c("S", "the drug & more", "d\u00e9c\u00e8s_30", "count"))
+report(odd, data, treated = "A", control = "B", count = "count", resamples = 10, permutations = 9, file = file)
+if (nzchar(Sys.which("pdflatex"))) {
+  old <- setwd(dirname(file))
+  log <- suppressWarnings(system2("pdflatex", c("-interaction=nonstopmode", basename(file)), stdout = TRUE, stderr = FALSE))
+  setwd(old)
+  if (!file.exists(sub("tex$", "pdf", file)) || any(grepl("^!", log))) stop(paste(log, collapse = "\n"))
+} else cat("skipped: report: no pdflatex\n")

@@ -1,0 +1,7 @@
+use Rattle.std.proofs.Common.{◌≡◌, drop, map}
+use Rattle.answer_json.specs.Progress.{with_values}
+use Rattle.answer_json.specs.Values.{pair_json}
+use Rattle.certificate_json.proofs.hedges.push_each.Given as goal
+
+abbrev pub invariant-loop-pair : goal.invariant-loop-pair
+invariant-loop-pair l = with_values (map (pair_json l.names) (drop l.pair-index l.pairs)) l.object ≡ with_values (map (pair_json l.names) l.pairs) l.fn.object

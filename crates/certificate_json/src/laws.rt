@@ -1,0 +1,13 @@
+//! The law that what is written is read back.
+
+ghost use Rattle.certificate_json.specs.ReadsBack.{SetReadsBack, StepReadsBack, ValueReadsBack, MemberReadsBack, TextReadsBack};
+
+/// What is written for sets, steps and certificates is read again: each as a value, wherever that stands,
+/// and a certificate as the last member of an object and as a text as well.
+pub fn written_is_read()
+    ensures sets { SetReadsBack }
+    ensures steps { StepReadsBack }
+    ensures values { ValueReadsBack }
+    ensures members { MemberReadsBack }
+    ensures texts { TextReadsBack }
+{}

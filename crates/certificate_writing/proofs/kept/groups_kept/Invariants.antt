@@ -1,7 +1,0 @@
-use Rattle.std.proofs.Common.{◌≡◌, ◌^◌, drop}
-use Rattle.do_derivation.specs.View.{numbers_of}
-use Rattle.step_json.specs.Laws.{groups_below}
-use Rattle.certificate_writing.proofs.kept.groups_kept.Given as goal
-
-abbrev pub invariant-loop-group : goal.invariant-loop-group
-invariant-loop-group l = groups_below (2 ^ 32) (numbers_of (drop l.group-index l.list.items)) ≡ groups_below (2 ^ 32) (numbers_of l.list.items)

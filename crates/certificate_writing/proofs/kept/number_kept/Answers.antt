@@ -1,5 +1,0 @@
-use Rattle.std.proofs.Common.{◌^◌, lt-ltb}
-use Rattle.certificate_writing.proofs.kept.number_kept.Goals as goal
-
-pub returns : goal.returns
-returns c = lt-ltb c.args.k (2 ^ 32) c.ranges.k.fits

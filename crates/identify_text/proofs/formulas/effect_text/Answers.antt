@@ -1,6 +1,0 @@
-use Rattle.std.proofs.Common.{length}
-use Rattle.identify_text.proofs.Free.{none_within}
-use Rattle.identify_text.proofs.formulas.effect_text.Goals as goal
-
-pub target_text-requires-clause-given : goal.target_text-requires-clause-given
-target_text-requires-clause-given c v i = none_within (length c.args.names.now) c.effect.result.given.bits v c.effect.ensures.given i

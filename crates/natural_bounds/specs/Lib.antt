@@ -1,0 +1,5 @@
+pub mod Instruments
+pub mod Natural
+pub mod Orders
+pub mod Bounds
+pub mod Drawn

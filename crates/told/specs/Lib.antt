@@ -1,0 +1,4 @@
+pub mod Forms
+pub mod Telling
+pub mod Refusals
+pub mod Commands

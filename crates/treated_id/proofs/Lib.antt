@@ -1,0 +1,13 @@
+pub mod Points
+pub mod TermWeights
+pub mod Ancestors
+pub mod Products
+pub mod Right
+pub mod NameSets
+pub mod Listing
+pub mod Joined
+pub mod Answered
+pub mod After
+pub mod DoFree
+pub mod NoFault
+pub mod Once

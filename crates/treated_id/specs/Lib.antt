@@ -1,0 +1,4 @@
+pub mod Sets
+pub mod Terms
+pub mod Right
+pub mod Answers

@@ -1,0 +1,12 @@
+pub mod Held
+pub mod Sum
+pub mod Apart
+pub mod Districts
+pub mod Factor
+pub mod Product
+pub mod Differing
+pub mod Chain
+pub mod Primes
+pub mod Joint
+pub mod NamedOnce
+pub mod NoFormula

@@ -1,0 +1,91 @@
+-- Two models that differ on the joint effect leave no formula for the effect among the treated.
+use Rattle.std.proofs.Common.{ℕ, ◌≡◌, ◌<◌, Bool, true, false, cond, refl, sym, ap, ap₂, ◌∙◌, ◌||◌, ◌&&◌, subst, nat_lt, ltb-true}
+use Rattle.std.proofs.lemmas.Bool.{lt-ltb, le-ltb}
+use Rattle.mixed_graph.specs.Bits.{has}
+use Rattle.fractions.specs.Fractions.{IsEqual, over}
+use Rattle.fractions.proofs.FractionLaws.{equal_sym, equal_trans}
+use Rattle.finite_models.specs.Models.{FiniteModel, IsAssignment, solution, agree, intervene, world_weight}
+use Rattle.finite_models.proofs.Bools.{same_truth}
+use Rattle.finite_models.proofs.Following.{intervene_alike}
+use Rattle.finite_models.proofs.Solutions.{agree_from, agree_gives}
+use Rattle.finite_models.proofs.SumLaws.{over-congr}
+use Rattle.prob_expr.proofs.Allowed.{in_second}
+use Rattle.prob_expr.specs.Values.{value_of}
+use Rattle.treated_models.specs.NoFormula.{DifferenceExcludesAmong}
+use Rattle.treated_models.specs.Primes.{name_count, prime_of, vertex_of, as_observed, with_primes}
+use Rattle.treated_models.specs.Treated.{is_both, effect_among}
+use Rattle.treated_models.proofs.Joint.{among_fixes_joint}
+use Rattle.treated_models.proofs.NamedOnce.{vertex_low, observed_fixes_named}
+use Rattle.treated_models.proofs.Primes.{vertex_plain, vertex_primed, prime_behind}
+
+-- ---- effects read the values of vertices alone
+agree_reads : (n : ℕ) (a : ℕ → Bool) (w s t : ℕ → ℕ) → ((v : ℕ) → v < n → s v ≡ t v) → agree n a w s ≡ agree n a w t
+agree_reads n a w s t same = same_truth (agree n a w s) (agree n a w t)
+    (λ e. agree_from n a w t (λ v il i. agree_gives n a w s e v il i ∙ same v il))
+    (λ e. agree_from n a w s (λ v il i. agree_gives n a w t e v il i ∙ sym (same v il)))
+
+among_reads : (m : FiniteModel) (x y o : ℕ → Bool) (s s' t t' : ℕ → ℕ) → ((v : ℕ) → x v ≡ true → v < m.vertices)
+    → ((v : ℕ) → v < m.vertices → s v ≡ s' v) → ((v : ℕ) → v < m.vertices → t v ≡ t' v) → effect_among m x y o s t ≡ effect_among m x y o s' t'
+among_reads m x y o s s' t t' low same_s same_t = ap₂ over
+    (over-congr (λ j. true) m.values m.causes (λ u. cond (is_both m x y o s t u) (world_weight m u) 0)
+    (λ u. cond (is_both m x y o s' t' u) (world_weight m u) 0) (λ j. 0)
+    (λ u. ap (λ b. cond b (world_weight m u) 0) (ap₂ (λ p q. p && q)
+    (ap (λ h. agree m.vertices y (solution h u) s) (intervene_alike m x s s' (λ v e. same_s v (low v e)))
+    ∙ agree_reads m.vertices y (solution (intervene m x s') u) s s' same_s)
+    (agree_reads m.vertices o (solution m u) t t' same_t))))
+    (over-congr (λ j. true) m.values m.causes (λ u. cond (agree m.vertices o (solution m u) t) (world_weight m u) 0)
+    (λ u. cond (agree m.vertices o (solution m u) t') (world_weight m u) 0) (λ j. 0)
+    (λ u. ap (λ b. cond b (world_weight m u) 0) (agree_reads m.vertices o (solution m u) t t' same_t)))
+
+-- ---- two assignments as one of names
+module _ (n x : ℕ) (s t : ℕ → ℕ) where
+  -- s at own names, t at primed names
+  abbrev named : ℕ → ℕ
+  named k = cond (nat_lt k n) (s k) (t (vertex_of n x k))
+
+  named_within : (size : ℕ → ℕ) → IsAssignment n size s → IsAssignment n size t → IsAssignment (name_count n x) (λ k. size (vertex_of n x k)) named
+  named_within size hs ht k lt = go (nat_lt k n) refl
+    where
+      go : (b : Bool) → nat_lt k n ≡ b → cond b (s k) (t (vertex_of n x k)) < size (vertex_of n x k)
+      go true e = let l = ltb-true k n e in rw (ap size (vertex_plain n x k l)) (hs k l)
+      go false e = ht (vertex_of n x k) (vertex_low n x k lt)
+
+  named_own : (v : ℕ) → v < n → named v ≡ s v
+  named_own v il = let e : nat_lt v n ≡ true = lt-ltb v n il in rw e refl
+
+  named_observed : ((v : ℕ) → has x v ≡ false → t v ≡ s v) → (v : ℕ) → v < n → as_observed n x named v ≡ t v
+  named_observed same v il = go (has x v) refl
+    where
+      go : (b : Bool) → has x v ≡ b → cond b (named (prime_of n x v)) (named v) ≡ t v
+      go true e = ap (λ b. cond b (s (prime_of n x v)) (t (vertex_of n x (prime_of n x v)))) (le-ltb (prime_of n x v) n (prime_behind n x v))
+          ∙ ap t (vertex_primed n x v il e)
+      go false e = named_own v il ∙ sym (same v e)
+
+pub difference_excludes_among : DifferenceExcludesAmong
+difference_excludes_among g ok m₁ m₂ f₁ f₂ p₁ p₂ agreed x y z before x_low y_off_x y_off_z z_off_x s within differ f once equals =
+    differ (among_fixes_joint g ok m₁ m₂ f₁ f₂ agreed (has x) (has y) (has z) before y_off_x y_off_z z_off_x s within one_effect)
+  where
+    effect_at : (m : FiniteModel) → m.vertices ≡ g.vertices → (t : ℕ → ℕ) → ((v : ℕ) → has x v ≡ false → t v ≡ s v)
+        → effect_among m (has x) (has y) (λ v. has x v || has z v) (named m.vertices x s t) (as_observed m.vertices x (named m.vertices x s t))
+        ≡ effect_among m (has x) (has y) (λ v. has x v || has z v) s t
+    effect_at m same t elsewhere =
+        among_reads m (has x) (has y) (λ v. has x v || has z v) (named m.vertices x s t) s (as_observed m.vertices x (named m.vertices x s t)) t
+        (λ v e. rw same (x_low v e)) (named_own m.vertices x s t) (named_observed m.vertices x s t elsewhere)
+
+    one_effect : (t : ℕ → ℕ) → IsAssignment m₁.vertices m₁.size t → ((v : ℕ) → has x v ≡ false → t v ≡ s v)
+        → IsEqual (effect_among m₁ (has x) (has y) (λ v. has x v || has z v) s t) (effect_among m₂ (has x) (has y) (λ v. has x v || has z v) s t)
+    one_effect t inside elsewhere =
+        let in₁ = named_within m₁.vertices x s t m₁.size within inside in
+        let in₂ = named_within m₂.vertices x s t m₂.size (in_second m₁ m₂ agreed.vertices agreed.sizes s within)
+        (in_second m₁ m₂ agreed.vertices agreed.sizes t inside) in
+        let first = subst (λ k. IsEqual (value_of (with_primes m₁ x) f (named m₁.vertices x s t)) k) (effect_at m₁ f₁.vertices t elsewhere)
+        (equals m₁ f₁ p₁ (named m₁.vertices x s t) in₁) in
+        let second = subst (λ k. IsEqual (value_of (with_primes m₂ x) f (named m₂.vertices x s t)) k) (effect_at m₂ f₂.vertices t elsewhere)
+        (equals m₂ f₂ p₂ (named m₂.vertices x s t) in₂) in
+        let both = subst (λ n. IsEqual (value_of (with_primes m₁ x) f (named m₁.vertices x s t)) (value_of (with_primes m₂ x) f (named n x s t)))
+        agreed.vertices (observed_fixes_named g ok m₁ m₂ f₁ f₂ p₁ p₂ agreed x f once (named m₁.vertices x s t) in₁) in
+        equal_trans (effect_among m₁ (has x) (has y) (λ v. has x v || has z v) s t) (value_of (with_primes m₁ x) f (named m₁.vertices x s t))
+        (effect_among m₂ (has x) (has y) (λ v. has x v || has z v) s t)
+        (equal_sym (value_of (with_primes m₁ x) f (named m₁.vertices x s t)) (effect_among m₁ (has x) (has y) (λ v. has x v || has z v) s t) first)
+        (equal_trans (value_of (with_primes m₁ x) f (named m₁.vertices x s t)) (value_of (with_primes m₂ x) f (named m₂.vertices x s t))
+        (effect_among m₂ (has x) (has y) (λ v. has x v || has z v) s t) both second)

@@ -1,0 +1,6 @@
+pub mod Treated
+pub mod Chain
+pub mod Primes
+pub mod Differences
+pub mod NamedOnce
+pub mod NoFormula

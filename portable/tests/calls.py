@@ -1,0 +1,49 @@
+#!/usr/bin/env python3
+"""calls.py [TARGET..]: runs calls.c, which tests causal.c by itself, on each target (targets.py) that is here.
+
+Without a target: gcc, tcc, the sanitizers, and machines of 32 bits or with the other order of bytes. Status 77 where none is here.
+"""
+from __future__ import annotations
+
+import os
+import subprocess
+import sys
+import tempfile
+
+from targets import PORTABLE, TARGETS, TOP, Failed, why_missing
+
+USUAL = ["gcc", "tcc", "clang", "sanitized", "arm", "i686", "s390x", "windows"]
+
+
+def test(name: str) -> str:
+    """Why a target fails, or nothing."""
+    target = TARGETS[name]
+    try:
+        target.compile("calls.exe", "-w", "-I", f"{TOP}/include", "-I", PORTABLE, f"{PORTABLE}/tests/calls.c", *target.links)
+    except Failed as failed:
+        return str(failed)
+    ran = subprocess.run([*target.runs, "./calls.exe"], stdout=subprocess.PIPE, stderr=subprocess.STDOUT,
+                         env={**os.environ, "WINEDEBUG": "-all"})
+    text = ran.stdout.decode(errors="replace").replace("\r\n", "\n")
+    return "" if (ran.returncode, text) == (0, "calls: all hold\n") else f"status {ran.returncode}: {text[-500:]}"
+
+
+def main(names: list[str]) -> int:
+    tried, wrong = 0, 0
+    with tempfile.TemporaryDirectory() as folder:
+        os.chdir(folder)
+        for name in names or USUAL:
+            missing = why_missing(name)
+            if missing:
+                print(f"skipped: calls on {name}: {missing}")
+                continue
+            tried += 1
+            fault = test(name)
+            print(f"{name}: {fault or 'all calls hold'}", flush=True)
+            wrong += bool(fault)
+        os.chdir("/")
+    return 1 if wrong else 0 if tried else 77
+
+
+if __name__ == "__main__":
+    sys.exit(main(sys.argv[1:]))

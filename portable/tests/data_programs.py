@@ -1,0 +1,138 @@
+#!/usr/bin/env python3
+"""data_programs.py: programs with addresses in their data, compiled natively and by way of WebAssembly and wasm_to_c.
+
+The addresses lead into the middle of tables, to tables that no code names, and past offsets of both kinds. A clang that has wasm64
+makes the objects, with a segment for each table and with one for all. Data that may change, or that wants more than 16 bytes of
+alignment, stops the translator. Status 77 where clang or gcc isn't here.
+"""
+from __future__ import annotations
+
+import os
+import shutil
+import subprocess
+import sys
+import tempfile
+
+from targets import PORTABLE, wasm_clang
+
+PROGRAM = """
+typedef unsigned char byte; typedef unsigned long long L;
+static const byte bytes[40] = {3,1,4,1,5,9,2,6,5,3,5,8,9,7,9,3,2,3,8,4,6,2,6,4,3,3,8,3,2,7,9,5,0,2,8,8,4,1,9,7};
+static const byte more[5] = {200, 201, 202, 203, 204};
+typedef struct row { const byte *p; L n; const struct row *next; } row;
+static const row last[2] = {{more + 2, 11, 0}, {bytes + 39, 12, 0}};
+static const row rows[5] = {{bytes + 7, 3, last}, {bytes + 1, 5, last + 1}, {more + 4, 9, rows + 3}, {bytes, 7, 0}, {bytes + 39, 1, rows}};
+static const row *const tables[3] = {rows + 1, rows + 4, rows};
+static const L numbers[4] = {0x0102030405060708ull, 0x8000000000000001ull, 7, ~0ull};
+EXPORT L causal_t(L s) {
+  L h = numbers[s & 3];
+  for (const row *r = tables[s % 3]; r; r = r->next) h = h * 31 + r->n * 1000 + r->p[0] + r->p[-(int)(s >> 3 & 0)];
+  return h + rows[s % 5].n + bytes[s % 40] + ((const byte *)(numbers + 1))[s & 7];
+}
+"""
+CALLER = """#include <stdio.h>
+#include <stdlib.h>
+unsigned long long NAME(unsigned long long);
+void causal_trap(void) { abort(); }
+int main(void) {
+  for (unsigned long long i = 0; i < 200; i++) printf("%llx\\n", NAME(i));
+  return 0;
+}
+"""
+# A place in the data as a number behind a load, with a constant as the address and with a sum.
+ASSEMBLY = """ .section .text.causal_t,"",@
+ .globl causal_t
+ .export_name causal_t, causal_t
+ .type causal_t,@function
+causal_t:
+ .functype causal_t (i64) -> (i64)
+ i64.const 8
+ i64.load table+8
+ i64.const 0
+ i64.load table+8
+ i64.const 10
+ i64.mul
+ i64.add
+ local.get 0
+ i64.const 3
+ i64.and
+ i64.load8_u table+25
+ i64.add
+ end_function
+ .section .rodata.table,"",@
+ .p2align 3
+table:
+ .int64 1
+ .int64 2
+ .int64 300
+ .int64 0x8877665544332211
+ .int64 table+8
+ .size table, 40
+"""
+OF_ASSEMBLY = "".join(f"{300 + 20 + (0x8877665544332211 >> 8 >> 8 * (i & 3) & 255):x}\n" for i in range(200))
+# Data, and what stops the translator.
+REFUSED = {
+    "static long long x; EXPORT long long causal_t(long long s) { x += s; return x; }": "which isn't constant",
+    "static long long x[3] = {1, 2, 3}; EXPORT long long causal_t(long long s) { x[s] += 1; return x[0]; }": "which isn't constant",
+    "static const long long x[8] __attribute__((aligned(32))) = {1, 2, 3}; EXPORT long long causal_t(long long s) { return x[s]; }":
+        "is aligned to more than 16 bytes",
+    "static long long f(long long s) { return s + 1; } static long long g(long long s) { return s - 1; }"
+    "static long long (*const x[2])(long long) = {f, g}; EXPORT long long causal_t(long long s) { return x[s & 1](s); }": "",
+    "extern const long long x[4]; EXPORT long long causal_t(long long s) { return x[s]; }": "isn't data",
+}
+
+
+def write(name: str, text: str) -> None:
+    with open(name, "w", encoding="ascii") as file:
+        file.write(text)
+
+
+def translated(words: list[str]) -> str:
+    """Translates what clang makes; what stopped it."""
+    subprocess.run([*wasm_clang(), "--target=wasm64-unknown-unknown", "-ffreestanding", "-w", *words, "-c", "-o", "p.o"], check=True)
+    made = subprocess.run([sys.executable, f"{PORTABLE}/wasm_to_c", "p.o", "t.c"], capture_output=True, text=True)
+    return made.stderr if made.returncode else ""
+
+
+def printed(words: list[str]) -> str:
+    subprocess.run([*words, "-o", "program"], check=True)
+    return subprocess.run(["./program"], stdout=subprocess.PIPE, text=True).stdout
+
+
+def differs(what: str, words: list[str], expected: str) -> bool:
+    stopped = translated(words)
+    got = stopped or printed(["gcc", "-O1", "-w", "-I", PORTABLE, "-DNAME=causal_t_code", "t.c", "caller.c"])
+    if got != expected:
+        print(f"{what}: differs: {got[:300]}")
+    return got != expected
+
+
+def main() -> int:
+    if not shutil.which("gcc") or not wasm_clang():
+        print(f"skipped: data programs: no {'clang with wasm64' if shutil.which('gcc') else 'gcc'}")
+        return 77
+    wrong = 0
+    with tempfile.TemporaryDirectory() as folder:
+        os.chdir(folder)
+        write("p.c", PROGRAM)
+        write("p.s", ASSEMBLY)
+        write("caller.c", CALLER)
+        export = '-DEXPORT=__attribute__((export_name("causal_t")))'
+        expected = printed(["gcc", "-O1", "-w", "-DEXPORT=", "-DNAME=causal_t", "p.c", "caller.c"])
+        for level in ("-O0", "-Os", "-O2"):
+            for sections in ("-fdata-sections", "-fno-data-sections"):
+                wrong += differs(f"tables, {level} {sections}", [level, sections, export, "p.c"], expected)
+        wrong += differs("offsets in assembly", ["p.s"], OF_ASSEMBLY)
+        for program, why in REFUSED.items():
+            write("p.c", program)
+            said = translated(["-O2", export, "p.c"])
+            if not said.startswith("wasm_to_c: ") or why not in said:
+                print(f"{program}: {said}, and not {why}")
+                wrong += 1
+        os.chdir("/")
+    print(f"programs with addresses in their data: {wrong} wrong")
+    return 1 if wrong else 0
+
+
+if __name__ == "__main__":
+    sys.exit(main())

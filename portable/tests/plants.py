@@ -1,0 +1,168 @@
+#!/usr/bin/env python3
+"""plants.py [--turn N [--of M]] [--only TEXT] [--jobs N]: makes wrong edits of what nothing proves, and says which no test tells.
+plants.py --stale: says which edits can't be made, since what they replace doesn't stand there once; that needs no tools.
+
+plant_list.py has them. Each is made in a copy of portable/ and of what its tests read; then the tests run that look at the edited
+file, up to the first that fails. With --turn N every tenth (or M-th) edit is made, from the N-th on. Status 1 where an edit isn't
+told though it changes something, 77 where the tests' tools aren't here.
+"""
+from __future__ import annotations
+
+import argparse
+import concurrent.futures
+import os
+import shutil
+import subprocess
+import sys
+import tempfile
+import time
+
+from plant_list import PLANTS, Plant
+from targets import TOP
+
+COPIED = ["portable", "include", "examples", "VERSION", ".ci/refused-memory", ".ci/refuse.c"]
+SKIPPED = 77
+
+
+class Part:
+    """A test: its words, in a copy of the sources."""
+
+    def __init__(self, *words: str) -> None:
+        self.words = words
+
+    def __str__(self) -> str:
+        return " ".join(self.words).replace("portable/tests/", "")
+
+
+CALLS = Part("portable/tests/calls.py", "gcc", "sanitized", "arm", "s390x")
+REFUSALS = Part("portable/tests/refusals.py")
+DATA = Part("portable/tests/data_programs.py")
+RANDOM = Part("portable/tests/random_programs.py", "24")
+
+
+def operations(*targets: str) -> Part:
+    return Part("portable/tests/operations.py", "--keep", "KEPT", *targets)
+
+
+def parts_of(file: str) -> list[Part]:
+    """The tests that look at a file, the quick ones first."""
+    if file == "causal.c":
+        return [CALLS]
+    if file == "portable.h":
+        return [CALLS, operations("tcc"), operations("gcc"), operations("gcc-plain"), operations("x87"), RANDOM, operations("s390x")]
+    if file == "main.c":
+        return [Part("portable/tests/unusual.py", "--more", "BASE", "PLANTED"), Part(".ci/refused-memory", "--few", "PLANTED"),
+                Part("portable/tests/beside.py", "--runs", "120", "--words", "BASE", "SANITIZED")]
+    return [REFUSALS, DATA, operations("tcc"), RANDOM, operations("gcc")]
+
+
+def run(words: list[str], folder: str) -> subprocess.CompletedProcess[str]:
+    """(What a wrong edit makes may never end.)"""
+    try:
+        return subprocess.run(words, cwd=folder, stdin=subprocess.DEVNULL, stdout=subprocess.PIPE, stderr=subprocess.STDOUT, text=True,
+                              errors="replace", timeout=600, env={**os.environ, "PYTHONDONTWRITEBYTECODE": "1"})
+    except subprocess.TimeoutExpired:
+        return subprocess.CompletedProcess(words, 1, "no end")
+
+
+def copy_to(folder: str) -> None:
+    for name in COPIED:
+        target = f"{folder}/{name}"
+        os.makedirs(os.path.dirname(target), exist_ok=True)
+        if os.path.isdir(f"{TOP}/{name}"):
+            shutil.copytree(f"{TOP}/{name}", target, ignore=shutil.ignore_patterns("__pycache__"))
+        else:
+            shutil.copy2(f"{TOP}/{name}", target)
+
+
+class Base:
+    """What is made once: the results of node, and the compiled library for the programs."""
+
+    def __init__(self, room: str, plants: list[Plant]) -> None:
+        self.room, self.kept, self.base = room, f"{room}/kept", f"{room}/base"
+        if any(plant.file not in ("main.c", "causal.c") for plant in plants):
+            run([f"{TOP}/portable/tests/operations.py", "--keep", self.kept, "tcc"], TOP)
+        if any(plant.file == "main.c" for plant in plants):
+            for source in "causal", "causal_code":
+                subprocess.run(["tcc", "-w", "-I", "include", "-c", f"portable/{source}.c", "-o", f"{room}/{source}.o"], cwd=TOP, check=True)
+            self.link(TOP, self.base)
+
+    def link(self, folder: str, program: str, *options: str) -> bool:
+        words = ["gcc", "-O1", *options, "-I", "include", "portable/main.c", f"{self.room}/causal.o", f"{self.room}/causal_code.o", "-o", program]
+        return run(words, folder).returncode == 0
+
+
+def told_by(plant: Plant, base: Base, number: int) -> str:
+    """The test that tells of a wrong edit, or nothing."""
+    folder = f"{base.room}/{number}"
+    copy_to(folder)
+    path = f"{folder}/portable/{plant.file}"
+    with open(path, encoding="utf-8") as file:
+        text = file.read()
+    if text.count(plant.old) != 1:
+        return f"stale: what it replaces stands {text.count(plant.old)} times in {plant.file}"
+    with open(path, "w", encoding="utf-8") as file:
+        file.write(text.replace(plant.old, plant.new))
+    if plant.file == "main.c":
+        if not base.link(folder, f"{folder}/planted") or not base.link(folder, f"{folder}/sanitized", "-g0", "-fsanitize=address,undefined"):
+            return "the compiler"
+    elif plant.file not in ("causal.c",):
+        shutil.copytree(base.kept, f"{folder}/kept")
+    names = {"KEPT": f"{folder}/kept", "BASE": base.base, "PLANTED": f"{folder}/planted", "SANITIZED": f"{folder}/sanitized"}
+    found = ""
+    for part in parts_of(plant.file):
+        if run([names.get(word, word) for word in part.words], folder).returncode not in (0, SKIPPED):
+            found = str(part)
+            break
+    subprocess.run(["chmod", "-R", "u+rwX", folder], check=False)
+    shutil.rmtree(folder)
+    return found
+
+
+def tell_stale() -> int:
+    """Says which edits can't be made."""
+    stale = 0
+    for plant in PLANTS:
+        with open(f"{TOP}/portable/{plant.file}", encoding="utf-8") as file:
+            count = file.read().count(plant.old)
+        if count != 1:
+            print(f"{plant.file}: {plant.name}: what it replaces stands {count} times")
+            stale += 1
+    print(f"{len(PLANTS)} wrong edits, of which {stale} can't be made")
+    return 1 if stale else 0
+
+
+def main() -> int:
+    parser = argparse.ArgumentParser(description=__doc__, formatter_class=argparse.RawDescriptionHelpFormatter)
+    parser.add_argument("--turn", type=int)
+    parser.add_argument("--of", type=int, default=10)
+    parser.add_argument("--only", default="", help="those whose file or name has this in it")
+    parser.add_argument("--jobs", type=int, default=2)
+    parser.add_argument("--stale", action="store_true", help="only say which edits can't be made")
+    options = parser.parse_args()
+    if options.stale:
+        return tell_stale()
+    for tool in ("gcc", "tcc", "clang", "node", "wat2wasm"):
+        if not shutil.which(tool):
+            print(f"skipped: plants: no {tool}")
+            return SKIPPED
+    plants = [plant for plant in PLANTS if options.only in f"{plant.file}: {plant.name}"]
+    if options.turn is not None:
+        plants = plants[options.turn % options.of::options.of]
+    began, passed, equivalent = time.monotonic(), 0, 0
+    with tempfile.TemporaryDirectory() as room:
+        os.chmod(room, 0o755)
+        base = Base(room, plants)
+        with concurrent.futures.ThreadPoolExecutor(options.jobs) as pool:
+            for plant, told in zip(plants, pool.map(told_by, plants, [base] * len(plants), range(len(plants)))):
+                is_fault = told.startswith("stale") or bool(told) == bool(plant.why)
+                said = told or (f"nothing, since {plant.why}" if plant.why else "NOTHING")
+                print(f"{plant.file}: {plant.name}: {'FAULT: ' if is_fault else ''}{said}", flush=True)
+                passed += is_fault
+                equivalent += not told and bool(plant.why)
+    print(f"{len(plants)} wrong edits of {len(PLANTS)} in {time.monotonic() - began:.0f} s: {passed} not told, {equivalent} change nothing")
+    return 1 if passed else 0
+
+
+if __name__ == "__main__":
+    sys.exit(main())

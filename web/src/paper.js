@@ -1,0 +1,31 @@
+// Formulas and texts for a paper: LaTeX that compiles by itself, with amsmath, and looks as the page does.
+import { latex } from "./expression.js";
+
+const SIGNS = {
+  "\\": "\\textbackslash{}", "^": "\\textasciicircum{}", "~": "\\textasciitilde{}", "<": "\\textless{}", ">": "\\textgreater{}", "|": "\\textbar{}",
+  "→": "$\\rightarrow$", "←": "$\\leftarrow$", "↔": "$\\leftrightarrow$", "∅": "$\\emptyset$", "²": "$^2$", "−": "$-$", "Σ": "$\\Sigma$", "…": "\\ldots{}",
+};
+
+/** A text outside of formulas. */
+export const textTex = (text) => text.replace(/[\\_#&$%{}^~<>|→←↔∅²−Σ…]/g, (sign) => SIGNS[sign] ?? `\\${sign}`);
+
+/** A name in a formula: a letter as it is, any other as text. */
+export const nameTex = (name) => (/^[A-Za-z]$/.test(name) ? name : `\\text{${textTex(name)}}`);
+
+/** An expression with its names as text. @param {import("./expression.js").Expr} expression */
+export const exprTex = (expression) => latex(expression, nameTex);
+
+/**
+ * The lines of a formula, its equation first.
+ * @param {any} formula an object of the program with `x`, `y`, `tree` and `definition_trees` @returns {string[]}
+ */
+export function formulaLines({ y, x, given = [], tree, definition_trees: parts }) {
+  return [`${exprTex({ term: y, do: x, given })} = ${exprTex(tree)}`, ...parts.map((part, i) => `q_{${i}} = ${exprTex(part)}`)];
+}
+
+/** The same as one formula. */
+export function formulaTex(formula) {
+  const lines = formulaLines(formula);
+  if (lines.length === 1) return lines[0];
+  return `\\begin{aligned}\n${lines.map((line) => line.replace(" = ", " &= ")).join(" \\\\\n")}\n\\end{aligned}`;
+}

@@ -1,0 +1,144 @@
+// The paths between exposure and outcome in the diagram as it is drawn, the shorter first, and which edges lie on open ones. Whether a path
+// is open is read off its vertices by the textbook's definition, with what the program tells of ways. What is found is compared with all paths,
+// and with the program's answers, in tests.
+import { keyOf } from "./diagram/geometry.js";
+
+/** @typedef {import("./text/printed.js").Graph} Graph  @typedef {import("./text/printed.js").Edge} Edge */
+/** @typedef {{edge: Edge, from: string, to: string}} Step */
+/** A step by numbers: whether it begins and whether it ends with a head. @typedef {{to: number, edge: number, out: boolean, in: boolean}} Numbered */
+
+/** The steps from each vertex. @returns {Map<string, Step[]>} */
+function stepsOf({ vertices, edges }) {
+  const steps = new Map(vertices.map(({ name }) => [name, []]));
+  for (const edge of edges) {
+    steps.get(edge.a).push({ edge, from: edge.a, to: edge.b });
+    steps.get(edge.b).push({ edge, from: edge.b, to: edge.a });
+  }
+  return steps;
+}
+
+const endsWithHead = ({ edge, to }) => edge.both || edge.b === to;
+const beginsWithHead = ({ edge, from }) => edge.both || edge.b === from;
+
+/** A diagram with a set that is given: which ways are open. */
+export class Walks {
+  /** @param {Graph} graph @param {string[]} set @param {Set<string>} before the vertices that lead to one of the set, themselves included */
+  constructor(graph, set, before) {
+    const numbers = new Map(graph.vertices.map(({ name }, i) => [name, i])), edgeNumbers = new Map(graph.edges.map((edge, i) => [edge, i]));
+    const numbered = (step) => ({ to: numbers.get(step.to), edge: edgeNumbers.get(step.edge), out: beginsWithHead(step), in: endsWithHead(step) });
+    this.graph = graph;
+    this.numbers = numbers;
+    this.inSet = graph.vertices.map(({ name }) => set.includes(name));
+    this.leads = graph.vertices.map(({ name }) => before.has(name));
+    /** @type {Numbered[][]} */
+    this.steps = [...stepsOf(graph).values()].map((list) => list.map(numbered));
+  }
+
+  /** Whether a way may go through a vertex that it enters and leaves so: a collider leads to the set, and no other vertex is in it. */
+  #passes(vertex, isIn, isOut) {
+    return isIn && isOut ? this.leads[vertex] : !this.inSet[vertex];
+  }
+
+  /** What blocks a path: each vertex at which it doesn't pass, with the reason. @param {Step[]} path */
+  blocks(path) {
+    return path.slice(1).flatMap((next, i) => {
+      const step = path[i], [isIn, isOut] = [endsWithHead(step), beginsWithHead(next)];
+      return this.#passes(this.numbers.get(step.to), isIn, isOut) ? [] : [{ name: step.to, isCollider: isIn && isOut }];
+    });
+  }
+
+  /**
+   * The edges on open paths from one of xs to one of ys: each is searched for until a path over it is found, or none can be.
+   * @param {{tries: number}} budget @returns {{edges: Set<string>, isAll: boolean}}
+   */
+  edgesBetween(xs, ys, budget) {
+    const { graph: { edges }, numbers } = this, found = new Set();
+    for (const [x, y] of xs.flatMap((a) => ys.map((b) => [numbers.get(a), numbers.get(b)]))) {
+      for (let edge = 0; edge < edges.length && budget.tries >= 0; edge++) {
+        if (found.has(edge)) continue;
+        for (const step of this.#pathOver(x, y, edge, budget) ?? []) found.add(step.edge);
+      }
+    }
+    return { edges: new Set([...found].map((edge) => keyOf(edges[edge]))), isAll: budget.tries >= 0 };
+  }
+
+  /** An open path from x to y over an edge; it goes on only where an open way leads over the edge and on to y. @returns {Numbered[] | null} */
+  #pathOver(x, y, edge, budget) {
+    const seen = this.steps.map(() => false), path = [];
+    const go = (at, entered, did) => {
+      const way = this.#wayOver({ at, entered, did }, y, edge, seen, budget);
+      if (!way) return null;
+      if (new Set(way.map(({ to }) => to)).size === way.length) return [...path, ...way];
+      for (const step of this.steps[at]) {
+        if (seen[step.to] || step.to === y || (entered !== null && !this.#passes(at, entered, step.out))) continue;
+        seen[step.to] = true;
+        path.push(step);
+        const whole = go(step.to, step.in, did || step.edge === edge);
+        path.pop();
+        seen[step.to] = false;
+        if (whole) return whole;
+      }
+      return null;
+    };
+    seen[x] = true;
+    return go(x, null, false);
+  }
+
+  /** The shortest open way from here over an edge to y, which may come to a vertex twice. @returns {Numbered[] | null} */
+  #wayOver(here, y, edge, seen, budget) {
+    const n = this.steps.length, reached = new Uint8Array(4 * n), queue = [{ ...here, step: null, before: null }];
+    for (const now of queue) {
+      if (now.at === y && now.step) {
+        if (now.did) return traced(now);
+        continue;
+      }
+      for (const step of this.steps[now.at]) {
+        if (--budget.tries < 0) return null;
+        if (seen[step.to] || (now.entered !== null && !this.#passes(now.at, now.entered, step.out))) continue;
+        const did = now.did || step.edge === edge, state = (2 * did + step.in) * n + step.to;
+        if (reached[state]) continue;
+        reached[state] = 1;
+        queue.push({ at: step.to, entered: step.in, did, step, before: now });
+      }
+    }
+    return null;
+  }
+}
+
+function traced(end) {
+  const way = [];
+  for (let here = end; here.step; here = here.before) way.unshift(here.step);
+  return way;
+}
+
+/**
+ * All paths from x to a vertex of ys, the shorter first, as far as there is room for them.
+ * @param {Graph} graph @param {number} most @param {{tries: number}} budget @returns {{paths: Step[][], isAll: boolean}}
+ */
+export function pathsBetween(graph, x, ys, most, budget) {
+  const steps = stepsOf(graph), paths = [];
+  for (let length = 1; length < graph.vertices.length; length++) {
+    const seen = new Set([x]), path = [];
+    let goesOn = false;
+    const go = (at) => {
+      if (ys.includes(at)) {
+        if (path.length === length) paths.push([...path]);
+        return;
+      }
+      if (path.length === length) return void (goesOn = true);
+      for (const next of steps.get(at)) {
+        if (paths.length >= most || --budget.tries < 0) return;
+        if (seen.has(next.to)) continue;
+        seen.add(next.to);
+        path.push(next);
+        go(next.to);
+        path.pop();
+        seen.delete(next.to);
+      }
+    };
+    go(x);
+    if (paths.length >= most || budget.tries < 0) return { paths, isAll: false };
+    if (!goesOn) break;
+  }
+  return { paths, isAll: true };
+}

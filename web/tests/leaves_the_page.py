@@ -1,0 +1,84 @@
+"""What leaves the page is what it shows: LaTeX that is copied, and reports."""
+import pathlib
+import shutil
+import subprocess
+import tempfile
+import time
+
+import in_the_drawing
+import over_tables
+from browser import wait
+
+ODD = ["Warm-up exercises", "CD4+ count", "a^b", "50%", "x_1 & y", "$ ~ #", "Übergewicht", "p|q<r>", "B", "Injury"]
+
+
+def compiled(tex):
+    """What LaTeX complains of, in a document of its own; nothing where it is content."""
+    with tempfile.TemporaryDirectory() as folder:
+        path = pathlib.Path(folder, "it.tex")
+        path.write_text(tex)
+        done = subprocess.run(["pdflatex", "-interaction=nonstopmode", "-halt-on-error", path.name], cwd=folder, capture_output=True, check=False)
+        told = done.stdout.decode(errors="replace")
+        return "" if done.returncode == 0 else told[-1500:]
+
+
+def copied(s):
+    """What Copy LaTeX gives."""
+    s.run("window.copiedText = null; navigator.clipboard.writeText = async (text) => { window.copiedText = text; }")
+    s.one("[aria-label='Copy LaTeX']").click()
+    wait(lambda: s.run("return window.copiedText"))
+    return s.run("return window.copiedText")
+
+
+def copies_latex(s):
+    s.example("fork")
+    s.tab("effect")
+    lines = [f'"{name}" -> "Warm-up exercises" "{name}" -> Injury' for name in ODD[1:-1]]
+    s.write('dag { "Warm-up exercises" [exposure] Injury [outcome] "Warm-up exercises" -> Injury ' + " ".join(lines) + " }")
+    s.soon("a formula with odd names", lambda: s.all("#panel .formula .katex"), s.panel)
+    tex = copied(s)
+    s.check("names are text", r"P(\text{Injury} \mid \mathrm{do}(\text{Warm-up exercises})) = " in tex, tex)
+    s.check("a letter stays one", ", B" in tex and r"\text{B}" not in tex, tex)
+    s.check("signs are escaped", r"\text{CD4+ count}" in tex and r"\text{a\textasciicircum{}b}" in tex and r"\text{50\%}" in tex, tex)
+    shown = s.run("return document.querySelector('#panel .formula').textContent")
+    s.check("it is what the page shows", "Warm-up exercises" in shown.replace("\u00a0", " ") and "CD4+ count" in shown.replace("\u00a0", " "), shown)
+    if shutil.which("pdflatex"):
+        told = compiled("\\documentclass{article}\\usepackage{amsmath}\\begin{document}\n\\[" + tex + "\\]\n\\end{document}\n")
+        s.check("it compiles", not told, told)
+        s.example("napkin")
+        time.sleep(0.4)
+        told = compiled("\\documentclass{article}\\usepackage{amsmath}\\begin{document}\n\\[" + copied(s) + "\\]\n\\end{document}\n")
+        s.check("so does one with named parts", not told, told)
+    else:
+        print("skipped: page-session: LaTeX that is copied: no pdflatex")
+
+
+def saves_a_report(s):
+    """One report: picture, sets, formula with its derivation, assumptions, tests, effects with intervals."""
+    s.example("fork")
+    s.write(over_tables.SMOKING)
+    s.tab("data")
+    over_tables.drop(s, "dirty.csv", over_tables.dirty_table())
+    s.soon("a table", lambda: s.all("#read-notes"), s.panel)
+    for key in ("missing", "join", "cut Age"):
+        over_tables.press(s, key)
+        time.sleep(0.5)
+    s.soon("values", lambda: s.all(".contrasts"), s.panel)
+    for item, kind in (("Report, to print", "report.html"), ("Report, as LaTeX", "report.tex")):
+        s.one("#export").click()
+        s.item(item)
+        s.check(f"a report: {kind}", wait(lambda: s.downloads.joinpath(f"Fork.{kind}").exists(), 60), list(s.downloads.iterdir()))
+        time.sleep(0.5)
+    html = s.downloads.joinpath("Fork.report.html").read_text()
+    for part in ("<svg", "Adjustment", "Derivation by the rules of do-calculus", "Assumptions", "tested independences", "risk difference", "odds ratio",
+                 "crude", "12 of 600 rows", "<math", "causal identify diagram.dag"):
+        s.check(f"the report has {part}", part in html, html[:300])
+    s.check("with intervals", html.count(" to ") > 4, "")
+    s.check("without a request or a script", "<script" not in html and "http://" not in html.replace("http://www.w3.org", ""), "")
+    if shutil.which("pdflatex"):
+        told = compiled(s.downloads.joinpath("Fork.report.tex").read_text())
+        s.check("the LaTeX compiles", not told, told)
+    s.tab("effect")
+
+
+PARTS = [copies_latex, saves_a_report]
