@@ -1,6 +1,6 @@
 -- A factor that doesn't stop is there, and so is the formula of all factors.
 use Rattle.std.specs.Prelude.{Option, Some, None, IfSome, IfNone}
-use Rattle.std.proofs.Common.{ℕ, suc, ◌+◌, ◌≡◌, ◌≢◌, ◌≤◌, ◌↔◌, Bool, true, false, List, [], ◌∷◌, ◌++◌, length, IsTrue, inl, inr, refl, sym, ap, ◌∙◌, subst, not}
+use Rattle.std.proofs.Common.{ℕ, suc, ◌+◌, ◌≡◌, ◌≢◌, ◌≤◌, ◌↔◌, Bool, true, false, List, [], ◌∷◌, ◌++◌, length, IsTrue, inl, inr, refl, ap, ◌∙◌, subst, not}
 use Rattle.mixed_graph.specs.Bits.{has}
 use Rattle.mixed_graph.specs.Graphs.{MixedGraph, IsMixedGraph}
 use Rattle.mixed_graph.specs.Masks.{all, minus}
@@ -19,8 +19,7 @@ use Rattle.identification_theory.specs.AnswerLaws.{AreRoots}
 use Rattle.identification_theory.proofs.Answered.{stop_is_hedge}
 use Rattle.identification_theory.proofs.Formulas.{formula_is_accepted}
 use Rattle.counter_models.proofs.HedgePair.{pair as pair_of, is_pair}
-use Rattle.identify.specs.Answers.{IsRightFormula, IsRightHedge}
-use Rattle.identify.specs.Deciding.{IsIdentifiable, IsNotIdentifiable, HasRightFormula, HasModels, HasRightHedge, IsExpressible, HasFactor, IsStoppedFrom, AreFactorable}
+use Rattle.identify.specs.Deciding.{IsIdentifiable, IsNotIdentifiable, HasRightFormula, HasModels, HasRightHedge, IsExpressible, IsStoppedFrom, AreFactorable}
 use Rattle.std.proofs.lemmas.Bool.{cases_eq}
 use Rattle.std.specs.Option.{is_some}
 use Rattle.identify.proofs.Links.{body_of}
@@ -86,12 +85,15 @@ module _ (g : MixedGraph) (valid : IsMixedGraph g) (few : g.vertices ≤ 64) (x 
       identified (record { defs = r.0; main = sum_if (minus d y) (product_of r.1) }) (record {
         order = order;
         is_order = is_order;
-        answer = inr (some, record {
-          split = record { d = d; is_d = is_d; districts = ts; are_districts = districts };
-          factors = r.1;
-          are_factored = r.2;
-          main = refl;
-        });
+        answer = inr (
+          some,
+          record {
+            split = record { d = d; is_d = is_d; districts = ts; are_districts = districts };
+            factors = r.1;
+            are_factored = r.2;
+            main = refl;
+          },
+        );
       })
 
   -- where no district stops there is a right formula

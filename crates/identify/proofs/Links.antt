@@ -1,6 +1,6 @@
 -- What is linked to a set has a mask, whether or not anybody computes it.
-use Rattle.std.proofs.Common.{ℕ, zero, suc, ◌+◌, ◌^◌, ◌≡◌, ◌≢◌, ◌<◌, ◌≤◌, ◌⊎◌, Bool, true, false, not, ◌&&◌, ◌||◌, ◌==◌, List, [], ◌∷◌, length, IsTrue}
-use Rattle.std.proofs.Common.{inl, inr, refl, sym, ap, ◌∙◌, subst, arith}
+use Rattle.std.proofs.Common.{ℕ, zero, suc, ◌+◌, ◌≡◌, ◌≢◌, ◌<◌, ◌≤◌, ◌⊎◌, Bool, true, false, not, ◌&&◌, ◌||◌, ◌==◌, List, [], ◌∷◌, length, IsTrue}
+use Rattle.std.proofs.Common.{inl, inr, refl, sym, ◌∙◌, subst, arith}
 use Rattle.std.proofs.lemmas.Bool.{eqb-true, eq-eqb, ne_eqb, and_parts}
 use Rattle.mixed_graph.specs.Bits.{has, members_below}
 use Rattle.mixed_graph.specs.Graphs.{MixedGraph, IsMixedGraph}
@@ -110,10 +110,13 @@ module _ (g : MixedGraph) (valid : IsMixedGraph g) (few : g.vertices ≤ 64) whe
     held = has-set in_pillow pillow_low
 
     sound : (u : ℕ) → IsTrue (has (mask_of in_pillow 64) u) → (u ≢ v) × (IsNear g s v u ⊎ (IsTrue (has s u) × IsParent g (IsNear g s v) u))
-    sound u i = let p = and_parts (not (u == v)) _ (sym (held u) ∙ i) in (other u p.0, elim (or_e (near.test u) (above u) p.1) [
-      | inl k ↦ inl (near.sound u k)
-      | inr k ↦ inr (parent u k)
-    ])
+    sound u i = let p = and_parts (not (u == v)) _ (sym (held u) ∙ i) in (
+      other u p.0,
+      elim (or_e (near.test u) (above u) p.1) [
+        | inl k ↦ inl (near.sound u k)
+        | inr k ↦ inr (parent u k)
+      ],
+    )
 
     is_above : (u : ℕ) → IsTrue (has s u) → IsParent g (IsNear g s v) u → above u ≡ true
     is_above u i q = both_true _ _ i (any_below_from g.vertices (λ c. g.arrow u c && near.test c) q.child (valid.head_below u q.child q.arrow)

@@ -1,8 +1,7 @@
-use Rattle.std.proofs.Common.{List, [], ◌∷◌, get_or, take, drop, map, sym, subst, ◌+◌}
+use Rattle.std.proofs.Common.{[], ◌∷◌, get_or, take, drop, map, sym, subst, ◌+◌}
 use Rattle.mixed_graph.specs.Shown.{graph_of}
 use Rattle.mixed_graph.specs.declared.sets.VSet.{VSet}
 use Rattle.hedge.specs.Linked.{IsMaximalJoined}
-use Rattle.hedge.specs.Listed.{first_masks}
 use Rattle.identification_theory.specs.Procedure.{StopsAt}
 use Rattle.identify.specs.Deciding.{AreFactorable}
 use Rattle.identify.proofs.Existing.{factorable_append, stops_behind}
@@ -32,9 +31,9 @@ returns-in-Some-clause-stop c =
     let n = c.args.parts.now.count in
     let i = c.loop-c.c-index in
     λ order. subst (λ ts. StopsAt g order 0 ts (get_or (take n sets) i (record { bits = 0 })).bits c.in-Some.big.bits)
-        (sym (sets_split sets n i c.loop-c-test.true))
-        (stops_behind g order 0 (map (λ (s : VSet). s.bits) (take i (take n sets))) (map (λ (s : VSet). s.bits) (drop (i + 1) (take n sets)))
-        (get_or (take n sets) i (record { bits = 0 })).bits c.in-Some.big.bits c.loop-c.invariant c.in-Some.ensures.stop)
+    (sym (sets_split sets n i c.loop-c-test.true))
+    (stops_behind g order 0 (map (λ (s : VSet). s.bits) (take i (take n sets))) (map (λ (s : VSet). s.bits) (drop (i + 1) (take n sets)))
+    (get_or (take n sets) i (record { bits = 0 })).bits c.in-Some.big.bits c.loop-c.invariant c.in-Some.ensures.stop)
 
 pub loop-c-preserved : goal.loop-c-preserved
 loop-c-preserved c =
