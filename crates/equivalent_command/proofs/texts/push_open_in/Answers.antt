@@ -1,7 +1,7 @@
 use Rattle.std.proofs.Common.{◌≡◌, ◌++◌, List, ℕ, [], ◌∷◌, ap, ◌∙◌, append_assoc, codes}
 use Rattle.answer_text.specs.Texts.{path_text}
 use Rattle.equivalent_command.specs.Lines.{which}
-use Rattle.equivalent_command.proofs.printing.push_open_in.Goals as goal
+use Rattle.equivalent_command.proofs.texts.push_open_in.Goals as goal
 
 -- five texts appended one after the other are one text appended
 five : (old a b d e f : List ℕ) {one two three four out : List ℕ} → one ≡ old ++ a → two ≡ one ++ b → three ≡ two ++ d → four ≡ three ++ e → out ≡ four ++ f
