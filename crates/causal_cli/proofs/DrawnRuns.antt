@@ -36,6 +36,7 @@ use Rattle.identify_command.proofs.IdentifyTold.{identify_as_told}
 use Rattle.check_command.specs.Answers.{HoldsCertificate, CertificateAnswer, of_formula, of_hedge}
 use Rattle.adjust_command.specs.Answers.{AdjustAnswer, SetsAnswer, adjust_lists}
 use Rattle.adjust_command.specs.Answers as adjustments
+use Rattle.adjust_command.proofs.AdjustTold.{adjust_as_told}
 use Rattle.adjust_command.specs.Queries.{Query, by_set, by_back_door, listing}
 use Rattle.adjust_command.specs.Requests.{Request as AdjustRequest}
 use Rattle.surrogate_command.specs.Answers as surrogates
@@ -198,7 +199,7 @@ adjusted_on q bytes text d holds a =
 
 adjusted : (r : Call) (uses : List Use) (text : Told) → Appends r.before r.after text.text → CallAnswer r Adjust uses Yes text → AdjustedAsDrawn r uses
 adjusted r uses text = written_for r Adjust uses Yes text (λ q. q.file) IsAdjustmentAsDrawn (λ q h. h) (λ q. refl) (λ q. refl)
-    (λ q is bytes a. adjusted_on q bytes text a.diagram a.holds a.answer)
+    (λ q is bytes a. adjusted_on q bytes text a.diagram a.holds (adjust_as_told q.format a.diagram q.x q.y q.query Yes text a.answer))
 
 -- ---- surrogate
 

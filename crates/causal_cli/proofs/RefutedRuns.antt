@@ -66,6 +66,7 @@ use Rattle.separation_commands.specs.RuleRequests.{Request as RuleRequest}
 use Rattle.separation_commands.specs.RuleRequests as rule_requests
 use Rattle.adjust_command.specs.Answers.{AdjustAnswer, SetsAnswer, adjust_lists}
 use Rattle.adjust_command.specs.Answers as adjustments
+use Rattle.adjust_command.proofs.AdjustTold.{adjust_as_told}
 use Rattle.adjust_command.specs.Queries.{Query, by_set, by_back_door, listing}
 use Rattle.adjust_command.specs.Requests as adjust_requests
 use Rattle.command_run.proofs.Deliveries.{mapped}
@@ -147,7 +148,8 @@ adjusted_on format x y query bytes text d holds a =
 adjusted : (r : Call) (uses : List Use) (text : Told) → Appends r.before r.after text.text → CallAnswer r Adjust uses No text
     → WrittenFor adjust_requests.IsRequest (λ q. q.file) IsNoAdjustmentAsDrawn r uses
 adjusted r uses text = written_for r Adjust uses No text (λ q. q.file) IsNoAdjustmentAsDrawn (λ q h. h) (λ q. refl) (λ q. refl)
-    (λ q is bytes a. adjusted_on q.format q.x q.y q.query bytes text a.diagram a.holds a.answer)
+    (λ q is bytes a. adjusted_on q.format q.x q.y q.query bytes text a.diagram a.holds
+    (adjust_as_told q.format a.diagram q.x q.y q.query No text a.answer))
 
 -- ---- identify and evaluate
 
