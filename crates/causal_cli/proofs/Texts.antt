@@ -42,6 +42,8 @@ use Rattle.identify_command.specs.declared.form.Form.{Form}
 use Rattle.identify_command.specs.Forms.{plain_form}
 use Rattle.identify_command.specs.Answers.{EffectAnswer, IdentifyAnswer}
 use Rattle.identify_command.specs.Conditions.{ListsAnswer, ConditionalAnswer, IdentifyAnswerGiven}
+use Rattle.identify_command.specs.Command.{identify_command}
+use Rattle.identify_command.proofs.IdentifyTold.{identify_as_told}
 use Rattle.identify_command.proofs.OneText.{effect_yes_once, target_yes_once, effect_no_once, target_no_once}
 use Rattle.experiment_lists.specs.Words.{Lists as Experiments}
 use Rattle.surrogate_command.specs.Answers as surrogates
@@ -258,7 +260,9 @@ texts_are_one = record {
       for_diagrams (λ d. rule_lists d.read d.observed.names q.y q.x q.z q.given) (λ p l. rules.ListsAnswer q.format q.rule p l o)
       (same_rule_lists q.y q.x q.z q.given) (ruled_once o told q.format q.rule) d e s text line
       (rule_as_told q.format q.rule d q.y q.x q.z q.given o text a) (rule_as_told q.format q.rule e q.y q.x q.z q.given o line b));
-  identify = λ q o told bytes. on_bytes bytes (λ d. IdentifyAnswerGiven q.form d q.x q.y q.given) o (identified_once o q.form told q.x q.y q.given);
+  identify = λ q o told bytes. on_bytes bytes (λ d. identify_command.by_diagram q d) o (λ d e s text line a b.
+      identified_once o q.form told q.x q.y q.given d e s text line
+      (identify_as_told q.form d q.x q.y q.given o text a) (identify_as_told q.form e q.x q.y q.given o line b));
   surrogate = λ q o bytes. on_bytes bytes (λ d. surrogates.SurrogateAnswer q.form d q.x q.y q.experiments) o
       (surrogate_once o q.form q.x q.y q.experiments);
   implications = λ q o bytes. on_bytes bytes (λ d. FirstAnswer q.format q.counts (graph_of d.observed.graph) d.observed.names) o
