@@ -92,5 +92,12 @@ impl KeptGraph {
 fn are_two_sets(g: &Graph, x: VSet, y: VSet) -> bool
     ensures { IsTrue result ↔ Within g.now.n (has x.bits) × Within g.now.n (has y.bits) × Apart (has x.bits) (has y.bits) }
 {
-    g.covers(x) && g.covers(y) && x.intersection(y).is_empty()
+    g.covers(x) && g.covers(y) && are_apart(x, y)
+}
+
+/// Whether no vertex is in both sets.
+fn are_apart(s: VSet, t: VSet) -> bool
+    ensures { IsTrue result ↔ Apart (has s.bits) (has t.bits) }
+{
+    s.intersection(t).is_empty()
 }
