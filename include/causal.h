@@ -171,8 +171,8 @@ typedef struct causal_diagram {
 
 /* Reads a graph text, and keeps its diagram in `diagram`. `names` receives the names of its vertices in order, each with a line feed
  * behind it (no name has one in it), and `names_size` how many bytes these are: a room of as many bytes as the text has is enough.
- * Where they have more bytes than the room, the room has the first of them. A caller who asks no more than causal_separated needs no
- * names: `names` may be null, with no room.
+ * Where they have more bytes than the room, the room has the first of them. A caller who asks no more than causal_separated and
+ * causal_is_identifiable needs no names: `names` may be null, with no room.
  *
  * CAUSAL_GRAPH where the bytes are no graph text, over 1,048,576 bytes included (causal_run tells the fault); CAUSAL_NO_MEMORY where
  * memory was refused. Then `diagram` and `names` stay as they were, and `names_size` is 0. */
@@ -183,6 +183,12 @@ uint8_t causal_keep(const uint8_t *text, size_t length, causal_diagram *diagram,
  * is open, CAUSAL_NO where one is. Bit v of a set is set where vertex v of the observed graph is a member. CAUSAL_GRAPH where that
  * can't be asked: a set has a member that isn't a vertex, two have a common one, or x or y has none. It takes no memory. */
 uint8_t causal_separated(const causal_diagram *diagram, uint64_t x, uint64_t y, uint64_t given);
+
+/* Whether the effect of x on y has a formula without interventions, in the observed graph of a diagram that was kept: CAUSAL_YES where
+ * one equals it in every positive finite model of that graph, CAUSAL_NO where two such models agree on all observations and differ on
+ * it. Sets as in causal_separated. CAUSAL_GRAPH where that can't be asked: a set has a member that isn't a vertex, the two have a
+ * common one, or y has none. It takes no memory, so it always answers; causal_ask with the words of `identify` shows why. */
+uint8_t causal_is_identifiable(const causal_diagram *diagram, uint64_t x, uint64_t y);
 
 /* Runs the command that the words name on a diagram that was kept: the arguments behind `names_size` are those of causal_run, and what
  * is answered is what the command answers on the text that was kept, with the same statuses and texts.

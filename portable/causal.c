@@ -11,6 +11,7 @@ I causal_explain_code(L, L, L, L, L, L, L, L, L, L, L);
 I causal_inputs_code(L, L, L, L, L, L, L);
 I causal_keep_code(L, L, L, L, L, L);
 I causal_separated_code(L, L, L, L);
+I causal_is_identifiable_code(L, L, L);
 I causal_ask_code(L, L, L, L, L, L, L, L, L, L, L, L, L, L);
 
 #define AS_IT_IS (UINTPTR_MAX > 0xffffffffu && !BIG_ENDIAN_MEMORY)
@@ -243,4 +244,12 @@ uint8_t causal_separated(const causal_diagram *diagram, uint64_t x, uint64_t y, 
 #endif
   READY
   return (uint8_t)causal_separated_code(KEPT(diagram), x, y, given);
+}
+
+uint8_t causal_is_identifiable(const causal_diagram *diagram, uint64_t x, uint64_t y) {
+#if !AS_IT_IS
+  L kept[DIAGRAM];
+#endif
+  READY
+  return (uint8_t)causal_is_identifiable_code(KEPT(diagram), x, y);
 }

@@ -194,6 +194,16 @@ static void kept(void) {
     /* sets that can't be asked: no x, one beyond the graph, two that meet */
     HOLDS(causal_separated(&diagram, 0, 4, 2) == CAUSAL_GRAPH && causal_separated(&diagram, 1, 0, 2) == CAUSAL_GRAPH);
     HOLDS(causal_separated(&diagram, 1, 8, 0) == CAUSAL_GRAPH && causal_separated(&diagram, 1, 4, 4) == CAUSAL_GRAPH);
+    /* whether an effect has a formula; x may be empty, and y not */
+    HOLDS(causal_is_identifiable(&diagram, 2, 4) == CAUSAL_YES && causal_is_identifiable(&diagram, 0, 4) == CAUSAL_YES);
+    HOLDS(causal_is_identifiable(&diagram, 2, 0) == CAUSAL_GRAPH && causal_is_identifiable(&diagram, 2, 6) == CAUSAL_GRAPH);
+    HOLDS(causal_is_identifiable(&diagram, 8, 4) == CAUSAL_GRAPH && causal_is_identifiable(&diagram, 2, 8) == CAUSAL_GRAPH);
+    static const char bow[] = "dag{A->B A<->B B->C}";
+    causal_diagram confounded = {0};
+    HOLDS(causal_is_identifiable(&confounded, 1, 2) == CAUSAL_GRAPH);
+    HOLDS(causal_keep((const uint8_t *)bow, sizeof bow - 1, &confounded, NULL, 0, &size) == CAUSAL_YES);
+    HOLDS(causal_is_identifiable(&confounded, 1, 2) == CAUSAL_NO && causal_is_identifiable(&confounded, 1, 4) == CAUSAL_NO);
+    HOLDS(causal_is_identifiable(&confounded, 2, 4) == CAUSAL_YES && causal_is_identifiable(&confounded, 3, 4) == CAUSAL_YES);
     /* a text that is refused changes nothing */
     HOLDS(causal_keep((const uint8_t *)other, sizeof other - 1, &diagram, names, sizeof names, &size) == CAUSAL_GRAPH && size == 0);
     HOLDS(graph->vertices == 3 && causal_separated(&diagram, 1, 4, 2) == CAUSAL_YES && memcmp(names, lines, sizeof lines - 1) == 0);

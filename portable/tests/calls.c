@@ -109,6 +109,10 @@ I causal_separated_code(L d, L x, L y, L given) {
   HOLDS(IS_READY);
   return (I)(R8(d + 8) + R8(d + 16 * 193 + 24) + x + y + given);
 }
+I causal_is_identifiable_code(L d, L x, L y) {
+  HOLDS(IS_READY);
+  return (I)(R8(d + 8) + R8(d + 16 * 193 + 24) + 2 * x + y);
+}
 
 /* --- the heap */
 
@@ -204,6 +208,8 @@ static void test_calls(void) {
   begun = 0;
   diagram.latent = 7;
   HOLDS(causal_separated(&diagram, 1, 2, 4) == 99 + 7 + 7);
+  begun = 0;
+  HOLDS(causal_is_identifiable(&diagram, 1, 2) == 99 + 7 + 4);
 #if !AS_IT_IS
   diagram = before;
   status = 3;

@@ -41,7 +41,7 @@ def open_page(driver, address=None, fragment=""):
     return int(driver.execute_script(ready))
 
 
-def wait(test, seconds=5):
+def wait(test, seconds=60):
     """Whether something comes true in this time."""
     end = time.time() + seconds
     while time.time() < end:

@@ -263,7 +263,13 @@ def dirty_table():
 
 
 def press(s, key):
-    s.one(f"#panel [data-key='{key}']").click()
+    """Presses a button of the panel, as soon as the panel that has it is drawn."""
+    def pressed():
+        s.one(f"#panel [data-key='{key}']").click()
+        return True
+
+    if not wait(pressed):
+        s.check(f"the button {key}", False, s.panel())
 
 
 def cleans_a_table(s):

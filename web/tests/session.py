@@ -44,12 +44,28 @@ class Session:
             self.failed += 1
             print(f"wrong: {what}: saw {saw!r}")
 
+    def do(self, part):
+        """Does a part. A step that fails may have met a busy machine: then the whole part is done once more, and counts as it went then."""
+        for is_last in (False, True):
+            done, failed = self.done, self.failed
+            try:
+                self.reset()
+                part(self)
+            except Exception as error:  # the other parts are still tried
+                self.check(part.__name__, False, f"{type(error).__name__}: {error}")
+            if self.failed == failed or is_last:
+                return
+            print(f"{part.__name__} is done once more")
+            self.done, self.failed = done, failed
+
     def soon(self, what, test, saw=lambda: ""):
         self.check(what, wait(test), saw())
 
     # What is seen
 
     def one(self, css):
+        """The first such element, as soon as there is one."""
+        wait(lambda: self.all(css))
         return self.driver.find_element(By.CSS_SELECTOR, css)
 
     def all(self, css):
@@ -99,8 +115,10 @@ class Session:
         time.sleep(0.4)
 
     def item(self, head):
-        """Presses the item of the open menu that begins with these words."""
-        next(b for b in self.all("#menu button") if b.text.startswith(head)).click()
+        """Presses the item of the open menu that begins with these words, as soon as it is there."""
+        items = lambda: [b for b in self.all("#menu button") if b.text.startswith(head)]
+        wait(items)
+        items()[0].click()
 
     def keys(self, *keys):
         ActionChains(self.driver).send_keys(*keys).perform()
@@ -1039,11 +1057,7 @@ def main():
             for part in parts:
                 if wanted and part.__name__ not in wanted:
                     continue
-                try:
-                    session.reset()
-                    part(session)
-                except Exception as error:  # the other parts are still tried
-                    session.check(part.__name__, False, f"{type(error).__name__}: {error}")
+                session.do(part)
         finally:
             driver.quit()
     done, failed = session.done, session.failed

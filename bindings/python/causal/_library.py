@@ -63,7 +63,7 @@ def library_path() -> str:
 
 
 class _Calls(NamedTuple):
-    """The module `ctypes`, and the calls of the library; `inputs` or `explain` is None where it is of a version that has no such call."""
+    """The module `ctypes`, and the calls of the library; `inputs`, `explain` or `identifiable` is None where it is of a version without it."""
 
     ctypes: Any
     run: Any
@@ -72,6 +72,7 @@ class _Calls(NamedTuple):
     ask: Any
     inputs: Any
     explain: Any
+    identifiable: Any
 
 
 @functools.lru_cache(maxsize=None)
@@ -85,7 +86,7 @@ def _load() -> _Calls:
         known = library.causal_run, library.causal_keep, library.causal_separated, library.causal_ask
     except (OSError, AttributeError) as cause:
         raise LibraryMissing(f"the library at {path} can't be used: {cause}") from cause
-    calls = _Calls(ctypes, *known, *(getattr(library, name, None) for name in ("causal_inputs", "causal_explain")))
+    calls = _Calls(ctypes, *known, *(getattr(library, name, None) for name in ("causal_inputs", "causal_explain", "causal_is_identifiable")))
     size, spans, room, bits = ctypes.c_size_t, ctypes.c_void_p, ctypes.c_char_p, ctypes.c_uint64
     asked = [ctypes.c_char_p, size, spans, size, spans, size, room, size, room, size, ctypes.c_void_p]
     calls.run.argtypes = asked
@@ -96,6 +97,8 @@ def _load() -> _Calls:
         calls.inputs.argtypes = [ctypes.c_char_p, size, spans, size, room, size, ctypes.POINTER(_wanted_type())]
     if calls.explain is not None:
         calls.explain.argtypes = asked
+    if calls.identifiable is not None:
+        calls.identifiable.argtypes = [ctypes.c_void_p, bits, bits]
     for call in calls[1:]:
         if call is not None:
             call.restype = ctypes.c_uint8
@@ -265,6 +268,8 @@ class KeptDiagram:
     >>> chain = KeptDiagram(b"dag{A->B->C}", ("A", "B", "C"))
     >>> chain.separated(["A"], ["C"], ["B"]), chain.separated(["A"], ["C"], []), chain.separated(["A"], ["D"], [])
     (True, False, None)
+    >>> chain.identifiable(["A"], ["C"]), chain.identifiable(["A"], [])
+    (True, None)
     >>> chain.run(["identify", "chain", "--x", "A", "--y", "C"]).out
     b'P(C|do(A)) = sum{B} P(B|A) * P(C|B)\\n'
     """
@@ -273,6 +278,7 @@ class KeptDiagram:
         """The diagram of a text; its observed vertices have these names, in order."""
         calls = _load()
         self._separated = calls.separated
+        self._identifiable = calls.identifiable
         self._diagram = _diagram_type()()
         self._bits = {name: 1 << place for place, name in enumerate(observed)}
         room, size = calls.ctypes.create_string_buffer(len(text)), calls.ctypes.c_size_t()
@@ -302,6 +308,16 @@ class KeptDiagram:
         """Whether the sets are separated; None where that can't be asked of them: `run` says why."""
         try:
             status = self._separated(self._place, self._mask(x), self._mask(y), self._mask(given))
+        except KeyError:
+            return None
+        return None if status > 1 else status == 0
+
+    def identifiable(self, x: Iterable[str], y: Iterable[str]) -> Optional[bool]:
+        """Whether the effect has a formula; None where that can't be asked: `run` says why."""
+        if self._identifiable is None:
+            return None
+        try:
+            status = self._identifiable(self._place, self._mask(x), self._mask(y))
         except KeyError:
             return None
         return None if status > 1 else status == 0

@@ -341,6 +341,22 @@ class Diagram(DataQuestions, GraphQuestions):
         answer = self._keep().separated(x, y, given)
         return bool(self.separated(x, y, given)) if answer is None else answer
 
+    def is_identifiable(self, x: Names, y: Names) -> bool:
+        """Whether the effect of x on y has a formula: `identify` without the formula, for many questions about one diagram.
+
+        It is proved that yes comes exactly where a formula equals the effect in every positive finite model of the diagram's observed
+        graph, and no exactly where two such models agree on all observations and differ on the effect. No memory is asked for, and a
+        question takes some microseconds.
+
+        >>> from causal import Diagram
+        >>> bow = Diagram("dag { X -> Y -> Z X <-> Y }")
+        >>> bow.is_identifiable("X", "Y"), bow.is_identifiable("Y", "Z")
+        (False, True)
+        """
+        x, y = names_of(x), names_of(y)
+        answer = self._keep().identifiable(x, y)
+        return bool(self.identify(x, y)) if answer is None else answer
+
     def _keep(self) -> KeptDiagram:
         """The diagram as the library keeps it, which reads the text at the first question."""
         if self._kept is None:

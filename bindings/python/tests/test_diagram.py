@@ -200,6 +200,20 @@ class Kept(unittest.TestCase):
                     diagram.is_separated(x, y, given)
                 self.assertEqual(str(caught.exception), str(wanted.exception))
 
+    def test_identifiable(self):
+        bow = Diagram("dag { X -> Y -> Z X <-> Y U [latent] U -> X }")
+        self.assertEqual(
+            [bow.is_identifiable(x, y) for x, y in (("X", "Y"), ("Y", "Z"), (["X", "Y"], "Z"), ("X", "Z"), ("Z", "X"))],
+            [False, True, True, False, True],
+        )
+        for x, y in (("U", "Y"), ("X", ()), ("X", "X"), ("X", "Q"), (("X", "X"), "Y")):
+            with self.subTest(x=x, y=y):
+                with self.assertRaises(causal.TargetError) as wanted:
+                    bow.identify(x, y)
+                with self.assertRaises(causal.TargetError) as caught:
+                    bow.is_identifiable(x, y)
+                self.assertEqual(str(caught.exception), str(wanted.exception))
+
     def test_copies(self):
         diagram = Diagram("dag { A -> B -> C }")
         self.assertTrue(diagram.is_separated("A", "C", "B"))

@@ -2,6 +2,7 @@
 use Rattle.std.specs.Prelude.{ℕ, ◌≡◌, ◌≢◌, ◌<◌, ◌≤◌, List, [], ◌∷◌, ◌++◌, length, Err}
 use Rattle.mixed_graph.specs.Bits.{has}
 use Rattle.mixed_graph.specs.Graphs.{MixedGraph, graph_from}
+use Rattle.mixed_graph.specs.Sets.{Within, Apart}
 use Rattle.mixed_graph.specs.Shown.{graph_of}
 use Rattle.do_rules.specs.Rules.{AreThreeSets}
 use Rattle.dag_reader.specs.declared.graph.ReadGraph.{ReadGraph}
@@ -47,4 +48,11 @@ pub data IsNoGraphText (bytes : List ℕ) : Type 0 where
 pub record AreAskable (n x y given : ℕ) : Type 0 where
   pub sets : AreThreeSets n (has x) (has y) (has given)
   pub some_x : x ≢ 0
+  pub some_y : y ≢ 0
+
+-- the effect of x on y may be asked for: both are within the graph, without a common member, and y has a member
+pub record AreEffectSets (n x y : ℕ) : Type 0 where
+  pub x_within : Within n (has x)
+  pub y_within : Within n (has y)
+  pub apart : Apart (has x) (has y)
   pub some_y : y ≢ 0

@@ -5,7 +5,8 @@ ghost use Rattle.std.specs.Prelude.{◌≡◌, ◌≤◌, ◌⊎◌, List, ℕ, 
 ghost use Rattle.mixed_graph.specs.Bits.{has};
 ghost use Rattle.m_separation.specs.Walks.{IsSeparated, HasOpenWalk};
 ghost use Rattle.dag_reader.specs.declared.graph.ReadGraph.{ReadGraph};
-ghost use Rattle.caller_memory.specs.Kept.{AreAskable, KeepsText, IsNoGraphText, Keeps, graph_in};
+ghost use Rattle.identify.specs.Deciding.{IsIdentifiable, IsNotIdentifiable};
+ghost use Rattle.caller_memory.specs.Kept.{AreAskable, AreEffectSets, KeepsText, IsNoGraphText, Keeps, graph_in};
 ghost use Rattle.span_call.specs.Called.{Called, LacksInput};
 ghost use Rattle.span_call.specs.Ends.{IsEnd};
 ghost use Rattle.span_call.specs.Keeping.{HasKept};
@@ -13,7 +14,7 @@ ghost use Rattle.span_call.specs.Wanted.{TellsInputs, AskForNothing};
 ghost use Rattle.caller_memory.specs.Words.{AreTexts, IsNoText};
 ghost use Rattle.explain_call.specs.Calls.{Explained};
 
-use caller_memory::kept::{KeepFault, KeptDiagram, ReadDiagram, Separation};
+use caller_memory::kept::{Identification, KeepFault, KeptDiagram, ReadDiagram, Separation};
 use caller_memory::spans::{Input, Span};
 use explain_call::explain_spans;
 use mixed_graph::VSet;
@@ -154,6 +155,23 @@ pub extern "C" fn causal_separated(kept: &KeptDiagram, x: u64, y: u64, given: u6
         Separation::Separated => 0,
         Separation::Open => 1,
         Separation::Refused => 3,
+    }
+}
+
+/// Whether the effect of x on y has a formula without interventions, in a diagram that is kept: 0 or 1; 3 where that can't be asked of these sets.
+#[unsafe(no_mangle)]
+pub extern "C" fn causal_is_identifiable(kept: &KeptDiagram, x: u64, y: u64) -> u8
+    ensures yes { result ≡ 0 → IsIdentifiable (graph_in kept.now.observed) x y }
+    ensures no { result ≡ 1 → IsNotIdentifiable (graph_in kept.now.observed) x y }
+    ensures askable { result ≤ 1 → AreEffectSets kept.now.observed.vertices x y }
+    ensures refused { result ≡ 3 → AreEffectSets kept.now.observed.vertices x y → ⊥ }
+    ensures known { (result ≤ 1) ⊎ (result ≡ 3) }
+{
+    let (x, y) = (VSet::of_bits(x), VSet::of_bits(y));
+    match kept.observed.identification(x, y) {
+        Identification::Identifiable => 0,
+        Identification::NotIdentifiable => 1,
+        Identification::Refused => 3,
     }
 }
 

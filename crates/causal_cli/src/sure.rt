@@ -3,9 +3,13 @@
 ghost use Rattle.std.specs.Prelude.{◌≡◌, ◌≢◌, false, None};
 ghost use Rattle.command_words.specs.Views.{texts_of};
 ghost use Rattle.causal_io.specs.SureShelf.{held_surely};
-ghost use Rattle.command_run.specs.Complete.{IsExact};
+ghost use Rattle.command_run.specs.Complete.{Complete, IsExact};
 ghost use Rattle.command_run.specs.Run.{Ended, run_on, stream_of};
+ghost use Rattle.causal_cli.specs.Calls.{call_on};
 ghost use Rattle.causal_cli.specs.Commands.{commands};
+ghost use Rattle.causal_cli.specs.Drawn.{RightAsDrawn};
+ghost use Rattle.causal_cli.specs.Headline.{Headline, HeadlineOfCheck};
+ghost use Rattle.causal_cli.specs.Refuted.{RefutedAsDrawn};
 
 use crate::request::Request;
 use causal_io::{Sink, SureShelf, SureSink};
@@ -22,6 +26,11 @@ pub fn run_surely<E: Sink>(
 ) -> Status
     ensures ended { Ended commands (run_on (texts_of words.now) (held_surely shelf.old) (λ _. false) (λ _. 0) (λ _. 0) (stream_of None None 0 0))
         (stream_of (E.written err.old) (E.written err.new) (E.faults err.old) (E.faults err.new)) result.code }
+    ensures complete { Complete commands (run_on (texts_of words.now) (held_surely shelf.old) (λ _. false) (λ _. 0) (λ _. 0) (stream_of None None 0 0)) result.code }
+    ensures headline { Headline (run_on (texts_of words.now) (held_surely shelf.old) (λ _. false) (λ _. 0) (λ _. 0) (stream_of None None 0 0)) result.code }
+    ensures checked { HeadlineOfCheck (call_on (texts_of words.now) (held_surely shelf.old) None None) result.code }
+    ensures drawn { RightAsDrawn (call_on (texts_of words.now) (held_surely shelf.old) None None) result.code }
+    ensures refuted { RefutedAsDrawn (call_on (texts_of words.now) (held_surely shelf.old) None None) result.code }
     ensures exact { IsExact commands (run_on (texts_of words.now) (held_surely shelf.old) (λ _. false) (λ _. 0) (λ _. 0) (stream_of None None 0 0)) result.code }
     ensures read { result.code ≢ 6 }
     ensures write { result.code ≢ 7 }

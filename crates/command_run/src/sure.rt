@@ -4,7 +4,7 @@ ghost use Rattle.std.specs.Prelude.{◌≡◌, ◌≢◌, false, None};
 ghost use Rattle.command_words.specs.Views.{texts_of};
 ghost use Rattle.causal_io.specs.SureShelf.{held_surely};
 ghost use Rattle.command_run.specs.Laws.{AreLawful};
-ghost use Rattle.command_run.specs.Complete.{IsExact};
+ghost use Rattle.command_run.specs.Complete.{Complete, IsExact};
 ghost use Rattle.command_run.specs.Run.{Ended, run_on, stream_of};
 
 use crate::request::Request;
@@ -23,6 +23,7 @@ pub fn run_surely<'a, R: Request<'a>, E: Sink>(
     requires { AreLawful R.commands }
     ensures ended { Ended R.commands (run_on (texts_of words.now) (held_surely shelf.old) (λ _. false) (λ _. 0) (λ _. 0) (stream_of None None 0 0))
         (stream_of (E.written err.old) (E.written err.new) (E.faults err.old) (E.faults err.new)) result.code }
+    ensures complete { Complete R.commands (run_on (texts_of words.now) (held_surely shelf.old) (λ _. false) (λ _. 0) (λ _. 0) (stream_of None None 0 0)) result.code }
     ensures exact { IsExact R.commands (run_on (texts_of words.now) (held_surely shelf.old) (λ _. false) (λ _. 0) (λ _. 0) (stream_of None None 0 0)) result.code }
     ensures read { result.code ≢ 6 }
     ensures write { result.code ≢ 7 }

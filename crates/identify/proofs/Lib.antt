@@ -1,11 +1,13 @@
 pub mod Composed
 pub mod GatheredFactors
 pub mod HedgeData
+pub mod Links
 pub mod Orders
 pub mod RightAnswers
 pub mod RightFormulas
 pub mod Roots
 pub mod StepLists
+pub mod Existing
 pub mod FactorOrders
 pub mod Pillows
 pub mod Placing

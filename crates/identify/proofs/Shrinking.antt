@@ -30,7 +30,7 @@ members_le s t zero h = omega (arith, length-members-zero s, length-members-zero
 members_le s t (suc k) h = omega (arith, length-members-suc s k, length-members-suc t k, members_le s t k h, fewer_bits (s k) (t k) (h k))
 
 -- a proper part has fewer
-members_lt : (s t : ℕ → Bool) (k v : ℕ) → v < k → ((u : ℕ) → IsTrue (s u) → IsTrue (t u)) → s v ≡ false → t v ≡ true
+pub members_lt : (s t : ℕ → Bool) (k v : ℕ) → v < k → ((u : ℕ) → IsTrue (s u) → IsTrue (t u)) → s v ≡ false → t v ≡ true
     → length (members_below s k) < length (members_below t k)
 members_lt s t zero v lt h out into = absurd (omega arith)
 members_lt s t (suc k) v lt h out into = elim (cases_eq v k) [

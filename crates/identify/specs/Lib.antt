@@ -6,3 +6,4 @@ pub mod Factors
 pub mod Lists
 pub mod Parts
 pub mod Rounds
+pub mod Deciding

@@ -17,4 +17,5 @@ pub use district_factor::{Factor, FactorFault};
 pub use moves::members_in;
 pub use pushing::{push_at, push_each, push_with};
 pub use rounds::{factor, factor_under};
+pub use sets::ancestors_in;
 pub use terms::sum_if;

@@ -80,6 +80,19 @@ fn hedge_at(g: &Graph, small: VSet, big: VSet, roots: VSet) -> Hedge
 }
 
 /// The hedge of small and big for the effect of x on y, its roots those members of small that have no
+/// child in it.
+pub fn hedge_between(g: &Graph, x: VSet, y: VSet, small: VSet, big: VSet) -> Hedge
+    requires { (roots : ℕ) → AreRoots (graph_of g.now) small.bits roots → AreSetsOfHedge (graph_of g.now) x.bits y.bits big.bits small.bits roots }
+    ensures small { result.small ≡ small }
+    ensures big { result.big ≡ big }
+    ensures data { IsHedgeOf (graph_of g.now) result }
+    ensures hedge { IsHedge (graph_of g.now) x.bits y.bits result }
+{
+    let roots = roots_of(g, small);
+    hedge_at(g, small, big, roots)
+}
+
+/// The hedge of small and big for the effect of x on y, its roots those members of small that have no
 /// child in it, and its two models.
 pub fn hedge_of(
     alloc: Global,
@@ -100,8 +113,7 @@ pub fn hedge_of(
     ensures hedge { IfOk result (λ p. IsHedge (graph_of g.now) x.bits y.bits p.0) }
     ensures pair { IfOk result (λ p. IsPairOf (graph_of g.now) x.bits y.bits p.0 p.1) }
 {
-    let roots = roots_of(g, small);
-    let hedge = hedge_at(g, small, big, roots);
+    let hedge = hedge_between(g, x, y, small, big);
     let pair = build(alloc, g, x, y, &hedge)?;
     Ok((hedge, pair))
 }

@@ -13,6 +13,16 @@ is_separated <- function(diagram, x, y, given = character()) {
   if (status > 1L) separated(diagram, x, y, given)$holds else status == 0L
 }
 
+is_identifiable <- function(diagram, x, y) {
+  diagram <- as_causal_diagram(diagram)
+  kept <- keep(diagram)
+  sets <- list(places(x), places(y))
+  # where that can't be asked, `identify_effect` says why
+  if (is.null(kept) || anyNA(unlist(sets))) return(identify_effect(diagram, x, y)$identifiable)
+  status <- .Call(call_identifiable, kept, sets[[1]], sets[[2]])
+  if (status > 1L) identify_effect(diagram, x, y)$identifiable else status == 0L
+}
+
 # What the library keeps of the diagram, which it reads unless it is the last one; NULL where its text is refused.
 keep <- function(diagram) {
   if (!identical(last$diagram$text, diagram$text)) {

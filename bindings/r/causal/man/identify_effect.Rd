@@ -1,5 +1,6 @@
 \name{identify_effect}
 \alias{identify_effect}
+\alias{is_identifiable}
 \alias{identify.causal_diagram}
 \alias{toLatex.causal_formula}
 \alias{summary.causal_hedge}
@@ -11,6 +12,7 @@
 }
 \usage{
 identify_effect(diagram, x = NULL, y = NULL, given = NULL, short = FALSE)
+is_identifiable(diagram, x, y)
 
 \method{identify}{causal_diagram}(x, ...)
 \method{toLatex}{causal_formula}(object, width = 55, ...)
@@ -41,6 +43,10 @@ identify_effect(diagram, x = NULL, y = NULL, given = NULL, short = FALSE)
   With \code{given} the formula is one for the conditional effect. Where there is none, the hedge is one of a joint effect, by
   which that can't be computed from observations; and no formula over observations equals the conditional effect in every model.
   Where the answer is \code{settled}, the two printed models differ on the conditional effect too; else no two that do are shown.
+
+  \code{is_identifiable} gives \code{TRUE} or \code{FALSE} alone, and so is the fastest for many questions about one diagram.
+  Proved: \code{TRUE} comes exactly where a formula equals the effect in every positive finite model of the observed graph, and
+  \code{FALSE} exactly where two such models agree on all observations and differ on the effect. It asks for no memory.
 
   With \code{short} the formula is one that is proved to be no longer than the one without. It needn't be the shortest there is.
 }

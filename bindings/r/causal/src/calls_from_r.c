@@ -107,9 +107,15 @@ static SEXP call_separated(SEXP kept, SEXP x, SEXP y, SEXP given) {
   return ScalarInteger(causal_separated(diagram_in(kept), set_of(x), set_of(y), set_of(given)));
 }
 
+/* kept: what call_keep gave; x, y: integer vectors of vertices. The status of the library. */
+static SEXP call_identifiable(SEXP kept, SEXP x, SEXP y) {
+  return ScalarInteger(causal_is_identifiable(diagram_in(kept), set_of(x), set_of(y)));
+}
+
 static const R_CallMethodDef calls[] = {{"call_causal", (DL_FUNC)&call_causal, 5},
                                         {"call_keep", (DL_FUNC)&call_keep, 1},
                                         {"call_separated", (DL_FUNC)&call_separated, 4},
+                                        {"call_identifiable", (DL_FUNC)&call_identifiable, 3},
                                         {NULL, NULL, 0}};
 
 void R_init_causal(DllInfo *dll) {

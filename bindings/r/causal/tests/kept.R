@@ -62,3 +62,11 @@ same(keep(fork), kept)
 # What the library didn't keep is refused
 caught <- try(run_on(c("graph", "diagram"), list(), list(kept[[1]], charToRaw("A\n"))), silent = TRUE)
 stopifnot(grepl("isn't what the library kept", caught))
+
+# Whether an effect has a formula, alone
+bow <- causal_diagram("dag { X -> Y -> Z X <-> Y U [latent] U -> X }")
+same(c(is_identifiable(bow, "X", "Y"), is_identifiable(bow, "Y", "Z"), is_identifiable(bow, c("X", "Y"), "Z")), c(FALSE, TRUE, TRUE))
+for (sets in list(list("U", "Y"), list("X", character()), list("X", "X"), list("X", "Q"), list(c("X", "X"), "Y"))) {
+  faults <- lapply(list(is_identifiable, identify_effect), function(ask) tryCatch(ask(bow, sets[[1]], sets[[2]]), causal_fault = conditionMessage))
+  stopifnot(is.character(faults[[1]]), identical(faults[[1]], faults[[2]]))
+}

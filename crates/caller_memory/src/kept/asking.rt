@@ -1,13 +1,16 @@
-//! Separations asked of a kept diagram.
+//! Separations and effects asked of a kept diagram.
 
-ghost use Rattle.std.specs.Prelude.{◌≡◌};
+ghost use Rattle.std.specs.Prelude.{◌≡◌, ◌↔◌, IsTrue};
 ghost use Rattle.mixed_graph.specs.Bits.{has};
+ghost use Rattle.mixed_graph.specs.Sets.{Within, Apart};
 ghost use Rattle.mixed_graph.specs.Shown.{graph_of};
 ghost use Rattle.m_separation.specs.Walks.{IsSeparated, HasOpenWalk};
-ghost use Rattle.caller_memory.specs.Kept.{AreAskable, graph_in};
+ghost use Rattle.identify.specs.Deciding.{IsIdentifiable, IsNotIdentifiable};
+ghost use Rattle.caller_memory.specs.Kept.{AreAskable, AreEffectSets, graph_in};
 
 use crate::kept::kept::KeptGraph;
 use do_rules::are_three_sets;
+use identify::is_identifiable;
 use m_separation::separated;
 use mixed_graph::{Graph, VSet};
 
@@ -19,6 +22,17 @@ pub enum Separation {
     /// Some walk is.
     Open,
     /// A set isn't within the graph, two have a common member, or x or y has none.
+    Refused,
+}
+
+/// What is answered of an effect.
+#[derive(Clone, Copy, Debug, PartialEq, Eq)]
+pub enum Identification {
+    /// It has a formula without interventions.
+    Identifiable,
+    /// It has none: two models agree on all observations, and differ on it.
+    NotIdentifiable,
+    /// A set isn't within the graph, the two have a common member, or y has none.
     Refused,
 }
 
@@ -54,4 +68,29 @@ impl KeptGraph {
             Separation::Open
         }
     }
+
+    /// Whether the effect of x on y has a formula without interventions (Shpitser and Pearl 2006).
+    pub fn identification(&self, x: VSet, y: VSet) -> Identification
+        ensures yes { result ≡ Identification.Identifiable → IsIdentifiable (graph_in self.now) x.bits y.bits }
+        ensures no { result ≡ Identification.NotIdentifiable → IsNotIdentifiable (graph_in self.now) x.bits y.bits }
+        ensures askable { (result ≡ Identification.Refused → ⊥) → AreEffectSets self.now.vertices x.bits y.bits }
+        ensures refused { result ≡ Identification.Refused → AreEffectSets self.now.vertices x.bits y.bits → ⊥ }
+    {
+        let graph = self.graph();
+        if !are_two_sets(&graph, x, y) || y.is_empty() {
+            return Identification::Refused;
+        }
+        if is_identifiable(&graph, x, y) {
+            Identification::Identifiable
+        } else {
+            Identification::NotIdentifiable
+        }
+    }
+}
+
+/// Whether the sets are within the graph, without a common member.
+fn are_two_sets(g: &Graph, x: VSet, y: VSet) -> bool
+    ensures { IsTrue result ↔ Within g.now.n (has x.bits) × Within g.now.n (has y.bits) × Apart (has x.bits) (has y.bits) }
+{
+    g.covers(x) && g.covers(y) && x.intersection(y).is_empty()
 }
