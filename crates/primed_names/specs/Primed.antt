@@ -1,5 +1,5 @@
 -- Primed names: a second name for some vertices, behind the names of all (Pearl, Causality, chapter 7).
-use Rattle.std.specs.Prelude.{ℕ, zero, suc, List, [], ◌∷◌, ◌++◌, length, nat_lt, if◌then◌else◌}
+use Rattle.std.specs.Prelude.{ℕ, zero, suc, ◌≡◌, ◌<◌, ◌≤◌, ◌+◌, List, [], ◌∷◌, ◌++◌, length, get_or, nat_lt, if◌then◌else◌}
 use Rattle.mixed_graph.specs.Bits.{has, members_below}
 use Rattle.mixed_graph.specs.Names.{is_named, name_of}
 
@@ -24,3 +24,18 @@ with_primes names taken (v ∷ vs) = with_primes names (with_prime taken (name_o
 -- the names, and behind them a primed name for each member of x, in ascending order
 abbrev pub primed_names : List (List ℕ) → ℕ → List (List ℕ)
 primed_names names x = with_primes names names (members_below (has x) 64)
+
+-- a name with so many primes behind it
+abbrev pub ticked : List ℕ → ℕ → List ℕ
+ticked name zero = name
+ticked name (suc k) = ticked (name ++ 39 ∷ []) k
+
+-- the names stand at their places, and behind them that of each member of x, in ascending order, with one prime or more
+pub record ArePrimed (names all : List (List ℕ)) (x : ℕ) : Type 0 where
+  pub own : (v : ℕ) → v < length names → name_of all v ≡ name_of names v
+  pub primed : (i : ℕ) → i < length (members_below (has x) 64)
+      → (k : ℕ) × (0 < k) × (name_of all (length names + i) ≡ ticked (name_of names (get_or (members_below (has x) 64) i 0)) k)
+
+-- where there is room for all, the primed names are so
+abbrev pub PrimedStandBehind : Type 0
+PrimedStandBehind = (names : List (List ℕ)) (x : ℕ) → length names + length (members_below (has x) 64) ≤ 64 → ArePrimed names (primed_names names x) x

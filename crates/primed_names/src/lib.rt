@@ -4,5 +4,7 @@
 #![tactic(auto)]
 
 mod primes;
+mod theory;
 
 pub use primes::primed_names;
+pub use theory::laws;
