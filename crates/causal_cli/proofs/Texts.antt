@@ -27,6 +27,8 @@ use Rattle.replies.proofs.OneTarget.{one_set, same_two, same_three}
 use Rattle.effect_answers.specs.Hedges.{ShowsHedge}
 use Rattle.effect_answers.proofs.OneNo.{one_hedge_in}
 use Rattle.separation_commands.specs.GraphAnswers.{GraphAnswer}
+use Rattle.separation_commands.specs.GraphCommand.{graph_command}
+use Rattle.separation_commands.proofs.GraphTold.{graph_as_told}
 use Rattle.separation_commands.specs.GraphObjects.{role_json, graph_json}
 use Rattle.separation_commands.specs.SeparateAnswers as separations
 use Rattle.separation_commands.specs.SeparateCommand.{separate_command}
@@ -253,7 +255,8 @@ survey_once format seed o = λ text line a b. absurd a
 pub texts_are_one : TextsAreOne
 texts_are_one = record {
   survey = λ q o. survey_once q.format q.seed o;
-  graph = λ q o bytes. on_bytes bytes (λ d. GraphAnswer q.format q.project d) o (graph_once q.format q.project o);
+  graph = λ q o bytes. on_bytes bytes (λ d. graph_command.by_diagram q d) o (λ d e s text line a b. graph_once q.format q.project o d e s text line
+      (graph_as_told q.format q.project d o text a) (graph_as_told q.format q.project e o line b));
   separate = λ q o told bytes. on_bytes bytes (λ d. separate_command.by_diagram q d) o (λ d e s text line a b.
       for_diagrams (λ d. query_lists d.read d.observed.names q.x q.y q.given) (λ p l. separations.ListsAnswer q.format p l o)
       (same_query_lists q.x q.y q.given) (separated_once o told q.format) d e s text line

@@ -1,6 +1,6 @@
 mod EdgeRows
-pub mod GraphOutcomes
 pub mod GraphExclusive
+pub mod GraphTold
 pub mod GraphLawful
 mod SeparateSets
 pub mod SeparateTold

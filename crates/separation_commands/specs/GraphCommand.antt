@@ -1,8 +1,11 @@
 -- The command `graph`.
-use Rattle.replies.specs.Command.{CommandForm, on_file}
-use Rattle.separation_commands.specs.GraphAnswers.{GraphAnswer}
+use Rattle.replies.specs.Command.{CommandForm}
+use Rattle.told.specs.Commands.{told_on_file}
+use Rattle.told.specs.Forms.{plain_form}
+use Rattle.separation_commands.specs.GraphRight.{IsGraphAnswer}
+use Rattle.separation_commands.specs.GraphTelling.{graph_telling}
 use Rattle.separation_commands.specs.GraphRequests.{Request, IsRequest}
 
 -- its request and its answers
 abbrev pub graph_command : CommandForm
-graph_command = on_file Request IsRequest (λ q. q.format) (λ q. q.file) (λ q d. GraphAnswer q.format q.project d)
+graph_command = told_on_file Request IsRequest (λ q. plain_form q.format) (λ q. q.file) graph_telling (λ q d. IsGraphAnswer q.project d)

@@ -1,5 +1,5 @@
 -- The object of a graph.
-use Rattle.std.specs.Prelude.{ℕ, [], ◌∷◌, map, Option, Some, None, codes}
+use Rattle.std.specs.Prelude.{ℕ, List, [], ◌∷◌, map, Option, Some, None, codes}
 use Rattle.json.specs.Json.{Json, null, string}
 use Rattle.dag_reader.specs.declared.graph.ReadGraph.{ReadGraph}
 use Rattle.dag_reader.specs.declared.marks.Role.{Role}
@@ -26,7 +26,11 @@ abbrev pub named_vertices_json : ReadGraph → Json
 named_vertices_json g = array_of (map (named_vertex_json g) (count_up g.graph.n))
 
 -- a graph: its vertices, each kind of edges sorted, and its text
-abbrev pub graph_json : ReadGraph → Json
-graph_json g = object_of ((codes "answer", string (codes "graph")) ∷ (codes "vertices", named_vertices_json g)
+abbrev pub graph_members : ReadGraph → List (List ℕ × Json)
+graph_members g = (codes "answer", string (codes "graph")) ∷ (codes "vertices", named_vertices_json g)
     ∷ (codes "directed", pairs_json g.names (drawn_of g).arrows) ∷ (codes "bidirected", pairs_json g.names (drawn_of g).doubles)
-    ∷ (codes "text", text_json (written (drawn_of g))) ∷ [])
+    ∷ (codes "text", text_json (written (drawn_of g))) ∷ []
+
+-- its object
+abbrev pub graph_json : ReadGraph → Json
+graph_json g = object_of (graph_members g)

@@ -1,5 +1,7 @@
 pub mod GraphAnswers
 pub mod GraphObjects
+pub mod GraphTelling
+pub mod GraphRight
 pub mod GraphRequests
 pub mod GraphCommand
 pub mod SeparateAnswers

@@ -1,8 +1,10 @@
 //! The command `graph`: a graph, or its observed graph.
+mod answer;
 mod edges;
 mod objects;
 mod reply;
 mod request;
 
-pub use reply::graph_reply;
+pub use answer::Answer;
+pub use reply::{graph_answer, graph_reply};
 pub use request::{ROW, Request};

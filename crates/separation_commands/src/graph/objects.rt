@@ -1,16 +1,16 @@
-//! The object of a graph.
+//! The members of the object of a graph.
 
-ghost use Rattle.std.specs.Prelude.{◌≡◌, ◌<◌, IfOk, OnOk, length, map, codes};
+ghost use Rattle.std.specs.Prelude.{◌≡◌, ◌<◌, OnOk, length, map, codes};
 ghost use Rattle.dag_reader.specs.Rows.{count_up};
 ghost use Rattle.dag_reader.specs.Written.{role_at, drawn_of};
-ghost use Rattle.answer_json.specs.Progress.{with_value, with_values, with_member, json_line};
+ghost use Rattle.answer_json.specs.Progress.{with_value, with_values, with_member, with_members};
 ghost use Rattle.answer_json.specs.Values.{pairs_json};
-ghost use Rattle.separation_commands.specs.GraphObjects.{role_json, named_vertex_json, named_vertices_json, graph_json};
+ghost use Rattle.separation_commands.specs.GraphObjects.{role_json, named_vertex_json, named_vertices_json, graph_members};
 
 use crate::graph::edges::{push_bidirected, push_directed};
 use answer_json::Object;
 use dag_reader::{ReadGraph, write_graph};
-use std::alloc::{AllocError, Global};
+use std::alloc::AllocError;
 
 /// The role of vertex v, or null.
 fn push_role(object: &mut Object, g: &ReadGraph, v: u8) -> Result<(), AllocError>
@@ -92,16 +92,14 @@ fn push_bidirected_at(object: &mut Object, g: &ReadGraph) -> Result<(), AllocErr
     Ok(())
 }
 
-/// The object of a graph, as a line.
-pub fn graph_object(alloc: Global, g: &ReadGraph) -> Result<Vec<u8>, AllocError>
-    ensures { IfOk result (λ v. v.items ≡ json_line (graph_json g.now)) }
+/// The members of a graph.
+pub fn push_graph(object: &mut Object, g: &ReadGraph) -> Result<(), AllocError>
+    ensures { OnOk result (object.new ≡ with_members (graph_members g.now) object.old) }
 {
-    let text = write_graph(alloc, g)?;
-    let mut object = Object::new(alloc)?;
+    let text = write_graph(object.alloc(), g)?;
     object.word_at("answer", "graph")?;
-    push_vertices_at(&mut object, g)?;
-    push_directed_at(&mut object, g)?;
-    push_bidirected_at(&mut object, g)?;
-    object.text_at("text", text.as_slice())?;
-    object.line()
+    push_vertices_at(object, g)?;
+    push_directed_at(object, g)?;
+    push_bidirected_at(object, g)?;
+    object.text_at("text", text.as_slice())
 }

@@ -1,53 +1,50 @@
 //! The answer of `graph`.
 
 ghost use Rattle.std.specs.Prelude.{◌≡◌, IfOk};
-ghost use Rattle.dag_reader.specs.Written.{drawn_of, written};
-ghost use Rattle.answer_json.specs.Progress.{json_line};
-ghost use Rattle.replies.specs.Told.{told_of, text_in};
-ghost use Rattle.separation_commands.specs.GraphAnswers.{shown_of, GraphAnswer};
-ghost use Rattle.separation_commands.specs.GraphObjects.{graph_json};
+ghost use Rattle.replies.specs.Told.{told_of};
+ghost use Rattle.told.specs.Forms.{plain_form};
+ghost use Rattle.told.specs.Refusals.{target_refusal};
+ghost use Rattle.told.specs.Telling.{Tells};
+ghost use Rattle.separation_commands.specs.GraphAnswers.{shown_of};
+ghost use Rattle.separation_commands.specs.GraphRight.{IsGraphAnswer};
+ghost use Rattle.separation_commands.specs.GraphTelling.{graph_telling};
 
-use crate::graph::objects::graph_object;
+use crate::graph::answer::Answer;
 use crate::graph::request::Request;
-use dag_reader::{ReadGraph, write_graph};
 use diagram::Diagram;
-use replies::{Format, Outcome, Reply};
+use replies::Reply;
 use std::alloc::{AllocError, Global};
+use told::{Form, tell};
 
-/// A graph, or its observed graph.
+/// What is told of a graph, or of its observed graph.
 pub fn graph_reply(
     alloc: Global,
     diagram: &Diagram,
     asked: &Request<'_>,
 ) -> Result<Reply, AllocError>
-    ensures { IfOk result (λ r. GraphAnswer asked.now.format asked.now.project diagram.now r.outcome (told_of r)) }
+    ensures { IfOk result (λ r. Tells graph_telling target_refusal (IsGraphAnswer asked.now.project diagram.now) (plain_form asked.now.format)
+        diagram.now.observed.names r.outcome (told_of r)) }
 {
-    let text = text_of(alloc, diagram, asked.project, asked.format)?;
-    Ok(Reply::answer(alloc, Outcome::Yes, text))
+    let answer = graph_answer(diagram, asked.project);
+    tell(
+        alloc,
+        Form::plain(asked.format),
+        &diagram.observed.names,
+        &answer,
+    )
 }
 
-/// The text or the object alone.
-fn text_of(
-    alloc: Global,
-    diagram: &Diagram,
-    project: bool,
-    format: Format,
-) -> Result<Vec<u8>, AllocError>
-    ensures { let g = shown_of project diagram.now in IfOk result (λ v. v.items ≡ text_in format (written (drawn_of g)) (json_line (graph_json g))) }
+/// The graph that was read, or its observed graph.
+pub fn graph_answer<'a>(diagram: &'a Diagram, project: bool) -> Answer<'a>
+    ensures { result.graph.now ≡ shown_of project diagram.now }
 {
     if project {
-        graph_in(alloc, &diagram.observed, format)
+        Answer {
+            graph: &diagram.observed,
+        }
     } else {
-        graph_in(alloc, &diagram.read, format)
-    }
-}
-
-/// A graph in a format.
-fn graph_in(alloc: Global, graph: &ReadGraph, format: Format) -> Result<Vec<u8>, AllocError>
-    ensures { IfOk result (λ v. v.items ≡ text_in format (written (drawn_of graph.now)) (json_line (graph_json graph.now))) }
-{
-    match format {
-        Format::Text => write_graph(alloc, graph),
-        Format::Json => graph_object(alloc, graph),
+        Answer {
+            graph: &diagram.read,
+        }
     }
 }
