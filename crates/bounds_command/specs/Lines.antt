@@ -36,7 +36,7 @@ abbrev pub ends_text : (low high : List ℕ) → List ℕ
 ends_text low high = codes " at least " ++ (low ++ (codes ", at most " ++ (high ++ codes "\n")))
 
 -- the line of a cell
-abbrev pub bounds_line : List (List ℕ) → Table → Question → CellBounds → List ℕ
+unfoldable pub bounds_line : List (List ℕ) → Table → Question → CellBounds → List ℕ
 bounds_line names t q b = effect_text names t q q.given.bits (cell_of b.cell) ++ ends_text (value_text b.at_least) (value_text b.at_most)
 
 -- the lines of a crossing: that no model has the counts, and the bounds that cross, given what the stratum fixes

@@ -99,6 +99,7 @@ fn push_ends(out: &mut Vec<u8>, at_least: &str, at_most: &str) -> Result<(), All
 }
 
 /// Appends the line of a cell.
+#[tactic(auto, unfolding(crate::specs::Lines::bounds_line))]
 fn push_line(
     alloc: Global,
     out: &mut Vec<u8>,
