@@ -22,10 +22,11 @@ pub enum Command {
     Survey,
     Implications,
     Surrogate,
+    Bounds,
     Treated,
 }
 
-static COMMANDS: [Command; 12] = [
+static COMMANDS: [Command; 13] = [
     Command::Graph,
     Command::Separate,
     Command::Rule,
@@ -37,10 +38,11 @@ static COMMANDS: [Command; 12] = [
     Command::Survey,
     Command::Implications,
     Command::Surrogate,
+    Command::Bounds,
     Command::Treated,
 ];
 
-static TABLE: [Entry; 12] = [
+static TABLE: [Entry; 13] = [
     separation_commands::graph::ROW,
     separation_commands::separate::ROW,
     separation_commands::rule::ROW,
@@ -52,6 +54,7 @@ static TABLE: [Entry; 12] = [
     survey_command::ROW,
     implications_command::ROW,
     surrogate_command::ROW,
+    bounds_command::ROW,
     treated_command::ROW,
 ];
 
@@ -71,6 +74,7 @@ fn row_for(command: Command) -> Entry
         Command::Survey => survey_command::ROW,
         Command::Implications => implications_command::ROW,
         Command::Surrogate => surrogate_command::ROW,
+        Command::Bounds => bounds_command::ROW,
         Command::Treated => treated_command::ROW,
     }
 }

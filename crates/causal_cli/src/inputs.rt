@@ -91,6 +91,7 @@ fn inputs_of_request<'a>(request: &Request<'a>) -> Inputs<'a>
         Request::Equivalent(asked) => Inputs::two(asked.file, asked.second, MOST_GRAPH_BYTES),
         Request::Implications(asked) => counted(asked),
         Request::Survey(_) => Inputs::none(),
+        Request::Bounds(asked) => Inputs::two(asked.file, asked.counts, MOST_BYTES),
         Request::Surrogate(asked) => Inputs::file(asked.file),
         Request::Treated(asked) => Inputs::file(asked.file),
     }

@@ -16,6 +16,7 @@ ghost use Rattle.causal_cli.specs.Commands.{commands, table, row_for, request_of
 use crate::commands::{Command, command_named, rows};
 use crate::second::SecondInput;
 use adjust_command::adjust_reply;
+use bounds_command::ask_first;
 use check_command::accept_experiments;
 use command_run::{AfterFile, AfterWords};
 use command_words::forms::Entry;
@@ -49,6 +50,7 @@ pub enum Request<'a> {
     Implications(implications_command::Request<'a>),
     Survey(survey_command::Request),
     Surrogate(surrogate_command::Request<'a>),
+    Bounds(bounds_command::Request<'a>),
     Treated(treated_command::Request<'a>),
 }
 
@@ -73,7 +75,7 @@ impl<'a> command_run::Request<'a> for Request<'a> {
     fn words_line() -> &'static [u8]
         ensures { result.now ≡ words_line commands }
     {
-        b"causal: words not understood; commands are graph separate rule identify check adjust evaluate equivalent survey implications surrogate treated\n"
+        b"causal: words not understood; commands are graph separate rule identify check adjust evaluate equivalent survey implications surrogate bounds treated\n"
     }
 
     fn named(name: &str) -> Option<Command>
@@ -100,6 +102,7 @@ impl<'a> command_run::Request<'a> for Request<'a> {
             Request::Surrogate(asked) => asked.form.format,
             Request::Treated(asked) => asked.form.format,
             Request::Survey(asked) => asked.format,
+            Request::Bounds(asked) => asked.format,
         }
     }
 
@@ -117,6 +120,7 @@ impl<'a> command_run::Request<'a> for Request<'a> {
             Request::Surrogate(asked) => Ok(AfterWords::Reads(asked.file)),
             Request::Treated(asked) => Ok(AfterWords::Reads(asked.file)),
             Request::Survey(asked) => survey(alloc, asked),
+            Request::Bounds(asked) => Ok(AfterWords::Reads(asked.file)),
         }
     }
 
@@ -161,6 +165,7 @@ fn read_values<'a>(
         Command::Surrogate => Ok(Request::Surrogate(surrogate_command::Request::read(
             alloc, values,
         )?)),
+        Command::Bounds => Ok(Request::Bounds(bounds_command::Request::read(alloc, values)?)),
         Command::Treated => Ok(Request::Treated(treated_command::Request::read(alloc, values)?)),
     }
 }
@@ -186,6 +191,7 @@ fn reply_on<'a>(
         Request::Implications(asked) => list_implications(alloc, diagram, asked),
         Request::Survey(_) => unreachable!(),
         Request::Surrogate(asked) => replied(surrogate_reply(alloc, diagram, &asked)),
+        Request::Bounds(asked) => bound_over(alloc, diagram, asked),
         Request::Treated(asked) => replied(treated_reply(alloc, diagram, &asked)),
     }
 }
@@ -217,6 +223,28 @@ fn evaluate_over<'a>(
                 count: asked.count,
                 exact: asked.exact,
                 zero: asked.zero,
+                format: asked.format,
+            },
+        )),
+    }
+}
+
+/// What a question of bounds gives on its diagram.
+fn bound_over<'a>(
+    alloc: Global,
+    diagram: &Diagram,
+    asked: bounds_command::Request<'a>,
+) -> Result<AfterFile<SecondInput<'a>>, AllocError>
+    ensures { IfOk result (GivesOn (left_of diagram.now) commands (request_of (Request.Bounds asked.entry)) diagram.now) }
+{
+    match ask_first(alloc, diagram, &asked)? {
+        bounds_command::QuestionOrReply::Replied(reply) => Ok(AfterFile::Replied(reply)),
+        bounds_command::QuestionOrReply::Asked(question) => Ok(AfterFile::Continues(
+            SecondInput::Bounds {
+                question,
+                counts: asked.counts,
+                count: asked.count,
+                exact: asked.exact,
                 format: asked.format,
             },
         )),

@@ -3,6 +3,8 @@
 ghost use Rattle.std.specs.Prelude.{◌≤◌, ◌<◌, ℕ, List, ◌≡◌, IfOk, length};
 ghost use Rattle.causal_cli.specs.Commands.{left_of};
 
+use bound_values::Question;
+use bounds_command::bounds_reply;
 use check_command::{check_reply, long_certificate};
 use diagram::Diagram;
 use equivalent_command::{equivalent_reply, long_second_graph};
@@ -45,6 +47,14 @@ pub enum SecondInput<'a> {
         count: Option<&'a [u8]>,
         format: Format,
     },
+    /// What an effect is at least and at most over counts, whose column may have a name, in exact fractions or in units of 10^-18.
+    Bounds {
+        question: Question,
+        counts: &'a str,
+        count: Option<&'a [u8]>,
+        exact: bool,
+        format: Format,
+    },
 }
 
 impl<'a> command_run::SecondInput for SecondInput<'a> {
@@ -56,6 +66,7 @@ impl<'a> command_run::SecondInput for SecondInput<'a> {
             SecondInput::Evaluate { counts, .. } => counts,
             SecondInput::Equivalent { second, .. } => second,
             SecondInput::Implications { counts, .. } => counts,
+            SecondInput::Bounds { counts, .. } => counts,
         }
     }
 
@@ -65,6 +76,7 @@ impl<'a> command_run::SecondInput for SecondInput<'a> {
             SecondInput::Evaluate { .. } => 67_108_864,
             SecondInput::Equivalent { .. } => 1_048_576,
             SecondInput::Implications { .. } => 67_108_864,
+            SecondInput::Bounds { .. } => 67_108_864,
         }
     }
 
@@ -92,6 +104,13 @@ impl<'a> command_run::SecondInput for SecondInput<'a> {
                 format,
                 ..
             } => differences_reply(alloc, diagram, pairs, *count, other, *format),
+            SecondInput::Bounds {
+                question,
+                count,
+                exact,
+                format,
+                ..
+            } => bounds_reply(alloc, diagram, *question, *count, *exact, other, *format),
         }
     }
 
@@ -101,6 +120,7 @@ impl<'a> command_run::SecondInput for SecondInput<'a> {
             SecondInput::Evaluate { .. } => long_counts(alloc),
             SecondInput::Equivalent { .. } => long_second_graph(alloc),
             SecondInput::Implications { .. } => implications_command::long_counts(alloc),
+            SecondInput::Bounds { .. } => bounds_command::long_counts(alloc),
         }
     }
 }
