@@ -451,7 +451,7 @@ class Diagram(DataQuestions, GraphQuestions):
 
         >>> from causal import Diagram
         >>> print(Diagram("dag { S -> T -> R <- S }").treated("T", "R"))
-        P(R|do(T),T') = sum{S} P(R|S,T) * P(S|T')
+        P(R|do(T),T') = sum{S} P(S|T') * P(R|S,T)
         """
         from causal.treated import read_treated
 

@@ -2,7 +2,7 @@
 from __future__ import annotations
 
 from dataclasses import dataclass
-from typing import Any, Optional, Union
+from typing import Optional, Union
 
 from causal import reading
 from causal.answers import Path
@@ -51,13 +51,12 @@ def read_treated(told: Told) -> Treated:
     target = Term(tuple(told["y"]), tuple(told["x"]), (*told["given"], *told["observed"]))
     if told["answer"] == "formula":
         return reading.read_formula({**told, "given": target.given})
-    path = tuple(told["path"])
-    joint: Any = told["joint"]
+    path, joint = told["path"], told["joint"]
     return Confounded(
         target,
         told["treatment"],
         told["child"],
-        Path(path, ("<->",) * (len(path) - 1)),
+        Path(tuple(path["vertices"]), tuple(path["marks"])),
         Term(tuple(joint["y"]), tuple(joint["x"])),
         Hedge(**reading.hedge_parts({**told, "given": []}, None)) if told["answer"] == "hedge" else None,
     )

@@ -265,6 +265,6 @@ read_confounded <- function(object) {
   target <- term_text(texts(object$y), texts(object$x), c(texts(object$given), texts(object$observed)))
   joint <- term_text(texts(object$joint$y), texts(object$joint$x))
   object$given <- list()
-  c(list(target = target, treatment = text_in(object$treatment), child = text_in(object$child), path = texts(object$path), joint = joint),
+  c(list(target = target, treatment = text_in(object$treatment), child = text_in(object$child), path = read_path(object$path), joint = joint),
     if (object$answer == "hedge") list(hedge = utils::modifyList(read_hedge(object), list(target = joint))))
 }
