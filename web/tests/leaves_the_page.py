@@ -22,6 +22,16 @@ def compiled(tex):
         return "" if done.returncode == 0 else told[-1500:]
 
 
+def can_compile(*styles):
+    """Whether LaTeX is here with these styles; what is missing is told, by name."""
+    missing = [] if shutil.which("pdflatex") else ["pdflatex"]
+    if not missing:
+        missing = [it for it in styles if not subprocess.run(["kpsewhich", it], capture_output=True, check=False).stdout]
+    if missing:
+        print(f"skipped: page-session: LaTeX is compiled: no {', '.join(missing)}")
+    return not missing
+
+
 def copied(s):
     """What Copy LaTeX gives."""
     s.run("window.copiedText = null; navigator.clipboard.writeText = async (text) => { window.copiedText = text; }")
@@ -42,15 +52,13 @@ def copies_latex(s):
     s.check("signs are escaped", r"\text{CD4+ count}" in tex and r"\text{a\textasciicircum{}b}" in tex and r"\text{50\%}" in tex, tex)
     shown = s.run("return document.querySelector('#panel .formula').textContent")
     s.check("it is what the page shows", "Warm-up exercises" in shown.replace("\u00a0", " ") and "CD4+ count" in shown.replace("\u00a0", " "), shown)
-    if shutil.which("pdflatex"):
+    if can_compile("amsmath.sty"):
         told = compiled("\\documentclass{article}\\usepackage{amsmath}\\begin{document}\n\\[" + tex + "\\]\n\\end{document}\n")
         s.check("it compiles", not told, told)
         s.example("napkin")
         time.sleep(0.4)
         told = compiled("\\documentclass{article}\\usepackage{amsmath}\\begin{document}\n\\[" + copied(s) + "\\]\n\\end{document}\n")
         s.check("so does one with named parts", not told, told)
-    else:
-        print("skipped: page-session: LaTeX that is copied: no pdflatex")
 
 
 def saves_a_report(s):
@@ -75,7 +83,7 @@ def saves_a_report(s):
         s.check(f"the report has {part}", part in html, html[:300])
     s.check("with intervals", html.count(" to ") > 4, "")
     s.check("without a request or a script", "<script" not in html and "http://" not in html.replace("http://www.w3.org", ""), "")
-    if shutil.which("pdflatex"):
+    if can_compile("tikz.sty", "booktabs.sty"):
         told = compiled(s.downloads.joinpath("Fork.report.tex").read_text())
         s.check("the LaTeX compiles", not told, told)
     s.tab("effect")

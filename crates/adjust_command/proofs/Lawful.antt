@@ -6,10 +6,18 @@ use Rattle.command_words.specs.Form.{Use, value_of, has_flag}
 use Rattle.command_words.proofs.OneValue.{one_listed, one_number_or}
 use Rattle.diagram.specs.Sets.{Names}
 use Rattle.adjust_command.specs.Queries.{query_for}
+use Rattle.replies.specs.Outcomes.{IsAnswered}
 use Rattle.replies.proofs.Commands.{IsLawful, lawful_on_file}
+use Rattle.told.specs.Forms.{plain_form}
+use Rattle.told.specs.Refusals.{target_refusal}
+use Rattle.told.proofs.ToldOnce.{told_answered}
 use Rattle.adjust_command.specs.Requests.{Request, IsRequest}
 use Rattle.adjust_command.specs.Command.{adjust_command}
-use Rattle.adjust_command.proofs.Outcomes.{adjust_answered}
+use Rattle.adjust_command.specs.Right.{IsAdjustAnswer}
+use Rattle.adjust_command.specs.Telling.{adjust_telling}
+use Rattle.adjust_command.specs.declared.answer.Answer.{Answer}
+use Rattle.adjust_command.specs.declared.answer.Answer.TheVariants.{Admissible, NotAdmissible, Listed, NoSet}
+use Rattle.adjust_command.proofs.AdjustTold.{adjust_as_told}
 use Rattle.adjust_command.proofs.Exclusive.{adjust_once}
 
 one_adjusting : (uses : List Use) (q r : Request) → IsRequest uses q → IsRequest uses r → r.query ≡ q.query
@@ -31,6 +39,16 @@ one_request uses q r a b = λ i. record {
   format = (b.format ∙ sym a.format) i;
 }
 
+answered : (a : Answer) → IsAnswered (adjust_telling.outcome a)
+answered (Admissible sets) = tt
+answered (NotAdmissible sets fault) = tt
+answered (Listed asked sets more) = tt
+answered (NoSet asked) = tt
+
 -- what holds of each command holds of it
 pub adjust_lawful : IsLawful adjust_command
-adjust_lawful = lawful_on_file one_request (λ q d. adjust_answered q.format d q.x q.y q.query) (λ q bytes. adjust_once q.format bytes q.x q.y q.query)
+adjust_lawful = lawful_on_file one_request
+    (λ q d. told_answered adjust_telling target_refusal answered (λ fault. tt) (IsAdjustAnswer d q.x q.y q.query) (plain_form q.format) d.observed.names)
+    (λ q bytes o p told other a b. adjust_once q.format bytes q.x q.y q.query o p told other
+    (record { diagram = a.diagram; holds = a.holds; given = adjust_as_told q.format a.diagram q.x q.y q.query o told a.given })
+    (record { diagram = b.diagram; holds = b.holds; given = adjust_as_told q.format b.diagram q.x q.y q.query p other b.given }))

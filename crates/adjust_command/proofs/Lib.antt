@@ -7,5 +7,7 @@ pub mod NameLists
 pub mod Outcomes
 pub mod Ranges
 mod NoQueries
+mod Faults
 pub mod Exclusive
+pub mod AdjustTold
 pub mod Lawful

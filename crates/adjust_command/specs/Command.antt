@@ -1,8 +1,11 @@
 -- The command `adjust`.
-use Rattle.replies.specs.Command.{CommandForm, on_file}
-use Rattle.adjust_command.specs.Answers.{AdjustAnswer}
+use Rattle.replies.specs.Command.{CommandForm}
+use Rattle.told.specs.Commands.{told_on_file}
+use Rattle.told.specs.Forms.{plain_form}
 use Rattle.adjust_command.specs.Requests.{Request, IsRequest}
+use Rattle.adjust_command.specs.Right.{IsAdjustAnswer}
+use Rattle.adjust_command.specs.Telling.{adjust_telling}
 
 -- its request and its answers
 abbrev pub adjust_command : CommandForm
-adjust_command = on_file Request IsRequest (λ q. q.format) (λ q. q.file) (λ q d. AdjustAnswer q.format d q.x q.y q.query)
+adjust_command = told_on_file Request IsRequest (λ q. plain_form q.format) (λ q. q.file) adjust_telling (λ q d. IsAdjustAnswer d q.x q.y q.query)

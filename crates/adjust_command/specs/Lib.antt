@@ -3,6 +3,8 @@ pub mod Lines
 pub mod Objects
 pub mod Verdicts
 pub mod Answers
+pub mod Right
+pub mod Telling
 pub mod Bare
 pub mod Requests
 pub mod Command

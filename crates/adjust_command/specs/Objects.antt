@@ -1,8 +1,8 @@
--- The objects of the answers of `adjust`.
-use Rattle.std.specs.Prelude.{ℕ, Bool, false, List, [], ◌∷◌, map, codes}
+-- The members of the objects of `adjust`, and their objects.
+use Rattle.std.specs.Prelude.{ℕ, Bool, false, List, [], ◌∷◌, ◌++◌, map, codes}
 use Rattle.mixed_graph.specs.declared.sets.VSet.{VSet}
 use Rattle.json.specs.Json.{Json, string, boolean}
-use Rattle.answer_json.specs.Progress.{Progress, nothing, members, object_of}
+use Rattle.answer_json.specs.Progress.{object_of}
 use Rattle.answer_json.specs.Values.{vertex_json, set_json, path_json}
 use Rattle.answer_json.specs.Values as values
 use Rattle.adjustment.specs.declared.criteria.AdjFault.{AdjFault}
@@ -11,15 +11,18 @@ use Rattle.adjustment.specs.Formulas.{adjustment_formula}
 use Rattle.prob_expr.specs.Tree.{effect_on}
 use Rattle.effect_answers.specs.Objects.{formula_members}
 
--- an object up to the effect of x on y, behind the answer in a word
-abbrev pub begun : (word : List ℕ) → List (List ℕ) → (x y : ℕ) → Progress
-begun word names x y = members nothing ((codes "answer", string word) ∷ (codes "x", set_json names x) ∷ (codes "y", set_json names y) ∷ [])
+-- the members up to the effect of x on y, behind the answer in a word
+abbrev pub begun_members : (word : List ℕ) → List (List ℕ) → (x y : ℕ) → List (List ℕ × Json)
+begun_members word names x y = (codes "answer", string word) ∷ (codes "x", set_json names x) ∷ (codes "y", set_json names y) ∷ []
 
 -- the sets of a listing, and whether there are more
+abbrev pub listing_members : (word : List ℕ) → List (List ℕ) → (x y : ℕ) → List VSet → Bool → List (List ℕ × Json)
+listing_members word names x y sets more = begun_members word names x y
+    ++ (codes "sets", values.sets_json names (map (λ s. s.bits) sets)) ∷ (codes "more", boolean more) ∷ []
+
+-- their object
 abbrev pub listing_json : (word : List ℕ) → List (List ℕ) → (x y : ℕ) → List VSet → Bool → Json
-listing_json word names x y sets more = object_of (
-    (codes "answer", string word) ∷ (codes "x", set_json names x) ∷ (codes "y", set_json names y)
-    ∷ (codes "sets", values.sets_json names (map (λ s. s.bits) sets)) ∷ (codes "more", boolean more) ∷ [])
+listing_json word names x y sets more = object_of (listing_members word names x y sets more)
 
 -- the minimal sets, and whether there are more
 abbrev pub sets_json : List (List ℕ) → (x y : ℕ) → List VSet → Bool → Json
@@ -45,7 +48,10 @@ fault_member names (Forbidden v) = (codes "forbidden", vertex_json names v)
 fault_member names (Unblocked path) = (codes "open", path_json names path.vertices path.marks path.count)
 
 -- z may not be adjusted for, and what breaks the criterion
+abbrev pub not_admissible_members : List (List ℕ) → (x y z : ℕ) → AdjFault → List (List ℕ × Json)
+not_admissible_members names x y z fault =
+    begun_members (codes "not admissible") names x y ++ (codes "set", set_json names z) ∷ fault_member names fault ∷ []
+
+-- that object
 abbrev pub not_admissible_json : List (List ℕ) → (x y z : ℕ) → AdjFault → Json
-not_admissible_json names x y z fault = object_of (
-    (codes "answer", string (codes "not admissible")) ∷ (codes "x", set_json names x) ∷ (codes "y", set_json names y) ∷ (codes "set", set_json names z)
-    ∷ fault_member names fault ∷ [])
+not_admissible_json names x y z fault = object_of (not_admissible_members names x y z fault)

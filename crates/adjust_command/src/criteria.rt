@@ -1,19 +1,15 @@
 //! What either criterion says of the set that is asked about.
 
-ghost use Rattle.std.specs.Prelude.{◌<◌, true, IfOk};
+ghost use Rattle.std.specs.Prelude.{◌<◌, true, IfOk, IfErr};
 ghost use Rattle.mixed_graph.specs.Bits.{has};
 ghost use Rattle.mixed_graph.specs.Shown.{graph_of};
 ghost use Rattle.do_rules.specs.Rules.{AreThreeSets};
-ghost use Rattle.replies.specs.Told.{told_of};
-ghost use Rattle.adjust_command.specs.Answers.{texts_of, CriterionAnswer};
+ghost use Rattle.adjust_command.specs.Right.{Judges, IsNotJudged};
 ghost use Rattle.adjust_command.specs.Verdicts.{IsVerdict};
 
-use crate::formats::{admissible, not_admissible};
+use crate::answer::Answer;
 use adjustment::{AdjFault, adjusts, back_door};
-use dag_reader::ReadGraph;
 use mixed_graph::{Graph, VSet};
-use replies::{Format, Outcome, Reply, refuse};
-use std::alloc::{AllocError, Global};
 use targets::{Sets, TargetFault};
 
 /// What a criterion says of a set.
@@ -58,27 +54,16 @@ fn back_door_verdict(graph: &Graph, sets: Sets) -> Verdict
     }
 }
 
-/// The answer by one of the two criteria.
-pub fn by_criterion(
-    alloc: Global,
-    seen: &ReadGraph,
-    sets: Sets,
-    by_back_door: bool,
-    format: Format,
-) -> Result<Reply, AllocError>
-    requires sets { AreThreeSets seen.now.graph.n (has sets.x.bits) (has sets.y.bits) (has sets.given.bits) }
+/// The answer by one of the two criteria; the exposures may not be one vertex.
+pub fn by_criterion(graph: &Graph, sets: Sets, by_back_door: bool) -> Result<Answer, TargetFault>
+    requires sets { AreThreeSets graph.now.n (has sets.x.bits) (has sets.y.bits) (has sets.given.bits) }
     requires some { 0 < sets.x.bits }
-    ensures { IfOk result (λ r. CriterionAnswer by_back_door (graph_of seen.now.graph) (texts_of format seen.now.names) sets.x.bits sets.y.bits sets.given.bits r.outcome (told_of r)) }
+    ensures answer { IfOk result (Judges by_back_door (graph_of graph.now) sets) }
+    ensures fault { IfErr result (IsNotJudged by_back_door sets) }
 {
-    match judge(&seen.graph, sets, by_back_door) {
-        Verdict::Meets => {
-            let text = admissible(alloc, format, &seen.names, sets)?;
-            Ok(Reply::answer(alloc, Outcome::Yes, text))
-        }
-        Verdict::Breaks(fault) => {
-            let text = not_admissible(alloc, format, &seen.names, sets, &fault)?;
-            Ok(Reply::answer(alloc, Outcome::No, text))
-        }
-        Verdict::NotOne => refuse(alloc, &TargetFault::NotOneX),
+    match judge(graph, sets, by_back_door) {
+        Verdict::Meets => Ok(Answer::Admissible(sets)),
+        Verdict::Breaks(fault) => Ok(Answer::NotAdmissible(sets, fault)),
+        Verdict::NotOne => Err(TargetFault::NotOneX),
     }
 }

@@ -1,9 +1,9 @@
 //! The command `adjust`: whether a set may be adjusted for, or the minimal sets that may.
 #![tactic(auto)]
 
+mod answer;
 mod choosing;
 mod criteria;
-mod formats;
 mod listing;
 mod objects;
 mod query;
@@ -12,8 +12,8 @@ mod request;
 mod set_lines;
 mod texts;
 
+pub use answer::Answer;
 pub use criteria::{Verdict, judge};
-pub use formats::not_admissible;
 pub use query::Query;
-pub use reply::adjust_reply;
+pub use reply::{adjust_answer, adjust_reply, not_admissible};
 pub use request::{ROW, Request};

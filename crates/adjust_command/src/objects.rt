@@ -1,81 +1,58 @@
-//! The objects of the answers of `adjust`.
+//! The members of the objects of `adjust`.
 
-ghost use Rattle.std.specs.Prelude.{◌≡◌, IfOk, OnOk};
-ghost use Rattle.answer_json.specs.Progress.{with_member, json_line};
-ghost use Rattle.adjust_command.specs.Objects.{begun, listing_json, sets_json, none_json, admissible_json, not_admissible_json, fault_member};
+ghost use Rattle.std.specs.Prelude.{◌≡◌, OnOk};
+ghost use Rattle.answer_json.specs.Progress.{with_member, with_members};
+ghost use Rattle.adjust_command.specs.Objects.{begun_members, listing_members, admissible_members, not_admissible_members, fault_member};
 
 use adjustment::{AdjFault, formula_for};
 use answer_json::Object;
 use effect_answers::objects::push_formula;
 use mixed_graph::{Names, VSet};
 use prob_expr::Target;
-use std::alloc::{AllocError, Global};
+use std::alloc::AllocError;
 use targets::Sets;
 
-/// The object of an answer, up to the effect of x on y.
-fn begin(alloc: Global, word: &str, names: &Names, x: VSet, y: VSet) -> Result<Object, AllocError>
-    ensures { IfOk result (λ o. o ≡ begun word.now names.now x.bits y.bits) }
+/// The members up to the effect of x on y.
+fn push_begun(object: &mut Object, word: &str, names: &Names, sets: Sets) -> Result<(), AllocError>
+    ensures { OnOk result (object.new ≡ with_members (begun_members word.now names.now sets.x.bits sets.y.bits) object.old) }
 {
-    let mut object = Object::new(alloc)?;
     object.word_at("answer", word)?;
-    object.set_at("x", names, x)?;
-    object.set_at("y", names, y)?;
-    Ok(object)
+    object.set_at("x", names, sets.x)?;
+    object.set_at("y", names, sets.y)
 }
 
-/// A listing as a line of JSON.
-fn listing_object(
-    alloc: Global,
+/// The members of a listing.
+pub fn push_listing(
+    object: &mut Object,
     word: &str,
     names: &Names,
     asked: Sets,
     sets: &[VSet],
     more: bool,
-) -> Result<Vec<u8>, AllocError>
-    ensures { IfOk result (λ v. v.items ≡ json_line (listing_json word.now names.now asked.x.bits asked.y.bits sets.now more)) }
+) -> Result<(), AllocError>
+    ensures { OnOk result (object.new ≡ with_members (listing_members word.now names.now asked.x.bits asked.y.bits sets.now more) object.old) }
 {
-    let mut object = begin(alloc, word, names, asked.x, asked.y)?;
+    push_begun(object, word, names, asked)?;
     object.key("sets")?;
     object.sets(names, sets)?;
     object.key("more")?;
-    object.boolean(more)?;
-    object.line()
+    object.boolean(more)
 }
 
-/// Minimal sets as a line of JSON.
-pub fn sets_object(
-    alloc: Global,
-    names: &Names,
-    asked: Sets,
-    sets: &[VSet],
-    more: bool,
-) -> Result<Vec<u8>, AllocError>
-    ensures { IfOk result (λ v. v.items ≡ json_line (sets_json names.now asked.x.bits asked.y.bits sets.now more)) }
+/// The members of a set that may be adjusted for, and of the effect with its adjustment formula.
+pub fn push_admissible(object: &mut Object, names: &Names, sets: Sets) -> Result<(), AllocError>
+    ensures { OnOk result (object.new ≡ with_members (admissible_members names.now sets.x.bits sets.y.bits sets.given.bits) object.old) }
 {
-    listing_object(alloc, "sets", names, asked, sets, more)
-}
-
-/// That no set is admissible, as a line of JSON.
-pub fn none_object(alloc: Global, names: &Names, asked: Sets) -> Result<Vec<u8>, AllocError>
-    ensures { IfOk result (λ v. v.items ≡ json_line (none_json names.now asked.x.bits asked.y.bits)) }
-{
-    listing_object(alloc, "none", names, asked, &[], false)
-}
-
-/// A set that may be adjusted for, and the effect with its adjustment formula, as a line of JSON.
-pub fn admissible_object(alloc: Global, names: &Names, sets: Sets) -> Result<Vec<u8>, AllocError>
-    ensures { IfOk result (λ v. v.items ≡ json_line (admissible_json names.now sets.x.bits sets.y.bits sets.given.bits)) }
-{
-    let mut object = begin(alloc, "admissible", names, sets.x, sets.y)?;
+    push_begun(object, "admissible", names, sets)?;
     object.set_at("set", names, sets.given)?;
     let effect = Target {
         x: sets.x,
         y: sets.y,
         given: VSet::EMPTY,
     };
-    let formula = formula_for(alloc, sets.x, sets.y, sets.given)?;
-    push_formula(&mut object, names, &effect, &formula)?;
-    object.line()
+    let formula = formula_for(object.alloc(), sets.x, sets.y, sets.given)?;
+    push_formula(object, names, &effect, &formula)?;
+    Ok(())
 }
 
 /// The member of what breaks a criterion.
@@ -88,17 +65,16 @@ fn push_fault(object: &mut Object, names: &Names, fault: &AdjFault) -> Result<()
     }
 }
 
-/// A set that a criterion doesn't allow, as a line of JSON.
-pub fn not_admissible_object(
-    alloc: Global,
+/// The members of a set that a criterion doesn't allow.
+pub fn push_not_admissible(
+    object: &mut Object,
     names: &Names,
     sets: Sets,
     fault: &AdjFault,
-) -> Result<Vec<u8>, AllocError>
-    ensures { IfOk result (λ v. v.items ≡ json_line (not_admissible_json names.now sets.x.bits sets.y.bits sets.given.bits fault.now)) }
+) -> Result<(), AllocError>
+    ensures { OnOk result (object.new ≡ with_members (not_admissible_members names.now sets.x.bits sets.y.bits sets.given.bits fault.now) object.old) }
 {
-    let mut object = begin(alloc, "not admissible", names, sets.x, sets.y)?;
+    push_begun(object, "not admissible", names, sets)?;
     object.set_at("set", names, sets.given)?;
-    push_fault(&mut object, names, fault)?;
-    object.line()
+    push_fault(object, names, fault)
 }

@@ -14,40 +14,60 @@ use answer_text::push_vertex;
 use mixed_graph::{MembersLeft, Names, VSet};
 use std::alloc::{AllocError, Global};
 
-/// With v, where its name is printed bare.
-fn with_bare(bare: VSet, names: &Names, v: u8) -> VSet
-    requires low { v < 64 }
-    requires bare { AreBare names.now (has bare.bits) }
-    ensures { AreBare names.now (has result.bits) }
-{
-    if is_plain(names.name(v)) {
-        bare.union(VSet::one(v))
-    } else {
-        bare
-    }
+/// Vertices whose names are printed bare.
+#[derive(Drop)]
+struct BareNames<'a> {
+    names: &'a Names,
+    bare: VSet,
+    ghost are_bare: { AreBare names.now (has bare.bits) },
 }
 
-/// The vertices whose names are printed bare.
-fn bare_names(names: &Names) -> VSet
-    ensures { AreBare names.now (has result.bits) }
-{
-    let mut bare = VSet::empty();
-    for v in 0..names.count() as u8 {
-        bare = with_bare(bare, names, v);
+impl<'a> BareNames<'a> {
+    /// None of them.
+    fn none(names: &'a Names) -> Self
+        ensures { result.names.now ≡ names.now }
+    {
+        BareNames {
+            names,
+            bare: VSet::empty(),
+        }
     }
-    bare
+
+    /// With v, where its name is printed bare.
+    fn with(self, v: u8) -> Self
+        requires { v < 64 }
+        ensures { result.names.now ≡ self.entry.names.now }
+    {
+        if !is_plain(self.names.name(v)) {
+            return self;
+        }
+        BareNames {
+            names: self.names,
+            bare: self.bare.union(VSet::one(v)),
+        }
+    }
+
+    /// All of them.
+    fn of(names: &'a Names) -> Self
+        ensures { result.names.now ≡ names.now }
+    {
+        let mut known = BareNames::none(names);
+        for v in 0..names.count() as u8 {
+            known = known.with(v);
+        }
+        known
+    }
 }
 
 /// Appends the name of a vertex as it is printed.
-fn push_known(out: &mut Vec<u8>, names: &Names, bare: VSet, v: u8) -> Result<(), AllocError>
-    requires { AreBare names.now (has bare.bits) }
-    ensures { OnOk result (out.new.items ≡ out.old.items ++ printed (name_of names.now v)) }
+fn push_known(out: &mut Vec<u8>, known: &BareNames<'_>, v: u8) -> Result<(), AllocError>
+    ensures { OnOk result (out.new.items ≡ out.old.items ++ printed (name_of known.now.names.now v)) }
 {
-    if bare.has(v) {
-        out.extend_from_slice(names.name(v))?;
+    if known.bare.has(v) {
+        out.extend_from_slice(known.names.name(v))?;
         return Ok(());
     }
-    push_vertex(out, names, v)
+    push_vertex(out, known.names, v)
 }
 
 /// A comma where a member is still to come.
@@ -58,40 +78,32 @@ fn comma(rest: &MembersLeft) -> &'static [u8]
 }
 
 /// Appends the names of a set's members, with commas between them.
-fn push_members(out: &mut Vec<u8>, names: &Names, bare: VSet, set: VSet) -> Result<(), AllocError>
-    requires { AreBare names.now (has bare.bits) }
-    ensures { OnOk result (out.new.items ≡ out.old.items ++ names_in notations.Plain (member_names names.now (has set.bits))) }
+fn push_members(out: &mut Vec<u8>, known: &BareNames<'_>, set: VSet) -> Result<(), AllocError>
+    ensures { OnOk result (out.new.items ≡ out.old.items ++ names_in notations.Plain (member_names known.now.names.now (has set.bits))) }
 {
     let mut rest = set.iter();
     'members: while let Some(v) = rest.next() {
-        push_known(out, names, bare, v)?;
+        push_known(out, known, v)?;
         out.extend_from_slice(comma(&rest))?;
     }
     Ok(())
 }
 
 /// Appends a set.
-fn push_known_set(out: &mut Vec<u8>, names: &Names, bare: VSet, set: VSet) -> Result<(), AllocError>
-    requires { AreBare names.now (has bare.bits) }
-    ensures { OnOk result (out.new.items ≡ out.old.items ++ set_text names.now set.bits) }
+fn push_known_set(out: &mut Vec<u8>, known: &BareNames<'_>, set: VSet) -> Result<(), AllocError>
+    ensures { OnOk result (out.new.items ≡ out.old.items ++ set_text known.now.names.now set.bits) }
 {
     out.push(b'{')?;
-    push_members(out, names, bare, set)?;
+    push_members(out, known, set)?;
     out.push(b'}')?;
     Ok(())
 }
 
 /// Appends a set and a line feed.
-fn push_known_line(
-    out: &mut Vec<u8>,
-    names: &Names,
-    bare: VSet,
-    set: VSet,
-) -> Result<(), AllocError>
-    requires { AreBare names.now (has bare.bits) }
-    ensures { OnOk result (out.new.items ≡ out.old.items ++ set_line names.now set.bits) }
+fn push_known_line(out: &mut Vec<u8>, known: &BareNames<'_>, set: VSet) -> Result<(), AllocError>
+    ensures { OnOk result (out.new.items ≡ out.old.items ++ set_line known.now.names.now set.bits) }
 {
-    push_known_set(out, names, bare, set)?;
+    push_known_set(out, known, set)?;
     out.push(b'\n')?;
     Ok(())
 }
@@ -100,9 +112,9 @@ fn push_known_line(
 fn push_sets(out: &mut Vec<u8>, names: &Names, sets: &[VSet]) -> Result<(), AllocError>
     ensures { OnOk result (out.new.items ≡ out.old.items ++ set_lines names.now sets.now) }
 {
-    let bare = bare_names(names);
+    let known = BareNames::of(names);
     for set in sets {
-        push_known_line(out, names, bare, *set)?;
+        push_known_line(out, &known, *set)?;
     }
     Ok(())
 }

@@ -30,6 +30,7 @@ use Rattle.replies.specs.Observed.{HoldsDiagram}
 use Rattle.implications_command.specs.Answers.{ShowsPairs, FirstAnswer, DifferencesAnswer}
 use Rattle.implications_command.specs.declared.differences.Measured.{Measured}
 use Rattle.implications_command.specs.Pairs.{ArePairs, pairs_of}
+use Rattle.implications_command.proofs.ImplicationsTold.{first_as_told, differences_as_told}
 use Rattle.command_run.specs.Answers.{HoldsAnswer, DefinedWith}
 use Rattle.command_run.specs.Commands.{of}
 use Rattle.command_run.proofs.Deliveries.{mapped}
@@ -125,7 +126,7 @@ implied r uses text whole (on_file q is name names h) = record {
   asks = is;
   right = first_as_drawn r q.format q.file q.count text q.counts
       (under_name r.held q.file name (λ bytes. HoldsAnswer commands (of Implications q) bytes Yes text) (λ bytes. HoldsFirst q.format q.counts bytes text)
-      (λ bytes a. (a.diagram, a.holds, a.answer)) names h);
+      (λ bytes a. (a.diagram, a.holds, first_as_told q.format q.counts a.diagram.observed Yes text a.answer)) names h);
   whole = whole;
 }
 implied r uses text whole (on_both q is name second names names_second h) = record {
@@ -136,6 +137,7 @@ implied r uses text whole (on_both q is name second names names_second h) = reco
       (under_name r.held q.file name (λ bytes. IfSome (r.held_second second) (λ other. DefinedWith commands (of Implications q) bytes other Yes text))
       (λ bytes. IfSome (r.held_second second) (λ other. HoldsSecond q.format q.count bytes other text))
       (λ bytes. mapped (r.held_second second) (λ other. DefinedWith commands (of Implications q) bytes other Yes text)
-      (λ other. HoldsSecond q.format q.count bytes other text) (λ other d. (d.0, d.1, d.3))) names h);
+      (λ other. HoldsSecond q.format q.count bytes other text)
+      (λ other d. (d.0, d.1, differences_as_told q.format d.0.observed q.count other Yes text d.3))) names h);
   whole = whole;
 }

@@ -32,9 +32,11 @@ use Rattle.identify_command.specs.declared.form.Form.{Form}
 use Rattle.identify_command.specs.Answers.{EffectAnswer, IdentifyAnswer}
 use Rattle.identify_command.specs.Conditions as conditions
 use Rattle.identify_command.specs.Conditions.{IdentifyAnswerGiven}
+use Rattle.identify_command.proofs.IdentifyTold.{identify_as_told}
 use Rattle.check_command.specs.Answers.{HoldsCertificate, CertificateAnswer, of_formula, of_hedge}
 use Rattle.adjust_command.specs.Answers.{AdjustAnswer, SetsAnswer, adjust_lists}
 use Rattle.adjust_command.specs.Answers as adjustments
+use Rattle.adjust_command.proofs.AdjustTold.{adjust_as_told}
 use Rattle.adjust_command.specs.Queries.{Query, by_set, by_back_door, listing}
 use Rattle.adjust_command.specs.Requests.{Request as AdjustRequest}
 use Rattle.surrogate_command.specs.Answers as surrogates
@@ -113,7 +115,8 @@ module _ (form : Form) (bytes : List ℕ) (d : Diagram) (holds : HoldsDiagram by
 identified : (r : Call) (uses : List Use) (text : Told) → Appends r.before r.after text.text → CallAnswer r Identify uses Yes text → IdentifiedAsDrawn r uses
 identified r uses text = written_for r Identify uses Yes text (λ q. q.file) (λ q bytes line. IsTextAsDrawn q.form bytes q.x q.y q.given line) (λ q h. h)
     (λ q. refl) (λ q. refl)
-    (λ q is bytes a. text_as_drawn q.form bytes a.diagram a.holds q.x q.y text q.given a.answer)
+    (λ q is bytes a. text_as_drawn q.form bytes a.diagram a.holds q.x q.y text q.given
+    (identify_as_told q.form a.diagram q.x q.y q.given Yes text a.answer))
 
 -- ---- check
 
@@ -196,7 +199,7 @@ adjusted_on q bytes text d holds a =
 
 adjusted : (r : Call) (uses : List Use) (text : Told) → Appends r.before r.after text.text → CallAnswer r Adjust uses Yes text → AdjustedAsDrawn r uses
 adjusted r uses text = written_for r Adjust uses Yes text (λ q. q.file) IsAdjustmentAsDrawn (λ q h. h) (λ q. refl) (λ q. refl)
-    (λ q is bytes a. adjusted_on q bytes text a.diagram a.holds a.answer)
+    (λ q is bytes a. adjusted_on q bytes text a.diagram a.holds (adjust_as_told q.format a.diagram q.x q.y q.query Yes text a.answer))
 
 -- ---- surrogate
 

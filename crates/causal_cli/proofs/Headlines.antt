@@ -34,6 +34,8 @@ use Rattle.identify_command.specs.Answers.{EffectAnswer, IdentifyAnswer}
 use Rattle.identify_command.specs.Conditions.{IdentifyAnswerGiven}
 use Rattle.identify_command.specs.Requests.{Request as Asked}
 use Rattle.identify_command.specs.Requests.{identify_row}
+use Rattle.identify_command.specs.Command.{identify_command}
+use Rattle.identify_command.proofs.IdentifyTold.{identify_as_told}
 use Rattle.identify_command.proofs.Lawful.{identify_lawful}
 use Rattle.command_run.specs.Commands.{of, Asks}
 use Rattle.command_run.specs.Answers.{Defined}
@@ -50,11 +52,15 @@ pub drawn : (g : ReadGraph) (q : MixedGraph) → IsObservedGraph g q → (t : Pl
 drawn g q observed t f right = right_as_drawn (graph_of g.graph) g.graph.valid (has g.latent.bits) q observed t f right
 
 -- where nothing is given, the answer is that for an effect
-bare : (form : Form) (d : Diagram) (x y given : Names) (o : Outcome) (text : Told) → unwrap_or given [] ≡ [] → IdentifyAnswerGiven form d x y given o text
+of_effect : (form : Form) (d : Diagram) (x y given : Names) (o : Outcome) (text : Told) → unwrap_or given [] ≡ [] → IdentifyAnswerGiven form d x y given o text
     → IdentifyAnswer form d x y o text
-bare form d x y None o text none h = h
-bare form d x y (Some []) o text none h = h
-bare form d x y (Some (n ∷ ns)) o text none h = absurd (cc none)
+of_effect form d x y None o text none h = h
+of_effect form d x y (Some []) o text none h = h
+of_effect form d x y (Some (n ∷ ns)) o text none h = absurd (cc none)
+
+bare : (q : Asked) (d : Diagram) (o : Outcome) (text : Told) → unwrap_or q.given [] ≡ [] → identify_command.by_diagram q d o text
+    → IdentifyAnswer q.form d q.x q.y o text
+bare q d o text none h = of_effect q.form d q.x q.y q.given o text none (identify_as_told q.form d q.x q.y q.given o text h)
 
 shown_formula : (q : Asked) (bytes : List ℕ) (text : Told) (d : Diagram) → HoldsDiagram bytes d → IdentifyAnswer q.form d q.x q.y Yes text
     → IsShown ShowsRightFormula q bytes text
@@ -110,14 +116,14 @@ formula_written : (r : Call) (uses : List Use) (text : Told) → Appends r.befor
     → Identified ShowsRightFormula r uses
 formula_written r uses text = written_for r Identify uses Yes text (λ q. q.file)
     (λ q bytes line. unwrap_or q.given [] ≡ [] → IsShown ShowsRightFormula q bytes line) (λ q h. h) (λ q. refl) (λ q. refl)
-    (λ q is bytes a none. shown_formula q bytes text a.diagram a.holds (bare q.form a.diagram q.x q.y q.given Yes text none a.answer))
+    (λ q is bytes a none. shown_formula q bytes text a.diagram a.holds (bare q a.diagram Yes text none a.answer))
 
 -- and a no a right hedge
 hedge_written : (r : Call) (uses : List Use) (text : Told) → Appends r.before r.after text.text → CallAnswer r Identify uses No text
     → Identified ShowsRightHedge r uses
 hedge_written r uses text = written_for r Identify uses No text (λ q. q.file)
     (λ q bytes line. unwrap_or q.given [] ≡ [] → IsShown ShowsRightHedge q bytes line) (λ q h. h) (λ q. refl) (λ q. refl)
-    (λ q is bytes a none. shown_hedge q bytes text a.diagram a.holds (bare q.form a.diagram q.x q.y q.given No text none a.answer))
+    (λ q is bytes a none. shown_hedge q bytes text a.diagram a.holds (bare q a.diagram No text none a.answer))
 
 -- the bytes of a graph aren't refused
 held_or_refused : (bytes : List ℕ) (g : ReadGraph) (told : Told) → HoldsGraph bytes g → IsGraphRefusal bytes told → ⊥
@@ -150,9 +156,9 @@ module _ (r : Run) (code : ℕ) (uses : List Use) (call : IsCallOf identify_row 
       → (code ≡ 0) ⊎ ((code ≡ 1) ⊎ (code ≡ 8))
   on_bytes Graph told (inl refused) e = absurd (held_or_refused a.bytes a.graph told a.holds refused)
   on_bytes Graph told (inr h) e = on_diagram Graph told h.diagram h.holds
-      (bare a.request.form h.diagram a.request.x a.request.y a.request.given Graph told a.bare h.answer) e
+      (bare a.request h.diagram Graph told a.bare h.answer) e
   on_bytes o told h e = on_diagram o told h.diagram h.holds
-      (bare a.request.form h.diagram a.request.x a.request.y a.request.given o told a.bare h.answer) e
+      (bare a.request h.diagram o told a.bare h.answer) e
 
   of_request : (o : Outcome) (told : Told) → CallAnswer (call_of r) Identify uses o told → code ≡ code_of o → (code ≡ 0) ⊎ ((code ≡ 1) ⊎ (code ≡ 8))
   of_request o told (on_words q is h) e = absurd h

@@ -16,6 +16,7 @@ use Rattle.equivalent_command.proofs.Lawful.{equivalent_lawful}
 use Rattle.implications_command.proofs.Lawful.{implications_lawful}
 use Rattle.survey_command.proofs.Lawful.{survey_lawful}
 use Rattle.surrogate_command.proofs.Lawful.{surrogate_lawful}
+use Rattle.treated_command.proofs.Lawful.{treated_lawful}
 use Rattle.command_run.specs.Commands.{AreApart}
 use Rattle.command_run.specs.Laws.{AreLawful}
 use Rattle.causal_cli.specs.Commands.{commands, all_commands, row_for, form_of}
@@ -46,6 +47,7 @@ each command.Equivalent = equivalent_lawful
 each command.Implications = implications_lawful
 each command.Survey = survey_lawful
 each command.Surrogate = surrogate_lawful
+each command.Treated = treated_lawful
 
 pub lawful : AreLawful commands
 lawful = record { each = each; apart = apart; clear = refl }

@@ -1,5 +1,5 @@
 -- Of a second input that is too long each command answers the same, whatever its bytes are.
-use Rattle.std.proofs.Common.{◌≤◌, ◌<◌, inl, inr, ℕ, Bool, List, Option, length, arith}
+use Rattle.std.proofs.Common.{◌≤◌, ◌<◌, ℕ, Bool, List, Option, length, arith}
 use Rattle.mixed_graph.specs.Graphs.{MixedGraph}
 use Rattle.mixed_graph.specs.Shown.{graph_of}
 use Rattle.diagram.specs.declared.diagram.Diagram.{Diagram}
@@ -7,16 +7,12 @@ use Rattle.replies.specs.declared.format.Format.{Format}
 use Rattle.replies.specs.Told.{Told}
 use Rattle.replies.specs.declared.outcome.Outcome.{Outcome}
 use Rattle.replies.specs.declared.outcome.Outcome.TheVariants.{Yes, No, Second, Evaluation}
-use Rattle.targets.specs.declared.query.Sets.{Sets}
 use Rattle.count_rows.specs.Records.{Field}
 use Rattle.count_json.specs.Refusals.{AreRefusedCounts, too_long, faulty}
 use Rattle.experiment_lists.specs.Words.{Lists}
 use Rattle.check_command.specs.Answers as check
 use Rattle.evaluate_command.specs.Answers as evaluate
 use Rattle.evaluate_command.specs.Effects.{PlainEffect}
-use Rattle.equivalent_command.specs.Answers as equivalent
-use Rattle.implications_command.specs.Answers as implications
-use Rattle.implications_command.specs.Pairs.{PlainPairs}
 
 -- an answer on bytes that are at most so many isn't one on more
 no_more : {A : Type 0} (n : ℕ) (a : List ℕ) → n < length a → length a ≤ n → A
@@ -66,29 +62,3 @@ values_long format is_exact zero e count a b la lb Yes text h = no_more 67108864
 values_long format is_exact zero e count a b la lb Second text h = refused_counts _ _ count a b text.text text.object la lb h
 values_long format is_exact zero e count a b la lb Evaluation text h = no_more 67108864 a la h.1.small
 values_long format is_exact zero e count a b la lb o text h = absurd h
-
--- ---- implications
-
-differences_long : (format : Format) (p : PlainPairs) (count : Option Field) (a b : List ℕ) → 67108864 < length a → 67108864 < length b
-    → (o : Outcome) (text : Told)
-    → implications.CountsAnswer format p count a o text → implications.CountsAnswer format p count b o text
-differences_long format p count a b la lb Yes text h = no_more 67108864 a la h.1.small
-differences_long format p count a b la lb Second text h = refused_counts _ _ count a b text.text text.object la lb h
-differences_long format p count a b la lb o text h = absurd h
-
--- ---- equivalent
-
-refused_second : (a b : List ℕ) (line : Told) → 1048576 < length a → 1048576 < length b → equivalent.IsSecondRefusal a line
-    → equivalent.IsSecondRefusal b line
-refused_second a b line la lb (equivalent.too_long l e) = equivalent.too_long lb e
-refused_second a b line la lb (equivalent.faulty fault short p q e) = no_more 1048576 a la short
-
-held_short : {A : Type 0} (format : Format) (d : Diagram) (s : Option Sets) (a : List ℕ) (o : Outcome) (text : Told) → 1048576 < length a
-    → equivalent.HoldsAnswer format d s a o text → A
-held_short format d s a o text la h = no_more 1048576 a la h.1.small
-
-pub second_long : (format : Format) (d : Diagram) (s : Option Sets) (a b : List ℕ) → 1048576 < length a → 1048576 < length b → (o : Outcome) (text : Told)
-    → equivalent.SecondAnswer format d s a o text → equivalent.SecondAnswer format d s b o text
-second_long format d s a b la lb Second text (inl h) = inl (refused_second a b text la lb h)
-second_long format d s a b la lb Second text (inr h) = held_short format d s a Second text la h
-second_long format d s a b la lb o text h = held_short format d s a o text la h

@@ -41,6 +41,7 @@ use Rattle.identify_command.specs.Answers.{ShowsHedge, EffectAnswer, IdentifyAns
 use Rattle.identify_command.specs.Conditions as conditions
 use Rattle.identify_command.specs.Conditions.{ConditionalAnswer, IdentifyAnswerGiven}
 use Rattle.identify_command.specs.Requests.{IsRequest}
+use Rattle.identify_command.proofs.IdentifyTold.{identify_as_told}
 use Rattle.check_command.specs.Answers.{HoldsCertificate, CertificateAnswer, of_formula, of_hedge}
 use Rattle.experiment_lists.specs.Words.{Lists}
 use Rattle.experiment_lists.proofs.OneSet.{one_by_one}
@@ -65,6 +66,7 @@ use Rattle.separation_commands.specs.RuleRequests.{Request as RuleRequest}
 use Rattle.separation_commands.specs.RuleRequests as rule_requests
 use Rattle.adjust_command.specs.Answers.{AdjustAnswer, SetsAnswer, adjust_lists}
 use Rattle.adjust_command.specs.Answers as adjustments
+use Rattle.adjust_command.proofs.AdjustTold.{adjust_as_told}
 use Rattle.adjust_command.specs.Queries.{Query, by_set, by_back_door, listing}
 use Rattle.adjust_command.specs.Requests as adjust_requests
 use Rattle.command_run.proofs.Deliveries.{mapped}
@@ -146,7 +148,8 @@ adjusted_on format x y query bytes text d holds a =
 adjusted : (r : Call) (uses : List Use) (text : Told) → Appends r.before r.after text.text → CallAnswer r Adjust uses No text
     → WrittenFor adjust_requests.IsRequest (λ q. q.file) IsNoAdjustmentAsDrawn r uses
 adjusted r uses text = written_for r Adjust uses No text (λ q. q.file) IsNoAdjustmentAsDrawn (λ q h. h) (λ q. refl) (λ q. refl)
-    (λ q is bytes a. adjusted_on q.format q.x q.y q.query bytes text a.diagram a.holds a.answer)
+    (λ q is bytes a. adjusted_on q.format q.x q.y q.query bytes text a.diagram a.holds
+    (adjust_as_told q.format a.diagram q.x q.y q.query No text a.answer))
 
 -- ---- identify and evaluate
 
@@ -205,7 +208,8 @@ identified : (r : Call) (uses : List Use) (text : Told) → Appends r.before r.a
     → WrittenFor IsRequest (λ q. q.file) (λ q bytes line. IsUnidentifiedAsDrawn q.form bytes q.x q.y q.given line) r uses
 identified r uses text = written_for r Identify uses No text (λ q. q.file) (λ q bytes line. IsUnidentifiedAsDrawn q.form bytes q.x q.y q.given line)
     (λ q h. h) (λ q. refl) (λ q. refl)
-    (λ q is bytes a. given_refuted q.form bytes q.x q.y q.given text a.diagram a.holds a.answer)
+    (λ q is bytes a. given_refuted q.form bytes q.x q.y q.given text a.diagram a.holds
+    (identify_as_told q.form a.diagram q.x q.y q.given No text a.answer))
 
 hedge_on : (format : Format) (bytes : List ℕ) (x y : Names) (text : Told) (d : Diagram) → HoldsDiagram bytes d
     → ProcedureFirst format (graph_of d.observed.graph) (effect_lists d.read d.observed.names x y) No text

@@ -42,6 +42,8 @@ use Rattle.identify_command.specs.declared.form.Form.{Form}
 use Rattle.identify_command.specs.Forms.{plain_form}
 use Rattle.identify_command.specs.Answers.{EffectAnswer, IdentifyAnswer}
 use Rattle.identify_command.specs.Conditions.{ListsAnswer, ConditionalAnswer, IdentifyAnswerGiven}
+use Rattle.identify_command.specs.Command.{identify_command}
+use Rattle.identify_command.proofs.IdentifyTold.{identify_as_told}
 use Rattle.identify_command.proofs.OneText.{effect_yes_once, target_yes_once, effect_no_once, target_no_once}
 use Rattle.experiment_lists.specs.Words.{Lists as Experiments}
 use Rattle.surrogate_command.specs.Answers as surrogates
@@ -52,6 +54,8 @@ use Rattle.surrogate_command.proofs.OneText.{surrogate_yes_once, surrogate_no_on
 use Rattle.survey_command.specs.Answers.{SurveyAnswer}
 use Rattle.survey_command.proofs.OneText.{one_survey_text}
 use Rattle.implications_command.specs.Answers.{FirstAnswer, DifferencesAnswer}
+use Rattle.implications_command.specs.Command.{implications_command}
+use Rattle.implications_command.proofs.ImplicationsTold.{first_as_told, differences_as_told}
 use Rattle.implications_command.proofs.OneText.{first_text, differences_text}
 use Rattle.evaluate_command.specs.Answers.{ProcedureFirst, EvaluateFirst, EvaluateAnswer}
 use Rattle.evaluate_command.specs.Ways.{Way, by_procedure, by_adjusting, by_condition}
@@ -258,14 +262,18 @@ texts_are_one = record {
       for_diagrams (λ d. rule_lists d.read d.observed.names q.y q.x q.z q.given) (λ p l. rules.ListsAnswer q.format q.rule p l o)
       (same_rule_lists q.y q.x q.z q.given) (ruled_once o told q.format q.rule) d e s text line
       (rule_as_told q.format q.rule d q.y q.x q.z q.given o text a) (rule_as_told q.format q.rule e q.y q.x q.z q.given o line b));
-  identify = λ q o told bytes. on_bytes bytes (λ d. IdentifyAnswerGiven q.form d q.x q.y q.given) o (identified_once o q.form told q.x q.y q.given);
+  identify = λ q o told bytes. on_bytes bytes (λ d. identify_command.by_diagram q d) o (λ d e s text line a b.
+      identified_once o q.form told q.x q.y q.given d e s text line
+      (identify_as_told q.form d q.x q.y q.given o text a) (identify_as_told q.form e q.x q.y q.given o line b));
   surrogate = λ q o bytes. on_bytes bytes (λ d. surrogates.SurrogateAnswer q.form d q.x q.y q.experiments) o
       (surrogate_once o q.form q.x q.y q.experiments);
-  implications = λ q o bytes. on_bytes bytes (λ d. FirstAnswer q.format q.counts (graph_of d.observed.graph) d.observed.names) o
-      (for_diagrams (λ d. d.observed.names) (λ p names. FirstAnswer q.format q.counts p names o) (λ d e s. s.observed.names) (first_text q.format q.counts o));
-  implications_over_counts = λ q o bytes other. on_bytes bytes (λ d. DifferencesAnswer q.format (graph_of d.observed.graph) d.observed.names q.count other) o
-      (for_diagrams (λ d. d.observed.names) (λ p names. DifferencesAnswer q.format p names q.count other o) (λ d e s. s.observed.names)
-      (differences_text q.format q.count other o));
+  implications = λ q o bytes. on_bytes bytes (λ d. implications_command.by_diagram q d) o (λ d e s text line a b.
+      for_diagrams (λ d. d.observed.names) (λ p names. FirstAnswer q.format q.counts p names o) (λ d e s. s.observed.names) (first_text q.format q.counts o)
+      d e s text line (first_as_told q.format q.counts d.observed o text a) (first_as_told q.format q.counts e.observed o line b));
+  implications_over_counts = λ q o bytes other. on_bytes bytes (λ d. implications_command.by_both q d other) o (λ d e s text line a b.
+      for_diagrams (λ d. d.observed.names) (λ p names. DifferencesAnswer q.format p names q.count other o) (λ d e s. s.observed.names)
+      (differences_text q.format q.count other o) d e s text line
+      (differences_as_told q.format d.observed q.count other o text a) (differences_as_told q.format e.observed q.count other o line b));
   evaluate_before_counts = λ q other o bytes. on_bytes bytes (λ d. EvaluateFirst q.format q.way d q.x q.y) o (alone_once q.format q.way other o q.x q.y);
   evaluate_over_counts = λ q fixed o bytes other. on_bytes bytes (λ d. EvaluateAnswer q.format q.exact q.zero q.way d q.x q.y q.count other) o
       (evaluate_text q.format q.exact q.zero q.way fixed q.x q.y q.count other o);

@@ -26,6 +26,8 @@ use Rattle.survey_command.specs.Command.{survey_command}
 use Rattle.survey_command.specs.Requests as of_survey
 use Rattle.surrogate_command.specs.Command.{surrogate_command}
 use Rattle.surrogate_command.specs.Requests as of_surrogate
+use Rattle.treated_command.specs.Command.{treated_command}
+use Rattle.treated_command.specs.Requests as of_treated
 use Rattle.prob_expr.specs.Listed.{masks_of}
 use Rattle.evaluate_command.specs.Effects.{effect_in}
 use Rattle.causal_cli.specs.declared.commands.Command.{Command}
@@ -40,7 +42,7 @@ use Rattle.causal_cli.specs.declared.second.SecondInput.TheVariants as input
 -- all commands, in the order of the table
 abbrev pub all_commands : List Command
 all_commands = command.Graph ∷ command.Separate ∷ command.Rule ∷ command.Identify ∷ command.Check ∷ command.Adjust ∷ command.Evaluate ∷ command.Equivalent
-    ∷ command.Survey ∷ command.Implications ∷ command.Surrogate ∷ []
+    ∷ command.Survey ∷ command.Implications ∷ command.Surrogate ∷ command.Treated ∷ []
 
 -- the row of a command
 abbrev pub row_for : Command → Row
@@ -55,6 +57,7 @@ row_for command.Equivalent = of_equivalent.equivalent_row
 row_for command.Survey = of_survey.survey_row
 row_for command.Implications = of_implications.implications_row
 row_for command.Surrogate = of_surrogate.surrogate_row
+row_for command.Treated = of_treated.treated_row
 
 -- the table of commands
 abbrev pub table : List Row
@@ -73,6 +76,7 @@ form_of command.Equivalent = equivalent_command
 form_of command.Survey = survey_command
 form_of command.Implications = implications_command
 form_of command.Surrogate = surrogate_command
+form_of command.Treated = treated_command
 
 -- the commands, with their names where words ask for nothing
 abbrev pub commands : CommandSet
@@ -93,6 +97,7 @@ request_of (request.Equivalent q) = of command.Equivalent (of_equivalent.request
 request_of (request.Implications q) = of command.Implications (of_implications.request_of q)
 request_of (request.Survey q) = of command.Survey (of_survey.request_of q)
 request_of (request.Surrogate q) = of command.Surrogate (of_surrogate.request_of q)
+request_of (request.Treated q) = of command.Treated (of_treated.request_of q)
 
 -- what is left to answer on a diagram
 abbrev pub left_of : Diagram → SecondInput → Remainder

@@ -22,9 +22,10 @@ pub enum Command {
     Survey,
     Implications,
     Surrogate,
+    Treated,
 }
 
-static COMMANDS: [Command; 11] = [
+static COMMANDS: [Command; 12] = [
     Command::Graph,
     Command::Separate,
     Command::Rule,
@@ -36,9 +37,10 @@ static COMMANDS: [Command; 11] = [
     Command::Survey,
     Command::Implications,
     Command::Surrogate,
+    Command::Treated,
 ];
 
-static TABLE: [Entry; 11] = [
+static TABLE: [Entry; 12] = [
     separation_commands::graph::ROW,
     separation_commands::separate::ROW,
     separation_commands::rule::ROW,
@@ -50,6 +52,7 @@ static TABLE: [Entry; 11] = [
     survey_command::ROW,
     implications_command::ROW,
     surrogate_command::ROW,
+    treated_command::ROW,
 ];
 
 /// The row of a command.
@@ -68,6 +71,7 @@ fn row_for(command: Command) -> Entry
         Command::Survey => survey_command::ROW,
         Command::Implications => implications_command::ROW,
         Command::Surrogate => surrogate_command::ROW,
+        Command::Treated => treated_command::ROW,
     }
 }
 

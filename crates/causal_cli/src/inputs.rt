@@ -92,6 +92,7 @@ fn inputs_of_request<'a>(request: &Request<'a>) -> Inputs<'a>
         Request::Implications(asked) => counted(asked),
         Request::Survey(_) => Inputs::none(),
         Request::Surrogate(asked) => Inputs::file(asked.file),
+        Request::Treated(asked) => Inputs::file(asked.file),
     }
 }
 

@@ -33,6 +33,7 @@ use separation_commands::separate::separate_reply;
 use std::alloc::{AllocError, Global};
 use surrogate_command::surrogate_reply;
 use survey_command::survey_reply;
+use treated_command::treated_reply;
 
 /// What words ask for.
 #[derive(Drop)]
@@ -48,6 +49,7 @@ pub enum Request<'a> {
     Implications(implications_command::Request<'a>),
     Survey(survey_command::Request),
     Surrogate(surrogate_command::Request<'a>),
+    Treated(treated_command::Request<'a>),
 }
 
 impl<'a> command_run::Request<'a> for Request<'a> {
@@ -71,7 +73,7 @@ impl<'a> command_run::Request<'a> for Request<'a> {
     fn words_line() -> &'static [u8]
         ensures { result.now ≡ words_line commands }
     {
-        b"causal: words not understood; commands are graph separate rule identify check adjust evaluate equivalent survey implications surrogate\n"
+        b"causal: words not understood; commands are graph separate rule identify check adjust evaluate equivalent survey implications surrogate treated\n"
     }
 
     fn named(name: &str) -> Option<Command>
@@ -96,6 +98,7 @@ impl<'a> command_run::Request<'a> for Request<'a> {
             Request::Equivalent(asked) => asked.format,
             Request::Implications(asked) => asked.format,
             Request::Surrogate(asked) => asked.form.format,
+            Request::Treated(asked) => asked.form.format,
             Request::Survey(asked) => asked.format,
         }
     }
@@ -112,6 +115,7 @@ impl<'a> command_run::Request<'a> for Request<'a> {
             Request::Equivalent(asked) => Ok(AfterWords::Reads(asked.file)),
             Request::Implications(asked) => Ok(AfterWords::Reads(asked.file)),
             Request::Surrogate(asked) => Ok(AfterWords::Reads(asked.file)),
+            Request::Treated(asked) => Ok(AfterWords::Reads(asked.file)),
             Request::Survey(asked) => survey(alloc, asked),
         }
     }
@@ -157,6 +161,7 @@ fn read_values<'a>(
         Command::Surrogate => Ok(Request::Surrogate(surrogate_command::Request::read(
             alloc, values,
         )?)),
+        Command::Treated => Ok(Request::Treated(treated_command::Request::read(alloc, values)?)),
     }
 }
 
@@ -181,6 +186,7 @@ fn reply_on<'a>(
         Request::Implications(asked) => list_implications(alloc, diagram, asked),
         Request::Survey(_) => unreachable!(),
         Request::Surrogate(asked) => replied(surrogate_reply(alloc, diagram, &asked)),
+        Request::Treated(asked) => replied(treated_reply(alloc, diagram, &asked)),
     }
 }
 

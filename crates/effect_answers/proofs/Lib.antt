@@ -10,3 +10,6 @@ pub mod ObjectLines
 pub mod Shallow
 pub mod Within
 pub mod Writing
+mod Keeping
+pub mod ReadBack
+pub mod Telling

@@ -4,14 +4,13 @@ ghost use Rattle.std.specs.Prelude.{◌≡◌, ◌++◌, codes, map, IfOk, OnOk}
 ghost use Rattle.prob_expr.specs.View.{view, formula_view, target_view};
 ghost use Rattle.identify_text.specs.Answers.{free_beside};
 ghost use Rattle.certificate_json.specs.Certificates.{expr_json};
-ghost use Rattle.answer_json.specs.Progress.{nothing, members, with_member, with_members, array_of, json_line};
+ghost use Rattle.answer_json.specs.Progress.{with_member, with_members, array_of, json_line};
 ghost use Rattle.answer_json.specs.Values.{text_json, set_json};
-ghost use Rattle.effect_answers.specs.Objects.{target_members, effect_json, joint_json, equation_latex, formula_members, hedge_members, hedge_object, certified_hedge_object};
+ghost use Rattle.effect_answers.specs.Objects.{target_members, effect_json, joint_json, equation_latex, formula_members, hedge_members, hedge_object};
 
-use crate::effects::target_of;
 use answer_json::Object;
 use answer_text::Notation;
-use certificate_json::{push_expr, push_exprs_at, push_hedge_certificate};
+use certificate_json::{push_expr, push_exprs_at};
 use counter_models::CounterPair;
 use expr_text::{push_formula_in, target_in, target_text};
 use formula_json::{push_definitions, push_main};
@@ -134,27 +133,26 @@ fn push_joint(object: &mut Object, names: &Names, sets: EffectSets) -> Result<()
     Ok(())
 }
 
-/// The object of a hedge for the effect of x on y into which a target turns, up to the hedge's two models.
-fn begin_hedge(
-    alloc: Global,
+/// Adds the members of a hedge for the effect of x on y into which a target turns, with its two models.
+pub fn push_hedge_answer(
+    object: &mut Object,
     names: &Names,
     target: &Target,
     sets: EffectSets,
     hedge: &Hedge,
     pair: &CounterPair,
-) -> Result<Object, AllocError>
-    ensures { IfOk result (λ o. o ≡ members nothing (hedge_members names.now (target_view target.now) sets.x.bits sets.y.bits hedge.now pair.now)) }
+) -> Result<(), AllocError>
+    ensures { OnOk result (object.new ≡ with_members (hedge_members names.now (target_view target.now) sets.x.bits sets.y.bits hedge.now pair.now) object.old) }
 {
-    let mut object = Object::new(alloc)?;
     object.word_at("answer", "hedge")?;
-    push_target(&mut object, names, target)?;
-    push_effect(&mut object, names, target)?;
-    push_joint(&mut object, names, sets)?;
+    push_target(object, names, target)?;
+    push_effect(object, names, target)?;
+    push_joint(object, names, sets)?;
     object.key("hedge")?;
-    push_hedge(&mut object, names, hedge)?;
+    push_hedge(object, names, hedge)?;
     object.key("models")?;
-    push_models(&mut object, names, pair)?;
-    Ok(object)
+    push_models(object, names, pair)?;
+    Ok(())
 }
 
 /// The line of a hedge for the effect of x on y into which a target turns, with its two models.
@@ -168,24 +166,7 @@ pub fn hedge_object(
 ) -> Result<Vec<u8>, AllocError>
     ensures { IfOk result (λ v. v.items ≡ json_line (hedge_object names.now (target_view target.now) sets.x.bits sets.y.bits hedge.now pair.now)) }
 {
-    let object = begin_hedge(alloc, names, target, sets, hedge, pair)?;
-    object.line()
-}
-
-/// The same with the hedge's certificate.
-pub fn certified_hedge_object(
-    alloc: Global,
-    names: &Names,
-    target: &Target,
-    sets: EffectSets,
-    hedge: &Hedge,
-    pair: &CounterPair,
-) -> Result<Vec<u8>, AllocError>
-    ensures { IfOk result (λ v. v.items ≡ json_line (certified_hedge_object names.now (target_view target.now) sets.x.bits sets.y.bits hedge.now pair.now)) }
-{
-    let effect = target_of(sets);
-    let mut object = begin_hedge(alloc, names, target, sets, hedge, pair)?;
-    object.key("certificate")?;
-    push_hedge_certificate(&mut object, names, &effect, hedge)?;
+    let mut object = Object::new(alloc)?;
+    push_hedge_answer(&mut object, names, target, sets, hedge, pair)?;
     object.line()
 }

@@ -1,8 +1,8 @@
--- Equivalent graphs, a first difference and a second graph that is refused exclude each other; a first graph that is refused isn't accepted.
-use Rattle.std.proofs.Common.{◌≡◌, ℕ, Bool, true, false, List, Option, Some, None, inl, inr, refl, sym, ◌∙◌, subst, arith}
+-- Right answers of two graphs end alike, and a second graph that has one isn't refused; a first graph that is refused isn't accepted.
+use Rattle.std.proofs.Common.{◌≡◌, ◌⊎◌, ℕ, Bool, true, false, List, Option, Some, None, Result, Ok, Err, inl, inr, refl, sym, ◌∙◌, subst, arith}
 use Rattle.mixed_graph.specs.Graphs.{MixedGraph}
 use Rattle.mixed_graph.specs.Shown.{graph_of}
-use Rattle.markov_equivalence.specs.Skeletons.{HasArrowsAlone}
+use Rattle.markov_equivalence.specs.Skeletons.{HasArrowsAlone, AreEquivalent}
 use Rattle.dag_reader.specs.declared.graph.ReadGraph.{ReadGraph}
 use Rattle.dag_reader.specs.RoundTrip.{AreSame}
 use Rattle.dag_reader.proofs.OneReading.{reads_either}
@@ -12,22 +12,23 @@ use Rattle.targets.specs.Targets.{IsTargetFault}
 use Rattle.diagram.specs.declared.diagram.Diagram.{Diagram}
 use Rattle.diagram.proofs.OneDiagram.{AreSameDiagrams, same_drawing, same_query_lists}
 use Rattle.diagram.proofs.OneObserved.{same_as}
-use Rattle.replies.specs.declared.format.Format.{Format}
-use Rattle.replies.specs.Told.{Told}
-use Rattle.replies.specs.declared.outcome.Outcome.{Outcome}
-use Rattle.replies.specs.declared.outcome.Outcome.TheVariants.{Yes, No, Second}
-use Rattle.replies.specs.Observed.{HoldsDiagram}
-use Rattle.replies.specs.OneOutcome.{OneOutcome, IsAnswerOn}
+use Rattle.replies.specs.declared.outcome.Outcome.TheVariants.{Yes, No}
 use Rattle.replies.proofs.OneGraph.{one_holding}
-use Rattle.replies.proofs.OneOutcome.{IsOneOf, one_of_three, one_on_diagram}
 use Rattle.replies.proofs.OneTarget.{no_fault_of}
+use Rattle.told.specs.Refusals.{target_refusal}
+use Rattle.told.specs.Telling.{outcome_in}
 use Rattle.equivalent_command.specs.Numbers.{HaveSameNames, on_names}
 use Rattle.equivalent_command.specs.Faults.{IsBidirectedFault, IsOtherName, in_first, in_second}
 use Rattle.equivalent_command.specs.Queries.{AreAsked, IsListsFault}
 use Rattle.equivalent_command.specs.Requests.{Query}
-use Rattle.equivalent_command.specs.Answers.{IsAcceptedFirst, IsFirstGraphFault, IsFirstRefusal, AreComparable, IsSame, IsDifferent, edge, collider}
-use Rattle.equivalent_command.specs.Answers.{ComparedAnswer, ObservedFault, IsUnlike, IsSecondRefusal, too_long, faulty, HoldsAnswer, SecondAnswer}
-use Rattle.equivalent_command.specs.Answers.{EquivalentAnswer}
+use Rattle.equivalent_command.specs.Right.{IsAcceptedFirst, IsFirstGraphFault, IsForFirst, Decides, AreComparable, ObservedFault, IsForText}
+use Rattle.equivalent_command.specs.Right.{IsSecondFault, IsForSecond}
+use Rattle.equivalent_command.specs.SecondFaults.{second_refusal}
+use Rattle.equivalent_command.specs.Telling.{outcome_of, equivalent_telling}
+use Rattle.equivalent_command.specs.declared.answer.Answer.{Answer}
+use Rattle.equivalent_command.specs.declared.answer.Answer.TheVariants.{Alike, Separated, Connected, Edge, Collider}
+use Rattle.equivalent_command.specs.declared.second.SecondFault.{SecondFault}
+use Rattle.equivalent_command.specs.declared.second.SecondFault.TheVariants.{TooLong, Faulty, Unlike, NoMemory}
 
 both_ways : (b : Bool) → b ≡ true → b ≡ false → ⊥
 both_ways b e f = absurd (grind (arith, e, f))
@@ -51,20 +52,39 @@ fault_or_accepted d e same l s f (IsFirstGraphFault.bidirected t asked is) a =
     arrows_or_not (graph_of d.observed.graph) d.observed.names f (subst HasArrowsAlone (sym (same_drawing d e same)) a.arrows) is
 
 -- a first graph that is refused isn't accepted
-pub first_alone : (d e : Diagram) → AreSameDiagrams d e → (l : Option Query) (s : Option Sets) (o : Outcome) (told : Told) → IsFirstRefusal d l o told
+pub first_alone : (d e : Diagram) → AreSameDiagrams d e → (l : Option Query) (a : Result Answer TargetFault) (s : Option Sets) → IsForFirst d l a
     → IsAcceptedFirst e l s → ⊥
-first_alone d e same l s o told r a = fault_or_accepted d e same l s r.fault r.is_fault a
+first_alone d e same l (Ok a) s f g = f
+first_alone d e same l (Err fault) s f g = fault_or_accepted d e same l s fault f g
 
-pub first_once : (bytes : List ℕ) (l : Option Query) → OneOutcome (IsAnswerOn bytes (λ d. IsFirstRefusal d l))
-first_once bytes l = one_on_diagram bytes (λ d. IsFirstRefusal d l) (λ d e s o p told other a b. a.outcome ∙ sym b.outcome)
+pub first_alike : (d e : Diagram) (l : Option Query) (a b : Result Answer TargetFault) → IsForFirst d l a → IsForFirst e l b
+    → outcome_in equivalent_telling target_refusal a ≡ outcome_in equivalent_telling target_refusal b
+first_alike d e l (Ok a) b f g = absurd f
+first_alike d e l (Err fault) (Ok b) f g = absurd g
+first_alike d e l (Err fault) (Err other) f g = refl
 
 -- ---- both graphs
 
-same_or_different : (format : Format) (names others : List (List ℕ)) (p q : MixedGraph) (s : Option Sets) (told other : Told) → IsSame format names p q s told
-    → IsDifferent format others p q other → ⊥
-same_or_different format names others p q s told other a (edge d is shown t) = is.pair.differs (a.equivalent.skeleton d.a d.b is.pair.ascends)
-same_or_different format names others p q s told other a (collider d m is shown t) =
-    is.triple.here.differs (a.equivalent.colliders d.a d.b m is.triple.here.ascends)
+-- the answer is yes for equivalent graphs alone
+kind : (p q : MixedGraph) (s : Option Sets) (a : Answer) → Decides p q s a
+    → ((outcome_of a ≡ Yes) × AreEquivalent p q) ⊎ ((outcome_of a ≡ No) × (AreEquivalent p q → ⊥))
+kind p q s Alike h = inl (refl, h.0.equivalent)
+kind p q s (Separated of) h = inl (refl, h.0.equivalent)
+kind p q s (Connected of first second) h = inl (refl, h.0.equivalent)
+kind p q s (Edge d) h = let is = h.0.pair in inr (refl, λ e. is.differs (e.skeleton d.a d.b is.ascends))
+kind p q s (Collider d m) h = let is = h.0.triple.here in inr (refl, λ e. is.differs (e.colliders d.a d.b m is.ascends))
+
+end_alike : (p q : MixedGraph) (s t : Option Sets) (a b : Answer) → Decides p q s a → Decides p q t b → outcome_of a ≡ outcome_of b
+end_alike p q s t a b f g = elim (kind p q s a f) [
+  | inl x ↦ elim (kind p q t b g) [
+    | inl y ↦ x.0 ∙ sym y.0
+    | inr y ↦ absurd (y.1 x.1)
+  ]
+  | inr x ↦ elim (kind p q t b g) [
+    | inl y ↦ absurd (x.1 y.1)
+    | inr y ↦ x.0 ∙ sym y.0
+  ]
+]
 
 module _ (g g' h h' : ReadGraph) (s : AreSame g g') (t : AreSame h h') where
   same_first : graph_of g'.graph ≡ graph_of g.graph
@@ -73,17 +93,18 @@ module _ (g g' h h' : ReadGraph) (s : AreSame g g') (t : AreSame h h') where
   same_second : graph_of h'.graph ≡ graph_of h.graph
   same_second = same_as (graph_of h'.graph) (graph_of h.graph) t.vertices t.arrows t.spouses
 
-  compared : (format : Format) (a b : Option Sets) (told other : Told) → ComparedAnswer format g a h Yes told → ComparedAnswer format g' b h' No other → ⊥
-  compared format a b told other x y =
+  compared_alike : (k l : Option Sets) (a b : Answer) → Decides (graph_of g.graph) (on_names g.names h.names (graph_of h.graph)) k a
+      → Decides (graph_of g'.graph) (on_names g'.names h'.names (graph_of h'.graph)) l b → outcome_of a ≡ outcome_of b
+  compared_alike k l a b x y =
       let moved : on_names g'.names h'.names (graph_of h'.graph) ≡ on_names g.names h.names (graph_of h.graph) =
       λ i. on_names (s.names i) (t.names i) (same_second i) in
-      same_or_different format g.names g'.names (graph_of g.graph) (on_names g.names h.names (graph_of h.graph)) a told other x.answer
-      (subst (λ (m : MixedGraph). IsDifferent format g'.names m (on_names g.names h.names (graph_of h.graph)) other) same_first
-      (subst (λ (m : MixedGraph). IsDifferent format g'.names (graph_of g'.graph) m other) moved y.answer.difference))
+      end_alike (graph_of g.graph) (on_names g.names h.names (graph_of h.graph)) k l a b x
+      (subst (λ (m : MixedGraph). Decides m (on_names g.names h.names (graph_of h.graph)) l b) same_first
+      (subst (λ (m : MixedGraph). Decides (graph_of g'.graph) m l b) moved y))
 
   -- graphs that are compared have the same names and arrows alone
-  like : (told : Told) → AreComparable g h → IsUnlike g' h' told → ⊥
-  like told a u = go u.is_fault
+  like : (fault : TargetFault) → AreComparable g h → ObservedFault g'.names (graph_of h'.graph) h'.names fault → ⊥
+  like fault a is = go is
     where
       names : HaveSameNames g'.names h'.names
       names = subst (λ (ns : List (List ℕ)). HaveSameNames ns h'.names) (sym s.names)
@@ -93,41 +114,26 @@ module _ (g g' h h' : ReadGraph) (s : AreSame g g') (t : AreSame h h') where
       other_name name (in_first v is at) = both_ways _ (names.first v is.below) is.alone
       other_name name (in_second v among is at) = both_ways _ (names.second v is.below) is.alone
 
-      go : ObservedFault g'.names (graph_of h'.graph) h'.names u.fault → ⊥
-      go (ObservedFault.bidirected is) = arrows_or_not (graph_of h'.graph) h'.names u.fault (subst HasArrowsAlone (sym same_second) a.second_arrows) is
+      go : ObservedFault g'.names (graph_of h'.graph) h'.names fault → ⊥
+      go (ObservedFault.bidirected is) = arrows_or_not (graph_of h'.graph) h'.names fault (subst HasArrowsAlone (sym same_second) a.second_arrows) is
       go (ObservedFault.other_names only is) = other_name is.name is.first
 
-module _ (format : Format) (d d' : Diagram) (s : AreSameDiagrams d d') (second : List ℕ) (a b : Option Sets) (told other : Told) where
-  -- a second graph that is read isn't refused
-  read_or_refused : (e : Diagram) → HoldsDiagram second e → IsSecondRefusal second other → ⊥
-  read_or_refused e is (too_long long at) = absurd (let small = is.small in omega (arith, small, long))
-  read_or_refused e is (faulty fault short ne reads at) = reads_either second e.read fault is.reads ne reads
+-- a second graph that has an answer isn't refused
+answered_or_refused : (d d' : Diagram) → AreSameDiagrams d d' → (second : List ℕ) (s : Option Sets) (a : Answer) (fault : SecondFault)
+    → IsForText d.observed s second a → IsSecondFault d'.observed second fault → ⊥
+answered_or_refused d d' same second s a TooLong is long = absurd (let small = is.holds.small in omega (arith, small, long))
+answered_or_refused d d' same second s a (Faulty bytes fault) is f = reads_either second is.diagram.read fault is.holds.reads f.no_memory f.reads
+answered_or_refused d d' same second s a (Unlike fault) is u =
+    like d.observed d'.observed is.diagram.observed u.diagram.observed same.observed
+    (one_holding second is.diagram u.diagram is.holds u.holds).observed fault is.compared.comparable u.unlike
+answered_or_refused d d' same second s a NoMemory is f = f
 
-  yes_no : HoldsAnswer format d a second Yes told → HoldsAnswer format d' b second No other → ⊥
-  yes_no x y =
-      let t = one_holding second x.0 y.0 x.1 y.1 in
-      compared d.observed d'.observed x.0.observed y.0.observed s.observed t.observed format a b told other x.2 y.2
-
-  answered_or_refused : (o : Outcome) (e : Diagram) → HoldsDiagram second e → ComparedAnswer format d.observed a e.observed o told
-      → SecondAnswer format d' b second Second other → ⊥
-  answered_or_refused o e is c (inl r) = read_or_refused e is r
-  answered_or_refused o e is c (inr y) =
-      let t = one_holding second e y.0 is y.1 in
-      like d.observed d'.observed e.observed y.0.observed s.observed t.observed other c.comparable y.2
-
-among : (format : Format) (d : Diagram) (a : Option Sets) (second : List ℕ) (o : Outcome) (told : Told) → SecondAnswer format d a second o told
-    → IsOneOf Yes No Second o
-among format d a second Yes told h = inl refl
-among format d a second No told h = inr (inl refl)
-among format d a second Second told h = inr (inr refl)
-among format d a second o told h = absurd h.2
-
-pub equivalent_once : (format : Format) (bytes second : List ℕ) (l : Option Query) → OneOutcome (IsAnswerOn bytes (λ d. EquivalentAnswer format d l second))
-equivalent_once format bytes second l = one_of_three Yes No Second (IsAnswerOn bytes (λ d. EquivalentAnswer format d l second))
-    (λ o told h. among format h.diagram h.given.0 second o told h.given.2)
-    (λ told other x y. yes_no format x.diagram y.diagram (one_holding bytes x.diagram y.diagram x.holds y.holds)
-    second x.given.0 y.given.0 told other x.given.2 y.given.2)
-    (λ told other x y. answered_or_refused format x.diagram y.diagram (one_holding bytes x.diagram y.diagram x.holds y.holds)
-    second x.given.0 y.given.0 told other Yes x.given.2.0 x.given.2.1 x.given.2.2 y.given.2)
-    (λ told other x y. answered_or_refused format x.diagram y.diagram (one_holding bytes x.diagram y.diagram x.holds y.holds)
-    second x.given.0 y.given.0 told other No x.given.2.0 x.given.2.1 x.given.2.2 y.given.2)
+pub second_alike : (d e : Diagram) → AreSameDiagrams d e → AreSameDiagrams e d → (s t : Option Sets) (second : List ℕ) (a b : Result Answer SecondFault)
+    → IsForSecond d.observed s second a → IsForSecond e.observed t second b
+    → outcome_in equivalent_telling second_refusal a ≡ outcome_in equivalent_telling second_refusal b
+second_alike d e same back s t second (Ok a) (Ok b) f g =
+    compared_alike d.observed e.observed f.diagram.observed g.diagram.observed same.observed
+    (one_holding second f.diagram g.diagram f.holds g.holds).observed s t a b f.compared.decided g.compared.decided
+second_alike d e same back s t second (Ok a) (Err fault) f g = absurd (answered_or_refused d e same second s a fault f g)
+second_alike d e same back s t second (Err fault) (Ok b) f g = absurd (answered_or_refused e d back second t b fault g f)
+second_alike d e same back s t second (Err fault) (Err other) f g = refl

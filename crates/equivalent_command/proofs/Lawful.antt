@@ -1,4 +1,4 @@
--- The command's words ask for one request, and its answers have one outcome.
+-- The command's words ask for one request, and its right answers end alike.
 use Rattle.std.proofs.Common.{◌≡◌, List, Option, Some, None, refl, sym, ◌∙◌}
 use Rattle.std.specs.Prelude.{codes}
 use Rattle.std.proofs.lemmas.Option.{none-some, same_Some}
@@ -6,15 +6,17 @@ use Rattle.command_words.specs.Form.{Text, Use, value_of}
 use Rattle.command_words.specs.Values.{IsRequiredList}
 use Rattle.command_words.proofs.OneValue.{one_listed_or_empty, one_needed_list}
 use Rattle.equivalent_command.specs.Requests.{Query, IsQuery}
-use Rattle.diagram.specs.declared.diagram.Diagram.{Diagram}
-use Rattle.replies.specs.Command.{IsLeft}
-use Rattle.replies.proofs.Commands.{IsLawful, lawful_on_two_inputs}
-use Rattle.targets.specs.declared.query.Sets.{Sets}
-use Rattle.equivalent_command.specs.Answers.{IsAcceptedFirst}
+use Rattle.replies.specs.Outcomes.{IsAnswered}
+use Rattle.replies.proofs.Commands.{IsLawful}
+use Rattle.told.proofs.ToldOnBoth.{lawful_told_on_both}
+use Rattle.equivalent_command.specs.Command.{equivalent_command}
 use Rattle.equivalent_command.specs.Requests.{Request, IsRequest}
-use Rattle.equivalent_command.specs.Command.{equivalent_command, equivalent_left}
-use Rattle.equivalent_command.proofs.Outcomes.{first_answered, second_answered}
-use Rattle.equivalent_command.proofs.Exclusive.{equivalent_once, first_alone, first_once}
+use Rattle.equivalent_command.specs.Right.{IsForFirst, IsAcceptedFirst, IsForSecond}
+use Rattle.equivalent_command.specs.SecondFaults.{second_refusal}
+use Rattle.equivalent_command.specs.Telling.{equivalent_telling}
+use Rattle.equivalent_command.specs.declared.answer.Answer.{Answer}
+use Rattle.equivalent_command.specs.declared.answer.Answer.TheVariants.{Alike, Separated, Connected, Edge, Collider}
+use Rattle.equivalent_command.proofs.Exclusive.{first_alone, first_alike, second_alike}
 
 -- lists that aren't there are no query
 no_query : (x : Option Text) (names : List Text) → x ≡ None → IsRequiredList x names → ⊥
@@ -41,15 +43,17 @@ one_request uses q r a b = λ i. record {
   format = (b.format ∙ sym a.format) i;
 }
 
+answered : (a : Answer) → IsAnswered (equivalent_telling.outcome a)
+answered Alike = tt
+answered (Separated sets) = tt
+answered (Connected sets first second) = tt
+answered (Edge d) = tt
+answered (Collider d m) = tt
+
 -- what holds of each command holds of it
 pub equivalent_lawful : IsLawful equivalent_command
-equivalent_lawful = lawful_on_two_inputs one_request
-    (λ q d. first_answered d q.query)
-    (λ q d other o told a. second_answered q.format d a.0 other o told a.2)
-    (λ q bytes. first_once bytes q.query)
-    (λ q bytes other. equivalent_once q.format bytes other q.query)
-    (λ q name d e same names o told a n. first_alone d e same q.query n.0 o told a n.1)
-
-pub equivalent_is_left : (q : Request) (d : Diagram) (s : Option Sets) → IsAcceptedFirst d q.query s
-    → IsLeft equivalent_command q d (equivalent_left q.format d s q.second)
-equivalent_is_left q d s is = record { named = refl; continues = (s, is); known = (q.query, is); answers = λ other o told a. (s, is, a) }
+equivalent_lawful = lawful_told_on_both equivalent_telling second_refusal one_request answered (λ fault. tt)
+    (λ q d. IsForFirst d q.query) (λ q d. IsAcceptedFirst d q.query) (λ q d s. IsForSecond d.observed s)
+    (λ q d e same back. first_alike d e q.query)
+    (λ q d e same back s t is_s is_t. second_alike d e same back s t)
+    (λ q name d e same named a s. first_alone d e same q.query a s)

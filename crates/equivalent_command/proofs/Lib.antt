@@ -1,7 +1,5 @@
 pub mod Asked
-pub mod Held
 pub mod Placing
 pub mod Queries
-pub mod Outcomes
 pub mod Exclusive
 pub mod Lawful

@@ -3,15 +3,20 @@ use Rattle.std.specs.Prelude.{Option, Some}
 use Rattle.command_words.specs.Form.{Text}
 use Rattle.diagram.specs.declared.diagram.Diagram.{Diagram}
 use Rattle.replies.specs.declared.format.Format.{Format}
-use Rattle.replies.specs.Command.{CommandForm, on_two_inputs, Remainder}
+use Rattle.replies.specs.Command.{CommandForm, Remainder}
 use Rattle.targets.specs.declared.query.Sets.{Sets}
-use Rattle.equivalent_command.specs.Answers.{IsAcceptedFirst, IsFirstRefusal, SecondAnswer, EquivalentAnswer}
+use Rattle.told.specs.Forms.{plain_form}
+use Rattle.told.specs.Telling.{Tells}
+use Rattle.told.specs.TwoInputs.{told_on_two_inputs}
 use Rattle.equivalent_command.specs.Requests.{Query, Request, IsRequest}
+use Rattle.equivalent_command.specs.Right.{IsForFirst, IsAcceptedFirst, IsForSecond}
+use Rattle.equivalent_command.specs.SecondFaults.{second_refusal}
+use Rattle.equivalent_command.specs.Telling.{equivalent_telling}
 
 -- its request and its answers
 abbrev pub equivalent_command : CommandForm
-equivalent_command = on_two_inputs Request IsRequest (λ q. q.format) (λ q. q.file) (λ q. Some q.second) (λ q d. IsFirstRefusal d q.query)
-    (λ q d. (s : Option Sets) × IsAcceptedFirst d q.query s) (λ q d other. EquivalentAnswer q.format d q.query other)
+equivalent_command = told_on_two_inputs Request IsRequest (λ q. plain_form q.format) (λ q. q.file) (λ q. Some q.second) equivalent_telling second_refusal
+    (λ q d. IsForFirst d q.query) (λ q d. IsAcceptedFirst d q.query) (λ q d s. IsForSecond d.observed s)
 
 -- what is left once the first diagram was accepted: the comparison with the second one, and what both say of the sets that are asked about
 abbrev pub equivalent_left : Format → Diagram → Option Sets → (second : Text) → Remainder
@@ -19,5 +24,5 @@ equivalent_left format d s second = record {
   second = second;
   limit = 1048576;
   known = (l : Option Query) × IsAcceptedFirst d l s;
-  answer = λ other. SecondAnswer format d s other;
+  answer = λ other. Tells equivalent_telling second_refusal (IsForSecond d.observed s other) (plain_form format) d.observed.names;
 }

@@ -2,12 +2,17 @@
 use Rattle.std.specs.Prelude.{Option}
 use Rattle.diagram.specs.declared.diagram.Diagram.{Diagram}
 use Rattle.replies.specs.Told.{told_of}
+use Rattle.told.specs.declared.form.Form.{Form}
+use Rattle.told.specs.Refusals.{target_refusal}
+use Rattle.told.specs.Telling.{Tells}
 use Rattle.equivalent_command.specs.Requests.{Query}
-use Rattle.equivalent_command.specs.Answers.{IsAcceptedFirst, IsFirstRefusal}
+use Rattle.equivalent_command.specs.Right.{IsAcceptedFirst, IsForFirst}
+use Rattle.equivalent_command.specs.Telling.{equivalent_telling}
 use Rattle.equivalent_command.specs.declared.accepting.Acceptance.{Acceptance}
 use Rattle.equivalent_command.specs.declared.accepting.Acceptance.TheVariants.{Refused, Accepted}
 
--- the reply to a first diagram that is refused, or the sets with which it is accepted
+-- the reply to a first diagram that is refused, the same in each form; or the sets with which it is accepted
 abbrev pub IsAcceptance : Diagram → Option Query → Acceptance → Type 0
-IsAcceptance d l (Refused reply) = IsFirstRefusal d l reply.outcome (told_of reply)
+IsAcceptance d l (Refused reply) = (form : Form)
+    → Tells equivalent_telling target_refusal (IsForFirst d l) form d.observed.names reply.outcome (told_of reply)
 IsAcceptance d l (Accepted s) = IsAcceptedFirst d l s

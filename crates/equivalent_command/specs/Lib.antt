@@ -1,10 +1,12 @@
-pub mod Answers
 pub mod Faults
-pub mod Firsts
 pub mod Lines
 pub mod Objects
 pub mod Numbers
 pub mod Queries
 pub mod Refusals
 pub mod Requests
+pub mod Right
+pub mod SecondFaults
+pub mod Telling
+pub mod Firsts
 pub mod Command

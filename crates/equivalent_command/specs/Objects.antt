@@ -1,43 +1,28 @@
--- The objects of the answers of `equivalent`.
-use Rattle.std.specs.Prelude.{ℕ, true, false, List, [], ◌∷◌, codes}
+-- The members of the objects of `equivalent`.
+use Rattle.std.specs.Prelude.{ℕ, Bool, List, [], ◌∷◌, codes}
 use Rattle.json.specs.Json.{Json, string, boolean}
 use Rattle.m_separation.specs.declared.paths.OpenPath.{OpenPath}
 use Rattle.markov_equivalence.specs.declared.comparison.Difference.{Difference}
 use Rattle.markov_equivalence.specs.declared.sides.Side.{Side}
 use Rattle.markov_equivalence.specs.Sides.{other_side}
 use Rattle.targets.specs.declared.query.Sets.{Sets}
-use Rattle.answer_json.specs.Progress.{Progress, nothing, members, object_of}
+use Rattle.answer_json.specs.Progress.{object_of}
 use Rattle.answer_json.specs.Values.{set_json, vertices_json, path_json}
 use Rattle.equivalent_command.specs.Lines.{which}
 
 -- ---- graphs that don't differ
 
--- they don't differ
-abbrev pub equivalent_json : Json
-equivalent_json = object_of ((codes "answer", string (codes "equivalent")) ∷ [])
-
--- the same up to the sets that are asked about
-abbrev pub asked_begun : List (List ℕ) → Sets → Progress
-asked_begun names s = members nothing ((codes "answer", string (codes "equivalent"))
-    ∷ (codes "x", set_json names s.x.bits) ∷ (codes "y", set_json names s.y.bits) ∷ (codes "given", set_json names s.given.bits) ∷ [])
-
--- in both the sets are separated
-abbrev pub separated_json : List (List ℕ) → Sets → Json
-separated_json names s = object_of ((codes "answer", string (codes "equivalent"))
+-- that they don't, the sets that are asked about, and whether these are separated
+abbrev pub asked_members : List (List ℕ) → Sets → Bool → List (List ℕ × Json)
+asked_members names s are_separated = (codes "answer", string (codes "equivalent"))
     ∷ (codes "x", set_json names s.x.bits) ∷ (codes "y", set_json names s.y.bits) ∷ (codes "given", set_json names s.given.bits)
-    ∷ (codes "separated", boolean true) ∷ [])
+    ∷ (codes "separated", boolean are_separated) ∷ []
 
 -- an open path of each
 abbrev pub paths_members : List (List ℕ) → (first second : OpenPath) → List (List ℕ × Json)
 paths_members names first second =
     (codes "first", path_json names first.vertices first.marks first.count)
     ∷ (codes "second", path_json names second.vertices second.marks second.count) ∷ []
-
--- in neither they are: these paths are open
-abbrev pub connected_json : List (List ℕ) → Sets → (first second : OpenPath) → Json
-connected_json names s first second = object_of ((codes "answer", string (codes "equivalent"))
-    ∷ (codes "x", set_json names s.x.bits) ∷ (codes "y", set_json names s.y.bits) ∷ (codes "given", set_json names s.given.bits)
-    ∷ (codes "separated", boolean false) ∷ paths_members names first second)
 
 -- ---- graphs that differ
 
@@ -52,16 +37,8 @@ separation_json names d = object_of (
     (codes "x", vertices_json names (d.a ∷ [])) ∷ (codes "y", vertices_json names (d.b ∷ [])) ∷ (codes "given", set_json names d.given.bits) ∷ [])
 
 -- what one graph has alone, and a separation that holds in the other alone
-abbrev pub different_json : (kind : List ℕ) → List (List ℕ) → (vertices : List ℕ) → Difference → Json
-different_json kind names vertices d = object_of ((codes "answer", string (codes "not equivalent"))
+abbrev pub different_members : (kind : List ℕ) → List (List ℕ) → (vertices : List ℕ) → Difference → List (List ℕ × Json)
+different_members kind names vertices d = (codes "answer", string (codes "not equivalent"))
     ∷ (codes "difference", difference_json kind names vertices (other_side d.holds_in))
     ∷ (codes "separated_in", string (which d.holds_in))
-    ∷ (codes "separation", separation_json names d) ∷ [])
-
--- the two ends of an edge
-abbrev pub edge_json : List (List ℕ) → Difference → Json
-edge_json names d = different_json (codes "edge") names (d.a ∷ d.b ∷ []) d
-
--- the three vertices of an unshielded collider, which is m
-abbrev pub collider_json : List (List ℕ) → Difference → ℕ → Json
-collider_json names d m = different_json (codes "collider") names (d.a ∷ m ∷ d.b ∷ []) d
+    ∷ (codes "separation", separation_json names d) ∷ []

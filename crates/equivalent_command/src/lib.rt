@@ -6,15 +6,18 @@
 
 mod accepting;
 mod agreement;
+mod answer;
 mod faults;
-mod formats;
 mod numbers;
 mod objects;
-mod printing;
 mod refusals;
 mod reply;
 mod request;
+mod second;
+mod texts;
 
 pub use accepting::{Acceptance, accept_first};
-pub use reply::{equivalent_reply, long_second_graph};
+pub use answer::Answer;
+pub use reply::{equivalent_answer, equivalent_reply, long_second_graph};
 pub use request::{Query, ROW, Request};
+pub use second::SecondFault;

@@ -1,48 +1,34 @@
-//! The objects of the answers of `equivalent`.
+//! The members of the objects of graphs that differ, and of graphs that don't.
 
-ghost use Rattle.std.specs.Prelude.{◌≡◌, OnOk, IfOk, codes};
-ghost use Rattle.answer_json.specs.Progress.{with_member, with_members, json_line};
-ghost use Rattle.equivalent_command.specs.Objects.{equivalent_json, asked_begun, separated_json, paths_members, connected_json, difference_json, separation_json, different_json, edge_json, collider_json};
+ghost use Rattle.std.specs.Prelude.{◌≡◌, OnOk, codes};
+ghost use Rattle.answer_json.specs.Progress.{with_member, with_members};
+ghost use Rattle.equivalent_command.specs.Objects.{asked_members, paths_members, difference_json, separation_json, different_members};
 
-use crate::printing::word_of;
+use crate::texts::word_of;
 use answer_json::Object;
 use m_separation::OpenPath;
 use markov_equivalence::{Difference, Side};
 use mixed_graph::Names;
-use std::alloc::{AllocError, Global};
+use std::alloc::AllocError;
 use targets::Sets;
 
-/// That graphs don't differ, as a line of JSON.
-pub fn equivalent_object(alloc: Global) -> Result<Vec<u8>, AllocError>
-    ensures { IfOk result (λ v. v.items ≡ json_line equivalent_json) }
+/// The members of graphs that don't differ, with the sets that are asked about, and whether these are separated.
+pub fn push_asked(
+    object: &mut Object,
+    names: &Names,
+    sets: Sets,
+    are_separated: bool,
+) -> Result<(), AllocError>
+    ensures { OnOk result (object.new ≡ with_members (asked_members names.now sets are_separated) object.old) }
 {
-    let mut object = Object::new(alloc)?;
-    object.word_at("answer", "equivalent")?;
-    object.line()
-}
-
-/// The object of graphs that don't differ, up to the sets that are asked about.
-fn begin(alloc: Global, names: &Names, sets: Sets) -> Result<Object, AllocError>
-    ensures { IfOk result (λ o. o ≡ asked_begun names.now sets) }
-{
-    let mut object = Object::new(alloc)?;
     object.word_at("answer", "equivalent")?;
     object.query(names, sets.x, sets.y, sets.given)?;
-    Ok(object)
-}
-
-/// That sets are separated in both graphs, as a line of JSON.
-pub fn separated_object(alloc: Global, names: &Names, sets: Sets) -> Result<Vec<u8>, AllocError>
-    ensures { IfOk result (λ v. v.items ≡ json_line (separated_json names.now sets)) }
-{
-    let mut object = begin(alloc, names, sets)?;
     object.key("separated")?;
-    object.boolean(true)?;
-    object.line()
+    object.boolean(are_separated)
 }
 
 /// The members of an open path of each graph.
-fn push_paths(
+pub fn push_paths(
     object: &mut Object,
     names: &Names,
     first: &OpenPath,
@@ -53,23 +39,6 @@ fn push_paths(
     object.path_at("first", names, first)?;
     object.path_at("second", names, second)?;
     Ok(())
-}
-
-/// An open path of each graph, as a line of JSON.
-pub fn connected_object(
-    alloc: Global,
-    names: &Names,
-    sets: Sets,
-    first: &OpenPath,
-    second: &OpenPath,
-) -> Result<Vec<u8>, AllocError>
-    ensures { IfOk result (λ v. v.items ≡ json_line (connected_json names.now sets first.now second.now)) }
-{
-    let mut object = begin(alloc, names, sets)?;
-    object.key("separated")?;
-    object.boolean(false)?;
-    push_paths(&mut object, names, first, second)?;
-    object.line()
 }
 
 /// The member of what one graph has alone.
@@ -104,39 +73,18 @@ fn push_separation(object: &mut Object, names: &Names, d: Difference) -> Result<
     Ok(())
 }
 
-/// What one graph has alone, and a separation, as a line of JSON.
-fn different_object(
-    alloc: Global,
+/// The members of graphs that differ: what one has alone, and a separation that holds in the other alone.
+pub fn push_different(
+    object: &mut Object,
     kind: &str,
     names: &Names,
     vertices: &[u8],
     d: Difference,
-) -> Result<Vec<u8>, AllocError>
-    ensures { IfOk result (λ v. v.items ≡ json_line (different_json kind.now names.now vertices.now d)) }
+) -> Result<(), AllocError>
+    ensures { OnOk result (object.new ≡ with_members (different_members kind.now names.now vertices.now d) object.old) }
 {
-    let mut object = Object::new(alloc)?;
     object.word_at("answer", "not equivalent")?;
-    push_difference(&mut object, kind, names, vertices, d.holds_in.other())?;
+    push_difference(object, kind, names, vertices, d.holds_in.other())?;
     object.word_at("separated_in", word_of(d.holds_in))?;
-    push_separation(&mut object, names, d)?;
-    object.line()
-}
-
-/// An edge that one graph has alone, as a line of JSON.
-pub fn edge_object(alloc: Global, names: &Names, d: Difference) -> Result<Vec<u8>, AllocError>
-    ensures { IfOk result (λ v. v.items ≡ json_line (edge_json names.now d)) }
-{
-    different_object(alloc, "edge", names, &[d.a, d.b], d)
-}
-
-/// An unshielded collider m that one graph has alone, as a line of JSON.
-pub fn collider_object(
-    alloc: Global,
-    names: &Names,
-    d: Difference,
-    m: u8,
-) -> Result<Vec<u8>, AllocError>
-    ensures { IfOk result (λ v. v.items ≡ json_line (collider_json names.now d m)) }
-{
-    different_object(alloc, "collider", names, &[d.a, m, d.b], d)
+    push_separation(object, names, d)
 }

@@ -1,14 +1,26 @@
-//! The reply to a second graph that is refused.
+//! The replies to a second graph that is refused.
 
 ghost use Rattle.std.specs.Prelude.{◌≡◌, IfOk, OnOk};
 ghost use Rattle.replies.specs.Told.{told_of};
-ghost use Rattle.equivalent_command.specs.Refusals.{second_graph_told, second_target_told};
+ghost use Rattle.equivalent_command.specs.Refusals.{second_size_told, second_graph_told, second_target_told};
 
 use dag_reader::GraphFault;
-use fault_json::{graph_fault, target_fault};
+use fault_json::{graph_fault, graph_size, target_fault};
 use replies::{Outcome, Reply};
 use std::alloc::{AllocError, Global};
 use targets::TargetFault;
+
+/// The reply to a second graph's text of more than 1,048,576 bytes.
+pub fn refuse_long_graph(alloc: Global) -> Result<Reply, AllocError>
+    ensures outcome { IfOk result (λ r. r.outcome ≡ Outcome.Second) }
+    ensures told { IfOk result (λ r. told_of r ≡ second_size_told) }
+{
+    Ok(Reply {
+        outcome: Outcome::Second,
+        text: GraphFault::second_size_line(alloc)?,
+        object: graph_size(alloc, "second graph")?,
+    })
+}
 
 /// The reply to a second graph's text with a fault, whose bytes are these; want of memory has none.
 pub fn refuse_second_graph(

@@ -1,32 +1,36 @@
 //! The answer of `equivalent`.
 
-ghost use Rattle.std.specs.Prelude.{◌≡◌, ◌≤◌, ◌<◌, ℕ, List, Option, IfOk, IfSome, IfNone, length};
+ghost use Rattle.std.specs.Prelude.{◌≡◌, ◌≤◌, ◌<◌, ℕ, false, List, Option, IfOk, IfErr, IfSome, IfNone, length};
 ghost use Rattle.diagram.specs.declared.diagram.Diagram.{Diagram as First};
 ghost use Rattle.targets.specs.declared.query.Sets.{Sets as AskedSets};
-ghost use Rattle.replies.specs.declared.format.Format.{Format as AskedFormat};
-ghost use Rattle.replies.specs.Told.{told_of};
-ghost use Rattle.equivalent_command.specs.Requests.{Query as AskedQuery};
-ghost use Rattle.equivalent_command.specs.Queries.{AreBelow};
 ghost use Rattle.mixed_graph.specs.Shown.{graph_of};
 ghost use Rattle.markov_equivalence.specs.Skeletons.{HasArrowsAlone};
-ghost use Rattle.equivalent_command.specs.Numbers.{HaveSameNames};
-ghost use Rattle.equivalent_command.specs.Answers.{IsAcceptedFirst, SecondAnswer, AreComparable, GraphsAnswer, ObservedFault};
+ghost use Rattle.replies.specs.Told.{told_of};
+ghost use Rattle.told.specs.declared.form.Form.{Form as AskedForm};
+ghost use Rattle.told.specs.Forms.{plain_form};
+ghost use Rattle.told.specs.Telling.{Tells};
+ghost use Rattle.equivalent_command.specs.Requests.{Query as AskedQuery};
+ghost use Rattle.equivalent_command.specs.Queries.{AreBelow};
+ghost use Rattle.equivalent_command.specs.Numbers.{HaveSameNames, on_names};
+ghost use Rattle.equivalent_command.specs.Right.{IsAcceptedFirst, AreComparable, Decides, ObservedFault, IsForText, IsSecondFault, IsForSecond};
+ghost use Rattle.equivalent_command.specs.SecondFaults.{is_memory, second_refusal};
+ghost use Rattle.equivalent_command.specs.Telling.{equivalent_telling};
 
 use crate::agreement::agreement;
+use crate::answer::Answer;
 use crate::faults::{bidirected_fault, names_fault};
-use crate::formats::{collider, edge};
 use crate::numbers::graph_on;
-use crate::refusals::{refuse_second_graph, refuse_second_target};
-use dag_reader::{GraphFault, ReadGraph, read_graph};
+use crate::second::SecondFault;
+use dag_reader::{ReadGraph, read_graph};
 use diagram::Diagram;
-use fault_json::graph_size;
 use markov_equivalence::{Compared, compare};
 use mixed_graph::Names;
-use replies::{Format, Outcome, Reply};
+use replies::{Format, Reply};
 use std::alloc::{AllocError, Global};
 use targets::{Sets, TargetFault};
+use told::{Form, Refuses, reply};
 
-/// The answer of `equivalent` on a first diagram that was accepted with the sets that are asked about, and the bytes of a second graph.
+/// What is told of a first diagram that was accepted with the sets that are asked about, and of the bytes of a second graph.
 pub fn equivalent_reply(
     alloc: Global,
     diagram: &Diagram,
@@ -36,43 +40,42 @@ pub fn equivalent_reply(
 ) -> Result<Reply, AllocError>
     requires accepted { (query : Option AskedQuery) × IsAcceptedFirst diagram.now query sets }
     requires small { length second.now ≤ 1048576 }
-    ensures { IfOk result (λ r. SecondAnswer format diagram.now sets second.now r.outcome (told_of r)) }
+    ensures { IfOk result (λ r. Tells equivalent_telling second_refusal (IsForSecond diagram.now.observed sets second.now) (plain_form format)
+        diagram.now.observed.names r.outcome (told_of r)) }
+{
+    let answer = equivalent_answer(alloc, diagram, sets, second);
+    reply(alloc, Form::plain(format), &diagram.observed.names, &answer)
+}
+
+/// What is told where the second graph's text has more than 1,048,576 bytes.
+pub fn long_second_graph(alloc: Global) -> Result<Reply, AllocError>
+    ensures { IfOk result (λ r. (form : AskedForm) (first : First) (sets : Option AskedSets) (second : List ℕ) → 1048576 < length second
+        → Tells equivalent_telling second_refusal (IsForSecond first.observed sets second) form first.observed.names r.outcome (told_of r)) }
+{
+    SecondFault::TooLong.refuse(alloc)
+}
+
+/// Whether the two graphs imply the same separations, and what both say of the sets that are asked about.
+pub fn equivalent_answer<'a>(
+    alloc: Global,
+    diagram: &Diagram,
+    sets: Option<Sets>,
+    second: &'a [u8],
+) -> Result<Answer, SecondFault<'a>>
+    requires accepted { (query : Option AskedQuery) × IsAcceptedFirst diagram.now query sets }
+    requires small { length second.now ≤ 1048576 }
+    ensures answer { IfOk result (IsForText diagram.now.observed sets second.now) }
+    ensures fault { IfErr result (λ fault. is_memory fault ≡ false → IsSecondFault diagram.now.observed second.now fault) }
 {
     match read_graph(alloc, second) {
         Ok(read) => {
             let other = Diagram::of(alloc, read)?;
-            graphs_reply(alloc, &diagram.observed, &other.observed, sets, format)
+            match second_fault(alloc, &diagram.observed.names, &other.observed)? {
+                Some(fault) => Err(SecondFault::Unlike(fault)),
+                None => Ok(compared(&diagram.observed, &other.observed, sets)),
+            }
         }
-        Err(fault) => refuse_second_graph(alloc, &fault, second),
-    }
-}
-
-/// The answer of `equivalent` where the second graph's text has more than 1,048,576 bytes.
-pub fn long_second_graph(alloc: Global) -> Result<Reply, AllocError>
-    ensures { IfOk result (λ r. (format : AskedFormat) (first : First) (sets : Option AskedSets) (second : List ℕ) → 1048576 < length second → SecondAnswer format first sets second r.outcome (told_of r)) }
-{
-    Ok(Reply {
-        outcome: Outcome::Second,
-        text: GraphFault::second_size_line(alloc)?,
-        object: graph_size(alloc, "second graph")?,
-    })
-}
-
-/// The answer of two observed graphs, of which the first has no bidirected edge.
-fn graphs_reply(
-    alloc: Global,
-    first: &ReadGraph,
-    second: &ReadGraph,
-    sets: Option<Sets>,
-    format: Format,
-) -> Result<Reply, AllocError>
-    requires arrows { HasArrowsAlone (graph_of first.now.graph) }
-    requires below { IfSome sets (AreBelow (length first.now.names)) }
-    ensures { IfOk result (λ r. GraphsAnswer format first.now sets second.now r.outcome (told_of r)) }
-{
-    match second_fault(alloc, &first.names, second)? {
-        Some(fault) => refuse_second_target(alloc, &fault),
-        None => compared_reply(alloc, first, second, sets, format),
+        Err(fault) => Err(SecondFault::Faulty(second, fault)),
     }
 }
 
@@ -92,31 +95,16 @@ fn second_fault(
     }
 }
 
-/// The answer of two observed graphs that are compared.
-fn compared_reply(
-    alloc: Global,
-    first: &ReadGraph,
-    second: &ReadGraph,
-    sets: Option<Sets>,
-    format: Format,
-) -> Result<Reply, AllocError>
+/// The answer of two observed graphs that can be compared.
+fn compared(first: &ReadGraph, second: &ReadGraph, sets: Option<Sets>) -> Answer
     requires comparable { AreComparable first.now second.now }
     requires below { IfSome sets (AreBelow (length first.now.names)) }
-    ensures { IfOk result (λ r. GraphsAnswer format first.now sets second.now r.outcome (told_of r)) }
+    ensures { Decides (graph_of first.now.graph) (on_names first.now.names second.now.names (graph_of second.now.graph)) sets result }
 {
     let moved = graph_on(&first.names, second);
     match compare(&first.graph, &moved) {
-        Compared::Same => {
-            let text = agreement(alloc, format, &first.names, &first.graph, &moved, sets)?;
-            Ok(Reply::answer(alloc, Outcome::Yes, text))
-        }
-        Compared::Edge(d) => {
-            let text = edge(alloc, format, &first.names, d)?;
-            Ok(Reply::answer(alloc, Outcome::No, text))
-        }
-        Compared::Collider(d, m) => {
-            let text = collider(alloc, format, &first.names, d, m)?;
-            Ok(Reply::answer(alloc, Outcome::No, text))
-        }
+        Compared::Same => agreement(&first.graph, &moved, sets),
+        Compared::Edge(d) => Answer::Edge(d),
+        Compared::Collider(d, m) => Answer::Collider(d, m),
     }
 }

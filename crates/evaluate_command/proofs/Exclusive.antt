@@ -45,7 +45,7 @@ use Rattle.adjust_command.proofs.Exclusive as adjusting
 use Rattle.adjust_command.proofs.Verdicts.{shown}
 use Rattle.adjust_command.specs.Verdicts.{IsVerdict}
 use Rattle.adjust_command.specs.declared.criteria.Verdict.TheVariants.{Meets}
-use Rattle.identify_command.specs.declared.form.Writing.TheVariants.{Plain}
+use Rattle.told.specs.declared.form.Writing.TheVariants.{Plain}
 use Rattle.identify_command.specs.declared.form.Form.{Form}
 use Rattle.identify_command.specs.Forms.{plain_form}
 use Rattle.identify_command.specs.Answers.{formula_shown}

@@ -23,7 +23,7 @@ use Rattle.effect_answers.proofs.Exclusive.{formula_or_hedge, effect_refused}
 use Rattle.identify_command.specs.declared.form.Form.{Form}
 use Rattle.identify_command.specs.Answers.{EffectAnswer, IdentifyAnswer}
 use Rattle.identify_command.specs.Conditions.{AreTargetSets, IsListRefusal, ShowsConditional, ShowsJoint, ListsAnswer}
-use Rattle.identify_command.specs.Conditions.{ConditionalAnswer, IdentifyAnswerGiven}
+use Rattle.identify_command.specs.Conditions.{ConditionalAnswer}
 use Rattle.identify_command.specs.Laws.{FormsAgree}
 use Rattle.targets.proofs.Effects.{listed_outcome}
 use Rattle.identify_command.proofs.Lists.{three_sets}
@@ -118,8 +118,3 @@ pub forms_agree : FormsAgree
 forms_agree bytes x y None = bare_once bytes x y
 forms_agree bytes x y (Some []) = bare_once bytes x y
 forms_agree bytes x y (Some (n ∷ ns)) = conditional_once bytes x y (n ∷ ns)
-
--- and so have answers in one form
-pub identify_once : (bytes : List ℕ) (form : Form) (x y given : Names) → OneOutcome (IsAnswerOn bytes (λ d. IdentifyAnswerGiven form d x y given))
-identify_once bytes form x y given o p told other a b = forms_agree bytes x y given o p told other
-    (record { diagram = a.diagram; holds = a.holds; given = (form, a.given) }) (record { diagram = b.diagram; holds = b.holds; given = (form, b.given) })

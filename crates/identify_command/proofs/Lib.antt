@@ -1,8 +1,8 @@
 pub mod Lists
-mod Listed
 pub mod Outcomes
 pub mod Exclusive
+pub mod IdentifyTold
 pub mod Lawful
 pub mod OneText
 mod Shallow
-mod Notations
+mod Replied

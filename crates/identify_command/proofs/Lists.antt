@@ -1,18 +1,12 @@
--- What the sets of a target have, and the answer by what is given.
-use Rattle.std.proofs.Common.{◌≡◌, ◌<◌, ℕ, zero, suc, true, List, [], ◌∷◌, length, Some, refl, arith}
+-- What the sets of a target have.
+use Rattle.std.proofs.Common.{◌≡◌, ◌<◌, ℕ, zero, suc, true, length, arith}
 use Rattle.mixed_graph.specs.Bits.{has}
 use Rattle.do_rules.specs.Rules.{AreThreeSets}
 use Rattle.prob_expr.specs.Tree.{PlainTarget}
 use Rattle.mixed_graph.proofs.MaskLaws.{has_none}
 use Rattle.targets.specs.Targets.{Lists}
 use Rattle.targets.proofs.Disjoint.{disjoint_listed_sets}
-use Rattle.diagram.specs.Sets.{Names}
-use Rattle.diagram.specs.declared.diagram.Diagram.{Diagram}
-use Rattle.replies.specs.declared.outcome.Outcome.{Outcome}
-use Rattle.replies.specs.Told.{Told}
-use Rattle.identify_command.specs.declared.form.Form.{Form}
-use Rattle.identify_command.specs.Answers.{IdentifyAnswer}
-use Rattle.identify_command.specs.Conditions.{ConditionalAnswer, IdentifyAnswerGiven, AreTargetSets}
+use Rattle.identify_command.specs.Conditions.{AreTargetSets}
 
 -- the sets of a target are within the observed vertices, and no two of them meet
 pub three_sets : (l : Lists) (n : ℕ) (t : PlainTarget) → length l.observed ≡ n → AreTargetSets l t → AreThreeSets n (has t.x) (has t.y) (has t.given)
@@ -24,19 +18,3 @@ three_sets l n t e s =
 pub with_member : (set v : ℕ) → has set v ≡ true → 0 < set
 with_member zero v h = absurd (let no = has_none v in cc (h, no))
 with_member (suc k) v h = omega arith
-
--- ---- answers
-
--- where names are listed, the answer is that under a condition
-pub where_given : (form : Form) (d : Diagram) (x y : Names) (list : List (List ℕ)) (o : Outcome) (told : Told) → (list ≡ [] → ⊥)
-    → ConditionalAnswer form d x y list o told
-    → IdentifyAnswerGiven form d x y (Some list) o told
-where_given form d x y [] o told some h = absurd (some refl)
-where_given form d x y (n ∷ ns) o told some h = h
-
--- where none is, it is that without
-pub where_none : (form : Form) (d : Diagram) (x y : Names) (list : List (List ℕ)) (o : Outcome) (told : Told) → list ≡ []
-    → IdentifyAnswer form d x y o told
-    → IdentifyAnswerGiven form d x y (Some list) o told
-where_none form d x y [] o told none h = h
-where_none form d x y (n ∷ ns) o told none h = absurd (cc none)

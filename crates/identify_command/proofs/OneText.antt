@@ -24,8 +24,8 @@ use Rattle.certificate_json.specs.Certificates.{certificate_line}
 use Rattle.effect_answers.specs.Objects.{hedge_object, certified_hedge_object}
 use Rattle.effect_answers.proofs.OneNo.{one_hedge_text, one_hedge_view, one_hedge_object, one_certified_object, joint_with}
 use Rattle.identify_command.specs.declared.form.Form.{Form}
-use Rattle.identify_command.specs.declared.form.Writing.{Writing}
-use Rattle.identify_command.specs.declared.form.Writing.TheVariants.{Plain, Certificate, Latex}
+use Rattle.told.specs.declared.form.Writing.{Writing}
+use Rattle.told.specs.declared.form.Writing.TheVariants.{Plain, Certificate, Latex}
 use Rattle.identify_command.specs.Answers.{formula_shown, hedge_text, ShowsFormula, ShowsHedge, EffectAnswer}
 use Rattle.identify_command.specs.Objects.{hedge_json}
 use Rattle.identify_command.specs.Conditions.{joint_text, joint_shown, ShowsConditional, ShowsJoint, ListsAnswer}

@@ -25,8 +25,8 @@ use Rattle.certificate.specs.Plain as plain
 use Rattle.certificate.specs.Reading.{certificate_in}
 use Rattle.certificate_json.specs.Certificates.{certificate_text}
 use Rattle.identify_command.specs.declared.form.Form.{Form}
-use Rattle.identify_command.specs.declared.form.Writing.{Writing}
-use Rattle.identify_command.specs.declared.form.Writing.TheVariants.{Plain, Certificate, Latex}
+use Rattle.told.specs.declared.form.Writing.{Writing}
+use Rattle.told.specs.declared.form.Writing.TheVariants.{Plain, Certificate, Latex}
 use Rattle.answer_json.specs.Progress.{json_line}
 use Rattle.replies.specs.declared.format.Format.TheVariants.{Text}
 use Rattle.replies.specs.Told.{Told, text_in, answer_of}

@@ -1,8 +1,12 @@
 -- The command `identify`.
-use Rattle.replies.specs.Command.{CommandForm, on_file}
-use Rattle.identify_command.specs.Conditions.{IdentifyAnswerGiven}
+use Rattle.replies.specs.Command.{CommandForm}
+use Rattle.told.specs.Commands.{told_on_file}
+use Rattle.identify_command.specs.Forms.{is_certified, told_form}
+use Rattle.identify_command.specs.Right.{IsIdentifyAnswer}
+use Rattle.identify_command.specs.Telling.{identify_telling}
 use Rattle.identify_command.specs.Requests.{Request, IsRequest}
 
 -- its request and its answers
 abbrev pub identify_command : CommandForm
-identify_command = on_file Request IsRequest (λ q. q.form.format) (λ q. q.file) (λ q d. IdentifyAnswerGiven q.form d q.x q.y q.given)
+identify_command = told_on_file Request IsRequest (λ q. told_form q.form) (λ q. q.file) identify_telling
+    (λ q d. IsIdentifyAnswer q.form.short (is_certified q.form.writing) d q.x q.y q.given)

@@ -30,8 +30,8 @@ use Rattle.certificate.specs.Plain.{hedge_view}
 use Rattle.certificate.specs.Plain as plain
 use Rattle.identify_command.specs.declared.form.Form.{Form}
 use Rattle.certificate_json.specs.Certificates.{certificate_line}
-use Rattle.identify_command.specs.declared.form.Writing.{Writing}
-use Rattle.identify_command.specs.declared.form.Writing.TheVariants.{Plain, Certificate, Latex}
+use Rattle.told.specs.declared.form.Writing.{Writing}
+use Rattle.told.specs.declared.form.Writing.TheVariants.{Plain, Certificate, Latex}
 use Rattle.identify_command.specs.Answers.{formula_shown, ReadsBack, IdentifyAnswer}
 use Rattle.identify_command.specs.Objects.{hedge_json}
 

@@ -1,12 +1,11 @@
 -- The form of an answer, by its four flags.
 use Rattle.std.specs.Prelude.{◌≡◌, Bool, true, false}
-use Rattle.identify_command.specs.declared.form.Writing.{Writing}
-use Rattle.identify_command.specs.declared.form.Writing.TheVariants.{Plain, Certificate, Latex}
+use Rattle.told.specs.declared.form.Form.{Form as ToldForm}
+use Rattle.told.specs.declared.form.Writing.{Writing}
+use Rattle.told.specs.declared.form.Writing.TheVariants.{Plain, Latex, Certificate}
 use Rattle.identify_command.specs.declared.form.Form.{Form}
 use Rattle.replies.specs.declared.format.Format.{Format}
 use Rattle.replies.specs.Told.{format_of}
-use Rattle.answer_text.specs.declared.signs.Notation.{Notation}
-use Rattle.answer_text.specs.declared.signs.Notation.TheVariants as notations
 
 -- how an answer is written, by the flags for a certificate and for LaTeX, of which one stands at most, and that for LaTeX not beside that for JSON
 abbrev pub IsWriting : (certificate latex json : Bool) → Writing → Type 0
@@ -22,11 +21,16 @@ pub record IsForm (certificate latex is_short json : Bool) (f : Form) : Type 0 w
   pub short : f.short ≡ is_short
   pub format : f.format ≡ format_of json
 
+-- whether the certificate is asked for
+abbrev pub is_certified : Writing → Bool
+is_certified Plain = false
+is_certified Latex = false
+is_certified Certificate = true
+
+-- the form in which an answer is told
+abbrev pub told_form : Form → ToldForm
+told_form f = record { format = f.format; writing = f.writing }
+
 -- the form in which an answer in that format is plain, with the formula of the procedure
 abbrev pub plain_form : Format → Form
 plain_form format = record { writing = Plain; short = false; format = format }
-
--- the form in which the formula of the procedure stands in a notation
-abbrev pub form_in : Notation → Format → Form
-form_in notations.Plain format = plain_form format
-form_in notations.Latex format = record { writing = Latex; short = false; format = format }

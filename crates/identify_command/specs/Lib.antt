@@ -1,7 +1,9 @@
+pub mod Forms
 pub mod Objects
 pub mod Answers
 pub mod Conditions
+pub mod Telling
+pub mod Right
 pub mod Requests
-pub mod Forms
 pub mod Command
 pub mod Laws

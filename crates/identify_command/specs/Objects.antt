@@ -9,8 +9,8 @@ use Rattle.certificate.specs.Plain as plain
 use Rattle.certificate_json.specs.Certificates.{certificate_json}
 use Rattle.answer_json.specs.Progress.{object_of}
 use Rattle.effect_answers.specs.Objects.{target_members, formula_members, hedge_object, certified_hedge_object}
-use Rattle.identify_command.specs.declared.form.Writing.{Writing}
-use Rattle.identify_command.specs.declared.form.Writing.TheVariants.{Plain, Certificate, Latex}
+use Rattle.told.specs.declared.form.Writing.{Writing}
+use Rattle.told.specs.declared.form.Writing.TheVariants.{Plain, Certificate, Latex}
 
 -- the members of the object of a formula for a target
 abbrev pub formula_answer : List (List ℕ) → PlainTarget → PlainFormula → List (List ℕ × Json)

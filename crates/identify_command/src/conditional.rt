@@ -1,90 +1,93 @@
 //! Answers where something is given.
 
-ghost use Rattle.std.specs.Prelude.{◌<◌, IfOk};
+ghost use Rattle.std.specs.Prelude.{◌<◌, Some, IfOk, IfErr};
 ghost use Rattle.mixed_graph.specs.Bits.{has};
 ghost use Rattle.mixed_graph.specs.Names.{texts};
 ghost use Rattle.mixed_graph.specs.Shown.{graph_of};
 ghost use Rattle.do_rules.specs.Rules.{AreThreeSets};
 ghost use Rattle.prob_expr.specs.View.{target_view};
-ghost use Rattle.replies.specs.Told.{told_of};
-ghost use Rattle.identify_command.specs.Conditions.{ConditionalAnswer, TargetAnswer};
+ghost use Rattle.targets.specs.Targets.{OrMemory, IsListFault};
+ghost use Rattle.diagram.specs.Sets.{query_lists};
+ghost use Rattle.identify_command.specs.Forms.{is_certified};
 ghost use Rattle.identify_command.specs.Requests.{request_of};
+ghost use Rattle.identify_command.specs.Right.{DecidesTarget, IsForTarget};
 
-use crate::form::Form;
-use crate::formats::{formula_shown, joint_shown};
+use crate::answer::Answer;
 use crate::request::Request;
 use conditional_id::{Conditional, identify_given};
-use dag_reader::ReadGraph;
 use diagram::{Diagram, asked_condition};
-use effect_answers::has_arrays;
+use effect_answers::{EffectFormula, EffectHedge, has_arrays, has_short_steps};
+use mixed_graph::Graph;
 use prob_expr::Target;
-use replies::{Outcome, Reply, refuse};
 use short_formulas::{Candidate, shortened_if};
 use std::alloc::{AllocError, Global};
-use targets::EffectSets;
+use targets::{EffectSets, TargetFault};
 
 /// Whether P(y | do(x), given) can be computed from observations, in the observed graph.
-pub fn conditional_reply(
+pub fn conditional_answer(
     alloc: Global,
     diagram: &Diagram,
     asked: &Request<'_>,
     given: &[Vec<u8>],
-) -> Result<Reply, AllocError>
-    ensures { let q = request_of asked.now in IfOk result (λ r. ConditionalAnswer q.form diagram.now q.x q.y (texts given.now) r.outcome (told_of r)) }
+) -> Result<Answer, TargetFault>
+    ensures answer { let q = request_of asked.now in
+        IfOk result (IsForTarget q.form.short (is_certified q.form.writing) (graph_of diagram.now.observed.graph) (query_lists diagram.now.read diagram.now.observed.names q.x q.y (Some (texts given.now)))) }
+    ensures fault { let q = request_of asked.now in IfErr result (OrMemory (IsListFault (query_lists diagram.now.read diagram.now.observed.names q.x q.y (Some (texts given.now))))) }
 {
     let (x, y) = (asked.x.as_deref(), asked.y.as_deref());
-    match asked_condition(alloc, diagram, x, y, Some(given)) {
-        Ok(sets) => {
-            let target = Target {
-                x: sets.x,
-                y: sets.y,
-                given: sets.given,
-            };
-            decide_given(alloc, &diagram.observed, target, asked.form)
-        }
-        Err(fault) => refuse(alloc, &fault),
-    }
+    let sets = asked_condition(alloc, diagram, x, y, Some(given))?;
+    let target = Target {
+        x: sets.x,
+        y: sets.y,
+        given: sets.given,
+    };
+    let g = &diagram.observed.graph;
+    let Ok(answer) = decide_given(alloc, g, target, asked.form.short, asked.form.certified()) else {
+        return Err(TargetFault::NoMemory);
+    };
+    Ok(answer)
 }
 
-/// The answer for a target in the observed graph.
+/// The answer for a target in a graph, by a short formula where that is asked for.
 fn decide_given(
     alloc: Global,
-    seen: &ReadGraph,
+    g: &Graph,
     target: Target,
-    form: Form,
-) -> Result<Reply, AllocError>
-    requires sets { AreThreeSets seen.now.graph.n (has target.x.bits) (has target.y.bits) (has target.given.bits) }
+    short: bool,
+    certified: bool,
+) -> Result<Answer, AllocError>
+    requires sets { AreThreeSets g.now.n (has target.x.bits) (has target.y.bits) (has target.given.bits) }
     requires some { 0 < target.y.bits }
-    ensures { IfOk result (λ r. TargetAnswer form (graph_of seen.now.graph) seen.now.names (target_view target) r.outcome (told_of r)) }
+    ensures { IfOk result (DecidesTarget short certified (graph_of g.now) (target_view target)) }
 {
-    match identify_given(alloc, &seen.graph, &target)? {
+    match identify_given(alloc, g, &target)? {
         Conditional::Formula(formula, derivation) => {
             let found = Candidate {
                 formula,
                 derivation,
             };
-            let shown = shortened_if(alloc, &seen.graph, &target, form.short, found)?;
-            let text = formula_shown(
-                alloc,
-                &seen.names,
+            let shown = shortened_if(alloc, g, &target, short, found)?;
+            has_short_steps(&shown.derivation);
+            Ok(Answer::Formula(EffectFormula {
                 target,
-                shown.formula,
-                shown.derivation,
-                form,
-            )?;
-            Ok(Reply::answer(alloc, Outcome::Yes, text))
+                formula: shown.formula,
+                derivation: Some(shown.derivation),
+            }))
         }
         Conditional::Joint {
             x,
             y,
+            settled,
             hedge,
             pair,
-            ..
         } => {
             has_arrays(&hedge);
             let sets = EffectSets { x, y };
-            let text = joint_shown(alloc, &seen.names, &target, sets, hedge, &pair, form)?;
-            Ok(Reply::answer(alloc, Outcome::No, text))
+            Ok(Answer::Joint {
+                target,
+                settled,
+                hedge: EffectHedge { sets, hedge, pair },
+            })
         }
     }
 }

@@ -1,15 +1,9 @@
-use replies::Format;
+//! The form that is asked for.
 
-/// How an answer is written.
-#[derive(Clone, Copy, Debug, PartialEq, Eq)]
-pub enum Writing {
-    /// The formula, or the hedge with its two models.
-    Plain,
-    /// The certificate.
-    Certificate,
-    /// LaTeX.
-    Latex,
-}
+ghost use Rattle.std.specs.Prelude.{◌≡◌};
+
+use replies::Format;
+use told::{Form as ToldForm, Writing};
 
 /// The form of an answer.
 #[derive(Clone, Copy, Debug, PartialEq, Eq)]
@@ -20,4 +14,28 @@ pub struct Form {
     /// The format. An object of JSON has the formula as text, as LaTeX and as trees, or the hedge with its two models;
     /// and the certificate, where that is asked for.
     pub format: Format,
+}
+
+impl Form {
+    ghost use Rattle.identify_command.specs.Forms.{is_certified, told_form};
+
+    /// Whether the certificate is asked for.
+    pub fn certified(self) -> bool
+        ensures { result ≡ is_certified self.writing }
+    {
+        match self.writing {
+            Writing::Plain | Writing::Latex => false,
+            Writing::Certificate => true,
+        }
+    }
+
+    /// The form in which the answer is told.
+    pub fn told(self) -> ToldForm
+        ensures { result ≡ told_form self }
+    {
+        ToldForm {
+            format: self.format,
+            writing: self.writing,
+        }
+    }
 }

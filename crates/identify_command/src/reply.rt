@@ -1,108 +1,130 @@
 //! The answer of `identify`.
 
-ghost use Rattle.std.specs.Prelude.{◌≡◌, ◌<◌, IfOk};
+ghost use Rattle.std.specs.Prelude.{◌<◌, false, IfOk, IfErr};
 ghost use Rattle.mixed_graph.specs.Bits.{has};
 ghost use Rattle.mixed_graph.specs.Sets.{Within, Apart};
 ghost use Rattle.mixed_graph.specs.Shown.{graph_of};
+ghost use Rattle.targets.specs.Targets.{OrMemory, IsEffectFault};
+ghost use Rattle.diagram.specs.Sets.{effect_lists};
 ghost use Rattle.replies.specs.Told.{told_of};
-ghost use Rattle.identify_command.specs.Answers.{IdentifyAnswer, SetsAnswer};
-ghost use Rattle.identify_command.specs.Conditions.{IdentifyAnswerGiven};
-ghost use Rattle.identify_command.specs.Forms.{form_in};
+ghost use Rattle.told.specs.Refusals.{target_refusal};
+ghost use Rattle.told.specs.Telling.{Tells};
+ghost use Rattle.identify_command.specs.Forms.{is_certified, told_form};
 ghost use Rattle.identify_command.specs.Requests.{request_of};
+ghost use Rattle.identify_command.specs.Right.{DecidesEffect, IsForEffect, IsAnswerFor, IsFaultFor, IsIdentifyAnswer, asked_of};
+ghost use Rattle.identify_command.specs.Telling.{identify_telling};
 
-use crate::conditional::conditional_reply;
-use crate::form::{Form, Writing};
-use crate::formats::{formula_in, formula_shown, hedge_shown};
+use crate::answer::Answer;
+use crate::conditional::conditional_answer;
 use crate::request::Request;
-use answer_text::Notation;
-use dag_reader::ReadGraph;
 use diagram::{Diagram, asked_effect};
-use effect_answers::{has_arrays, hedge_in, target_of};
-use identify::{Answer, FormulaAnswer, identify, identify_formula};
-use replies::{Format, Outcome, Reply, refuse};
+use effect_answers::{EffectFormula, EffectHedge, has_arrays, has_short_steps, target_of};
+use identify::{Answer as Derived, FormulaAnswer, identify, identify_formula};
+use mixed_graph::Graph;
+use replies::Reply;
 use short_formulas::{Candidate, shortened_if};
 use std::alloc::{AllocError, Global};
-use targets::EffectSets;
+use targets::{EffectSets, TargetFault};
+use told::reply;
+
+/// What is told of an effect.
+pub fn identify_reply(
+    alloc: Global,
+    diagram: &Diagram,
+    asked: &Request<'_>,
+) -> Result<Reply, AllocError>
+    ensures { let q = request_of asked.now in IfOk result (λ r. Tells identify_telling target_refusal
+        (IsIdentifyAnswer q.form.short (is_certified q.form.writing) diagram.now q.x q.y q.given) (told_form q.form) diagram.now.observed.names r.outcome (told_of r)) }
+{
+    let answer = identify_answer(alloc, diagram, asked);
+    reply(alloc, asked.form.told(), &diagram.observed.names, &answer)
+}
 
 /// Whether P(y | do(x), given) can be computed from observations, in the observed graph (Shpitser and Pearl 2006):
 /// a formula for it, or a hedge. Where nothing is given the hedge shows that there is no formula, else that there
 /// is none for the joint effect into which the target turns.
 ///
 /// A list that is missing is that of the exposures or of the outcomes, or empty for what is given.
-pub fn identify_reply(
+pub fn identify_answer(
     alloc: Global,
     diagram: &Diagram,
     asked: &Request<'_>,
-) -> Result<Reply, AllocError>
-    ensures { let q = request_of asked.now in IfOk result (λ r. IdentifyAnswerGiven q.form diagram.now q.x q.y q.given r.outcome (told_of r)) }
+) -> Result<Answer, TargetFault>
+    ensures answer { let q = request_of asked.now in
+        IfOk result (IsAnswerFor q.form.short (is_certified q.form.writing) (graph_of diagram.now.observed.graph) (asked_of diagram.now q.x q.y q.given)) }
+    ensures fault { let q = request_of asked.now in IfErr result (OrMemory (IsFaultFor (asked_of diagram.now q.x q.y q.given))) }
 {
     let Some(given) = asked.given.as_deref() else {
-        return effect_reply(alloc, diagram, asked);
+        return effect_answer(alloc, diagram, asked);
     };
     if given.is_empty() {
-        return effect_reply(alloc, diagram, asked);
+        return effect_answer(alloc, diagram, asked);
     }
-    conditional_reply(alloc, diagram, asked, given)
+    conditional_answer(alloc, diagram, asked, given)
 }
 
 /// The answer where nothing is given.
-fn effect_reply(alloc: Global, diagram: &Diagram, asked: &Request<'_>) -> Result<Reply, AllocError>
-    ensures { let q = request_of asked.now in IfOk result (λ r. IdentifyAnswer q.form diagram.now q.x q.y r.outcome (told_of r)) }
+fn effect_answer(
+    alloc: Global,
+    diagram: &Diagram,
+    asked: &Request<'_>,
+) -> Result<Answer, TargetFault>
+    ensures answer { let q = request_of asked.now in
+        IfOk result (IsForEffect q.form.short (is_certified q.form.writing) (graph_of diagram.now.observed.graph) (effect_lists diagram.now.read diagram.now.observed.names q.x q.y)) }
+    ensures fault { let q = request_of asked.now in IfErr result (OrMemory (IsEffectFault (effect_lists diagram.now.read diagram.now.observed.names q.x q.y))) }
 {
     let (x, y) = (asked.x.as_deref(), asked.y.as_deref());
-    match asked_effect(alloc, diagram, x, y) {
-        Ok(sets) => decide(alloc, &diagram.observed, sets, asked.form),
-        Err(fault) => refuse(alloc, &fault),
-    }
+    let sets = asked_effect(alloc, diagram, x, y)?;
+    let g = &diagram.observed.graph;
+    let Ok(answer) = decide(alloc, g, sets, asked.form.short, asked.form.certified()) else {
+        return Err(TargetFault::NoMemory);
+    };
+    Ok(answer)
 }
 
-/// The answer for sets of the observed graph.
+/// The answer for sets of a graph, by a short formula, and with its derivation, where these are asked for.
 fn decide(
     alloc: Global,
-    seen: &ReadGraph,
+    g: &Graph,
     sets: EffectSets,
-    form: Form,
-) -> Result<Reply, AllocError>
-    requires x { Within seen.now.graph.n (has sets.x.bits) }
-    requires y { Within seen.now.graph.n (has sets.y.bits) }
+    short: bool,
+    certified: bool,
+) -> Result<Answer, AllocError>
+    requires x { Within g.now.n (has sets.x.bits) }
+    requires y { Within g.now.n (has sets.y.bits) }
     requires apart { Apart (has sets.x.bits) (has sets.y.bits) }
     requires some { 0 < sets.y.bits }
-    ensures { IfOk result (λ r. SetsAnswer form (graph_of seen.now.graph) seen.now.names sets.x.bits sets.y.bits r.outcome (told_of r)) }
+    ensures { IfOk result (DecidesEffect short certified (graph_of g.now) sets) }
 {
-    if form.short {
-        return decide_derived(alloc, seen, sets, form);
+    if short {
+        return decide_derived(alloc, g, sets, short, certified);
     }
-    match form.writing {
-        Writing::Plain => decide_alone(alloc, seen, sets, Notation::Plain, form.format),
-        Writing::Latex => decide_alone(alloc, seen, sets, Notation::Latex, form.format),
-        Writing::Certificate => decide_derived(alloc, seen, sets, form),
+    if certified {
+        return decide_derived(alloc, g, sets, short, certified);
     }
+    decide_alone(alloc, g, sets)
 }
 
-/// The answer where the procedure's formula is printed in a notation: its derivation isn't asked for.
-fn decide_alone(
-    alloc: Global,
-    seen: &ReadGraph,
-    sets: EffectSets,
-    notation: Notation,
-    format: Format,
-) -> Result<Reply, AllocError>
-    requires x { Within seen.now.graph.n (has sets.x.bits) }
-    requires y { Within seen.now.graph.n (has sets.y.bits) }
+/// The answer by the procedure's formula alone.
+fn decide_alone(alloc: Global, g: &Graph, sets: EffectSets) -> Result<Answer, AllocError>
+    requires x { Within g.now.n (has sets.x.bits) }
+    requires y { Within g.now.n (has sets.y.bits) }
     requires apart { Apart (has sets.x.bits) (has sets.y.bits) }
     requires some { 0 < sets.y.bits }
-    ensures { IfOk result (λ r. SetsAnswer (form_in notation format) (graph_of seen.now.graph) seen.now.names sets.x.bits sets.y.bits r.outcome (told_of r)) }
+    ensures { IfOk result (DecidesEffect false false (graph_of g.now) sets) }
 {
-    match identify_formula(alloc, &seen.graph, sets.x, sets.y)? {
+    match identify_formula(alloc, g, sets.x, sets.y)? {
         FormulaAnswer::Formula(formula) => {
             let target = target_of(sets);
-            let text = formula_in(alloc, &seen.names, &target, &formula, notation, format)?;
-            Ok(Reply::answer(alloc, Outcome::Yes, text))
+            Ok(Answer::Formula(EffectFormula {
+                target,
+                formula,
+                derivation: None,
+            }))
         }
         FormulaAnswer::Hedge(hedge, pair) => {
             has_arrays(&hedge);
-            let text = hedge_in(alloc, format, &seen.names, sets, &hedge, &pair)?;
-            Ok(Reply::answer(alloc, Outcome::No, text))
+            Ok(Answer::Hedge(EffectHedge { sets, hedge, pair }))
         }
     }
 }
@@ -110,38 +132,35 @@ fn decide_alone(
 /// The answer by a formula with its derivation, which a short formula and a certificate ask for.
 fn decide_derived(
     alloc: Global,
-    seen: &ReadGraph,
+    g: &Graph,
     sets: EffectSets,
-    form: Form,
-) -> Result<Reply, AllocError>
-    requires x { Within seen.now.graph.n (has sets.x.bits) }
-    requires y { Within seen.now.graph.n (has sets.y.bits) }
+    short: bool,
+    certified: bool,
+) -> Result<Answer, AllocError>
+    requires x { Within g.now.n (has sets.x.bits) }
+    requires y { Within g.now.n (has sets.y.bits) }
     requires apart { Apart (has sets.x.bits) (has sets.y.bits) }
     requires some { 0 < sets.y.bits }
-    ensures { IfOk result (λ r. SetsAnswer form (graph_of seen.now.graph) seen.now.names sets.x.bits sets.y.bits r.outcome (told_of r)) }
+    ensures { IfOk result (DecidesEffect short certified (graph_of g.now) sets) }
 {
-    match identify(alloc, &seen.graph, sets.x, sets.y)? {
-        Answer::Formula(formula, derivation) => {
+    match identify(alloc, g, sets.x, sets.y)? {
+        Derived::Formula(formula, derivation) => {
             let found = Candidate {
                 formula,
                 derivation,
             };
             let target = target_of(sets);
-            let shown = shortened_if(alloc, &seen.graph, &target, form.short, found)?;
-            let text = formula_shown(
-                alloc,
-                &seen.names,
+            let shown = shortened_if(alloc, g, &target, short, found)?;
+            has_short_steps(&shown.derivation);
+            Ok(Answer::Formula(EffectFormula {
                 target,
-                shown.formula,
-                shown.derivation,
-                form,
-            )?;
-            Ok(Reply::answer(alloc, Outcome::Yes, text))
+                formula: shown.formula,
+                derivation: Some(shown.derivation),
+            }))
         }
-        Answer::Hedge(hedge, pair) => {
+        Derived::Hedge(hedge, pair) => {
             has_arrays(&hedge);
-            let text = hedge_shown(alloc, &seen.names, sets, hedge, &pair, form)?;
-            Ok(Reply::answer(alloc, Outcome::No, text))
+            Ok(Answer::Hedge(EffectHedge { sets, hedge, pair }))
         }
     }
 }

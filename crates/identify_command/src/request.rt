@@ -5,14 +5,15 @@ ghost use Rattle.command_words.specs.Form.{Use};
 ghost use Rattle.command_words.specs.Gives.{HoldsCall};
 ghost use Rattle.std.specs.Prelude.{IfSome, IfNone};
 ghost use Rattle.identify_command.specs.Forms.{IsWriting};
-ghost use Rattle.identify_command.specs.declared.form.Writing as asked;
+ghost use Rattle.told.specs.declared.form.Writing as asked;
 
-use crate::form::{Form, Writing};
+use crate::form::Form;
 use command_words::forms::Entry;
 use command_words::typed::{RequestFault, Subject, listed_names};
 use command_words::values::Values;
 use replies::Format;
 use std::alloc::Global;
+use told::Writing;
 
 /// `identify FILE [--x L] [--y L] [--given L] [--certificate] [--latex] [--short] [--json]`
 pub const ROW: Entry = Entry {

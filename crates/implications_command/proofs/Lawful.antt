@@ -1,18 +1,19 @@
--- The command's words ask for one request, and its answers have one outcome.
-use Rattle.std.proofs.Common.{◌≡◌, List, Option, Some, sym, ◌∙◌, subst}
+-- The command's words ask for one request, and its right answers end alike.
+use Rattle.std.proofs.Common.{◌≡◌, List, sym, ◌∙◌}
 use Rattle.std.proofs.lemmas.Option.{same_Some}
-use Rattle.command_words.specs.Form.{Text, Use}
-use Rattle.mixed_graph.specs.Shown.{graph_of}
-use Rattle.diagram.specs.declared.diagram.Diagram.{Diagram}
-use Rattle.implications.specs.declared.pairs.Implication.{Implication}
-use Rattle.replies.specs.Command.{IsLeft}
-use Rattle.replies.proofs.Commands.{IsLawful, lawful_on_two_inputs}
-use Rattle.implications_command.specs.Answers.{FirstAnswer}
+use Rattle.command_words.specs.Form.{Use}
+use Rattle.replies.specs.Outcomes.{IsAnswered}
+use Rattle.replies.proofs.Commands.{IsLawful}
+use Rattle.told.proofs.ToldOnBoth.{lawful_told_on_both}
+use Rattle.implications_command.specs.Command.{implications_command}
+use Rattle.implications_command.specs.CountsFaults.{counts_refusal}
 use Rattle.implications_command.specs.Pairs.{ArePairs, pairs_in}
 use Rattle.implications_command.specs.Requests.{Request, IsRequest}
-use Rattle.implications_command.specs.Command.{implications_command, implications_left}
-use Rattle.implications_command.proofs.Outcomes.{first_answered, counts_answered}
-use Rattle.implications_command.proofs.Exclusive.{first_alone, first_once, implications_once}
+use Rattle.implications_command.specs.Right.{IsForGraph, IsForCounts}
+use Rattle.implications_command.specs.Telling.{implications_telling}
+use Rattle.implications_command.specs.declared.answer.Answer.{Answer}
+use Rattle.implications_command.specs.declared.answer.Answer.TheVariants.{NoPairs, Pairs, Differences}
+use Rattle.implications_command.proofs.Exclusive.{first_alike, counts_alike, named_alone}
 
 -- the uses ask for one request
 one_request : (uses : List Use) (q r : Request) → IsRequest uses q → IsRequest uses r → r ≡ q
@@ -23,16 +24,15 @@ one_request uses q r a b = λ i. record {
   format = (b.format ∙ sym a.format) i;
 }
 
+answered : (a : Answer) → IsAnswered (implications_telling.outcome a)
+answered NoPairs = tt
+answered (Pairs list) = tt
+answered (Differences t measured) = tt
+
 -- what holds of each command holds of it
 pub implications_lawful : IsLawful implications_command
-implications_lawful = lawful_on_two_inputs one_request
-    (λ q d. first_answered q.format q.counts (graph_of d.observed.graph) d.observed.names)
-    (λ q d other o told a. counts_answered q.format (pairs_in d.observed a.0) q.count other o told a.2)
-    (λ q bytes. first_once q.format bytes q.counts)
-    (λ q bytes other. implications_once q.format bytes other q.count)
-    (λ q name d e same names o told a n. first_alone q.format d e same name o told n.0
-    (subst (λ (c : Option Text). FirstAnswer q.format c (graph_of d.observed.graph) d.observed.names o told) names a) n.1)
-
-pub implications_is_left : (q : Request) (d : Diagram) (list : List Implication) (counts : Text) → q.counts ≡ Some counts
-    → ArePairs (pairs_in d.observed list) → IsLeft implications_command q d (implications_left q.format d list counts q.count)
-implications_is_left q d list counts names is = record { named = names; continues = (list, is); known = is; answers = λ other o told a. (list, is, a) }
+implications_lawful = lawful_told_on_both implications_telling counts_refusal one_request answered (λ fault. tt)
+    (λ q d. IsForGraph q.counts d.observed) (λ q d list. ArePairs (pairs_in d.observed list)) (λ q d list. IsForCounts (pairs_in d.observed list) q.count)
+    (λ q. first_alike q.counts)
+    (λ q d e s back list others a b. counts_alike d e s back list others a b q.count)
+    (λ q name d e s named. named_alone d e s q.counts name named)

@@ -2,9 +2,9 @@ mod Naming
 mod Pieces
 mod Using
 mod Measuring
-pub mod Outcomes
 mod OneList
 mod SameList
 pub mod Exclusive
 pub mod Lawful
+pub mod ImplicationsTold
 pub mod OneText

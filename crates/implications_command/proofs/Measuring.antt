@@ -7,7 +7,7 @@ use Rattle.count_rows.specs.Rows.{Table}
 use Rattle.implications.specs.declared.pairs.Implication.{Implication}
 use Rattle.implied_differences.specs.Differences.{IsLargest}
 use Rattle.implied_differences.specs.Laws.{IsZeroIfMatched}
-use Rattle.implications_command.specs.Answers.{AreMeasured}
+use Rattle.implications_command.specs.Differences.{AreMeasured}
 use Rattle.implications_command.specs.declared.differences.Measured.{Measured}
 
 -- one pair more

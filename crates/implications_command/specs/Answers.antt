@@ -1,5 +1,5 @@
--- The answer of `implications`: the pairs of observed vertices that some set separates, and how far counts are from each.
-use Rattle.std.specs.Prelude.{ℕ, ◌≡◌, List, All, map, Option, Some, None}
+-- What is told by `implications`: the pairs of observed vertices that some set separates, and how far counts are from each.
+use Rattle.std.specs.Prelude.{ℕ, ◌≡◌, List, Option, Some, None}
 use Rattle.std.specs.List.{flat_map}
 use Rattle.mixed_graph.specs.Graphs.{MixedGraph}
 use Rattle.command_words.specs.Form.{Text}
@@ -14,10 +14,9 @@ use Rattle.count_answers.specs.Reads.{HoldsCounts}
 use Rattle.count_json.specs.Refusals.{AreRefusedCounts}
 use Rattle.implications.specs.declared.pairs.Implication.{Implication}
 use Rattle.implications.specs.Separable.{IsSeparable, AreIndependentGivenSome}
-use Rattle.implied_differences.specs.Differences.{IsLargest}
-use Rattle.implied_differences.specs.Laws.{IsZeroIfMatched}
 use Rattle.implications_command.specs.Pairs.{PlainPairs, ArePairs, pairs_of}
 use Rattle.implications_command.specs.Used.{used_in}
+use Rattle.implications_command.specs.Differences.{AreMeasured}
 use Rattle.implications_command.specs.Lines.{none_line, pair_lines, measured_lines}
 use Rattle.implications_command.specs.Objects.{none_json, pairs_json, differences_json}
 use Rattle.implications_command.specs.declared.differences.Measured.{Measured}
@@ -53,12 +52,6 @@ FirstAnswer format None q names o told = PairsAnswer format q names o told
 FirstAnswer format (Some counts) q names o told = NoPairs format q o told
 
 -- ---- over a table of counts
-
--- these are the pairs, each with its largest difference, which is 0 in a model that has the counts
-pub record AreMeasured (g : MixedGraph) (t : Table) (list : List Implication) (measured : List Measured) : Type 0 where
-  pub pairs : map (λ m. m.pair) measured ≡ list
-  pub largest : All (λ m. IsLargest t m.pair m.difference) measured
-  pub matched : All (λ m. IsZeroIfMatched g t m.difference) measured
 
 -- yes: each pair, with the largest difference of the counts, and what is told of them
 pub record ShowsDifferences (format : Format) (p : PlainPairs) (t : Table) (told : Told) : Type 0 where

@@ -2,7 +2,11 @@ pub mod Pairs
 pub mod Used
 pub mod Lines
 pub mod Objects
+pub mod Differences
 pub mod Answers
+pub mod Right
+pub mod Telling
+pub mod CountsFaults
 pub mod Firsts
 pub mod Requests
 pub mod Command

@@ -13,8 +13,12 @@ use Rattle.implications_command.specs.declared.differences.Measured.{Measured}
 use Rattle.implications_command.specs.Lines.{vertices_of}
 
 -- the answer in a word, and pairs
+abbrev pub listed_members : (word : List ℕ) → List Json → List (List ℕ × Json)
+listed_members word pairs = (codes "answer", string word) ∷ (codes "pairs", array_of pairs) ∷ []
+
+-- their object
 abbrev pub listed_json : (word : List ℕ) → List Json → Json
-listed_json word pairs = object_of ((codes "answer", string word) ∷ (codes "pairs", array_of pairs) ∷ [])
+listed_json word pairs = object_of (listed_members word pairs)
 
 -- no set separates any two vertices
 abbrev pub none_json : Json

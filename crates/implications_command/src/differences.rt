@@ -5,7 +5,7 @@ ghost use Rattle.mixed_graph.specs.Bits.{has, members_below};
 ghost use Rattle.mixed_graph.specs.Shown.{graph_of};
 ghost use Rattle.implications_command.specs.Pairs.{ArePairs, pairs_in};
 ghost use Rattle.implications_command.specs.Used.{used_in};
-ghost use Rattle.implications_command.specs.Answers.{AreMeasured};
+ghost use Rattle.implications_command.specs.Differences.{AreMeasured};
 
 use count_table::Counts;
 use dag_reader::ReadGraph;

@@ -4,8 +4,9 @@
 //! adds the largest difference of the counts to each.
 #![tactic(auto)]
 
+mod answer;
 mod differences;
-mod formats;
+mod fault;
 mod lines;
 mod listing;
 mod objects;
@@ -13,6 +14,9 @@ mod reply;
 mod request;
 mod used;
 
-pub use listing::{PairsOrReply, counted_pairs, pairs_reply};
-pub use reply::{differences_reply, long_counts};
+pub use answer::Answer;
+pub use differences::Measured;
+pub use fault::CountsFault;
+pub use listing::{PairsOrReply, counted_pairs, pairs_answer, pairs_reply};
+pub use reply::{differences_answer, differences_reply, long_counts};
 pub use request::{ROW, Request};

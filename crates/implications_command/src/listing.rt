@@ -1,21 +1,23 @@
 //! The answer without counts.
 
-ghost use Rattle.std.specs.Prelude.{◌≡◌, ◌<◌, IfOk};
+ghost use Rattle.std.specs.Prelude.{◌≡◌, None, IfOk, IfSome, IfNone};
 ghost use Rattle.mixed_graph.specs.Shown.{graph_of};
+ghost use Rattle.replies.specs.Told.{told_of};
+ghost use Rattle.told.specs.Forms.{plain_form};
+ghost use Rattle.told.specs.Refusals.{target_refusal};
+ghost use Rattle.told.specs.Telling.{Tells};
 ghost use Rattle.implications_command.specs.Pairs.{ArePairs, pairs_in};
-ghost use Rattle.answer_json.specs.Progress.{json_line};
-ghost use Rattle.replies.specs.Told.{told_of, answer_of, text_in};
-ghost use Rattle.implications_command.specs.Lines.{pair_lines};
-ghost use Rattle.implications_command.specs.Objects.{pairs_json};
-ghost use Rattle.implications_command.specs.Answers.{PairsAnswer};
+ghost use Rattle.implications_command.specs.Right.{HasNoPairs, Lists, IsForGraph};
+ghost use Rattle.implications_command.specs.Telling.{implications_telling};
 ghost use Rattle.implications_command.specs.Firsts.{IsPairsOrReply};
 
-use crate::formats::{none, pairs};
+use crate::answer::Answer;
 use dag_reader::ReadGraph;
 use diagram::Diagram;
 use implications::{Implication, implications};
-use replies::{Format, Outcome, Reply};
+use replies::{Format, Reply};
 use std::alloc::{AllocError, Global};
+use told::{Form, tell};
 
 /// What is known before counts are read.
 #[derive(Drop)]
@@ -26,7 +28,38 @@ pub enum PairsOrReply {
     Pairs(Vec<Implication>),
 }
 
-/// The pairs of the observed graph that some set separates, or the answer that there is none. The only error is want of memory.
+/// The pairs of an observed graph that some set separates, if there is one. The only error is want of memory.
+fn found_pairs(alloc: Global, seen: &ReadGraph) -> Result<Option<Vec<Implication>>, AllocError>
+    ensures found { IfOk result (λ o. IfSome o (λ list. ArePairs (pairs_in seen.now list.items))) }
+    ensures none { IfOk result (λ o. IfNone o (HasNoPairs (graph_of seen.now.graph))) }
+{
+    let list = implications(alloc, &seen.graph)?;
+    if list.is_empty() {
+        return Ok(None);
+    }
+    Ok(Some(list))
+}
+
+/// The pairs of the observed graph, or that there is none. The only error is want of memory.
+pub fn pairs_answer(alloc: Global, diagram: &Diagram) -> Result<Answer, AllocError>
+    ensures { IfOk result (Lists diagram.now.observed) }
+{
+    match found_pairs(alloc, &diagram.observed)? {
+        Some(list) => Ok(Answer::Pairs(list)),
+        None => Ok(Answer::NoPairs),
+    }
+}
+
+/// What is told of them without counts.
+pub fn pairs_reply(alloc: Global, diagram: &Diagram, format: Format) -> Result<Reply, AllocError>
+    ensures { IfOk result (λ r. Tells implications_telling target_refusal (IsForGraph None diagram.now.observed) (plain_form format)
+        diagram.now.observed.names r.outcome (told_of r)) }
+{
+    let answer = pairs_answer(alloc, diagram)?;
+    tell(alloc, Form::plain(format), &diagram.observed.names, &answer)
+}
+
+/// The pairs whose differences are asked for, or what is told where there is none. The only error is want of memory.
 pub fn counted_pairs(
     alloc: Global,
     diagram: &Diagram,
@@ -34,35 +67,16 @@ pub fn counted_pairs(
 ) -> Result<PairsOrReply, AllocError>
     ensures { IfOk result (IsPairsOrReply format diagram.now.observed) }
 {
-    let list = implications(alloc, &diagram.observed.graph)?;
-    if list.is_empty() {
-        let text = none(alloc, format)?;
-        return Ok(PairsOrReply::Replied(Reply::answer(alloc, Outcome::No, text)));
+    match found_pairs(alloc, &diagram.observed)? {
+        Some(list) => Ok(PairsOrReply::Pairs(list)),
+        None => {
+            let reply = tell(
+                alloc,
+                Form::plain(format),
+                &diagram.observed.names,
+                &Answer::NoPairs,
+            )?;
+            Ok(PairsOrReply::Replied(reply))
+        }
     }
-    Ok(PairsOrReply::Pairs(list))
-}
-
-/// The answer without counts: the pairs, or that there is none. The only error is want of memory.
-pub fn pairs_reply(alloc: Global, diagram: &Diagram, format: Format) -> Result<Reply, AllocError>
-    ensures { let seen = diagram.now.observed in IfOk result (λ r. PairsAnswer format (graph_of seen.graph) seen.names r.outcome (told_of r)) }
-{
-    match counted_pairs(alloc, diagram, format)? {
-        PairsOrReply::Replied(reply) => Ok(reply),
-        PairsOrReply::Pairs(list) => listed_reply(alloc, &diagram.observed, &list, format),
-    }
-}
-
-/// The answer that lists the pairs.
-fn listed_reply(
-    alloc: Global,
-    seen: &ReadGraph,
-    list: &[Implication],
-    format: Format,
-) -> Result<Reply, AllocError>
-    requires { ArePairs (pairs_in seen.now list.now) }
-    ensures outcome { IfOk result (λ r. r.outcome ≡ Outcome.Yes) }
-    ensures told { IfOk result (λ r. told_of r ≡ answer_of (text_in format (pair_lines seen.now.names list.now) (json_line (pairs_json seen.now.names list.now)))) }
-{
-    let text = pairs(alloc, format, &seen.names, list)?;
-    Ok(Reply::answer(alloc, Outcome::Yes, text))
 }

@@ -1,13 +1,13 @@
-//! The objects of the answers of `implications`.
+//! The members of the objects of `implications`.
 
-ghost use Rattle.std.specs.Prelude.{◌≡◌, [], map, OnOk, IfOk, codes};
+ghost use Rattle.std.specs.Prelude.{◌≡◌, [], map, OnOk, codes};
 ghost use Rattle.std.specs.Fmt.{signed_decimal};
 ghost use Rattle.json.specs.Json.{string};
 ghost use Rattle.count_eval.specs.Programs.{cell_of};
-ghost use Rattle.answer_json.specs.Progress.{with_value, with_values, with_member, with_members, array_of, json_line};
+ghost use Rattle.answer_json.specs.Progress.{with_value, with_values, with_member, with_members, array_of};
 ghost use Rattle.count_json.specs.Cells.{level_json, cell_json};
 ghost use Rattle.implications_command.specs.Lines.{vertices_of};
-ghost use Rattle.implications_command.specs.Objects.{none_json, pair_members, pair_json, pairs_json, difference_members, measured_json, differences_json};
+ghost use Rattle.implications_command.specs.Objects.{listed_members, pair_members, pair_json, difference_members, measured_json};
 
 use crate::differences::Measured;
 use answer_json::Object;
@@ -17,18 +17,16 @@ use count_table::Counts;
 use implications::Implication;
 use implied_differences::Difference;
 use mixed_graph::Names;
-use std::alloc::{AllocError, Global};
+use std::alloc::AllocError;
 
-/// That no set separates any two vertices, as a line of JSON.
-pub fn none_object(alloc: Global) -> Result<Vec<u8>, AllocError>
-    ensures { IfOk result (λ v. v.items ≡ json_line none_json) }
+/// That no set separates any two vertices.
+pub fn push_none(object: &mut Object) -> Result<(), AllocError>
+    ensures { OnOk result (object.new ≡ with_members (listed_members (codes "none") []) object.old) }
 {
-    let mut object = Object::new(alloc)?;
     object.word_at("answer", "none")?;
     object.key("pairs")?;
     object.begin_array()?;
-    object.end_array()?;
-    object.line()
+    object.end_array()
 }
 
 /// The members of a pair: its two vertices, and what is given.
@@ -52,7 +50,7 @@ fn push_pair(object: &mut Object, names: &Names, i: &Implication) -> Result<(), 
 }
 
 /// Pairs, in their order.
-fn push_pairs(object: &mut Object, names: &Names, list: &[Implication]) -> Result<(), AllocError>
+fn push_list(object: &mut Object, names: &Names, list: &[Implication]) -> Result<(), AllocError>
     ensures { OnOk result (object.new ≡ with_values (map (pair_json names.now) list.now) object.old) }
 {
     for i in list {
@@ -68,23 +66,21 @@ fn pairs_at(object: &mut Object, names: &Names, list: &[Implication]) -> Result<
 {
     object.key("pairs")?;
     object.begin_array()?;
-    push_pairs(object, names, list)?;
+    push_list(object, names, list)?;
     object.end_array()?;
     Ok(())
 }
 
-/// Pairs as a line of JSON.
-pub fn pairs_object(
-    alloc: Global,
+/// The members of pairs.
+pub fn push_pairs(
+    object: &mut Object,
     names: &Names,
     list: &[Implication],
-) -> Result<Vec<u8>, AllocError>
-    ensures { IfOk result (λ v. v.items ≡ json_line (pairs_json names.now list.now)) }
+) -> Result<(), AllocError>
+    ensures { OnOk result (object.new ≡ with_members (listed_members (codes "implications") (map (pair_json names.now) list.now)) object.old) }
 {
-    let mut object = Object::new(alloc)?;
     object.word_at("answer", "implications")?;
-    pairs_at(&mut object, names, list)?;
-    object.line()
+    pairs_at(object, names, list)
 }
 
 /// A difference, as a text of its digits.
@@ -193,17 +189,15 @@ fn differences_at(
     Ok(())
 }
 
-/// Pairs with their differences as a line of JSON.
-pub fn differences_object(
-    alloc: Global,
+/// The members of pairs with their differences.
+pub fn push_differences(
+    object: &mut Object,
     names: &Names,
     counts: &Counts,
     measured: &[Measured],
-) -> Result<Vec<u8>, AllocError>
-    ensures { IfOk result (λ v. v.items ≡ json_line (differences_json names.now counts.now measured.now)) }
+) -> Result<(), AllocError>
+    ensures { OnOk result (object.new ≡ with_members (listed_members (codes "implications") (map (measured_json names.now counts.now) measured.now)) object.old) }
 {
-    let mut object = Object::new(alloc)?;
     object.word_at("answer", "implications")?;
-    differences_at(&mut object, names, counts, measured)?;
-    object.line()
+    differences_at(object, names, counts, measured)
 }

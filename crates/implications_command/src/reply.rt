@@ -1,27 +1,30 @@
 //! The answer of `implications` over counts.
 
-ghost use Rattle.std.specs.Prelude.{ℕ, ◌≡◌, ◌<◌, ◌≤◌, List, Option, IfOk, length, option_map};
+ghost use Rattle.std.specs.Prelude.{ℕ, ◌≡◌, ◌<◌, ◌≤◌, false, List, Option, IfOk, IfErr, length, option_map};
 ghost use Rattle.mixed_graph.specs.Bits.{has, members_below};
 ghost use Rattle.count_rows.specs.Records.{Field};
-ghost use Rattle.replies.specs.declared.format.Format.{Format as AskedFormat};
 ghost use Rattle.replies.specs.Told.{told_of};
+ghost use Rattle.told.specs.declared.form.Form.{Form as AskedForm};
+ghost use Rattle.told.specs.Forms.{plain_form};
+ghost use Rattle.told.specs.Telling.{Tells};
+ghost use Rattle.implications_command.specs.CountsFaults.{is_memory, counts_refusal};
 ghost use Rattle.implications_command.specs.Pairs.{PlainPairs, ArePairs, pairs_in};
-ghost use Rattle.implications_command.specs.Used.{used_in};
-ghost use Rattle.implications_command.specs.Answers.{CountsAnswer, ShowsDifferences};
+ghost use Rattle.implications_command.specs.Right.{Measures, IsCountsFault, IsForCounts};
+ghost use Rattle.implications_command.specs.Telling.{implications_telling};
 
+use crate::answer::Answer;
 use crate::differences::largest_differences;
-use crate::formats::differences;
+use crate::fault::CountsFault;
 use crate::used::used_in;
-use count_json::{count_fault, count_size};
-use count_rows::CountFault;
-use count_table::{Counts, read_counts};
+use count_table::read_counts;
 use dag_reader::ReadGraph;
 use diagram::Diagram;
 use implications::Implication;
-use replies::{Format, Outcome, Reply};
+use replies::{Format, Reply};
 use std::alloc::{AllocError, Global};
+use told::{Form, Refuses, reply};
 
-/// The pairs, each with the largest difference of counts in CSV; refused counts are answered with their line. The only error is want of memory.
+/// What is told of the pairs, each with the largest difference of counts in CSV, or of counts that are refused. The only error is want of memory.
 pub fn differences_reply(
     alloc: Global,
     diagram: &Diagram,
@@ -32,66 +35,40 @@ pub fn differences_reply(
 ) -> Result<Reply, AllocError>
     requires pairs { ArePairs (pairs_in diagram.now.observed list.now.items) }
     requires small { length bytes.now ≤ 67108864 }
-    ensures { IfOk result (λ r. CountsAnswer format (pairs_in diagram.now.observed list.now.items) (option_map (λ s. s.now) count.entry) bytes.now r.outcome (told_of r)) }
+    ensures { IfOk result (λ r. Tells implications_telling counts_refusal
+        (IsForCounts (pairs_in diagram.now.observed list.now.items) (option_map (λ s. s.now) count.entry) bytes.now) (plain_form format)
+        diagram.now.observed.names r.outcome (told_of r)) }
 {
-    counts_reply(
-        alloc,
-        &diagram.observed,
-        list.as_slice(),
-        count,
-        bytes,
-        format,
-    )
+    let answer = differences_answer(alloc, &diagram.observed, list.as_slice(), count, bytes);
+    reply(alloc, Form::plain(format), &diagram.observed.names, &answer)
 }
 
-/// The same in an observed graph, with the pairs of a slice.
-fn counts_reply(
+/// What is told where there are more than 67,108,864 bytes of counts. The only error is want of memory.
+pub fn long_counts(alloc: Global) -> Result<Reply, AllocError>
+    ensures { IfOk result (λ r. (form : AskedForm) (p : PlainPairs) (count : Option Field) (bytes : List ℕ) (names : List (List ℕ)) → 67108864 < length bytes
+        → Tells implications_telling counts_refusal (IsForCounts p count bytes) form names r.outcome (told_of r)) }
+{
+    CountsFault::TooLong.refuse(alloc)
+}
+
+/// The pairs of an observed graph, each with the largest difference of counts in CSV; or what is wrong with these.
+pub fn differences_answer(
     alloc: Global,
     seen: &ReadGraph,
     list: &[Implication],
     count: Option<&[u8]>,
     bytes: &[u8],
-    format: Format,
-) -> Result<Reply, AllocError>
+) -> Result<Answer, CountsFault>
     requires pairs { ArePairs (pairs_in seen.now list.now) }
     requires small { length bytes.now ≤ 67108864 }
-    ensures { IfOk result (λ r. CountsAnswer format (pairs_in seen.now list.now) (option_map (λ s. s.now) count.entry) bytes.now r.outcome (told_of r)) }
+    ensures answer { IfOk result (Measures (pairs_in seen.now list.now) (option_map (λ s. s.now) count.entry) bytes.now) }
+    ensures fault { IfErr result (λ fault. is_memory fault ≡ false → IsCountsFault (pairs_in seen.now list.now) (option_map (λ s. s.now) count.entry) bytes.now fault) }
 {
     match read_counts(alloc, bytes, &seen.names, used_in(list), count) {
-        Ok(counts) => table_reply(alloc, seen, list, &counts, format),
-        Err(fault) => Ok(Reply {
-            outcome: Outcome::Second,
-            text: fault.line(alloc)?,
-            object: count_fault(alloc, &fault)?,
-        }),
+        Ok(counts) => {
+            let measured = largest_differences(alloc, seen, list, &counts)?;
+            Ok(Answer::Differences(counts, measured))
+        }
+        Err(fault) => Err(CountsFault::Faulty(fault)),
     }
-}
-
-/// The answer where there are more than 67,108,864 bytes of counts. The only error is want of memory.
-pub fn long_counts(alloc: Global) -> Result<Reply, AllocError>
-    ensures { IfOk result (λ r. (format : AskedFormat) (p : PlainPairs) (count : Option Field) (bytes : List ℕ) → 67108864 < length bytes → CountsAnswer format p count bytes r.outcome (told_of r)) }
-{
-    Ok(Reply {
-        outcome: Outcome::Second,
-        text: CountFault::size_line(alloc)?,
-        object: count_size(alloc)?,
-    })
-}
-
-/// The answer over a table of counts.
-fn table_reply(
-    alloc: Global,
-    seen: &ReadGraph,
-    list: &[Implication],
-    counts: &Counts,
-    format: Format,
-) -> Result<Reply, AllocError>
-    requires pairs { ArePairs (pairs_in seen.now list.now) }
-    requires used { counts.now.vertices ≡ members_below (has (used_in list.now)) 64 }
-    ensures outcome { IfOk result (λ r. r.outcome ≡ Outcome.Yes) }
-    ensures told { IfOk result (λ r. ShowsDifferences format (pairs_in seen.now list.now) counts.now (told_of r)) }
-{
-    let measured = largest_differences(alloc, seen, list, counts)?;
-    let text = differences(alloc, format, &seen.names, counts, &measured)?;
-    Ok(Reply::answer(alloc, Outcome::Yes, text))
 }

@@ -1,2 +1,3 @@
 mod Members
 pub mod ToldOnce
+pub mod ToldOnBoth

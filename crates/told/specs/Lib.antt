@@ -2,3 +2,4 @@ pub mod Forms
 pub mod Telling
 pub mod Refusals
 pub mod Commands
+pub mod TwoInputs

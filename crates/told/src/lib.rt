@@ -5,7 +5,7 @@
 
 ghost use Rattle.std.specs.Prelude.{◌≡◌, false, IfOk, OnOk};
 ghost use Rattle.answer_json.specs.Progress.{with_members, object_of, json_line};
-ghost use Rattle.replies.specs.Told.{told_of, text_in};
+ghost use Rattle.replies.specs.Told.{told_of, answer_of, text_in};
 ghost use Rattle.told.specs.Telling.{Telling, Refusal, outcome_in, told_in, is_wanting};
 
 mod form;
@@ -53,12 +53,24 @@ pub fn reply<A: Told, F: Refuses>(
     ensures memory { OnOk result (is_wanting F.refusal answer.now ≡ false) }
 {
     match answer {
-        Ok(answer) => {
-            let text = written(alloc, form, names, answer)?;
-            Ok(Reply::answer(alloc, answer.outcome(), text))
-        }
+        Ok(answer) => tell(alloc, form, names, answer),
         Err(fault) => fault.refuse(alloc),
     }
+}
+
+/// The reply that tells an answer.
+pub fn tell<A: Told>(
+    alloc: Global,
+    form: Form,
+    names: &Names,
+    answer: &A,
+) -> Result<Reply, AllocError>
+    ensures outcome { IfOk result (λ r. r.outcome ≡ A.telling.outcome answer.now) }
+    ensures told { IfOk result (λ r. told_of r ≡ answer_of (text_in form.format (A.telling.text form.writing names.now answer.now)
+        (json_line (object_of (A.telling.members form.writing names.now answer.now))))) }
+{
+    let text = written(alloc, form, names, answer)?;
+    Ok(Reply::answer(alloc, answer.outcome(), text))
 }
 
 /// An answer in its form.

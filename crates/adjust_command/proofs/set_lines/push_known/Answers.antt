@@ -4,5 +4,5 @@ use Rattle.adjust_command.proofs.NameLists.{known_name}
 use Rattle.adjust_command.proofs.set_lines.push_known.Goals as goal
 
 pub returns-then-has : goal.returns-then-has
-returns-then-has c = c.in_ok-extend_from_slice.ensures.items ∙ ap (λ t. c.args.out.now.items ++ t)
-    (known_name c.args.names.now (has c.args.bare.bits) c.args.v c.name.result.now c.name.ensures c.requires (sym c.if-has.ensures))
+returns-then-has c = let known = c.args.known.now in c.in_ok-extend_from_slice.ensures.items ∙ ap (λ t. c.args.out.now.items ++ t)
+    (known_name known.names.now (has known.bare.bits) c.args.v c.name.result.now c.name.ensures known.are_bare (sym c.if-has.ensures))

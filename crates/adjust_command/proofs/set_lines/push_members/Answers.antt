@@ -8,7 +8,7 @@ use Rattle.adjust_command.proofs.set_lines.push_members.Goals as goal
 pub members-init : goal.members-init
 members-init c = record {
   are = subst (AreMembers (has c.args.set.bits) 64) (sym c.iter-rest.ensures) (members-are (has c.args.set.bits) 64);
-  text = writing_begun c.args.names.now c.args.out.now.items c.args.set.bits c.iter-rest.result c.iter-rest.ensures;
+  text = writing_begun c.args.known.now.names.now c.args.out.now.items c.args.set.bits c.iter-rest.result c.iter-rest.ensures;
 }
 
 pub members-smaller : goal.members-smaller
@@ -20,13 +20,13 @@ members-preserved c =
     let are = subst (AreMembers (has c.args.set.bits) 64) first c.members.invariant.are in
     record {
       are = are.3;
-      text = subst (λ t. IsWriting c.args.names.now c.args.out.now.items t c.args.set.bits c.next.new.self)
+      text = subst (λ t. IsWriting c.args.known.now.names.now c.args.out.now.items t c.args.set.bits c.next.new.self)
           (sym (c.in_ok-extend_from_slice.ensures.items ∙ ap (λ t. c.push_known.new.out.items ++ t) c.comma.ensures
           ∙ ap (λ t. t ++ comma_before c.next.new.self) c.in_ok-push_known.ensures))
-          (writing_more c.args.names.now c.args.out.now.items c.members.out.items c.args.set.bits c.in-Some.v c.members.rest c.next.new.self
+          (writing_more c.args.known.now.names.now c.args.out.now.items c.members.out.items c.args.set.bits c.in-Some.v c.members.rest c.next.new.self
           first c.members.invariant.text);
     }
 
 pub returns : goal.returns
-returns c = writing_done c.args.names.now c.args.out.now.items c.members.out.items c.args.set.bits c.members.rest
+returns c = writing_done c.args.known.now.names.now c.args.out.now.items c.members.out.items c.args.set.bits c.members.rest
     c.in_default.ensures.steps.0 c.members.invariant.text

@@ -1,8 +1,11 @@
 use Rattle.std.proofs.Common.{List, ℕ, Option, IfOk, option_map, sym, subst}
 use Rattle.std.specs.Borrow.{Bor}
-use Rattle.mixed_graph.specs.Shown.{graph_of}
 use Rattle.replies.specs.Told.{told_of}
-use Rattle.implications_command.specs.Answers.{FirstAnswer}
+use Rattle.told.specs.Forms.{plain_form}
+use Rattle.told.specs.Refusals.{target_refusal}
+use Rattle.told.specs.Telling.{Tells}
+use Rattle.implications_command.specs.Right.{IsForGraph}
+use Rattle.implications_command.specs.Telling.{implications_telling}
 use Rattle.causal_cli.specs.Commands.{request_of}
 use Rattle.causal_cli.specs.declared.request.Request.TheVariants.{Implications}
 use Rattle.causal_cli.proofs.request.list_implications.Goals as goal
@@ -11,6 +14,6 @@ pub returns-in_default : goal.returns-in_default
 returns-in_default c =
     let seen = c.args.diagram.now.observed in
     c.replied.ensures (request_of (Implications c.args.asked)) c.args.diagram.now
-    (subst (λ (k : Option (Bor (List ℕ))). IfOk c.pairs_reply.result (λ r. FirstAnswer c.args.asked.format
-    (option_map {T = Bor (List ℕ)} {U = List ℕ} (λ s. s.now) k) (graph_of seen.graph) seen.names r.outcome (told_of r)))
+    (subst (λ (k : Option (Bor (List ℕ))). IfOk c.pairs_reply.result (λ r. Tells implications_telling target_refusal
+    (IsForGraph (option_map {T = Bor (List ℕ)} {U = List ℕ} (λ s. s.now) k) seen) (plain_form c.args.asked.format) seen.names r.outcome (told_of r)))
     (sym c.in_default.is) c.pairs_reply.ensures)

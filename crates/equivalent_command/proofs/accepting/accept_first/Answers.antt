@@ -1,10 +1,10 @@
-use Rattle.std.proofs.Common.{Option, Some, None, IfOk, option_map, sym, subst}
+use Rattle.std.proofs.Common.{Option, Some, None, Err, IfOk, option_map, sym, subst}
 use Rattle.targets.specs.Targets.{Lists, AreSets, IsTargetFault, OrMemory}
 use Rattle.targets.proofs.Faults.{not_memory}
 use Rattle.equivalent_command.specs.Requests.{query_of}
 use Rattle.equivalent_command.specs.Queries.{lists_on, IsListsFault}
 use Rattle.equivalent_command.specs.Firsts.{IsAcceptance}
-use Rattle.equivalent_command.specs.Answers.{listed}
+use Rattle.equivalent_command.specs.Right.{listed}
 use Rattle.equivalent_command.specs.declared.request.Query.{Query}
 use Rattle.equivalent_command.proofs.Queries.{lent_query}
 use Rattle.equivalent_command.proofs.accepting.accept_first.Goals as goal
@@ -24,11 +24,11 @@ pub returns-in_ok-refuse-in-Err : goal.returns-in_ok-refuse-in-Err
 returns-in_ok-refuse-in-Err c =
     let d = c.args.diagram.now in let q = c.in-Some.lists in let f = c.in-Err.fault in
     let same = lent_query d q _ _ _ c.as_slice-x.ensures.value c.as_slice-y.ensures.value c.as_slice-given.ensures.value in
-    record {
-      outcome = c.in_ok-refuse-in-Err.ensures.outcome;
-      fault = f;
-      is_fault = listed (subst (λ (q : Option Query). IsListsFault d (option_map query_of q) f) (sym c.in-Some.is)
+    λ form. record {
+      answer = Err f;
+      right = listed (subst (λ (q : Option Query). IsListsFault d (option_map query_of q) f) (sym c.in-Some.is)
           (not_memory (IsTargetFault (lists_on d (query_of q))) f c.in_ok-refuse-in-Err.ensures.fault
           (subst (λ (l : Lists). OrMemory (IsTargetFault l) f) same c.in-Err.ensures.fault)));
+      ends = c.in_ok-refuse-in-Err.ensures.outcome;
       prints = c.in_ok-refuse-in-Err.ensures.told;
     }

@@ -1,6 +1,6 @@
 use Rattle.std.proofs.Common.{◌+◌, take, refl, sym, subst}
 use Rattle.mixed_graph.specs.Shown.{graph_of}
-use Rattle.implications_command.specs.Answers.{AreMeasured}
+use Rattle.implications_command.specs.Differences.{AreMeasured}
 use Rattle.implications_command.specs.Pairs.{pairs_in}
 use Rattle.implications_command.proofs.Measuring.{measured_more}
 use Rattle.implications_command.proofs.Using.{readable_in}

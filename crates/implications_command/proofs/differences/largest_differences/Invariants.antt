@@ -1,6 +1,6 @@
 use Rattle.std.proofs.Common.{take}
 use Rattle.mixed_graph.specs.Shown.{graph_of}
-use Rattle.implications_command.specs.Answers.{AreMeasured}
+use Rattle.implications_command.specs.Differences.{AreMeasured}
 use Rattle.implications_command.proofs.differences.largest_differences.Given as goal
 
 abbrev pub invariant-loop-i : goal.invariant-loop-i

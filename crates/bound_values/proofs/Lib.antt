@@ -1,0 +1,9 @@
+pub mod Sums
+mod Boxes
+pub mod Covered
+pub mod CellLists
+pub mod Finding
+pub mod Ends
+pub mod Used
+mod Along
+mod Parts

@@ -1,0 +1,5 @@
+pub mod Questions
+pub mod Values
+pub mod Cells
+pub mod Told
+pub mod Found

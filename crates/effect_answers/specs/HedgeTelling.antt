@@ -1,0 +1,41 @@
+-- What is told of a hedge with its two models.
+use Rattle.std.specs.Prelude.{ℕ, List, ◌++◌, Some}
+use Rattle.json.specs.Json.{Json}
+use Rattle.prob_expr.specs.Tree.{PlainTarget, effect_on}
+use Rattle.identify_text.specs.PairLines.{hedge_answer, joint_answer}
+use Rattle.certificate.specs.Plain.{PlainCertificate, hedge_view}
+use Rattle.certificate.specs.Plain as plain
+use Rattle.certificate_json.specs.Certificates.{certificate_line}
+use Rattle.told.specs.declared.form.Writing.{Writing}
+use Rattle.told.specs.declared.form.Writing.TheVariants.{Plain, Latex, Certificate}
+use Rattle.effect_answers.specs.declared.hedges.EffectHedge.{EffectHedge}
+use Rattle.effect_answers.specs.Certificates.{member_in}
+use Rattle.effect_answers.specs.Objects.{hedge_members}
+
+-- the effect of x on y for which it is a hedge
+abbrev pub effect_of : EffectHedge → PlainTarget
+effect_of a = effect_on a.sets.x.bits a.sets.y.bits
+
+-- its certificate
+abbrev pub hedge_certificate : EffectHedge → PlainCertificate
+hedge_certificate a = plain.hedge (effect_of a) (hedge_view a.hedge)
+
+-- its text, or its certificate
+abbrev pub hedge_text : Writing → List (List ℕ) → EffectHedge → List ℕ
+hedge_text Plain names a = hedge_answer names a.sets.x.bits a.sets.y.bits a.hedge a.pair
+hedge_text Latex names a = hedge_answer names a.sets.x.bits a.sets.y.bits a.hedge a.pair
+hedge_text Certificate names a = certificate_line names (hedge_certificate a)
+
+-- the same where the target turns into the effect of x on y
+abbrev pub joint_text : Writing → List (List ℕ) → PlainTarget → EffectHedge → List ℕ
+joint_text Plain names t a = joint_answer names t a.sets.x.bits a.sets.y.bits a.hedge a.pair
+joint_text Latex names t a = joint_answer names t a.sets.x.bits a.sets.y.bits a.hedge a.pair
+joint_text Certificate names t a = certificate_line names (hedge_certificate a)
+
+-- the members of its object, for the target that turns into the effect of x on y
+abbrev pub joint_object : Writing → List (List ℕ) → PlainTarget → EffectHedge → List (List ℕ × Json)
+joint_object w names t a = hedge_members names t a.sets.x.bits a.sets.y.bits a.hedge a.pair ++ member_in w names (Some (hedge_certificate a))
+
+-- and for that effect itself
+abbrev pub hedge_object : Writing → List (List ℕ) → EffectHedge → List (List ℕ × Json)
+hedge_object w names a = joint_object w names (effect_of a) a

@@ -1,0 +1,147 @@
+-- The command's words ask for one request, and its right answers end alike.
+use Rattle.std.proofs.Common.{◌≡◌, Bool, true, false, List, Some, Result, Ok, Err, refl, sym, ◌∙◌, subst, arith}
+use Rattle.std.specs.Prelude.{codes}
+use Rattle.std.proofs.lemmas.Option.{same_Some}
+use Rattle.mixed_graph.specs.Graphs.{MixedGraph}
+use Rattle.mixed_graph.specs.Shown.{graph_of}
+use Rattle.command_words.specs.Form.{Use, value_of, has_flag}
+use Rattle.command_words.proofs.OneValue.{one_listed, one_listed_or_empty}
+use Rattle.targets.specs.declared.query.Sets.{Sets}
+use Rattle.targets.specs.declared.fault.TargetFault.{TargetFault}
+use Rattle.targets.specs.declared.fault.TargetFault.TheVariants as listed
+use Rattle.targets.specs.Targets.{Lists, AreListedSets, IsListFault, IsFaultOfTarget, fault_in}
+use Rattle.diagram.specs.declared.diagram.Diagram.{Diagram}
+use Rattle.diagram.specs.Sets.{query_lists}
+use Rattle.diagram.proofs.OneDiagram.{AreSameDiagrams, same_drawing, same_query_lists}
+use Rattle.replies.specs.declared.outcome.Outcome.{Outcome}
+use Rattle.replies.specs.Outcomes.{IsAnswered}
+use Rattle.replies.specs.Told.{Told}
+use Rattle.replies.proofs.Commands.{IsLawful, lawful_on_file}
+use Rattle.replies.proofs.OneOutcome.{one_on_diagram}
+use Rattle.replies.proofs.OneTarget.{one_set, no_fault_of, some_list, is_some_list}
+use Rattle.told.specs.declared.form.Form.{Form}
+use Rattle.told.specs.declared.form.Writing.{Writing}
+use Rattle.told.specs.Telling.{Tells}
+use Rattle.told.proofs.ToldOnce.{EndAlike, told_answered}
+use Rattle.treated_id.specs.Sets.{IsConfounded}
+use Rattle.treated_command.specs.declared.answer.Answer.{Answer}
+use Rattle.treated_command.specs.declared.answer.Answer.TheVariants.{Formula, Excluded, Left}
+use Rattle.treated_command.specs.declared.fault.TreatedFault.{TreatedFault}
+use Rattle.treated_command.specs.declared.fault.TreatedFault.TheVariants.{Listed, After, TooMany, NoMemory}
+use Rattle.treated_command.specs.Faults.{treated_refusal}
+use Rattle.treated_command.specs.Right.{Decides, IsForSets, IsOfSets, IsFaultOfSets, IsFault, IsForNames}
+use Rattle.treated_command.specs.Telling.{treated_telling}
+use Rattle.treated_command.specs.Requests.{Request, IsRequest, IsForm, IsWriting}
+use Rattle.treated_command.specs.Command.{treated_command}
+
+one_writing : (latex json : Bool) (v w : Writing) → IsWriting latex json v → IsWriting latex json w → w ≡ v
+one_writing false json v w a b = b ∙ sym a
+one_writing true false v w a b = b ∙ sym a
+one_writing true true v w a b = absurd a
+
+one_form : (latex json : Bool) (f h : Form) → IsForm latex json f → IsForm latex json h → h ≡ f
+one_form latex json f h a b = λ i. record {
+  format = (b.format ∙ sym a.format) i;
+  writing = one_writing latex json f.writing h.writing a.writing b.writing i;
+}
+
+-- the uses ask for one request
+one_request : (uses : List Use) (q r : Request) → IsRequest uses q → IsRequest uses r → r ≡ q
+one_request uses q r a b = λ i. record {
+  file = same_Some r.file q.file (sym b.file ∙ a.file) i;
+  x = one_listed (value_of uses (codes "x")) q.x r.x a.x b.x i;
+  y = one_listed (value_of uses (codes "y")) q.y r.y a.y b.y i;
+  given = one_listed_or_empty (value_of uses (codes "given")) q.given r.given a.given b.given i;
+  form = one_form (has_flag uses (codes "latex")) (has_flag uses (codes "json")) q.form r.form a.form b.form i;
+}
+
+-- whether a treatment is confounded settles how an answer ends
+abbrev IsSettled : MixedGraph → Sets → Answer → Type 0
+IsSettled q s (Formula a f) = IsConfounded q s.x.bits s.y.bits s.given.bits → ⊥
+IsSettled q s (Excluded a c h pair) = IsConfounded q s.x.bits s.y.bits s.given.bits
+IsSettled q s (Left a c) = IsConfounded q s.x.bits s.y.bits s.given.bits
+
+settled : (q : MixedGraph) (s : Sets) (a : Answer) → Decides q s a → IsSettled q s a
+settled q s (Formula a f) d = d.1.clear
+settled q s (Excluded a c h pair) d = d.1.by.confounded
+settled q s (Left a c) d = d.1.by.confounded
+
+same_outcome : (q : MixedGraph) (s : Sets) (a b : Answer) → IsSettled q s a → IsSettled q s b → treated_telling.outcome a ≡ treated_telling.outcome b
+same_outcome q s (Formula a f) (Formula b k) p r = refl
+same_outcome q s (Formula a f) (Excluded b c h pair) p r = absurd (p r)
+same_outcome q s (Formula a f) (Left b c) p r = absurd (p r)
+same_outcome q s (Excluded a c h pair) (Formula b k) p r = absurd (r p)
+same_outcome q s (Excluded a c h pair) (Excluded b d k twin) p r = refl
+same_outcome q s (Excluded a c h pair) (Left b d) p r = refl
+same_outcome q s (Left a c) (Formula b k) p r = absurd (r p)
+same_outcome q s (Left a c) (Excluded b d k twin) p r = refl
+same_outcome q s (Left a c) (Left b d) p r = refl
+
+module _ (q : MixedGraph) (l : Lists) where
+  -- lists name one set each
+  same_sets : (P : Sets → Type 0) (s t : Sets) → AreListedSets l s.x.bits s.y.bits s.given.bits → AreListedSets l t.x.bits t.y.bits t.given.bits → P t → P s
+  same_sets P s t n m p = subst P (λ i. record {
+    x = record { bits = one_set l.observed l.x s.x.bits t.x.bits n.set_x m.set_x i };
+    y = record { bits = one_set l.observed l.y s.y.bits t.y.bits n.set_y m.set_y i };
+    given = record { bits = one_set l.observed l.given s.given.bits t.given.bits n.set_given m.set_given i };
+  }) p
+
+  -- right answers end alike
+  same_kind : (a b : Answer) → IsOfSets l (λ s. IsForSets q s a) → IsOfSets l (λ s. IsForSets q s b) → treated_telling.outcome a ≡ treated_telling.outcome b
+  same_kind a b f g = same_outcome q f.sets a b (settled q f.sets a f.is.decided)
+      (settled q f.sets b (same_sets (λ s. IsForSets q s b) f.sets g.sets f.named g.named g.is).decided)
+
+  -- sets that are answered have no fault
+  sets_no_fault : (s : Sets) (a : Answer) (fault : TreatedFault) → IsForSets q s a → IsFaultOfSets q l.observed s fault → ⊥
+  sets_no_fault s a (Listed fault) f h = h
+  sets_no_fault s a (After name) f h = f.before h.vertex h.lowest.member h.lowest.after
+  sets_no_fault s a TooMany f h = let few = f.few in let many = h.many in absurd (omega (arith, few, many))
+  sets_no_fault s a NoMemory f h = h
+
+  -- an empty x is no fault
+  list_fault_of : (fault : TargetFault) → IsListFault l fault → IsFaultOfTarget (fault_in l) l.y some_list fault
+  list_fault_of listed.EmptyX h = absurd h
+  list_fault_of fault h = h
+
+  -- lists that name sets have no fault of a name
+  named_no_fault : (s : Sets) (fault : TargetFault) → AreListedSets l s.x.bits s.y.bits s.given.bits → IsListFault l fault → ⊥
+  named_no_fault s fault n h = no_fault_of (fault_in l) l.y some_list fault n.no_fault n.some_y is_some_list (list_fault_of fault h)
+
+  of_sets : (a : Answer) (fault : TreatedFault) → IsOfSets l (λ s. IsForSets q s a) → IsOfSets l (λ s. IsFaultOfSets q l.observed s fault) → ⊥
+  of_sets a fault f h = sets_no_fault f.sets a fault f.is (same_sets (λ s. IsFaultOfSets q l.observed s fault) f.sets h.sets f.named h.named h.is)
+
+  answered_no_fault : (a : Answer) (fault : TreatedFault) → IsOfSets l (λ s. IsForSets q s a) → IsFault q l fault → ⊥
+  answered_no_fault a (Listed fault) f h = named_no_fault f.sets fault f.named h
+  answered_no_fault a (After name) f h = of_sets a (After name) f h
+  answered_no_fault a TooMany f h = of_sets a TooMany f h
+  answered_no_fault a NoMemory f h = of_sets a NoMemory f h
+
+alike : EndAlike treated_telling treated_refusal IsForNames
+alike q l (Ok a) (Ok b) f g = same_kind q l a b f g
+alike q l (Ok a) (Err fault) f g = absurd (answered_no_fault q l a fault f g)
+alike q l (Err fault) (Ok b) f g = absurd (answered_no_fault q l b fault g f)
+alike q l (Err fault) (Err other) f g = refl
+
+answered : (a : Answer) → IsAnswered (treated_telling.outcome a)
+answered (Formula a f) = tt
+answered (Excluded a c h pair) = tt
+answered (Left a c) = tt
+
+-- what holds of each command holds of it
+pub treated_lawful : IsLawful treated_command
+treated_lawful = lawful_on_file one_request
+    (λ q d o told h. told_answered treated_telling treated_refusal answered (λ e. tt) (right q d) q.form d.observed.names o told h)
+    (λ q bytes. one_on_diagram bytes (λ d. Tells treated_telling treated_refusal (right q d) q.form d.observed.names) (once q))
+  where
+    right : Request → Diagram → Result Answer TreatedFault → Type 0
+    right q d = IsForNames (graph_of d.observed.graph) (query_lists d.read d.observed.names q.x q.y (Some q.given))
+
+    once : (q : Request) (d e : Diagram) → AreSameDiagrams d e → (o p : Outcome) (told other : Told)
+        → Tells treated_telling treated_refusal (right q d) q.form d.observed.names o told
+        → Tells treated_telling treated_refusal (right q e) q.form e.observed.names p other → o ≡ p
+    once q d e s o p told other a b =
+        let lists = λ (d : Diagram). query_lists d.read d.observed.names q.x q.y (Some q.given) in
+        a.ends ∙ alike (graph_of d.observed.graph) (lists d) a.answer b.answer a.right
+        (subst (λ (l : Lists). IsForNames (graph_of d.observed.graph) l b.answer) (same_query_lists q.x q.y (Some q.given) d e s)
+        (subst (λ (g : MixedGraph). IsForNames g (lists e) b.answer) (sym (same_drawing d e s)) b.right))
+        ∙ sym b.ends

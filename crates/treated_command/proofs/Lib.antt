@@ -1,0 +1,4 @@
+mod Pieces
+mod Replying
+mod Sets
+pub mod Lawful

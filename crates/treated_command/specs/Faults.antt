@@ -1,0 +1,53 @@
+-- What is told of lists that aren't answered.
+use Rattle.std.specs.Prelude.{ℕ, ◌≡◌, Bool, true, false, List, [], ◌++◌, codes}
+use Rattle.json.specs.Json.{Json}
+use Rattle.answer_text.specs.Printing.{printed}
+use Rattle.answer_text.specs.Lines.{line_of}
+use Rattle.answer_json.specs.Faults.{bare_fault_json, text_fault_json}
+use Rattle.answer_json.specs.Progress.{json_line}
+use Rattle.replies.specs.declared.outcome.Outcome.TheVariants.{Graph}
+use Rattle.replies.specs.Refusals.{target_told}
+use Rattle.replies.specs.Told.{Told, refusal_of}
+use Rattle.told.specs.Telling.{Refusal}
+use Rattle.told.specs.Refusals.{is_memory}
+use Rattle.treated_command.specs.declared.fault.TreatedFault.{TreatedFault}
+use Rattle.treated_command.specs.declared.fault.TreatedFault.TheVariants.{Listed, After, TooMany, NoMemory}
+
+-- x acts on a member of x or of what is given
+abbrev pub after_text : List ℕ → List ℕ
+after_text name = codes "target fault 9: " ++ printed name
+
+abbrev pub after_json : List ℕ → Json
+after_json name = text_fault_json (codes "target") 9 (codes "x acts on this member of x, or of what is given") (codes "name") name
+
+-- there are more than 64 names with the primed ones
+abbrev pub many_text : List ℕ
+many_text = codes "target fault 10"
+
+abbrev pub many_json : Json
+many_json = bare_fault_json (codes "target") 10 (codes "there are more than 64 names with those of x as observed")
+
+-- what is told of a fault; want of memory isn't told here
+abbrev pub treated_told : TreatedFault → Told
+treated_told (Listed fault) = target_told fault
+treated_told (After name) = refusal_of (line_of (after_text name)) (json_line (after_json name))
+treated_told TooMany = refusal_of (line_of many_text) (json_line many_json)
+treated_told NoMemory = refusal_of [] []
+
+-- want of memory is one of the faults
+abbrev pub is_wanting_memory : TreatedFault → Bool
+is_wanting_memory (Listed fault) = is_memory fault
+is_wanting_memory (After name) = false
+is_wanting_memory TooMany = false
+is_wanting_memory NoMemory = true
+
+-- the refusal of a fault
+abbrev pub treated_refusal : Refusal TreatedFault
+treated_refusal = record { outcome = λ fault. Graph; told = treated_told; is_memory = is_wanting_memory }
+
+-- the fault is that of this name; want of memory may stand in its place
+abbrev pub IsAfterOrMemory : List ℕ → TreatedFault → Type 0
+IsAfterOrMemory name (Listed fault) = ⊥
+IsAfterOrMemory name (After t) = t ≡ name
+IsAfterOrMemory name TooMany = ⊥
+IsAfterOrMemory name NoMemory = Unit {0}

@@ -1,0 +1,7 @@
+pub mod Requests
+pub mod Faults
+pub mod Sentences
+pub mod Objects
+pub mod Telling
+pub mod Right
+pub mod Command

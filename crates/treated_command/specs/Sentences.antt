@@ -1,0 +1,61 @@
+-- The texts of the answers.
+use Rattle.std.specs.Prelude.{ℕ, List, ◌++◌, codes}
+use Rattle.std.specs.List.{flat_map}
+use Rattle.answer_text.specs.declared.signs.Notation.{Notation}
+use Rattle.answer_text.specs.declared.signs.Notation.TheVariants as notations
+use Rattle.mixed_graph.specs.Masks.{union}
+use Rattle.prob_expr.specs.Tree.{PlainTarget, PlainFormula, term_of}
+use Rattle.expr_text.specs.Write.{text_of}
+use Rattle.hedge.specs.declared.hedge.Hedge.{Hedge}
+use Rattle.counter_models.specs.declared.counter_pair.CounterPair.{CounterPair}
+use Rattle.identify_text.specs.Answers.{answer_in, effect_term}
+use Rattle.identify_text.specs.ModelLines.{vertex_text}
+use Rattle.identify_text.specs.PairLines.{hedge_answer}
+use Rattle.primed_names.specs.Primed.{primed_names}
+use Rattle.told.specs.declared.form.Writing.{Writing}
+use Rattle.told.specs.declared.form.Writing.TheVariants.{Plain, Latex, Certificate}
+use Rattle.treated_id.specs.declared.answers.Confounding.{Confounding}
+use Rattle.treated_command.specs.declared.answer.Asked.{Asked}
+
+-- the effect that is asked for, over names and primed names: P(y | do(x), given, x')
+abbrev pub target_of : Asked → PlainTarget
+target_of a = record { x = a.sets.x.bits; y = a.sets.y.bits; given = union a.sets.given.bits a.primes.bits }
+
+-- the outcomes of the joint effect: y and what is given
+abbrev pub joint_of : Asked → ℕ
+joint_of a = union a.sets.y.bits a.sets.given.bits
+
+-- the effect that is asked for, as text
+abbrev pub effect_text : List (List ℕ) → Asked → List ℕ
+effect_text names a = text_of (primed_names names a.sets.x.bits) (term_of (target_of a))
+
+-- the notation of a formula
+abbrev pub notation_of : Writing → Notation
+notation_of Plain = notations.Plain
+notation_of Latex = notations.Latex
+notation_of Certificate = notations.Plain
+
+-- `P(Y|do(X),X') = sum{M} P(M|X) * P(Y|M,X')`
+abbrev pub formula_text : Writing → List (List ℕ) → Asked → PlainFormula → List ℕ
+formula_text writing names a f = answer_in (notation_of writing) (primed_names names a.sets.x.bits) (target_of a) f
+
+-- ` <-> W`
+abbrev pub step_text : List (List ℕ) → ℕ → List ℕ
+step_text names v = codes " <-> " ++ vertex_text names v
+
+-- `X -> Y and Y <-> W <-> X`: a child of a treatment, and the bidirected path that leads back
+abbrev pub confounding_text : List (List ℕ) → Confounding → List ℕ
+confounding_text names c =
+    vertex_text names c.treatment ++ (codes " -> " ++ (vertex_text names c.child ++ (codes " and "
+    ++ (vertex_text names c.child ++ (flat_map (step_text names) c.path.items ++ codes "\n")))))
+
+-- `P(Y|do(X),X') is not identifiable`, why, and the hedge of the joint effect with its two models
+abbrev pub excluded_text : List (List ℕ) → Asked → Confounding → Hedge → CounterPair → List ℕ
+excluded_text names a c h pair =
+    effect_text names a ++ (codes " is not identifiable\n" ++ (confounding_text names c ++ hedge_answer names a.sets.x.bits (joint_of a) h pair))
+
+-- `P(Y|do(X),X') is left open: P(Y|do(X)) is identifiable`, and what confounds
+abbrev pub left_text : List (List ℕ) → Asked → Confounding → List ℕ
+left_text names a c =
+    effect_text names a ++ (codes " is left open: " ++ (text_of names (effect_term a.sets.x.bits (joint_of a))
+    ++ (codes " is identifiable\n" ++ confounding_text names c)))

@@ -1,0 +1,34 @@
+-- What is told of an effect among the treated.
+use Rattle.std.specs.Prelude.{ℕ, List}
+use Rattle.json.specs.Json.{Json}
+use Rattle.prob_expr.specs.View.{formula_view}
+use Rattle.replies.specs.declared.outcome.Outcome.{Outcome}
+use Rattle.replies.specs.declared.outcome.Outcome.TheVariants.{Yes, No}
+use Rattle.told.specs.declared.form.Writing.{Writing}
+use Rattle.told.specs.Telling.{Telling}
+use Rattle.treated_command.specs.declared.answer.Answer.{Answer}
+use Rattle.treated_command.specs.declared.answer.Answer.TheVariants.{Formula, Excluded, Left}
+use Rattle.treated_command.specs.Sentences.{formula_text, excluded_text, left_text}
+use Rattle.treated_command.specs.Objects.{formula_object, excluded_members, left_members}
+
+-- yes where there is a formula
+abbrev pub treated_outcome : Answer → Outcome
+treated_outcome (Formula a f) = Yes
+treated_outcome (Excluded a c h pair) = No
+treated_outcome (Left a c) = No
+
+-- the text
+abbrev pub treated_text : Writing → List (List ℕ) → Answer → List ℕ
+treated_text writing names (Formula a f) = formula_text writing names a (formula_view f)
+treated_text writing names (Excluded a c h pair) = excluded_text names a c h pair
+treated_text writing names (Left a c) = left_text names a c
+
+-- the members of the object
+abbrev pub treated_members : List (List ℕ) → Answer → List (List ℕ × Json)
+treated_members names (Formula a f) = formula_object names a (formula_view f)
+treated_members names (Excluded a c h pair) = excluded_members names a c h pair
+treated_members names (Left a c) = left_members names a c
+
+-- all of these
+abbrev pub treated_telling : Telling Answer
+treated_telling = record { outcome = treated_outcome; text = treated_text; members = λ w. treated_members }

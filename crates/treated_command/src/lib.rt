@@ -1,0 +1,14 @@
+//! The command `treated`: what y would be under do(x), among those for whom x was observed.
+#![tactic(auto)]
+
+mod answer;
+mod fault;
+mod objects;
+mod reply;
+mod request;
+mod texts;
+
+pub use answer::{Answer, Asked};
+pub use fault::TreatedFault;
+pub use reply::{treated_answer, treated_reply};
+pub use request::{ROW, Request};

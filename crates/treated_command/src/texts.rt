@@ -1,0 +1,143 @@
+//! The texts of the answers.
+
+ghost use Rattle.std.specs.Prelude.{◌≡◌, ◌++◌, IfOk, OnOk};
+ghost use Rattle.std.specs.List.{flat_map};
+ghost use Rattle.mixed_graph.specs.Masks.{union};
+ghost use Rattle.prob_expr.specs.Tree.{term_of};
+ghost use Rattle.prob_expr.specs.View.{formula_view, target_view};
+ghost use Rattle.expr_text.specs.Write.{text_of};
+ghost use Rattle.primed_names.specs.Primed.{primed_names};
+ghost use Rattle.treated_command.specs.Sentences.{target_of, joint_of, effect_text, step_text, confounding_text, notation_of, formula_text, excluded_text, left_text};
+
+use crate::answer::Asked;
+use answer_text::{Notation, push_vertex};
+use counter_models::CounterPair;
+use expr_text::target_text;
+use hedge::Hedge;
+use identify_text::{answer_in, effect_text as plain_effect_text, hedge_answer};
+use mixed_graph::{Names, VSet};
+use primed_names::primed_names;
+use prob_expr::{Formula, Target};
+use std::alloc::{AllocError, Global};
+use told::Writing;
+use treated_id::Confounding;
+
+/// The effect that is asked for: x has its observed values at the primed names.
+pub fn target_of(asked: Asked) -> Target
+    ensures { target_view result ≡ target_of asked }
+{
+    Target {
+        x: asked.sets.x,
+        y: asked.sets.y,
+        given: asked.sets.given.union(asked.primes),
+    }
+}
+
+/// The outcomes of the joint effect: y and what is given.
+pub fn joint_of(asked: Asked) -> VSet
+    ensures { result.bits ≡ joint_of asked }
+{
+    asked.sets.y.union(asked.sets.given)
+}
+
+/// The effect that is asked for, as text.
+fn effect_text(alloc: Global, names: &Names, asked: Asked) -> Result<Vec<u8>, AllocError>
+    ensures { IfOk result (λ v. v.items ≡ effect_text names.now asked) }
+{
+    let all = primed_names(alloc, names, asked.sets.x)?;
+    target_text(alloc, &target_of(asked), &all)
+}
+
+/// The notation of a formula.
+fn notation_of(writing: Writing) -> Notation
+    ensures { result ≡ notation_of writing }
+{
+    match writing {
+        Writing::Plain | Writing::Certificate => Notation::Plain,
+        Writing::Latex => Notation::Latex,
+    }
+}
+
+/// A formula.
+pub fn formula_text(
+    alloc: Global,
+    names: &Names,
+    asked: Asked,
+    f: &Formula,
+    writing: Writing,
+) -> Result<Vec<u8>, AllocError>
+    ensures { IfOk result (λ v. v.items ≡ formula_text writing names.now asked (formula_view f.now)) }
+{
+    let all = primed_names(alloc, names, asked.sets.x)?;
+    answer_in(alloc, notation_of(writing), f, &target_of(asked), &all)
+}
+
+/// Appends bidirected edges to each vertex of a path.
+fn push_steps(out: &mut Vec<u8>, names: &Names, path: &[u8]) -> Result<(), AllocError>
+    ensures { OnOk result (out.new.items ≡ out.old.items ++ flat_map (step_text names.now) path.now) }
+{
+    for v in path {
+        push_step(out, names, *v)?;
+    }
+    Ok(())
+}
+
+/// Appends a bidirected edge to a vertex.
+fn push_step(out: &mut Vec<u8>, names: &Names, v: u8) -> Result<(), AllocError>
+    ensures { OnOk result (out.new.items ≡ out.old.items ++ step_text names.now v) }
+{
+    out.extend_from_slice(b" <-> ")?;
+    push_vertex(out, names, v)?;
+    Ok(())
+}
+
+/// Appends the line of a treatment that is confounded with a child of its own, as `X -> Y and Y <-> W <-> X`.
+fn push_confounding(out: &mut Vec<u8>, names: &Names, c: &Confounding) -> Result<(), AllocError>
+    ensures { OnOk result (out.new.items ≡ out.old.items ++ confounding_text names.now c.now) }
+{
+    push_vertex(out, names, c.treatment)?;
+    out.extend_from_slice(b" -> ")?;
+    push_vertex(out, names, c.child)?;
+    out.extend_from_slice(b" and ")?;
+    push_vertex(out, names, c.child)?;
+    push_steps(out, names, c.path.as_slice())?;
+    out.push(b'\n')?;
+    Ok(())
+}
+
+/// That there is no formula, why, and the hedge of the joint effect with its two models.
+pub fn excluded_text(
+    alloc: Global,
+    names: &Names,
+    asked: Asked,
+    c: &Confounding,
+    h: &Hedge,
+    pair: &CounterPair,
+) -> Result<Vec<u8>, AllocError>
+    ensures { IfOk result (λ v. v.items ≡ excluded_text names.now asked c.now h.now pair.now) }
+{
+    let mut text = effect_text(alloc, names, asked)?;
+    text.extend_from_slice(b" is not identifiable\n")?;
+    push_confounding(&mut text, names, c)?;
+    let joint = hedge_answer(alloc, asked.sets.x, joint_of(asked), h, pair, names)?;
+    text.extend_from_slice(joint.as_slice())?;
+    Ok(text)
+}
+
+/// That no formula was found, and that the joint effect has one.
+pub fn left_text(
+    alloc: Global,
+    names: &Names,
+    asked: Asked,
+    c: &Confounding,
+) -> Result<Vec<u8>, AllocError>
+    ensures { IfOk result (λ v. v.items ≡ left_text names.now asked c.now) }
+{
+    let mut text = effect_text(alloc, names, asked)?;
+    text.extend_from_slice(b" is left open: ")?;
+    let joint = plain_effect_text(alloc, asked.sets.x, joint_of(asked), names)?;
+    text.extend_from_slice(joint.as_slice())?;
+    text.extend_from_slice(b" is identifiable\n")?;
+    push_confounding(&mut text, names, c)?;
+    Ok(text)
+}
