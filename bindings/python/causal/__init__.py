@@ -40,6 +40,7 @@ from causal.version import VERSION
 
 if TYPE_CHECKING:
     from causal.bootstrap import Bootstrap, MeanInterval
+    from causal.bounds import EffectBound, EffectBounds, NoInstrument, NoModel
     from causal.comparison import Comparison
     from causal.contrasts import Contrast, ContrastInterval, Contrasts
     from causal.effects import Effect, Effects, Mean, Spread, Value
@@ -53,6 +54,7 @@ if TYPE_CHECKING:
     from causal.report import Report
     from causal.sensitivity import EValue, e_value
     from causal.support import SupportTable
+    from causal.treated import Confounded
     from causal.walks import Paths
     from causal.weighting import Balance, Weighting
 
@@ -63,12 +65,15 @@ _LATER = {
     "Balance": "causal.weighting",
     "Bootstrap": "causal.bootstrap",
     "Comparison": "causal.comparison",
+    "Confounded": "causal.treated",
     "Contrast": "causal.contrasts",
     "ContrastInterval": "causal.contrasts",
     "Contrasts": "causal.contrasts",
     "Difference": "causal.implications",
     "EValue": "causal.sensitivity",
     "Effect": "causal.effects",
+    "EffectBound": "causal.bounds",
+    "EffectBounds": "causal.bounds",
     "Effects": "causal.effects",
     "Estimate": "causal.estimates",
     "Estimates": "causal.estimates",
@@ -80,6 +85,8 @@ _LATER = {
     "Interval": "causal.intervals",
     "Mean": "causal.effects",
     "MeanInterval": "causal.bootstrap",
+    "NoInstrument": "causal.bounds",
+    "NoModel": "causal.bounds",
     "Paths": "causal.walks",
     "Report": "causal.report",
     "Spread": "causal.effects",
@@ -101,6 +108,7 @@ __all__ = [
     "CertificateRefusal",
     "Check",
     "Comparison",
+    "Confounded",
     "Contrast",
     "ContrastInterval",
     "Contrasts",
@@ -112,6 +120,8 @@ __all__ = [
     "Difference",
     "EValue",
     "Effect",
+    "EffectBound",
+    "EffectBounds",
     "Effects",
     "Equivalence",
     "Estimate",
@@ -130,6 +140,8 @@ __all__ = [
     "Mean",
     "MeanInterval",
     "MissingValues",
+    "NoInstrument",
+    "NoModel",
     "NotIdentifiable",
     "PackageMissing",
     "Path",

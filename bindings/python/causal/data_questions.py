@@ -11,6 +11,7 @@ if TYPE_CHECKING:
     import pandas
 
     from causal.bootstrap import Bootstrap, Progress
+    from causal.bounds import Bounded
     from causal.columns import Data
     from causal.comparison import Comparison
     from causal.contrasts import Contrast, Contrasts
@@ -172,6 +173,38 @@ class DataQuestions:
 
         way: Dict[str, Any] = {"set": set, "back_door": back_door, "given": given, "zero": zero, "short": short}
         return Evaluation(self._diagram, x, y, count, missing, **way, design=Design(weights)).effects(data, exact, at)
+
+    def bounds(
+        self,
+        data: Data,
+        x: Optional[Names] = None,
+        y: Optional[Names] = None,
+        *,
+        given: Optional[Names] = None,
+        instrument: Optional[Names] = None,
+        strata: Optional[Names] = None,
+        count: Optional[str] = None,
+        exact: bool = False,
+        missing: str = "error",
+    ) -> Bounded:
+        """What the effects of x on y are at least and at most in the data, whether or not there is a formula.
+
+        Without `instrument` these are the natural bounds (Robins 1989; Manski 1990). An instrument, alone or in `strata` of further
+        variables over which the bounds are summed, makes them narrower, as the arm that was assigned does in a trial in which some don't
+        comply (Balke and Pearl 1997). With `given` they are those of `P(y | do(x), given)`. The data, `count` and `missing` are as in
+        `effects`.
+
+        `EffectBounds` says what is proved. The answer counts as false where the set is no instrument (`NoInstrument`, with the reason), and
+        where no model of the diagram has these counts (`NoModel`): both are proved too.
+
+        >>> from causal import Diagram
+        >>> study = {"X": [0, 0, 0, 1, 1, 1], "Y": [0, 0, 1, 0, 1, 1]}
+        >>> print(Diagram("dag { X -> Y X <-> Y }").bounds(study, "X", "Y", exact=True).at(1, 1))
+        P(Y=1|do(X=1)) at least 1/3, at most 5/6
+        """
+        from causal.bounds import bounds_of
+
+        return bounds_of(self._diagram, data, x, y, given, instrument, strata, count, exact, missing)
 
     def pin_spread(
         self,

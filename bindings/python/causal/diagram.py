@@ -26,6 +26,7 @@ if TYPE_CHECKING:
     import pandas
 
     from causal.effects import Level
+    from causal.treated import Treated
 
 
 def options(**lists: Optional[Names]) -> List[Text]:
@@ -439,6 +440,23 @@ class Diagram(DataQuestions, GraphQuestions):
         self._need_exposure(x)
         words = [*options(x=x, y=y, given=given), *(["--short"] if short else [])]
         return self._ask_effect(reading.read_effect, "identify", words, *(["--certificate"] if certificate else []))
+
+    def treated(self, x: Optional[Names] = None, y: Optional[Names] = None, given: Optional[Names] = None) -> Treated:
+        """A formula for the effect of x on y among those for whom other values of x were observed, as the treated; or why none was found,
+        which counts as false.
+
+        `P(Y|do(X),X')` is the probability of Y had X been done, among those whose X was observed to be `X'`. With `given` it is asked for
+        among those with the same values of these variables too, on which x mustn't act. It is proved that a formula equals this in every
+        positive finite model that fits the diagram's observed graph, at every assignment; `Confounded` says what is proved otherwise.
+
+        >>> from causal import Diagram
+        >>> print(Diagram("dag { S -> T -> R <- S }").treated("T", "R"))
+        P(R|do(T),T') = sum{S} P(S|T') * P(R|S,T)
+        """
+        from causal.treated import read_treated
+
+        self._need_exposure(x)
+        return self._ask(read_treated, "treated", *options(x=x, y=y, given=given))
 
     def surrogate(
         self,

@@ -60,7 +60,7 @@ class Value:
     def __str__(self) -> str:
         if self.is_exact:
             return f"= {self.lower.numerator}/{self.lower.denominator}"
-        return f"from {_digits(self.lower)} to {_digits(self.upper)}"
+        return f"from {digits(self.lower)} to {digits(self.upper)}"
 
     def floats(self) -> Tuple[float, float]:
         """The bounds as floats, rounded outward, so that they still hold."""
@@ -123,8 +123,14 @@ class Value:
         return Value(self.lower + other.lower, self.upper + other.upper)
 
 
-def _digits(value: Fraction) -> str:
-    """The value with 18 digits behind the point."""
+def digits(value: Fraction) -> str:
+    """The value with 18 digits behind the point.
+
+    >>> from fractions import Fraction
+    >>> from causal.effects import digits
+    >>> digits(Fraction(5, 4))
+    '1.250000000000000000'
+    """
     units = value * 10**18
     return f"{units // 10**18}.{int(units % 10**18):018d}"
 
@@ -168,7 +174,7 @@ class Effect:
     @property
     def cell(self) -> str:
         """The probability, as it is printed."""
-        return _cell_text(self.y, self.x, self.given)
+        return cell_text(self.y, self.x, self.given)
 
     @property
     def under(self) -> Dict[str, Level]:
@@ -232,7 +238,13 @@ def levels_at(names: Sequence[str], levels: Any, typed: Optional[Sequence[str]] 
     return {name: given[name] for name in names}
 
 
-def _cell_text(y: Mapping[str, Level], x: Mapping[str, Level], given: Mapping[str, Level]) -> str:
+def cell_text(y: Mapping[str, Level], x: Mapping[str, Level], given: Mapping[str, Level]) -> str:
+    """A probability as it is printed.
+
+    >>> from causal.effects import cell_text
+    >>> cell_text({"Y": 1}, {"X": "a"}, {})
+    'P(Y=1|do(X=a))'
+    """
     conditions = [*([f"do({levels_text(x)})"] if x else []), *([levels_text(given)] if given else [])]
     return f"P({levels_text(y)}{'|' if conditions else ''}{','.join(conditions)})"
 
@@ -328,7 +340,7 @@ class Effects(Sequence[Effect]):
         for k, effect in enumerate(self.effects):
             if effect.y == y and effect.x == x and effect.given == under:
                 return k
-        raise RequestError(f"there is no effect {_cell_text(y, x, under)} in the data; {self._levels_there({**y, **x, **under})}")
+        raise RequestError(f"there is no effect {cell_text(y, x, under)} in the data; {self._levels_there({**y, **x, **under})}")
 
     def _given(self, given: Optional[Mapping[str, Level]]) -> Dict[str, Level]:
         """The levels of what is given: where none are told, the only ones that there are."""

@@ -87,7 +87,7 @@ def _cause(number: int, told: Told) -> Cause:
     return Cause(number, tuple(told["acts_on"]), (first, second))
 
 
-def _hedge(told: Told, question: Optional[Question]) -> Dict[str, Any]:
+def hedge_parts(told: Told, question: Optional[Question]) -> Dict[str, Any]:
     """The parts of a hedge with its two models. Under a condition it is one of a joint effect."""
     hedge, models = told["hedge"], told["models"]
     return {
@@ -107,7 +107,7 @@ def _hedge(told: Told, question: Optional[Question]) -> Dict[str, Any]:
 
 def read_effect(told: Told, question: Optional[Question] = None) -> Union[Formula, Hedge]:
     """The answer of `identify`."""
-    return read_formula(told, question) if told["answer"] == "formula" else Hedge(**_hedge(told, question))
+    return read_formula(told, question) if told["answer"] == "formula" else Hedge(**hedge_parts(told, question))
 
 
 def read_surrogate(told: Told, question: Optional[Question] = None) -> Union[Formula, Stopped, StoppedHedge]:
@@ -115,7 +115,7 @@ def read_surrogate(told: Told, question: Optional[Question] = None) -> Union[For
     if told["answer"] == "formula":
         return read_formula(told, question)
     if told["answer"] == "hedge":
-        return StoppedHedge(**_hedge(told, question), **_lists(told, "district"))
+        return StoppedHedge(**hedge_parts(told, question), **_lists(told, "district"))
     return Stopped(_target(told), **_sets(told["hedge"]), **_lists(told, "district"))
 
 

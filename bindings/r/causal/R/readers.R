@@ -248,3 +248,23 @@ read_effects <- function(object) {
 
 # Levels by name, as text.
 read_levels <- function(cell) stats::setNames(texts(lapply(cell, `[[`, 2)), texts(lapply(cell, `[[`, 1)))
+
+# What effects are at least and at most; or why a set is no instrument; or the bounds that cross.
+read_bounds <- function(object) {
+  if (object$answer == "no instrument")
+    return(list(answer = object$answer, moved = if (!is.null(object$moved)) text_in(object$moved), path = read_path(object$open)))
+  cells <- if (object$answer == "bounds") object$cells else list(object$crossed)
+  ends <- function(key) vapply(cells, `[[`, "", key)
+  list(answer = object$answer, exact = object$answer != "bounds" || isTRUE(object$exact), x = lapply(cells, function(cell) read_levels(cell$x)),
+       y = lapply(cells, function(cell) read_levels(cell$y)), given = lapply(cells, function(cell) c(read_levels(cell$given), read_levels(cell$strata))),
+       at_least = ends("at_least"), at_most = ends("at_most"))
+}
+
+# An effect among the treated without a formula: the treatment, its child, the bidirected path that leads back, and the hedge where one is told.
+read_confounded <- function(object) {
+  target <- term_text(texts(object$y), texts(object$x), c(texts(object$given), texts(object$observed)))
+  joint <- term_text(texts(object$joint$y), texts(object$joint$x))
+  object$given <- list()
+  c(list(target = target, treatment = text_in(object$treatment), child = text_in(object$child), path = read_path(object$path), joint = joint),
+    if (object$answer == "hedge") list(hedge = utils::modifyList(read_hedge(object), list(target = joint))))
+}

@@ -1,0 +1,311 @@
+"""Bounds of effects over data: what is known where an effect may have no formula."""
+from __future__ import annotations
+
+from dataclasses import dataclass, field
+from fractions import Fraction
+from typing import TYPE_CHECKING, Any, Dict, Iterator, List, Mapping, Optional, Sequence, Tuple, Union, overload
+
+from causal.answers import Path
+from causal.columns import Data, path_of, read_bytes
+from causal.display import html_table
+from causal.effects import Level, LevelOf, Value, cell_text, digits, levels_at, typed_order
+from causal.errors import CausalError, RequestError
+from causal.framed import Shown
+from causal.names import Names, list_word, names_of, printed_name, printed_set
+from causal.objects import Told, name_in
+from causal.tables import Table, check_request, table_of, table_of_file
+from causal.vocabulary import needed
+
+if TYPE_CHECKING:
+    import pandas
+
+    from causal.diagram import Diagram
+
+
+@dataclass(frozen=True)
+class EffectBound:
+    """What one probability `P(y | do(x), given)` is at least and at most, with the levels of y, of x and of what is given."""
+
+    y: Dict[str, Level]
+    x: Dict[str, Level]
+    given: Dict[str, Level]
+    at_least: Fraction
+    at_most: Fraction
+    # Exact fractions, and not numbers of 18 digits.
+    exact: bool = False
+
+    @property
+    def cell(self) -> str:
+        """The probability, as it is printed."""
+        return cell_text(self.y, self.x, self.given)
+
+    @property
+    def under(self) -> Dict[str, Level]:
+        """The levels of x and of what is given."""
+        return {**self.x, **self.given}
+
+    @property
+    def value(self) -> Value:
+        """Both ends as a value, which is exact where they are equal."""
+        return Value(self.at_least, self.at_most)
+
+    def __str__(self) -> str:
+        return f"{self.cell} at least {end_text(self.at_least, self.exact)}, at most {end_text(self.at_most, self.exact)}"
+
+
+def end_text(end: Fraction, exact: bool) -> str:
+    """An end as the program prints it.
+
+    >>> from fractions import Fraction
+    >>> from causal.bounds import end_text
+    >>> end_text(Fraction(1, 2), True), end_text(Fraction(1, 2), False)
+    ('1/2', '0.500000000000000000')
+    """
+    return f"{end.numerator}/{end.denominator}" if exact else digits(end)
+
+
+@dataclass(frozen=True)
+class AskedBounds:
+    """The sets that bounds are asked for."""
+
+    x: Tuple[str, ...]
+    y: Tuple[str, ...]
+    given: Tuple[str, ...] = ()
+    instrument: Tuple[str, ...] = ()
+    strata: Tuple[str, ...] = ()
+
+
+@dataclass(frozen=True)
+class EffectBounds(Sequence[EffectBound]):
+    """Bounds of the effects at each level of the exposures and the outcomes.
+
+    Each is proved to hold in every model of the diagram, hidden variables included, whose observed probabilities are the shares of the
+    records, positive or not. It isn't claimed that no better bounds can be had. How far the shares of a sample are from those of the
+    population isn't in them.
+
+    >>> from causal import Diagram
+    >>> trial = {"Z": [0] * 4 + [1] * 4, "X": [0, 0, 0, 0, 0, 1, 1, 1], "Y": [0, 0, 0, 1, 0, 1, 1, 0]}
+    >>> bounds = Diagram("dag { Z -> X -> Y X <-> Y }").bounds(trial, "X", "Y", instrument="Z", exact=True)
+    >>> print(bounds)
+    P(Y=0|do(X=0)) at least 3/4, at most 3/4
+    P(Y=1|do(X=0)) at least 1/4, at most 1/4
+    P(Y=0|do(X=1)) at least 1/4, at most 1/2
+    P(Y=1|do(X=1)) at least 1/2, at most 3/4
+    >>> print(bounds.difference(1, 1, 0))
+    at least 1/4, at most 1/2
+    """
+
+    asked: AskedBounds
+    bounds: Tuple[EffectBound, ...]
+    exact: bool = False
+    dropped: int = 0
+    # The exposures and the outcomes in the order in which they were typed.
+    typed: Tuple[Optional[Tuple[str, ...]], Optional[Tuple[str, ...]]] = field(default=(None, None), repr=False, compare=False)
+
+    def __hash__(self) -> int:
+        return hash(str(self))
+
+    def __len__(self) -> int:
+        return len(self.bounds)
+
+    @overload
+    def __getitem__(self, index: int) -> EffectBound: ...
+
+    @overload
+    def __getitem__(self, index: slice) -> Tuple[EffectBound, ...]: ...
+
+    def __getitem__(self, index: Union[int, slice]) -> Union[EffectBound, Tuple[EffectBound, ...]]:
+        return self.bounds[index]
+
+    def __iter__(self) -> Iterator[EffectBound]:
+        return iter(self.bounds)
+
+    def __str__(self) -> str:
+        return "\n".join([*self.notes, *map(str, self.bounds)])
+
+    @property
+    def notes(self) -> Tuple[str, ...]:
+        """How many records were left out."""
+        return (f"{self.dropped} records left out that lack a value",) if self.dropped else ()
+
+    def at(self, y: Any, x: Any, given: Optional[Mapping[str, Level]] = None) -> EffectBound:
+        """The bounds at these levels, which are given as in `Diagram.contrast`."""
+        wanted = levels_at(self.asked.y, y, self.typed[1]), levels_at(self.asked.x, x, self.typed[0]), dict(given or {})
+        for bound in self.bounds:
+            if (bound.y, bound.x, bound.given) == wanted:
+                return bound
+        raise RequestError(f"there are no bounds of {cell_text(*wanted)}; there are those of {', '.join(it.cell for it in self.bounds)}")
+
+    def difference(self, y: Any, treated: Any, control: Any, given: Optional[Mapping[str, Level]] = None) -> EffectDifference:
+        """What the difference of two effects is at least and at most: of the lower end and the other's upper one."""
+        first, second = self.at(y, treated, given), self.at(y, control, given)
+        return EffectDifference(first, second, first.at_least - second.at_most, first.at_most - second.at_least)
+
+    def frame(self) -> "pandas.DataFrame":
+        """A DataFrame with a row for each effect (it needs pandas): the levels, and `at_least` and `at_most`."""
+        pandas = needed("pandas", "a DataFrame")
+        rows = [[*it.under.values(), *it.y.values(), *self._ends(it)] for it in self.bounds]
+        frame = pandas.DataFrame(rows, columns=[*self._names, "at_least", "at_most"])
+        frame.attrs.update(dropped=self.dropped, notes=list(self.notes))
+        return frame
+
+    def to_frame(self) -> "pandas.DataFrame":
+        """The same as `frame`."""
+        return self.frame()
+
+    @property
+    def _names(self) -> List[str]:
+        return [*self.asked.x, *self.asked.given, *self.asked.y]
+
+    def _ends(self, bound: EffectBound) -> Tuple[Any, Any]:
+        return (bound.at_least, bound.at_most) if self.exact else bound.value.floats()
+
+    def _repr_html_(self) -> str:
+        rows = [[*it.under.values(), *it.y.values(), *map(str, self._ends(it))] for it in self.bounds]
+        return html_table([*self._names, "at least", "at most"], rows, self.notes)
+
+
+@dataclass(frozen=True)
+class EffectDifference:
+    """What the difference of two effects is at least and at most, by the bounds of each. It holds wherever these do."""
+
+    treated: EffectBound
+    control: EffectBound
+    at_least: Fraction
+    at_most: Fraction
+
+    def __str__(self) -> str:
+        if self.treated.exact:
+            return f"at least {end_text(self.at_least, True)}, at most {end_text(self.at_most, True)}"
+        return f"at least {float(self.at_least):.6g}, at most {float(self.at_most):.6g}"
+
+
+@dataclass(frozen=True)
+class NoInstrument(Shown):
+    """Why a set is no instrument for the effect, in these strata; it counts as false.
+
+    `moved` is a member of the set, of the strata or of what is given that the exposures act on; else `path` is open from the outcomes to the
+    set once the edges into the exposures are cut. Both are proved.
+
+    >>> from causal import Diagram
+    >>> trial = {"Z": [0, 1, 0, 1], "X": [0, 1, 1, 0], "Y": [0, 1, 0, 1]}
+    >>> print(Diagram("dag { Z -> X -> Y Z -> Y X <-> Y }").bounds(trial, "X", "Y", instrument="Z"))
+    no instrument: {Z} given {}
+    open: Y <- Z
+    """
+
+    asked: AskedBounds
+    moved: Optional[str] = None
+    path: Optional[Path] = None
+
+    def __bool__(self) -> bool:
+        return False
+
+    def __str__(self) -> str:
+        fixed = sorted({*self.asked.given, *self.asked.strata}, key=[*self.asked.given, *self.asked.strata].index)
+        head = f"no instrument: {printed_set(self.asked.instrument)} given {printed_set(fixed)}"
+        return f"{head}\nmoved: {printed_name(self.moved)}" if self.moved is not None else f"{head}\nopen: {self.path}"
+
+
+@dataclass(frozen=True)
+class NoModel(Shown):
+    """That no model of the diagram has these counts, which is proved; it counts as false.
+
+    `crossed` has the effect whose bounds cross: it would have to be at least more than what it is at most. In a sample small strata can
+    make bounds cross by chance alone.
+    """
+
+    asked: AskedBounds
+    crossed: EffectBound
+
+    def __bool__(self) -> bool:
+        return False
+
+    def __str__(self) -> str:
+        return f"no model of this diagram has these counts\n{self.crossed}"
+
+
+Bounded = Union[EffectBounds, NoInstrument, NoModel]
+
+
+def bounds_of(
+    diagram: "Diagram",
+    data: Data,
+    x: Optional[Names],
+    y: Optional[Names],
+    given: Optional[Names],
+    instrument: Optional[Names],
+    strata: Optional[Names],
+    count: Optional[str],
+    exact: bool,
+    missing: str,
+) -> Bounded:
+    """The bounds over the data: see `Diagram.bounds`."""
+    if strata is not None and instrument is None:
+        raise RequestError("strata are those of an instrument: instrument names it")
+    roles = diagram._content.roles
+    sets: Dict[str, Optional[Tuple[str, ...]]] = {"x": None if x is None else names_of(x), "y": None if y is None else names_of(y)}
+    sets.update({name: names_of(it) for name, it in (("given", given), ("instrument", instrument), ("strata", strata)) if it is not None})
+    marked = {"x": "exposure", "y": "outcome"}
+    members = {it for name, held in sets.items() for it in (held if held is not None else [v for v in roles if roles[v] == marked[name]])}
+    used = tuple(name for name in diagram.vertices if name in members)
+    words = [word for name, held in sets.items() if held for word in (f"--{name}", list_word(held))]
+    typed = typed_order(x), typed_order(y)
+
+    def over(text: bytes, more: Sequence[Any], level_of: LevelOf, dropped: int) -> Bounded:
+        def read(told: Told) -> Bounded:
+            return read_bounds(told, level_of, dropped, typed)
+
+        return diagram._ask(read, "bounds", *words, *more, *(["--exact"] if exact else []), second=text, level_of=level_of)
+
+    def over_table(table: Table) -> Bounded:
+        table.check_size()
+        return over(table.text(), [f"--count={table.count_column}"], table.level, table.dropped)
+
+    check_request(used, count, missing)
+    path = path_of(data)
+    if path is None:
+        return over_table(table_of(data, used, count, missing, sets["y"] or ()))
+    counts = [] if count is None else [f"--count={count}"]
+    text = read_bytes(path)
+    return over_table(
+        table_of_file(text, used, count, missing, lambda it: _told(over(it, counts, lambda name, level: level, 0)), lambda table: _told(over_table(table)))
+    )
+
+
+def _told(answer: Bounded) -> object:
+    """What two readings of one file have in common."""
+    return answer.bounds if isinstance(answer, EffectBounds) else answer
+
+
+def read_bounds(
+    told: Told,
+    level_of: LevelOf = lambda name, level: level,
+    dropped: int = 0,
+    typed: Tuple[Optional[Tuple[str, ...]], Optional[Tuple[str, ...]]] = (None, None),
+) -> Bounded:
+    """Reads the answer of `bounds`.
+
+    >>> from causal.bounds import read_bounds
+    >>> sets = {"x": ["X"], "y": ["Y"], "given": [], "instrument": [], "strata": []}
+    >>> cell = {"x": [["X", "a"]], "y": [["Y", "b"]], "given": [], "at_least": "1/3", "at_most": "1/2"}
+    >>> print(read_bounds({"answer": "bounds", "exact": True, **sets, "cells": [cell]}))
+    P(Y=b|do(X=a)) at least 1/3, at most 1/2
+    """
+
+    def levels(pairs: Sequence[Tuple[str, Any]]) -> Dict[str, Level]:
+        return {name: level_of(name, name_in(level)) for name, level in pairs}
+
+    def bound(cell: Told, exact: bool) -> EffectBound:
+        ends = Fraction(cell["at_least"]), Fraction(cell["at_most"])
+        return EffectBound(levels(cell["y"]), levels(cell["x"]), levels([*cell["given"], *cell.get("strata", ())]), *ends, exact)
+
+    asked = AskedBounds(*(tuple(told[name]) for name in ("x", "y", "given", "instrument", "strata")))
+    if told["answer"] == "bounds":
+        return EffectBounds(asked, tuple(bound(cell, told["exact"]) for cell in told["cells"]), told["exact"], dropped, typed)
+    if told["answer"] == "no model":
+        return NoModel(asked, bound(told["crossed"], True))
+    if told["answer"] != "no instrument":
+        raise CausalError(f"the library answered {told['answer']!r}")
+    path = Path(tuple(told["open"]["vertices"]), tuple(told["open"]["marks"])) if "open" in told else None
+    return NoInstrument(asked, told.get("moved"), path)

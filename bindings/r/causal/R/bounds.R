@@ -1,0 +1,55 @@
+# What effects are at least and at most over a table of counts. Each end is the library's; what is made of it as a number of R is rounded.
+
+bounds_effect <- function(diagram, data, x = NULL, y = NULL, given = NULL, instrument = NULL, strata = NULL, count = NULL, exact = FALSE,
+                          missing = c("error", "drop", "level")) {
+  diagram <- as_causal_diagram(diagram)
+  check_exposures(diagram, x)
+  if (is.null(instrument) && !is.null(strata)) refuse("`strata` are those of an instrument, which `instrument` names")
+  words <- c(option("x", x), option("y", y), option("given", given), option("instrument", instrument), option("strata", strata))
+  outcomes <- if (is.null(y)) diagram$vertices$name[diagram$vertices$role == "outcome"] else enc2utf8(as.character(y))
+  table <- count_table(diagram, words, data, count, one_of(missing), "bounds", keeps = outcomes)
+  asked <- if (is.null(table)) words else c(words, "--count", count_name(table), flag("exact", exact))
+  told <- ask_counts(diagram, asked, if (is.null(table)) "" else counts_text(table), command = "bounds")
+  read <- read_bounds(object_of(told))
+  if (read$answer == "bounds") return(bounds_frame(read, table))
+  if (read$answer == "no instrument")
+    return(new_answer("causal_no_instrument", list(holds = FALSE, moved = read$moved, path = read$path), told, diagram))
+  new_answer("causal_no_model", list(holds = FALSE, crossed = bounds_frame(read, table)), told, diagram)
+}
+
+bounds_frame <- function(read, table) {
+  columns <- c(columns_of(read$x, table), columns_of(read$given, table), columns_of(read$y, table))
+  ends <- list(at_least = number_in(read$at_least), at_most = number_in(read$at_most))
+  if (read$exact) ends <- c(ends, list(at_least_exact = read$at_least, at_most_exact = read$at_most))
+  structure(frame_of(c(columns, ends)), class = c("causal_bounds", "data.frame"), dropped = table$dropped)
+}
+
+# The nearest number of R to a fraction or to digits.
+number_in <- function(texts) {
+  vapply(strsplit(texts, "/", fixed = TRUE), function(side) if (length(side) == 1) as.numeric(side) else as.numeric(side[1]) / as.numeric(side[2]), 0)
+}
+
+print.causal_bounds <- function(x, ...) print_with_notes(x, x, ...)
+
+as.data.frame.causal_bounds <- function(x, ...) frame_of(as.list(x))
+
+# The levels of a crossing stand in the data, and not in what was asked.
+print.causal_no_model <- function(x, ...) {
+  cat("no model of this diagram has these counts: bounds cross\n")
+  print(x$crossed, ...)
+  invisible(x)
+}
+
+# An effect among those for whom other values of the exposures were observed.
+treated_effect <- function(diagram, x = NULL, y = NULL, given = NULL) {
+  diagram <- as_causal_diagram(diagram)
+  check_exposures(diagram, x)
+  told <- ask("treated", diagram, c(option("x", x), option("y", y), option("given", condition_of(given)$names)))
+  object <- object_of(told)
+  if (told$yes) {
+    parts <- c(sets_in(object, c("y", "x")), list(given = c(texts(object$given), texts(object$observed))))
+    read <- c(list(identifiable = TRUE), read_formula(object), list(trees = read_trees(object), parts = parts))
+    return(new_answer("causal_formula", read, told, diagram))
+  }
+  new_answer("causal_confounded", c(list(identifiable = FALSE), read_confounded(object)), told, diagram)
+}
