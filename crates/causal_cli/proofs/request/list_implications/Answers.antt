@@ -17,3 +17,10 @@ returns-in_default c =
     (subst (λ (k : Option (Bor (List ℕ))). IfOk c.pairs_reply.result (λ r. Tells implications_telling target_refusal
     (IsForGraph (option_map {T = Bor (List ℕ)} {U = List ℕ} (λ s. s.now) k) seen) (plain_form c.args.asked.format) seen.names r.outcome (told_of r)))
     (sym c.in_default.is) c.pairs_reply.ensures)
+
+pub returns-in-Replied : goal.returns-in-Replied
+returns-in-Replied c =
+    let seen = c.args.diagram.now.observed in let reply = c.in-Replied.reply in
+    subst (λ (k : Option (Bor (List ℕ))). Tells implications_telling target_refusal
+    (IsForGraph (option_map {T = Bor (List ℕ)} {U = List ℕ} (λ s. s.now) k) seen) (plain_form c.args.asked.format) seen.names reply.outcome (told_of reply))
+    (sym c.in-Some.is) ((rw c.in-Replied.is at c.in_ok-reply.ensures) c.in-Some.counts.now)

@@ -1,0 +1,45 @@
+use Rattle.std.proofs.Common.{◌<◌, ℕ, List, Option, IfOk, length, option_map, sym, subst}
+use Rattle.std.proofs.lemmas.Result.{IfOk-weaker}
+use Rattle.count_rows.specs.Records.{Field}
+use Rattle.diagram.specs.declared.diagram.Diagram.{Diagram}
+use Rattle.targets.specs.declared.query.Sets.{Sets}
+use Rattle.replies.specs.Told.{told_of}
+use Rattle.told.specs.declared.form.Form.{Form}
+use Rattle.told.specs.Forms.{plain_form}
+use Rattle.told.specs.Telling.{Tells}
+use Rattle.equivalent_command.specs.Right.{IsForSecond}
+use Rattle.equivalent_command.specs.SecondFaults.{second_refusal}
+use Rattle.equivalent_command.specs.Telling.{equivalent_telling}
+use Rattle.implications_command.specs.CountsFaults.{counts_refusal}
+use Rattle.implications_command.specs.Pairs.{PlainPairs, pairs_in}
+use Rattle.implications_command.specs.Right.{IsForCounts}
+use Rattle.implications_command.specs.Telling.{implications_telling}
+use Rattle.causal_cli.specs.Commands.{left_of}
+use Rattle.causal_cli.specs.declared.second.SecondInput.{SecondInput}
+use Rattle.causal_cli.proofs.second.SecondInputSecondInput.long_reply.Goals as goal
+
+pub returns-in-Equivalent : goal.returns-in-Equivalent
+returns-in-Equivalent c =
+    let d = c.args.diagram.now in
+    subst (λ (it : SecondInput). IfOk c.long_second_graph.result (λ r. (other : List ℕ) → (left_of d it).limit < length other
+    → (left_of d it).answer other r.outcome (told_of r))) (sym c.in-Equivalent.is)
+    (IfOk-weaker c.long_second_graph.result
+    (λ r. (form : Form) (first : Diagram) (sets : Option Sets) (second : List ℕ) → 1048576 < length second
+    → Tells equivalent_telling second_refusal (IsForSecond first.observed sets second) form first.observed.names r.outcome (told_of r))
+    (λ r. (other : List ℕ) → 1048576 < length other → Tells equivalent_telling second_refusal (IsForSecond d.observed c.in-Equivalent.sets other)
+    (plain_form c.in-Equivalent.format) d.observed.names r.outcome (told_of r))
+    (λ r h other long. h (plain_form c.in-Equivalent.format) d c.in-Equivalent.sets other long) c.long_second_graph.ensures)
+
+pub returns-in-Implications : goal.returns-in-Implications
+returns-in-Implications c =
+    let d = c.args.diagram.now in
+    let p = pairs_in d.observed c.in-Implications.pairs.items in
+    let count = option_map (λ s. s.now) c.in-Implications.count in
+    subst (λ (it : SecondInput). IfOk c.long_counts-in-Implications.result (λ r. (other : List ℕ) → (left_of d it).limit < length other
+    → (left_of d it).answer other r.outcome (told_of r))) (sym c.in-Implications.is)
+    (IfOk-weaker c.long_counts-in-Implications.result
+    (λ r. (form : Form) (p : PlainPairs) (count : Option Field) (bytes : List ℕ) (names : List (List ℕ)) → 67108864 < length bytes
+    → Tells implications_telling counts_refusal (IsForCounts p count bytes) form names r.outcome (told_of r))
+    (λ r. (other : List ℕ) → 67108864 < length other → Tells implications_telling counts_refusal (IsForCounts p count other)
+    (plain_form c.in-Implications.format) d.observed.names r.outcome (told_of r))
+    (λ r h other long. h (plain_form c.in-Implications.format) p count other d.observed.names long) c.long_counts-in-Implications.ensures)

@@ -1,0 +1,13 @@
+use Rattle.std.proofs.Common.{IfOk, sym, subst}
+use Rattle.replies.specs.Told.{told_of}
+use Rattle.causal_cli.specs.Commands.{left_of}
+use Rattle.causal_cli.specs.declared.second.SecondInput.{SecondInput}
+use Rattle.causal_cli.proofs.second.SecondInputSecondInput.reply.Goals as goal
+
+pub returns-in-Equivalent : goal.returns-in-Equivalent
+returns-in-Equivalent c = subst (λ (it : SecondInput). IfOk c.equivalent_reply.result
+    (λ r. (left_of c.args.diagram.now it).answer c.args.other.now r.outcome (told_of r))) (sym c.in-Equivalent.is) c.equivalent_reply.ensures
+
+pub returns-in-Implications : goal.returns-in-Implications
+returns-in-Implications c = subst (λ (it : SecondInput). IfOk c.differences_reply.result
+    (λ r. (left_of c.args.diagram.now it).answer c.args.other.now r.outcome (told_of r))) (sym c.in-Implications.is) c.differences_reply.ensures
