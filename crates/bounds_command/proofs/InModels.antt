@@ -1,0 +1,68 @@
+-- What is found holds in every model of the graph that has the counts.
+use Rattle.std.proofs.Common.{◌≡◌, ◌<◌, ◌≤◌, ℕ, Bool, true, false, ◌||◌, List, All, length, refl, sym, ap, subst, ◌∙◌, inl, inr, arith}
+use Rattle.std.proofs.lemmas.Bool.{or_left}
+use Rattle.std.proofs.Common.{get_or}
+use Rattle.mixed_graph.specs.Bits.{has, members_below}
+use Rattle.mixed_graph.specs.Graphs.{MixedGraph, IsMixedGraph}
+use Rattle.mixed_graph.specs.Sets.{Within}
+use Rattle.mixed_graph.proofs.Masks.{has-zero}
+use Rattle.finite_models.proofs.Bools.{either}
+use Rattle.count_rows.specs.Rows.{Table}
+use Rattle.count_table.specs.Tables.{AreCounts}
+use Rattle.count_eval.specs.Programs.{is_used}
+use Rattle.natural_bounds.specs.Bounds.{fixed, IsAskedOf}
+use Rattle.replies.proofs.OneTarget.{some_member}
+use Rattle.bound_values.specs.declared.questions.Method.{Method}
+use Rattle.bound_values.specs.declared.questions.Question.{Question}
+use Rattle.bound_values.specs.declared.values.CellBounds.{CellBounds}
+use Rattle.bound_values.specs.declared.found.Found.{Found}
+use Rattle.bound_values.specs.declared.found.Found.TheVariants.{Crossed, Bounded}
+use Rattle.bound_values.specs.Questions.{asked_of, joint_set, level_set, joint_mask}
+use Rattle.bound_values.specs.Values.{MayBeUsed}
+use Rattle.bound_values.specs.Told.{AreEnds}
+use Rattle.bound_values.specs.Found.{IsFound}
+use Rattle.bound_values.proofs.Used.{joint_has, counted_of}
+use Rattle.bounds_command.specs.Right.{IsKnown, IsCounted, Encloses, HoldsInModels}
+
+module _ (g : MixedGraph) (names : List (List ℕ)) (q : Question) (known : IsKnown g names q) where
+  -- what is asked of is a vertex
+  pub joint_below : (v : ℕ) → joint_set (asked_of q) v ≡ true → v < g.vertices
+  joint_below v i =
+      let sets = known.instrument.sets in
+      either (has q.x.bits v) (has q.y.bits v || level_set (asked_of q) v) (v < g.vertices) i (sets.x_within v)
+      (λ j. either (has q.y.bits v) (level_set (asked_of q) v) (v < g.vertices) j (sets.y_within v)
+      (λ k. either (has q.instruments.bits v) (fixed (asked_of q) v) (v < g.vertices) k (sets.z_within v) (sets.w_within v)))
+
+  pub joint_low : (v : ℕ) → joint_set (asked_of q) v ≡ true → v < 64
+  joint_low v i = (let a = joint_below v i in let b = known.few in omega (arith, a, b))
+
+  pub joint_within : Within (length names) (has (joint_mask q))
+  joint_within v i = subst (λ k. v < k) (sym known.named) (joint_below v (sym (joint_has q v) ∙ i))
+
+  -- there is one
+  pub joint_some : 0 < joint_mask q
+  joint_some =
+      let found = some_member g.vertices q.x.bits known.instrument.sets.x_within known.some in
+      let there : has (joint_mask q) found.0 ≡ true =
+      joint_has q found.0 ∙ or_left (has q.x.bits found.0) (has q.y.bits found.0 || level_set (asked_of q) found.0) found.1 in
+      let full : joint_mask q ≡ 0 → ⊥ = λ e. (let z = has-zero found.0 in
+      let m : has 0 found.0 ≡ true = sym (ap (λ k. has k found.0) e) ∙ there in cc) in
+      omega (arith, full)
+
+  module _ (t : Table) (are : AreCounts t) (used : IsCounted q t) where
+    is_asked : IsAskedOf g (is_used t) (asked_of q)
+    is_asked = record {
+      instrument = known.instrument;
+      apart = known.apart;
+      covered = counted_of q t are used joint_low;
+    }
+
+    may : MayBeUsed q.method g (is_used t) (asked_of q)
+    may = subst (λ (m : Method). MayBeUsed m g (is_used t) (asked_of q)) (sym known.method) is_asked
+
+    enclosed : (b : CellBounds) → AreEnds q.method g.vertices t (asked_of q) b → Encloses g q t b
+    enclosed b ends = record { at_least = ends.at_least g known.graph may; at_most = ends.at_most g known.graph may }
+
+    pub found_holds : (is_exact : Bool) (f : Found) → IsFound is_exact g.vertices t q f → HoldsInModels g q t f
+    found_holds is_exact (Bounded bounds) h = λ k d lt. enclosed (get_or bounds.items k d) (h.1.ends k d lt)
+    found_holds is_exact (Crossed c) h = h.1.model g known.graph is_asked h.1.others

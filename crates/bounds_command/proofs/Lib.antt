@@ -1,0 +1,9 @@
+mod AskedSets
+mod NameFaults
+mod FirstReplies
+pub mod InModels
+pub mod Known
+mod OneQuestion
+mod Alike
+pub mod Exclusive
+pub mod Lawful

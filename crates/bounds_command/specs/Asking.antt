@@ -1,0 +1,57 @@
+-- What the lists of `bounds` ask for.
+use Rattle.std.specs.Prelude.{ℕ, ◌≡◌, ◌⊎◌, List, ◌++◌, Option, Some, None}
+use Rattle.mixed_graph.specs.Graphs.{MixedGraph}
+use Rattle.mixed_graph.specs.Names.{is_named}
+use Rattle.mixed_graph.specs.Shown.{graph_of}
+use Rattle.targets.specs.declared.fault.TargetFault.{TargetFault}
+use Rattle.targets.specs.Targets.{Lists, NameFault, first_fault, IsFaultOfTarget, IsListedSet, AreSets, IsTargetFault}
+use Rattle.diagram.specs.Sets.{Names, query_lists}
+use Rattle.diagram.specs.declared.diagram.Diagram.{Diagram}
+use Rattle.natural_bounds.specs.Bounds.{fixed}
+use Rattle.natural_bounds.specs.Instruments.{IsInstrument}
+use Rattle.bound_values.specs.declared.questions.Question.{Question}
+use Rattle.bound_values.specs.declared.questions.Method.TheVariants.{Instruments}
+use Rattle.bound_values.specs.Questions.{asked_of}
+
+-- the lists of a query, and those of the instruments and the strata
+pub record BoundLists : Type 0 where
+  pub query : Lists
+  pub instruments : List (List ℕ)
+  pub strata : List (List ℕ)
+
+-- the lists on a diagram: those that are given, or else the exposures and the outcomes
+abbrev pub bound_lists : Diagram → (x y : Names) → (given instruments strata : List (List ℕ)) → BoundLists
+bound_lists d x y given instruments strata = record {
+  query = query_lists d.read d.observed.names x y (Some given);
+  instruments = instruments;
+  strata = strata;
+}
+
+-- the first name at fault of the instruments and then of the strata, where x, y and given were walked before
+abbrev pub later_fault : BoundLists → Option NameFault
+later_fault l = first_fault l.query.all l.query.observed (is_named (l.query.x ++ (l.query.y ++ l.query.given))) (l.instruments ++ l.strata)
+
+-- the question asks for the sets that the lists name, by the instruments
+pub record AreNamed (l : BoundLists) (q : Question) : Type 0 where
+  pub query : AreSets l.query q.x.bits q.y.bits q.given.bits
+  pub no_fault : later_fault l ≡ None
+  pub instruments : IsListedSet l.query.observed l.instruments q.instruments.bits
+  pub strata : IsListedSet l.query.observed l.strata q.strata.bits
+  pub method : q.method ≡ Instruments
+
+-- the lists x, y and given name sets, and the fault is that of the first name at fault of the others
+pub record IsLaterFault (l : BoundLists) (fault : TargetFault) : Type 0 where
+  pub x : ℕ
+  pub y : ℕ
+  pub given : ℕ
+  pub query : AreSets l.query x y given
+  pub named : IsFaultOfTarget (later_fault l) l.query.y l.query.x fault
+
+-- the fault of lists: that of x, y and given, or else of the others
+abbrev pub IsBoundFault : BoundLists → TargetFault → Type 0
+IsBoundFault l fault = IsTargetFault l.query fault ⊎ IsLaterFault l fault
+
+-- the lists ask for this in a graph: its sets are an instrument's
+pub record IsAsked (g : MixedGraph) (l : BoundLists) (q : Question) : Type 0 where
+  pub named : AreNamed l q
+  pub instrument : IsInstrument g (asked_of q).x (asked_of q).y (asked_of q).z (fixed (asked_of q))

@@ -1,0 +1,10 @@
+pub mod Requests
+pub mod Asking
+pub mod Sentences
+pub mod First
+pub mod Lines
+pub mod Objects
+pub mod BoundsTelling
+pub mod Faults
+pub mod Right
+pub mod Command

@@ -1,0 +1,31 @@
+-- The parts of what is told of a question without an instrument.
+use Rattle.std.specs.Prelude.{ℕ, List, [], ◌∷◌, ◌++◌, codes}
+use Rattle.json.specs.Json.{Json}
+use Rattle.mixed_graph.specs.Names.{name_of}
+use Rattle.answer_text.specs.Printing.{printed}
+use Rattle.answer_text.specs.Texts.{set_text}
+use Rattle.answer_json.specs.Values.{set_json, query_members, vertex_json, path_json}
+use Rattle.replies.specs.Lines.{open_text}
+use Rattle.natural_bounds.specs.declared.instruments.InstrumentFault.{InstrumentFault}
+use Rattle.natural_bounds.specs.declared.instruments.InstrumentFault.TheVariants.{Moved, Open}
+use Rattle.bound_values.specs.declared.questions.Question.{Question}
+use Rattle.bound_values.specs.Questions.{fixed_mask}
+
+-- `no instrument: {Z} given {W}`
+abbrev pub refused_text : List (List ℕ) → Question → List ℕ
+refused_text names q = codes "no instrument: " ++ (set_text names q.instruments.bits ++ (codes " given " ++ (set_text names (fixed_mask q) ++ codes "\n")))
+
+-- `moved: W`, or the open path
+abbrev pub why_text : List (List ℕ) → InstrumentFault → List ℕ
+why_text names (Moved v) = codes "moved: " ++ (printed (name_of names v) ++ codes "\n")
+why_text names (Open p) = open_text names p.vertices p.marks p.count
+
+-- the same as a member
+abbrev pub why_members : List (List ℕ) → InstrumentFault → List (List ℕ × Json)
+why_members names (Moved v) = (codes "moved", vertex_json names v) ∷ []
+why_members names (Open p) = (codes "open", path_json names p.vertices p.marks p.count) ∷ []
+
+-- the sets that are asked of
+abbrev pub asked_members : List (List ℕ) → Question → List (List ℕ × Json)
+asked_members names q = query_members names q.x.bits q.y.bits q.given.bits
+    ++ ((codes "instrument", set_json names q.instruments.bits) ∷ (codes "strata", set_json names q.strata.bits) ∷ [])
