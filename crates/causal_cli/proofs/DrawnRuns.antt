@@ -43,6 +43,7 @@ use Rattle.surrogate_command.specs.Answers as surrogates
 use Rattle.surrogate_command.specs.Answers.{SurrogateAnswer}
 use Rattle.surrogate_command.specs.Requests.{Request as SurrogateRequest}
 use Rattle.surrogate_command.specs.Sets.{surrogate_lists}
+use Rattle.surrogate_command.proofs.SurrogateTold.{surrogate_as_told}
 use Rattle.evaluate_command.specs.Answers.{EvaluateFirst}
 use Rattle.evaluate_command.specs.Effects.{target_of, IsFoundBy}
 use Rattle.evaluate_command.specs.Ways.{Way, by_procedure, by_adjusting, by_condition}
@@ -223,7 +224,8 @@ surrogated_on q bytes text d holds a =
 
 surrogated : (r : Call) (uses : List Use) (text : Told) → Appends r.before r.after text.text → CallAnswer r Surrogate uses Yes text → SurrogatedAsDrawn r uses
 surrogated r uses text = written_for r Surrogate uses Yes text (λ q. q.file) IsSurrogateAsDrawn (λ q h. h) (λ q. refl) (λ q. refl)
-    (λ q is bytes a. surrogated_on q bytes text a.diagram a.holds a.answer)
+    (λ q is bytes a. surrogated_on q bytes text a.diagram a.holds
+    (surrogate_as_told q.form a.diagram q.x q.y q.experiments Yes text a.answer))
 
 -- ---- evaluate
 

@@ -52,6 +52,7 @@ use Rattle.surrogate_command.specs.Answers.{SurrogateAnswer}
 use Rattle.surrogate_command.specs.Requests.{Request as SurrogateRequest}
 use Rattle.surrogate_command.specs.Requests as surrogate_requests
 use Rattle.surrogate_command.specs.Sets.{surrogate_lists}
+use Rattle.surrogate_command.proofs.SurrogateTold.{surrogate_as_told}
 use Rattle.evaluate_command.specs.Answers.{ProcedureFirst, EvaluateFirst}
 use Rattle.evaluate_command.specs.Ways.{Way, by_procedure, by_adjusting, by_condition, criterion_query}
 use Rattle.separation_commands.specs.SeparateAnswers.{SeparateAnswer}
@@ -346,7 +347,8 @@ surrogated_on q bytes text d holds a =
 surrogated : (r : Call) (uses : List Use) (text : Told) → Appends r.before r.after text.text → CallAnswer r Surrogate uses No text
     → WrittenFor surrogate_requests.IsRequest (λ q. q.file) IsStopAsDrawn r uses
 surrogated r uses text = written_for r Surrogate uses No text (λ q. q.file) IsStopAsDrawn (λ q h. h) (λ q. refl) (λ q. refl)
-    (λ q is bytes a. surrogated_on q bytes text a.diagram a.holds a.answer)
+    (λ q is bytes a. surrogated_on q bytes text a.diagram a.holds
+    (surrogate_as_told q.form a.diagram q.x q.y q.experiments No text a.answer))
 
 -- ---- separate and rule
 

@@ -52,6 +52,8 @@ use Rattle.surrogate_command.specs.Answers as surrogates
 use Rattle.surrogate_command.specs.Sets.{SurrogateLists, surrogate_lists}
 use Rattle.surrogate_command.specs.declared.form.Form.{Form as SurrogateForm}
 use Rattle.surrogate_command.proofs.Exclusive.{same_surrogate_lists}
+use Rattle.surrogate_command.specs.Command.{surrogate_command}
+use Rattle.surrogate_command.proofs.SurrogateTold.{surrogate_as_told}
 use Rattle.surrogate_command.proofs.OneText.{surrogate_yes_once, surrogate_no_once}
 use Rattle.survey_command.specs.Answers.{SurveyAnswer}
 use Rattle.survey_command.proofs.OneText.{one_survey_text}
@@ -268,8 +270,9 @@ texts_are_one = record {
   identify = λ q o told bytes. on_bytes bytes (λ d. identify_command.by_diagram q d) o (λ d e s text line a b.
       identified_once o q.form told q.x q.y q.given d e s text line
       (identify_as_told q.form d q.x q.y q.given o text a) (identify_as_told q.form e q.x q.y q.given o line b));
-  surrogate = λ q o bytes. on_bytes bytes (λ d. surrogates.SurrogateAnswer q.form d q.x q.y q.experiments) o
-      (surrogate_once o q.form q.x q.y q.experiments);
+  surrogate = λ q o bytes. on_bytes bytes (λ d. surrogate_command.by_diagram q d) o (λ d e s text line a b.
+      surrogate_once o q.form q.x q.y q.experiments d e s text line
+      (surrogate_as_told q.form d q.x q.y q.experiments o text a) (surrogate_as_told q.form e q.x q.y q.experiments o line b));
   implications = λ q o bytes. on_bytes bytes (λ d. implications_command.by_diagram q d) o (λ d e s text line a b.
       for_diagrams (λ d. d.observed.names) (λ p names. FirstAnswer q.format q.counts p names o) (λ d e s. s.observed.names) (first_text q.format q.counts o)
       d e s text line (first_as_told q.format q.counts d.observed o text a) (first_as_told q.format q.counts e.observed o line b));

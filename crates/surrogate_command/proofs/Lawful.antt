@@ -1,18 +1,35 @@
--- The command's words ask for one request, and its answers have one outcome.
-use Rattle.std.proofs.Common.{◌≡◌, Bool, true, false, List, sym, ◌∙◌}
+-- The command's words ask for one request, and its right answers end alike.
+use Rattle.std.proofs.Common.{◌≡◌, ℕ, Bool, true, false, List, Ok, Err, refl, sym, subst, ◌∙◌}
 use Rattle.std.specs.Prelude.{codes}
 use Rattle.std.proofs.lemmas.Option.{same_Some}
+use Rattle.mixed_graph.specs.Graphs.{MixedGraph}
+use Rattle.prob_expr.specs.Listed.{masks_of}
 use Rattle.command_words.specs.Form.{Use, value_of, has_flag}
 use Rattle.command_words.proofs.OneValue.{one_listed}
+use Rattle.experiment_lists.proofs.OneSet.{one_by_one}
 use Rattle.experiment_lists.proofs.OneWord.{one_word}
-use Rattle.replies.proofs.Commands.{IsLawful, lawful_on_file}
+use Rattle.targets.specs.declared.fault.TargetFault.{TargetFault}
+use Rattle.targets.specs.declared.fault.TargetFault.TheVariants.{EmptyX}
+use Rattle.targets.specs.Targets.{IsFaultOfTarget}
+use Rattle.surrogates.specs.Surrogates.{SomeBlocked}
+use Rattle.surrogates.proofs.RightAnswers.{some_blocked}
+use Rattle.replies.specs.Outcomes.{IsAnswered}
+use Rattle.replies.proofs.Commands.{IsLawful}
+use Rattle.replies.proofs.OneTarget.{same_two, no_fault_of, some_list, is_some_list}
+use Rattle.told.specs.Refusals.{target_refusal}
+use Rattle.told.proofs.ToldOnce.{EndAlike, lawful_told}
 use Rattle.surrogate_command.specs.declared.form.Form.{Form}
 use Rattle.surrogate_command.specs.declared.form.Writing.{Writing}
-use Rattle.surrogate_command.specs.Forms.{IsWriting, IsForm}
+use Rattle.surrogate_command.specs.declared.sets.SurrogateSets.{SurrogateSets}
+use Rattle.surrogate_command.specs.declared.answer.Answer.{Answer}
+use Rattle.surrogate_command.specs.declared.answer.Answer.TheVariants.{Formula, Unfound, Blocked}
+use Rattle.surrogate_command.specs.Forms.{IsWriting, IsForm, wants_common}
 use Rattle.surrogate_command.specs.Requests.{Request, IsRequest}
 use Rattle.surrogate_command.specs.Command.{surrogate_command}
-use Rattle.surrogate_command.proofs.Outcomes.{surrogate_answered}
-use Rattle.surrogate_command.proofs.Exclusive.{surrogate_once}
+use Rattle.surrogate_command.specs.Right.{IsFormula, IsStop, IsForLists, IsForNames}
+use Rattle.surrogate_command.specs.Sets.{SurrogateLists, surrogate_lists, surrogate_fault, AreSurrogateSets, IsSurrogateFault}
+use Rattle.surrogate_command.specs.Telling.{surrogate_telling}
+use Rattle.surrogate_command.proofs.Exclusive.{same_surrogate_lists}
 
 one_writing : (models certificate : Bool) (f h : Writing) → IsWriting models certificate f → IsWriting models certificate h → h ≡ f
 one_writing false false f h a b = b ∙ sym a
@@ -36,7 +53,49 @@ one_request uses q r a b = λ i. record {
   form = one_form (has_flag uses (codes "models")) (has_flag uses (codes "certificate")) (has_flag uses (codes "json")) q.form r.form a.form b.form i;
 }
 
+module _ (wanted : Bool) (q : MixedGraph) (l : SurrogateLists) where
+  -- a district that stops the procedure is blocked, and then there is no formula of it
+  formula_or_stop : (s t : SurrogateSets) (a : Answer) → AreSurrogateSets l s.x.bits s.y.bits (masks_of s.experiments.items)
+      → AreSurrogateSets l t.x.bits t.y.bits (masks_of t.experiments.items)
+      → (SomeBlocked q (masks_of s.experiments.items) s.x.bits s.y.bits → ⊥) → IsStop wanted q t a → ⊥
+  formula_or_stop s t a n m unblocked b =
+      let there = some_blocked q (masks_of t.experiments.items) t.x.bits t.y.bits b.district.bits b.stop.first in
+      unblocked (subst (λ (zs : List ℕ). SomeBlocked q zs s.x.bits s.y.bits)
+      (one_by_one l.effect.observed l.experiments (masks_of s.experiments.items) (masks_of t.experiments.items) n.experiments m.experiments)
+      (same_two (λ u v. SomeBlocked q (masks_of t.experiments.items) u v) l.effect s.x.bits s.y.bits t.x.bits t.y.bits n.effect m.effect there))
+
+  -- right answers end alike
+  same_kind : (a b : Answer) → IsForLists wanted q l a → IsForLists wanted q l b → surrogate_telling.outcome a ≡ surrogate_telling.outcome b
+  same_kind (Formula s f) (Formula t h) a b = refl
+  same_kind (Formula s f) (Unfound t d h) a b = absurd (formula_or_stop a.sets b.sets (Unfound t d h) a.named b.named a.decided.1.unblocked b.decided)
+  same_kind (Formula s f) (Blocked t d h) a b = absurd (formula_or_stop a.sets b.sets (Blocked t d h) a.named b.named a.decided.1.unblocked b.decided)
+  same_kind (Unfound t d h) (Formula s f) a b = absurd (formula_or_stop b.sets a.sets (Unfound t d h) b.named a.named b.decided.1.unblocked a.decided)
+  same_kind (Blocked t d h) (Formula s f) a b = absurd (formula_or_stop b.sets a.sets (Blocked t d h) b.named a.named b.decided.1.unblocked a.decided)
+  same_kind (Unfound s d f) (Unfound t e h) a b = refl
+  same_kind (Unfound s d f) (Blocked t e h) a b = refl
+  same_kind (Blocked s d f) (Unfound t e h) a b = refl
+  same_kind (Blocked s d f) (Blocked t e h) a b = refl
+
+  fault_of : (f : TargetFault) → IsSurrogateFault l f → IsFaultOfTarget (surrogate_fault l) l.effect.y some_list f
+  fault_of EmptyX h = absurd h
+  fault_of f h = h
+
+  -- lists that name sets have no fault
+  no_fault : (a : Answer) (fault : TargetFault) → IsForLists wanted q l a → IsSurrogateFault l fault → ⊥
+  no_fault a fault h is = no_fault_of (surrogate_fault l) l.effect.y some_list fault h.named.no_fault h.named.effect.some_y is_some_list (fault_of fault is)
+
+alike : (wanted : Bool) → EndAlike surrogate_telling target_refusal (IsForNames wanted)
+alike wanted q l (Ok a) (Ok b) f g = same_kind wanted q l a b f g
+alike wanted q l (Ok a) (Err fault) f g = absurd (no_fault wanted q l a fault f g)
+alike wanted q l (Err fault) (Ok a) f g = absurd (no_fault wanted q l a fault g f)
+alike wanted q l (Err fault) (Err other) f g = refl
+
+answered : (a : Answer) → IsAnswered (surrogate_telling.outcome a)
+answered (Formula s f) = tt
+answered (Unfound s d h) = tt
+answered (Blocked s d h) = tt
+
 -- what holds of each command holds of it
 pub surrogate_lawful : IsLawful surrogate_command
-surrogate_lawful = lawful_on_file one_request (λ q d. surrogate_answered d q.x q.y q.experiments q.form)
-    (λ q bytes. surrogate_once bytes q.x q.y q.experiments q.form)
+surrogate_lawful = lawful_told surrogate_telling one_request answered (λ q d. surrogate_lists d.read d.observed.names q.x q.y q.experiments)
+    (λ q. same_surrogate_lists q.x q.y q.experiments) (λ q. IsForNames (wants_common q.form.writing)) (λ q. alike (wants_common q.form.writing))

@@ -1,8 +1,8 @@
 pub mod Walked
-pub mod Stops
-pub mod Answering
-pub mod Outcomes
+mod Stops
+mod Replied
 pub mod Exclusive
+pub mod SurrogateTold
 pub mod Lawful
 mod OneDerivation
 pub mod OneText

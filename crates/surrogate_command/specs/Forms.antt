@@ -1,6 +1,9 @@
 -- The form of an answer, by its three flags.
 use Rattle.std.specs.Prelude.{◌≡◌, Bool, true, false}
 use Rattle.replies.specs.Told.{format_of}
+use Rattle.told.specs.declared.form.Form.{Form as ToldForm}
+use Rattle.told.specs.declared.form.Writing.{Writing as ToldWriting}
+use Rattle.told.specs.declared.form.Writing.TheVariants as told
 use Rattle.surrogate_command.specs.declared.form.Form.{Form}
 use Rattle.surrogate_command.specs.declared.form.Writing.{Writing}
 use Rattle.surrogate_command.specs.declared.form.Writing.TheVariants.{Plain, Models, Certificate}
@@ -16,3 +19,25 @@ IsWriting true true w = ⊥
 pub record IsForm (models certificate json : Bool) (f : Form) : Type 0 where
   pub writing : IsWriting models certificate f.writing
   pub format : f.format ≡ format_of json
+
+-- whether the common hedge of a stop is asked for
+abbrev pub wants_common : Writing → Bool
+wants_common Plain = false
+wants_common Models = true
+wants_common Certificate = true
+
+-- whether the certificate is
+abbrev pub is_certified : Writing → Bool
+is_certified Plain = false
+is_certified Models = false
+is_certified Certificate = true
+
+-- how what is answered is told
+abbrev pub told_writing : Writing → ToldWriting
+told_writing Plain = told.Plain
+told_writing Models = told.Plain
+told_writing Certificate = told.Certificate
+
+-- in which form
+abbrev pub told_form : Form → ToldForm
+told_form f = record { format = f.format; writing = told_writing f.writing }

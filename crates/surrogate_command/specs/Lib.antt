@@ -5,4 +5,7 @@ pub mod Asked
 pub mod Objects
 pub mod Lines
 pub mod Answers
+pub mod Parts
+pub mod Telling
+pub mod Right
 pub mod Command

@@ -1,4 +1,9 @@
+//! The form that is asked for.
+
+ghost use Rattle.std.specs.Prelude.{◌≡◌};
+
 use replies::Format;
+use told::{Form as ToldForm, Writing as ToldWriting};
 
 /// How an answer is written.
 #[derive(Clone, Copy, Debug, PartialEq, Eq)]
@@ -17,4 +22,34 @@ pub struct Form {
     pub writing: Writing,
     /// The format. An object of JSON has the formula, or the hedge; and the certificate, where that is asked for.
     pub format: Format,
+}
+
+impl Form {
+    ghost use Rattle.surrogate_command.specs.Forms.{wants_common, told_form};
+
+    /// Whether the common hedge is asked for.
+    pub fn wants_common(self) -> bool
+        ensures { result ≡ wants_common self.writing }
+    {
+        match self.writing {
+            Writing::Plain => false,
+            Writing::Models | Writing::Certificate => true,
+        }
+    }
+
+    /// The form in which the answer is told.
+    pub fn told(self) -> ToldForm
+        ensures { result ≡ told_form self }
+    {
+        match self.writing {
+            Writing::Plain | Writing::Models => ToldForm {
+                format: self.format,
+                writing: ToldWriting::Plain,
+            },
+            Writing::Certificate => ToldForm {
+                format: self.format,
+                writing: ToldWriting::Certificate,
+            },
+        }
+    }
 }

@@ -1,14 +1,15 @@
 //! The command `surrogate`.
 #![tactic(auto)]
 
+mod answer;
 mod form;
-mod formats;
-mod objects;
+mod parts;
 mod reply;
 mod request;
 mod sets;
-mod texts;
 
+pub use answer::Answer;
 pub use form::{Form, Writing};
-pub use reply::surrogate_reply;
+pub use reply::{surrogate_answer, surrogate_reply};
 pub use request::{ROW, Request};
+pub use sets::SurrogateSets;

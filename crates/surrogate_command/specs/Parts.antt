@@ -1,0 +1,34 @@
+-- The parts of what is told of an answer.
+use Rattle.std.specs.Prelude.{ℕ, List, ◌++◌, Some, codes}
+use Rattle.json.specs.Json.{Json}
+use Rattle.prob_expr.specs.Tree.{PlainTarget}
+use Rattle.prob_expr.specs.View.{target_view, formula_view}
+use Rattle.hedge.specs.declared.hedge.Hedge.{Hedge}
+use Rattle.certificate_json.specs.Certificates.{certificate_line}
+use Rattle.told.specs.declared.form.Writing.{Writing}
+use Rattle.told.specs.declared.form.Writing.TheVariants.{Plain, Latex, Certificate}
+use Rattle.effect_answers.specs.declared.formulas.EffectFormula.{EffectFormula}
+use Rattle.effect_answers.specs.declared.hedges.EffectHedge.{EffectHedge}
+use Rattle.effect_answers.specs.Certificates.{member_in}
+use Rattle.effect_answers.specs.FormulaTelling.{formula_certificate}
+use Rattle.effect_answers.specs.HedgeTelling.{hedge_certificate}
+use Rattle.surrogate_command.specs.Lines.{common_answer}
+use Rattle.surrogate_command.specs.Objects.{formula_answer, stop_members, common_members}
+
+-- a common hedge with its two models, or its certificate
+abbrev pub blocked_text : Writing → List (List ℕ) → (x y district : ℕ) → EffectHedge → List ℕ
+blocked_text Plain names x y district h = common_answer names x y district h.hedge h.pair
+blocked_text Latex names x y district h = common_answer names x y district h.hedge h.pair
+blocked_text Certificate names x y district h = certificate_line names (hedge_certificate h)
+
+-- the members of a formula over experiments on zs
+abbrev pub found_object : Writing → List (List ℕ) → List ℕ → EffectFormula → List (List ℕ × Json)
+found_object w names zs f = formula_answer names zs (target_view f.target) (formula_view f.formula) ++ member_in w names (formula_certificate f)
+
+-- those of a stop
+abbrev pub unfound_object : List (List ℕ) → List ℕ → PlainTarget → (district : ℕ) → Hedge → List (List ℕ × Json)
+unfound_object names zs t district h = stop_members (codes "not found") names zs t district h
+
+-- those of a common hedge
+abbrev pub blocked_object : Writing → List (List ℕ) → List ℕ → PlainTarget → (district : ℕ) → EffectHedge → List (List ℕ × Json)
+blocked_object w names zs t district h = common_members names zs t district h.hedge h.pair ++ member_in w names (Some (hedge_certificate h))
