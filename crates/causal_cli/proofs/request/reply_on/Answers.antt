@@ -1,7 +1,7 @@
 use Rattle.std.proofs.Common.{IfOk, sym, subst}
 use Rattle.command_run.specs.Answers.{GivesOn}
 use Rattle.causal_cli.specs.Commands.{commands, request_of, left_of}
-use Rattle.causal_cli.specs.declared.request.Request.TheVariants.{Graph, Separate, Rule, Identify, Adjust, Surrogate}
+use Rattle.causal_cli.specs.declared.request.Request.TheVariants.{Graph, Separate, Rule, Identify, Adjust, Surrogate, Treated}
 use Rattle.causal_cli.proofs.request.reply_on.Goals as goal
 
 pub returns-in-Graph : goal.returns-in-Graph
@@ -32,3 +32,8 @@ pub returns-in-Surrogate : goal.returns-in-Surrogate
 returns-in-Surrogate c = subst (λ q. IfOk c.replied-in-Surrogate.result
     (GivesOn (left_of c.args.diagram.now) commands (request_of q) c.args.diagram.now)) (sym c.in-Surrogate.is)
     (c.replied-in-Surrogate.ensures (request_of (Surrogate c.in-Surrogate.asked)) c.args.diagram.now c.surrogate_reply.ensures)
+
+pub returns-in-Treated : goal.returns-in-Treated
+returns-in-Treated c = subst (λ q. IfOk c.replied-in-Treated.result
+    (GivesOn (left_of c.args.diagram.now) commands (request_of q) c.args.diagram.now)) (sym c.in-Treated.is)
+    (c.replied-in-Treated.ensures (request_of (Treated c.in-Treated.asked)) c.args.diagram.now c.treated_reply.ensures)

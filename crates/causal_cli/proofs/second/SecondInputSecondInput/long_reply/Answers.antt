@@ -1,9 +1,14 @@
-use Rattle.std.proofs.Common.{◌<◌, ℕ, List, Option, IfOk, length, option_map, sym, subst}
+use Rattle.std.proofs.Common.{◌<◌, ℕ, Bool, List, Option, IfOk, length, option_map, sym, subst}
 use Rattle.std.proofs.lemmas.Result.{IfOk-weaker}
 use Rattle.count_rows.specs.Records.{Field}
 use Rattle.diagram.specs.declared.diagram.Diagram.{Diagram}
 use Rattle.targets.specs.declared.query.Sets.{Sets}
+use Rattle.mixed_graph.specs.Graphs.{MixedGraph}
+use Rattle.mixed_graph.specs.Shown.{graph_of}
+use Rattle.replies.specs.declared.format.Format.{Format}
 use Rattle.replies.specs.Told.{told_of}
+use Rattle.bound_values.specs.declared.questions.Question.{Question}
+use Rattle.bounds_command.specs.Right.{CountsAnswer}
 use Rattle.told.specs.declared.form.Form.{Form}
 use Rattle.told.specs.Forms.{plain_form}
 use Rattle.told.specs.Telling.{Tells}
@@ -43,3 +48,17 @@ returns-in-Implications c =
     (λ r. (other : List ℕ) → 67108864 < length other → Tells implications_telling counts_refusal (IsForCounts p count other)
     (plain_form c.in-Implications.format) d.observed.names r.outcome (told_of r))
     (λ r h other long. h (plain_form c.in-Implications.format) p count other d.observed.names long) c.long_counts-in-Implications.ensures)
+
+pub returns-in-Bounds : goal.returns-in-Bounds
+returns-in-Bounds c =
+    let d = c.args.diagram.now in
+    let g = graph_of d.observed.graph in
+    let count = option_map (λ s. s.now) c.in-Bounds.count in
+    subst (λ (it : SecondInput). IfOk c.long_counts-in-Bounds.result (λ r. (other : List ℕ) → (left_of d it).limit < length other
+    → (left_of d it).answer other r.outcome (told_of r))) (sym c.in-Bounds.is)
+    (IfOk-weaker c.long_counts-in-Bounds.result
+    (λ r. (format : Format) (exact : Bool) (g : MixedGraph) (names : List (List ℕ)) (q : Question) (count : Option Field) (bytes : List ℕ)
+    → 67108864 < length bytes → CountsAnswer format exact g names q count bytes r.outcome (told_of r))
+    (λ r. (other : List ℕ) → 67108864 < length other → CountsAnswer c.in-Bounds.format c.in-Bounds.exact g d.observed.names c.in-Bounds.question count other
+    r.outcome (told_of r))
+    (λ r h other long. h c.in-Bounds.format c.in-Bounds.exact g d.observed.names c.in-Bounds.question count other long) c.long_counts-in-Bounds.ensures)

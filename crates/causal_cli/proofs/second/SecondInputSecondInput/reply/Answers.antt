@@ -11,3 +11,7 @@ returns-in-Equivalent c = subst (λ (it : SecondInput). IfOk c.equivalent_reply.
 pub returns-in-Implications : goal.returns-in-Implications
 returns-in-Implications c = subst (λ (it : SecondInput). IfOk c.differences_reply.result
     (λ r. (left_of c.args.diagram.now it).answer c.args.other.now r.outcome (told_of r))) (sym c.in-Implications.is) c.differences_reply.ensures
+
+pub returns-in-Bounds : goal.returns-in-Bounds
+returns-in-Bounds c = subst (λ (it : SecondInput). IfOk c.bounds_reply.result
+    (λ r. (left_of c.args.diagram.now it).answer c.args.other.now r.outcome (told_of r))) (sym c.in-Bounds.is) c.bounds_reply.ensures
