@@ -1,0 +1,53 @@
+\name{bounds_effect}
+\alias{bounds_effect}
+\alias{print.causal_bounds}
+\alias{as.data.frame.causal_bounds}
+\alias{print.causal_no_model}
+\title{What Is an Effect at Least and at Most?}
+\description{
+  Gives what the effects of \code{x} on \code{y} are at least and at most over data, whether or not there is a formula.
+}
+\usage{
+bounds_effect(diagram, data, x = NULL, y = NULL, given = NULL, instrument = NULL, strata = NULL, count = NULL,
+              exact = FALSE, missing = c("error", "drop", "level"))
+
+\method{print}{causal_bounds}(x, ...)
+\method{as.data.frame}{causal_bounds}(x, ...)
+}
+\arguments{
+  \item{diagram}{a diagram, or what \code{\link{as_causal_diagram}} takes.}
+  \item{data}{as in \code{\link{evaluate}}, with a column for each variable that is named.}
+  \item{x, y}{names of the exposures and of the outcomes; \code{NULL} for the vertices with these marks. In the methods \code{x} is
+    an answer.}
+  \item{given}{names of variables with whose values the effect is asked for; \code{NULL} for none.}
+  \item{instrument}{names of variables on which the exposures don't act, and that go with the outcomes through the exposures alone, as the
+    arm that was assigned in a trial; \code{NULL} for the natural bounds.}
+  \item{strata}{names of variables in whose strata the instrument is one; the bounds are summed over them.}
+  \item{count, exact, missing}{as in \code{\link{evaluate}}.}
+  \item{...}{for \code{print} arguments of \code{print.data.frame}.}
+}
+\details{
+  Proved: each effect is at least and at most what is printed in every model of the diagram, hidden variables included, whose observed
+  probabilities are the shares of the records, positive or not. It isn't claimed that no better bounds can be had. How far the shares of a
+  sample are from those of the population isn't in the bounds.
+
+  Without an instrument the bounds are the natural ones (Robins 1989; Manski 1990); with one they are the tightest over its levels
+  (Pearl, Causality, chapter 8).
+}
+\value{
+  A data frame of the class \code{causal_bounds}: the levels of \code{x}, of \code{given} and of \code{y}, and \code{at_least} and
+  \code{at_most}; with \code{exact} also \code{at_least_exact} and \code{at_most_exact}, fractions as text. Its attribute \code{dropped}
+  counts the records that were left out.
+
+  Where the set is no instrument a list of the class \code{causal_no_instrument}: \code{holds} (\code{FALSE}), and \code{moved}, a variable on
+  which the exposures act, or \code{path}, which is open. Where no model of the diagram has these counts a list of the class
+  \code{causal_no_model}, with the bounds that cross in \code{crossed}. Both are proved; in a sample small strata can make bounds cross by
+  chance alone.
+}
+\seealso{\code{\link{identify_effect}}, \code{\link{evaluate}}}
+\examples{
+trial <- data.frame(assigned = c("no", "no", "yes", "yes", "yes", "yes"), taken = c("no", "no", "no", "no", "yes", "yes"),
+                    improved = c("no", "yes", "no", "yes", "no", "yes"), n = c(158, 14, 52, 12, 23, 78))
+diagram <- causal_diagram("dag { assigned -> taken -> improved taken <-> improved }")
+bounds_effect(diagram, trial, "taken", "improved", instrument = "assigned", count = "n", exact = TRUE)
+}
