@@ -4,8 +4,8 @@ use Rattle.bounds_command.specs.First.{lists_of}
 use Rattle.bounds_command.specs.Requests.{request_of}
 use Rattle.causal_cli.proofs.request.bound_over.Goals as goal
 
-pub returns-in-Asked : goal.returns-in-Asked
-returns-in-Asked c =
+pub returns : goal.returns
+returns c =
     let d = c.args.diagram.now in
     let q = request_of c.args.asked in
     let asked = rw c.in-Asked.is at c.in_ok-reply.ensures in
