@@ -47,6 +47,7 @@ abbrev pub crossing_in : Method → ℕ → Table → Question → Option (List 
 crossing_in Instruments n t q = first_crossed n t (asked_of q) (crossing_cells t q)
 crossing_in Adjustment n t q = None
 
+-- what a question's first crossing is: there is none, or it is this one
 abbrev pub IsCrossingOf : ℕ → Table → Question → Option CellCrossing → Type 0
 IsCrossingOf n t q None = crossing_in q.method n t q ≡ None
 IsCrossingOf n t q (Some c) = ((q.method ≡ Instruments) × (crossing_in q.method n t q ≡ Some c.cell)) × IsCrossing n t (asked_of q) c

@@ -13,23 +13,27 @@ use Rattle.bound_values.specs.declared.questions.Question.{Question}
 abbrev pub asked_of : Question → Asked
 asked_of q = record { x = has q.x.bits; y = has q.y.bits; z = has q.instruments.bits; u = has q.strata.bits; c = has q.given.bits }
 
--- what a stratum fixes and the instruments; and x; and y
+-- what a stratum fixes and the instruments
 abbrev pub level_set : Asked → ℕ → Bool
 level_set q v = q.z v || fixed q v
 
+-- these and x
 abbrev pub treated_set : Asked → ℕ → Bool
 treated_set q v = q.x v || level_set q v
 
+-- these, x and y
 abbrev pub joint_set : Asked → ℕ → Bool
 joint_set q v = q.x v || (q.y v || level_set q v)
 
--- the same as masks
+-- what a stratum fixes, as a mask
 abbrev pub fixed_mask : Question → ℕ
 fixed_mask q = union q.given.bits q.strata.bits
 
+-- what a stratum fixes and the instruments
 abbrev pub level_mask : Question → ℕ
 level_mask q = union q.instruments.bits (fixed_mask q)
 
+-- these, x and y: all vertices that are asked of
 abbrev pub joint_mask : Question → ℕ
 joint_mask q = union q.x.bits (union q.y.bits (level_mask q))
 

@@ -36,15 +36,18 @@ stop_members = (codes "definition", null) ∷ (codes "node", number (decimal 0))
 abbrev pub stop_begun : ℕ → List ℕ → Progress
 stop_begun k message = with_members stop_members (fault_begun (codes "evaluation") k message)
 
+-- the same as an object
 abbrev pub records_json : List (List ℕ) → Table → (given : ℕ) → (ℕ → ℕ) → Json
 records_json names t given cell = fault_json (codes "evaluation") 1 (codes "a divisor is 0 over these counts")
     (stop_members ++ (codes "cell", cell_json names t cell (members_below (has given) 64)) ∷ [])
 
+-- the same as an object
 abbrev pub wide_json : Json
 wide_json = fault_json (codes "evaluation") 2 (codes "a number passes 2^127 - 1") stop_members
 
 -- ---- all faults
 
+-- the status of a fault
 abbrev pub fault_outcome : BoundsFault → Outcome
 fault_outcome TooLong = Second
 fault_outcome (Counts fault) = Second
@@ -52,6 +55,7 @@ fault_outcome (NoRecords counts given cell) = Evaluation
 fault_outcome TooWide = Evaluation
 fault_outcome NoMemory = Evaluation
 
+-- the line of a fault, by the names of the vertices
 abbrev pub fault_told : List (List ℕ) → BoundsFault → Told
 fault_told names TooLong = refusal_of (line_of count_size_text) (json_line count_size_json)
 fault_told names (Counts fault) = refusal_of (line_of (count_fault_text fault)) (json_line (count_fault_json fault))
@@ -60,10 +64,12 @@ fault_told names (NoRecords t given cell) = refusal_of (line_of (records_text na
 fault_told names TooWide = refusal_of (line_of wide_text) (json_line wide_json)
 fault_told names NoMemory = answer_of []
 
+-- memory was refused while the counts were read
 abbrev pub is_count_memory : CountFault → Bool
 is_count_memory count.NoMemory = true
 is_count_memory fault = false
 
+-- memory was refused
 abbrev pub is_memory : BoundsFault → Bool
 is_memory TooLong = false
 is_memory (Counts fault) = is_count_memory fault

@@ -5,6 +5,7 @@ use Rattle.told.specs.Telling.{Telling}
 use Rattle.separation_commands.specs.GraphObjects.{graph_members}
 use Rattle.separation_commands.specs.declared.graph.answer.Answer.{Answer}
 
+-- an answer of `graph`: the graph in the dag grammar, or as an object
 abbrev pub graph_telling : Telling Answer
 graph_telling = record {
   outcome = λ a. Yes;

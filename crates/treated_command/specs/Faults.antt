@@ -17,6 +17,7 @@ use Rattle.treated_command.specs.declared.fault.TreatedFault.TheVariants.{Listed
 abbrev pub after_text : List ℕ → List ℕ
 after_text name = codes "target fault 9: " ++ printed name
 
+-- the same as an object
 abbrev pub after_json : List ℕ → Json
 after_json name = text_fault_json (codes "target") 9 (codes "x acts on this member of x, or of what is given") (codes "name") name
 
@@ -24,6 +25,7 @@ after_json name = text_fault_json (codes "target") 9 (codes "x acts on this memb
 abbrev pub many_text : List ℕ
 many_text = codes "target fault 10"
 
+-- the same as an object
 abbrev pub many_json : Json
 many_json = bare_fault_json (codes "target") 10 (codes "there are more than 64 names with those of x as observed")
 
