@@ -15,6 +15,8 @@ static const char usage[] =
     "    survey N [--json]\n"
     "    implications FILE [COUNTS] [--count NAME] [--json]\n"
     "    surrogate FILE [--x L] [--y L] --experiments E [--models] [--certificate] [--json]\n"
+    "    bounds FILE COUNTS [--x L] [--y L] [--given L] [--instrument L [--strata L]] [--count NAME] [--exact] [--json]\n"
+    "    treated FILE [--x L] [--y L] [--given L] [--latex] [--json]\n"
     "\n"
     "FILE is a graph text, in the form of DAGitty; - is standard input. A list L is names joined by\n"
     "commas, {} for none. Where x and y aren't listed, they are the vertices marked exposure and\n"

@@ -212,65 +212,85 @@ class NoModel(Shown):
     """That no model of the diagram has these counts, which is proved; it counts as false.
 
     `crossed` has the effect whose bounds cross: it would have to be at least more than what it is at most. In a sample small strata can
-    make bounds cross by chance alone.
+    make bounds cross by chance alone. `ends` has these two as fractions of counts, as they are printed.
     """
 
     asked: AskedBounds
     crossed: EffectBound
+    ends: Tuple[str, str]
 
     def __bool__(self) -> bool:
         return False
 
     def __str__(self) -> str:
-        return f"no model of this diagram has these counts\n{self.crossed}"
+        return f"no model of this diagram has these counts\n{self.crossed.cell} at least {self.ends[0]}, at most {self.ends[1]}"
 
 
 Bounded = Union[EffectBounds, NoInstrument, NoModel]
 
 
-def bounds_of(
-    diagram: "Diagram",
-    data: Data,
-    x: Optional[Names],
-    y: Optional[Names],
-    given: Optional[Names],
-    instrument: Optional[Names],
-    strata: Optional[Names],
-    count: Optional[str],
-    exact: bool,
-    missing: str,
-) -> Bounded:
-    """The bounds over the data: see `Diagram.bounds`."""
-    if strata is not None and instrument is None:
-        raise RequestError("strata are those of an instrument: instrument names it")
-    roles = diagram._content.roles
-    sets: Dict[str, Optional[Tuple[str, ...]]] = {"x": None if x is None else names_of(x), "y": None if y is None else names_of(y)}
-    sets.update({name: names_of(it) for name, it in (("given", given), ("instrument", instrument), ("strata", strata)) if it is not None})
-    marked = {"x": "exposure", "y": "outcome"}
-    members = {it for name, held in sets.items() for it in (held if held is not None else [v for v in roles if roles[v] == marked[name]])}
-    used = tuple(name for name in diagram.vertices if name in members)
-    words = [word for name, held in sets.items() if held for word in (f"--{name}", list_word(held))]
-    typed = typed_order(x), typed_order(y)
+class BoundsQuestion:
+    """A question for bounds, of a diagram: its words, and how it is asked over each form of data."""
 
-    def over(text: bytes, more: Sequence[Any], level_of: LevelOf, dropped: int) -> Bounded:
+    def __init__(
+        self,
+        diagram: "Diagram",
+        x: Optional[Names] = None,
+        y: Optional[Names] = None,
+        given: Optional[Names] = None,
+        instrument: Optional[Names] = None,
+        strata: Optional[Names] = None,
+        count: Optional[str] = None,
+        exact: bool = False,
+    ) -> None:
+        if strata is not None and instrument is None:
+            raise RequestError("strata are those of an instrument: instrument names it")
+        listed = (("given", given), ("instrument", instrument), ("strata", strata))
+        sets: Dict[str, Optional[Tuple[str, ...]]] = {"x": None if x is None else names_of(x), "y": None if y is None else names_of(y)}
+        sets.update({name: names_of(it) for name, it in listed if it is not None})
+        self.diagram, self.count = diagram, count
+        self.words = [word for name, held in sets.items() if held is not None for word in (f"--{name}", list_word(held))]
+        self.ending = ["--exact"] if exact else []
+        self.typed = typed_order(x), typed_order(y)
+        marked = {"x": "exposure", "y": "outcome"}
+        roles = diagram._content.roles
+        members = {it for name, held in sets.items() for it in (held if held is not None else [v for v in roles if roles[v] == marked[name]])}
+        self.used = tuple(name for name in diagram.vertices if name in members)
+        self.outcomes = sets["y"] or ()
+
+    def over_text(self, text: bytes, words: Sequence[str], level_of: LevelOf, dropped: int = 0) -> Bounded:
+        """The answer over a text of counts."""
+
         def read(told: Told) -> Bounded:
-            return read_bounds(told, level_of, dropped, typed)
+            return read_bounds(told, level_of, dropped, self.typed)
 
-        return diagram._ask(read, "bounds", *words, *more, *(["--exact"] if exact else []), second=text, level_of=level_of)
+        return self.diagram._ask(read, "bounds", *self.words, *words, *self.ending, second=text, level_of=level_of)
 
-    def over_table(table: Table) -> Bounded:
+    def over_file(self, text: bytes) -> Bounded:
+        """The answer over the text of a CSV file, which is sent as it is."""
+        return self.over_text(text, [] if self.count is None else [f"--count={self.count}"], lambda name, level: level)
+
+    def over_table(self, table: Table) -> Bounded:
+        """The answer over a table."""
         table.check_size()
-        return over(table.text(), [f"--count={table.count_column}"], table.level, table.dropped)
+        return self.over_text(table.text(), [f"--count={table.count_column}"], table.level, table.dropped)
 
-    check_request(used, count, missing)
-    path = path_of(data)
-    if path is None:
-        return over_table(table_of(data, used, count, missing, sets["y"] or ()))
-    counts = [] if count is None else [f"--count={count}"]
-    text = read_bytes(path)
-    return over_table(
-        table_of_file(text, used, count, missing, lambda it: _told(over(it, counts, lambda name, level: level, 0)), lambda table: _told(over_table(table)))
-    )
+    def over(self, data: Data, missing: str) -> Bounded:
+        """The answer over data of any form."""
+        check_request(self.used, self.count, missing)
+        path = path_of(data)
+        if path is None:
+            return self.over_table(table_of(data, self.used, self.count, missing, self.outcomes))
+        return self.over_table(
+            table_of_file(
+                read_bytes(path),
+                self.used,
+                self.count,
+                missing,
+                lambda it: _told(self.over_file(it)),
+                lambda table: _told(self.over_table(table)),
+            )
+        )
 
 
 def _told(answer: Bounded) -> object:
@@ -304,7 +324,8 @@ def read_bounds(
     if told["answer"] == "bounds":
         return EffectBounds(asked, tuple(bound(cell, told["exact"]) for cell in told["cells"]), told["exact"], dropped, typed)
     if told["answer"] == "no model":
-        return NoModel(asked, bound(told["crossed"], True))
+        crossed = told["crossed"]
+        return NoModel(asked, bound(crossed, True), (crossed["at_least"], crossed["at_most"]))
     if told["answer"] != "no instrument":
         raise CausalError(f"the library answered {told['answer']!r}")
     path = Path(tuple(told["open"]["vertices"]), tuple(told["open"]["marks"])) if "open" in told else None

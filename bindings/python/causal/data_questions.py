@@ -202,9 +202,9 @@ class DataQuestions:
         >>> print(Diagram("dag { X -> Y X <-> Y }").bounds(study, "X", "Y", exact=True).at(1, 1))
         P(Y=1|do(X=1)) at least 1/3, at most 5/6
         """
-        from causal.bounds import bounds_of
+        from causal.bounds import BoundsQuestion
 
-        return bounds_of(self._diagram, data, x, y, given, instrument, strata, count, exact, missing)
+        return BoundsQuestion(self._diagram, x, y, given, instrument, strata, count, exact).over(data, missing)
 
     def pin_spread(
         self,

@@ -6,10 +6,12 @@ from worked import cases_in_text
 
 import causal
 from causal import Diagram, effects, errors, faults, formula, reading
+from causal.bounds import read_bounds
 from causal.evaluation import Evaluation
 from causal.formula import Formula, Term
 from causal.implications import read_implications
 from causal.objects import read_line, text_in
+from causal.treated import read_treated
 
 TERM = {"term": ["Y"], "do": [], "given": []}
 FORMS = {"latex": "P(Y)", "tree": TERM, "definition_trees": []}
@@ -38,6 +40,8 @@ def read(words, told, inputs):
         "equivalent": reading.read_equivalence,
         "implications": read_implications,
         "surrogate": reading.read_surrogate,
+        "bounds": read_bounds,
+        "treated": read_treated,
     }
     return readers[command](told)
 

@@ -8,9 +8,10 @@ import unittest
 from worked import all_cases, cases_in_text
 
 import causal
+from causal.bounds import BoundsQuestion
 from causal.evaluation import Evaluation
 
-LISTS = ("x", "y", "z", "do", "given", "set")
+LISTS = ("x", "y", "z", "do", "given", "set", "instrument", "strata")
 
 
 def names_of(word):
@@ -125,6 +126,14 @@ class Questions(unittest.TestCase):
             return diagram.surrogate(**options)
         answer = diagram.surrogate(models=True, **options)
         return getattr(answer, "certificate", None) or diagram.surrogate(**options)
+
+    def ask_treated(self, diagram, second, options, folder):
+        is_latex = options.pop("latex", False)
+        answer = diagram.treated(**self.with_exposures(diagram, options))
+        return answer.latex if is_latex and answer else answer
+
+    def ask_bounds(self, diagram, second, options, folder):
+        return BoundsQuestion(diagram, **self.with_exposures(diagram, options)).over_file(second or b"")
 
     def file_of(self, second, folder):
         path = os.path.join(folder, "counts.csv")
