@@ -13,11 +13,11 @@ treated_effect(diagram, x = NULL, y = NULL, given = NULL)
   \item{given}{names of variables with whose observed values the effect is asked for, on which \code{x} doesn't act; \code{NULL} for none.}
 }
 \details{
-  In the formula a name of \code{x} stands for the value that is done, and the same name with a prime, as \code{X'}, for the value that was
+  In the formula a name of \code{x} stands for the value that is done, and the same name with a prime, as \verb{X'}, for the value that was
   observed.
 
   Proved: a formula equals the effect in every positive finite model that fits the diagram's observed graph, at every assignment. Where a
-  treatment is joined by bidirected edges to a child of its own there is none of this form; with a hedge for the joint effect its two models
+  treatment is joined by bidirected edges to a child of its own none is found; with a hedge for the joint effect its two models
   show that there is none at all, and without one the question is left open.
 }
 \value{
