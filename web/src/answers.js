@@ -75,7 +75,7 @@ export class Answers {
   forgetChoices() {
     const { sets } = this.#memory;
     Object.assign(this.#memory, { by: "", procedure: false, zero: false, kind: "total", wish: {} });
-    for (const key of Object.keys(sets)) if (/^(condition|also set|experiment \d+)$/.test(key)) delete sets[key];
+    for (const key of Object.keys(sets)) if (/^(condition|also set|instrument|strata|experiment \d+)$/.test(key)) delete sets[key];
     this.#memory.experiments = 1;
   }
 
