@@ -7,7 +7,7 @@ import { digitsAbove, digitsBelow, fractionOf, minus, nearly } from "../statisti
 import { listWord, pathText } from "../text/printed.js";
 import { chosenContrast, contrastChoices } from "./contrast.js";
 import { listed, pathMarks, sourceOf, verdict, withRole } from "./parts.js";
-import { chosenSet, howToChoose } from "./sets.js";
+import { chosenSet } from "./sets.js";
 import { countWords, tableName } from "./table.js";
 
 const NUMBER_TOO_LARGE = 2; // of the evaluation faults
@@ -37,14 +37,16 @@ export async function askedBounds(ctx, given) {
 function chosenSets(ctx, given) {
   const named = new Set([...withRole(ctx, "exposure"), ...withRole(ctx, "outcome"), ...given]), free = ctx.observed.filter((name) => !named.has(name));
   const instrument = chosenSet({ ...ctx, observed: free }, "instrument", "Instrument", []), has = instrument.names.length > 0;
-  const strata = chosenSet({ ...ctx, observed: free.filter((name) => !instrument.names.includes(name)) }, "strata", "Its strata", []);
+  const rest = free.filter((name) => !instrument.names.includes(name)), strata = chosenSet({ ...ctx, observed: rest }, "strata", "Its strata", []);
   return {
     instrument: instrument.names, strata: has ? strata.names : [],
-    pickers: () => h("div", { class: "stack" }, h("div", { class: "pickers" }, instrument.row(), has && strata.row()),
-      h("p", { class: "small-print" }, "An instrument goes with the outcome through the exposure alone, as the arm of a trial does that was drawn by lot. Without one "
-        + "the bounds are mostly wider."), howToChoose()),
+    pickers: () => free.length > 0 && h("div", { class: "stack" }, h("div", { class: "pickers" }, instrument.row(), has && rest.length > 0 && strata.row()),
+      !has && h("p", { class: "small-print" }, ABOUT_INSTRUMENTS)),
   };
 }
+
+const ABOUT_INSTRUMENTS = "An instrument, such as the arm of a trial that was drawn by lot, goes with the outcome through the exposure alone. With one the bounds may be "
+  + "less wide. Press its row's name, then click variables in the drawing; or take them from the list.";
 
 /** What the drawing shows of them. @param {Asked} asked */
 export function boundsMarks({ said, instrument, strata }, given) {
@@ -87,8 +89,8 @@ const cellText = ({ y, x, given }) => `P(${y}${x || given ? `|${[...(x ? [`do(${
 function boundsView({ ctx, said: { object }, points }) {
   const cells = boundsOf(object);
   return [
-    verdict("warn", "At least and at most", "Proved: in every model of the diagram that has the shares of this table, the effect lies between these numbers. ",
-      "They are no confidence interval: how far a sample's shares are from those of the population isn't in them. Better bounds may be had."),
+    verdict("warn", "At least and at most", "Proved, over the shares of this table: in every model of the diagram that has them, the effect lies between these numbers. ",
+      "They are no confidence interval, since a sample's shares aren't those of the population. Better bounds may be had."),
     h("div", { class: "scroll" }, boundsTable(cells, points)),
     differencePart(ctx, cells),
   ];

@@ -81,9 +81,8 @@ const invitation = (ctx) => h("div", {},
 /** The table, and how the formula is found. */
 const choices = ({ ctx, choice }) => [tableRow(ctx), choice.row()];
 
-const noFormula = ({ given }) => (given.length
-  ? verdict("no", "Not identifiable under this condition", "No table tells the effect itself: see Effect, with the same condition. Below stands what it is at least and at most.")
-  : verdict("no", "Not identifiable", "No table tells the effect itself: see Effect for the two models that differ. Below stands what it is at least and at most."));
+const noFormula = ({ given }) =>
+  verdict("no", given.length ? "Not identifiable under this condition" : "Not identifiable", "See Effect for why. Below stands what it is at least and at most.");
 
 function notAdmissible(found) {
   const { ctx, words, bounds } = found;
