@@ -156,7 +156,7 @@ def adjusts_for_less(s):
     s.check("don't help where nothing beside is 0", "Nothing that it is multiplied by is 0" in s.panel(), s.panel())
     s.one("#zero").click()
     s.soon("and are left again", lambda: s.command() == "$ causal evaluate diagram.dag hormones.csv --count=n", s.command)
-    s.check("the ways", ways(s) == ["of the effect", "of adjusting for SES, Age", "under a condition"], ways(s))
+    s.check("the ways", ways(s) == ["of the effect", "of adjusting for SES, Age", "under a condition", "none: at least and at most"], ways(s))
     s.one("#use").click()
     s.soon("the minimal set", lambda: s.command() == "$ causal evaluate diagram.dag hormones.csv --set SES,Age --count=n --exact", s.command)
     s.check("has the same value", ["HRT=no", "CHD=no", "0.6500", "13/20"] in values(s) and len(values(s)) == 4, values(s))

@@ -664,10 +664,7 @@ def asks_among_the_treated(s):
     s.check("typeset, with the primed name", s.one(".formula [role=math]").get_attribute("aria-label") == s.printed()
             and "T′" in s.one(".formula").text.replace("'", "′").replace("\n", ""), s.one(".formula").text)
     s.check("said in words", "among those for whom T' was observed" in s.panel() and "T' the one that was observed" in s.panel(), s.panel())
-    copied = s.run("""let text = null;
-        Object.defineProperty(navigator, 'clipboard', { configurable: true, value: { writeText: async (t) => { text = t; } } });
-        document.querySelector('#panel [aria-label="Copy LaTeX"]').click();
-        return text""")
+    copied = leaves_the_page.copied(s)
     s.check("what is copied is what is shown", copied == r"P(R \mid \mathrm{do}(T), T') = \sum_{S} P(S \mid T') P(R \mid T, S)", copied)
     s.check("no certificate is offered", not s.all("#save"))
     s.one("summary[data-key='condition']").click()
@@ -1074,6 +1071,16 @@ def works_by_touch():
         s.soon("and conditions", lambda: s.all("[data-key='arm condition']"))
         wide = s.run("return document.documentElement.scrollWidth - innerWidth")
         s.check("nothing is wider than a phone: a condition", wide <= 0, wide)
+        over_tables.by(s, "bounds")
+        s.soon("and bounds", lambda: len(over_tables.bounded(s)) == 4, s.panel)
+        wide = s.run("return document.documentElement.scrollWidth - innerWidth")
+        s.check("nothing is wider than a phone: bounds", wide <= 0, wide)
+        s.run("document.getElementById('tab-effect').click()")
+        s.one("#panel [data-key='treated']")
+        s.run("document.querySelector('#panel [data-key=treated]').click()")
+        s.soon("and the treated", lambda: "among those for whom" in s.panel(), s.panel)
+        wide = s.run("return document.documentElement.scrollWidth - innerWidth")
+        s.check("nothing is wider than a phone: the treated", wide <= 0, wide)
         right = s.run("return document.getElementById('about').getBoundingClientRect().right - innerWidth")
         s.check("the head's buttons are seen on a phone", right <= 0, right)
     finally:
