@@ -74,8 +74,8 @@ export class Answers {
   /** Forgets what was chosen for another diagram: the way to the formula and its form, the condition of the effect, and the trials. */
   forgetChoices() {
     const { sets } = this.#memory;
-    Object.assign(this.#memory, { by: "", procedure: false, zero: false, direct: false, wish: {} });
-    for (const key of Object.keys(sets)) if (/^(condition|also set|experiment \d+)$/.test(key)) delete sets[key];
+    Object.assign(this.#memory, { by: "", procedure: false, zero: false, kind: "total", wish: {} });
+    for (const key of Object.keys(sets)) if (/^(condition|also set|instrument|strata|experiment \d+)$/.test(key)) delete sets[key];
     this.#memory.experiments = 1;
   }
 

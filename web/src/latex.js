@@ -32,10 +32,11 @@ const BROKEN = {
   },
 };
 
-/** A name set as a word, without quotes where it can't be mistaken. */
+/** A name set as a word, without quotes where it can't be mistaken; its primes behind it. */
 function nice(tex) {
-  if ([...tex].length === 1) return tex;
-  return `\\text{${/[,()|]/.test(tex) ? tex.replace(/^"(.*)"$/, "“$1”") : tex.replace(/^"|"$/g, "")}}`;
+  const [, quote, name, primes] = /^("?)(.+?)('*)\1$/.exec(tex);
+  if (!quote && [...name].length === 1) return name + primes;
+  return `\\text{${quote && /[,()|]/.test(name) ? `“${name}”` : name}}${primes}`;
 }
 
 /** The parts of a list of names or conditions. */

@@ -1,6 +1,7 @@
 // The program's answers as objects of JSON (docs/formats.md), and what the page makes of their members.
 import { nodesOf } from "./expression.js";
 import { faultOf } from "./faults.js";
+import { fractionOf } from "./statistics/fraction.js";
 import { levelsText, nameText, setText } from "./text/printed.js";
 
 /** @typedef {import("./text/printed.js").Graph} Graph  @typedef {import("./text/printed.js").Edge} Edge */
@@ -77,6 +78,15 @@ export const valuesOf = ({ cells }) => cells.map(({ y, x, given, value, from, to
   const [yLevels, xLevels, among] = [y, x, given].map((part) => levelsText(levelsIn(part)));
   const number = value ? fraction(value) : (Number(from) + Number(to)) / 2;
   return { y: yLevels, x: xLevels, given: among, text: value ?? `${from} … ${to}`, value: number };
+});
+
+/** @typedef {import("./statistics/fraction.js").Fraction & {text: string}} End  @typedef {{y: string, x: string, given: string, low: End, high: End}} Bound */
+
+/** What an effect is at least and at most; the levels of strata stand with those of what is given. @returns {Bound[]} */
+export const boundsOf = ({ cells }) => cells.map(({ y, x, given, strata = [], at_least: low, at_most: high }) => {
+  const [yLevels, xLevels, among] = [y, x, [...given, ...strata]].map((part) => levelsText(levelsIn(part)));
+  const end = (text) => ({ text, ...fractionOf(text) });
+  return { y: yLevels, x: xLevels, given: among, low: end(low), high: end(high) };
 });
 
 function fraction(text) {

@@ -9,18 +9,21 @@ const SIGNS = {
 /** A text outside of formulas. */
 export const textTex = (text) => text.replace(/[\\_#&$%{}^~<>|→←↔∅²−Σ…]/g, (sign) => SIGNS[sign] ?? `\\${sign}`);
 
-/** A name in a formula: a letter as it is, any other as text. */
-export const nameTex = (name) => (/^[A-Za-z]$/.test(name) ? name : `\\text{${textTex(name)}}`);
+/** A name in a formula: a letter as it is, any other as text; its primes behind it. */
+export function nameTex(name) {
+  const [, plain, primes] = /^(.+?)('*)$/.exec(name);
+  return (/^[A-Za-z]$/.test(plain) ? plain : `\\text{${textTex(plain)}}`) + primes;
+}
 
 /** An expression with its names as text. @param {import("./expression.js").Expr} expression */
 export const exprTex = (expression) => latex(expression, nameTex);
 
 /**
  * The lines of a formula, its equation first.
- * @param {any} formula an object of the program with `x`, `y`, `tree` and `definition_trees` @returns {string[]}
+ * @param {any} formula an object of the program with `x`, `y`, `tree` and `definition_trees`; of the treated with `observed` @returns {string[]}
  */
-export function formulaLines({ y, x, given = [], tree, definition_trees: parts }) {
-  return [`${exprTex({ term: y, do: x, given })} = ${exprTex(tree)}`, ...parts.map((part, i) => `q_{${i}} = ${exprTex(part)}`)];
+export function formulaLines({ y, x, given = [], observed = [], tree, definition_trees: parts }) {
+  return [`${exprTex({ term: y, do: x, given: [...given, ...observed] })} = ${exprTex(tree)}`, ...parts.map((part, i) => `q_{${i}} = ${exprTex(part)}`)];
 }
 
 /** The same as one formula. */

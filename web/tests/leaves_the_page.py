@@ -89,4 +89,24 @@ def saves_a_report(s):
     s.tab("effect")
 
 
-PARTS = [copies_latex, saves_a_report]
+def reports_bounds(s):
+    """A report has the bounds where there is no formula."""
+    s.tab("data")
+    s.example("noncompliance")
+    s.soon("the example's table", lambda: s.all("#sample") or s.all("table.bounds"), s.panel)
+    if s.all("#sample"):
+        s.one("#sample").click()
+    over_tables.choose(s, "instrument", "assigned")
+    s.soon("bounds by an instrument", lambda: "--instrument assigned" in s.command(), s.panel)
+    s.one("#export").click()
+    s.item("Report, to print")
+    file = s.downloads / "A trial with noncompliance (with data).report.html"
+    s.check("a report", wait(file.exists, 60), list(s.downloads.iterdir()))
+    time.sleep(0.5)
+    html = file.read_text()
+    for part in ("by the instrument assigned", "at least", "0.4727", "0.8607", "no confidence interval", "causal bounds diagram.dag cholestyramine.csv --instrument assigned"):
+        s.check(f"the report has {part}", part in html, html[-3000:])
+    s.tab("effect")
+
+
+PARTS = [copies_latex, saves_a_report, reports_bounds]

@@ -156,7 +156,7 @@ def adjusts_for_less(s):
     s.check("don't help where nothing beside is 0", "Nothing that it is multiplied by is 0" in s.panel(), s.panel())
     s.one("#zero").click()
     s.soon("and are left again", lambda: s.command() == "$ causal evaluate diagram.dag hormones.csv --count=n", s.command)
-    s.check("the ways", ways(s) == ["of the effect", "of adjusting for SES, Age", "under a condition"], ways(s))
+    s.check("the ways", ways(s) == ["of the effect", "of adjusting for SES, Age", "under a condition", "none: at least and at most"], ways(s))
     s.one("#use").click()
     s.soon("the minimal set", lambda: s.command() == "$ causal evaluate diagram.dag hormones.csv --set SES,Age --count=n --exact", s.command)
     s.check("has the same value", ["HRT=no", "CHD=no", "0.6500", "13/20"] in values(s) and len(values(s)) == 4, values(s))
@@ -241,6 +241,60 @@ def evaluates_the_marked_set(s):
     s.example("kidney_stones")
     s.soon("another diagram begins with the effect's formula", lambda: s.run("return document.getElementById('by').value") == "", s.panel)
     s.tab("effect")
+
+
+def bounded(s):
+    """The rows of what the effect is at least and at most: the levels, both ends, and the words of the bar."""
+    return s.run("""return [...document.querySelectorAll('table.bounds tbody tr')].map((row) => [...row.cells].map((el) =>
+        el.querySelector('svg')?.getAttribute('aria-label') ?? el.textContent))""")
+
+
+def choose(s, key, name):
+    """Takes a variable into a set, from its list."""
+    s.one(f"[data-key='add {key}']")
+    s.run("const el = document.querySelector(`[data-key='add ${arguments[0]}']`); el.value = arguments[1]; el.dispatchEvent(new Event('change'))", key, name)
+
+
+def gives_bounds(s):
+    """What an effect is at least and at most: without an instrument, by one, and why a set is none."""
+    s.tab("data")
+    s.example("noncompliance")
+    s.soon("the example's table", lambda: s.all("#sample") or bounded(s), s.panel)
+    if s.all("#sample"):
+        s.one("#sample").click()
+    s.soon("an effect without a formula", lambda: "Not identifiable" in s.panel() and len(bounded(s)) == 4, s.panel)
+    s.check("the command line", s.command() == "$ causal bounds diagram.dag cholestyramine.csv --count=count --exact", s.command())
+    s.check("is at least and at most", ["taken=yes", "improved=yes", "0.231478/337", "between 0.2314 and 0.9318", "0.9318314/337"] in bounded(s), bounded(s))
+    s.check("proved, and no interval", "Proved, over the shares of this table: in every model" in s.panel() and "no confidence interval" in s.panel(), s.panel())
+    choose(s, "instrument", "assigned")
+    s.soon("by an instrument", lambda: s.command() == "$ causal bounds diagram.dag cholestyramine.csv --instrument assigned --count=count --exact", s.command)
+    s.soon("it is less wide", lambda: ["taken=yes", "improved=yes", "0.472726/55", "between 0.4727 and 0.8607", "0.8607142/165"] in bounded(s), lambda: bounded(s))
+    s.soon("as it is printed", lambda: "P(improved=yes|do(taken=yes)) at least 26/55, at most 142/165" in s.printed(), s.printed)
+    s.check("the instrument is marked", s.marked("chosen") == ["assigned"], s.marked("chosen"))
+    contrast(s, y="improved=yes", a="taken=yes", b="taken=no")
+    s.soon("the difference", lambda: "at least 0.3913 and at most 0.7793" in s.one("#bounded-difference").text, lambda: s.one("#bounded-difference").text)
+    s.write("dag { taken [exposure] improved [outcome] assigned -> taken -> improved taken <-> improved assigned -> improved }")
+    s.soon("no instrument", lambda: "assigned is none for this effect" in s.panel() and "improved <- assigned" in s.panel(), s.panel)
+    s.check("its path is drawn", len(s.all("#drawing .over path.open")) == 1, len(s.all("#drawing .over path.open")))
+    s.write("dag { taken [exposure] improved [outcome] taken -> assigned taken -> improved taken <-> improved }")
+    s.soon("what the exposure acts on is none", lambda: "The exposure acts on assigned" in s.panel() and s.marked("bad") == ["assigned"], s.panel)
+    s.example("noncompliance")
+    drop(s, "few.csv", "assigned,taken,improved,count\na,yes,yes,10\nb,yes,no,10\n")
+    choose(s, "instrument", "assigned")
+    s.soon("counts that no model has", lambda: "No model of this diagram has these counts" in s.panel(), s.panel)
+    s.check("with the bounds that cross", "P(improved=yes|do(taken=yes)) would be at least 10/10 and at most 0/10" in s.panel(), s.panel())
+    s.example("kidney_stones")
+    drop(s, "kidney_stones.csv", (EXAMPLES / "kidney_stones.csv").read_text())
+    s.soon("an effect with a formula", lambda: values(s), s.panel)
+    by(s, "bounds")
+    s.soon("bounds by choice", lambda: s.command() == "$ causal bounds diagram.dag kidney_stones.csv --count=count --exact" and len(bounded(s)) == 4, s.panel)
+    s.check("with the formula's value beside", [row[-1] for row in bounded(s)] == ["0.8325", "0.1675", "0.7789", "0.2211"]
+            and len(s.all("table.bounds circle")) == 4, bounded(s))
+    choose(s, "instrument", "S")
+    s.soon("a confounder is no instrument", lambda: "S is none for this effect" in s.panel(), s.panel)
+    s.one("[data-key='instrument S']").click()
+    by(s, "")
+    s.soon("and the formula again", lambda: values(s), s.panel)
 
 
 SMOKING = "dag { Smoking [exposure] Cancer [outcome] Age -> Smoking Age -> Cancer Smoking -> Tar -> Cancer }"
@@ -370,5 +424,5 @@ def stops_the_draws(s):
 
 PARTS = [
     cleans_a_table, matches_columns, tells_what_is_rejected, stops_the_draws, drops_a_table, reads_other_tables, contrasts_with_intervals, adjusts_for_less, counts_zero_cells_for_nothing,
-    evaluates_under_a_condition, evaluates_the_marked_set,
+    evaluates_under_a_condition, evaluates_the_marked_set, gives_bounds,
 ]

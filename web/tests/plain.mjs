@@ -3,11 +3,13 @@ import { apart, circle, scaleFor } from "../src/diagram/fitting.js";
 import { arrange } from "../src/layout.js";
 import { markOf, readRows, written } from "../src/text/csv.js";
 import { columnsOf, prepared } from "../src/text/prepare.js";
-import { annotatePieces } from "../src/latex.js";
+import { annotate, annotatePieces } from "../src/latex.js";
 import { codeOfR } from "../src/diagram/code.js";
 import { bend, curve, freePlace } from "../src/diagram/geometry.js";
 import { fileName, Kept, titleOf } from "../src/page/kept.js";
+import { nameTex } from "../src/paper.js";
 import { intervalOf } from "../src/statistics/bootstrap.js";
+import { digitsAbove, digitsBelow, fractionOf, minus, nearly } from "../src/statistics/fraction.js";
 import { chiSquaredTail, deviance, holm, testOf } from "../src/statistics/independence.js";
 import { csvOf, tableOf } from "../src/statistics/table.js";
 import { taken } from "../src/text/taken.js";
@@ -208,7 +210,24 @@ function testStatistics() {
   check("R code", codeOfR('dag { "a)" }\n').startsWith('text <- r"-(dag { "a)" })-"\n'), codeOfR('dag { "a)" }\n'));
 }
 
+function testFractions() {
+  const shown = (text) => [digitsBelow(fractionOf(text)), digitsAbove(fractionOf(text))].join(), less = minus(fractionOf("26/55"), fractionOf("142/165"));
+  check("rounded outwards", shown("26/55") === "0.4727,0.4728" && shown("0.472727272727272727") === "0.4727,0.4728", shown("26/55"));
+  check("what has four digits stays", shown("1/2") === "0.5000,0.5000" && shown("0/1") === "0.0000,0.0000" && shown("1") === "1.0000,1.0000", shown("1/2"));
+  check("below 0", digitsBelow(less) === "-0.3879" && digitsAbove(less) === "-0.3878", [digitsBelow(less), digitsAbove(less)]);
+  check("large counts", shown("333333333333333/1000000000000000") === "0.3333,0.3334" && nearly(fractionOf("1000000000000000/4000000000000000")) === 0.25, shown("1/3"));
+}
+
+function testNames() {
+  const names = ["T", "T'", "Drug''", "my drug'", "a_b'", "'"].map(nameTex).join(" ");
+  check("names with primes in LaTeX", names === "T T' \\text{Drug}'' \\text{my drug}' \\text{a\\_b}' \\text{'}", names);
+  const shown = annotate('P(R \\mid \\mathrm{do}("my drug"), "my drug\'", T\', "a,b\'")');
+  check("and on the page", shown === "P(R \\mid \\mathrm{do}(\\text{my drug}), \\text{my drug}', T', \\text{“a,b”}')", shown);
+}
+
 testTaken();
+testFractions();
+testNames();
 testStatistics();
 testWideSums();
 testTables();

@@ -654,6 +654,53 @@ def asks_for_a_direct_effect(s):
     s.soon("the total effect", lambda: s.command() == "$ causal identify diagram.dag --short", s.command)
 
 
+def asks_among_the_treated(s):
+    """The effect among the treated: its formula, what stands in its way, and what is left open."""
+    s.tab("effect")
+    s.example("kidney_stones")
+    s.one("#panel [data-key='treated']").click()
+    s.soon("its command line", lambda: s.command() == "$ causal treated diagram.dag", s.command)
+    s.soon("its formula", lambda: s.printed() == "P(R|do(T),T') = sum{S} P(S|T') * P(R|T,S)", s.printed)
+    s.check("typeset, with the primed name", s.one(".formula [role=math]").get_attribute("aria-label") == s.printed()
+            and "T′" in s.one(".formula").text.replace("'", "′").replace("\n", ""), s.one(".formula").text)
+    s.check("said in words", "among those for whom T' was observed" in s.panel() and "T' the one that was observed" in s.panel(), s.panel())
+    copied = leaves_the_page.copied(s)
+    s.check("what is copied is what is shown", copied == r"P(R \mid \mathrm{do}(T), T') = \sum_{S} P(S \mid T') P(R \mid T, S)", copied)
+    s.check("no certificate is offered", not s.all("#save"))
+    s.one("summary[data-key='condition']").click()
+    s.one("[data-key='arm condition']").click()
+    s.click("S")
+    s.soon("given a covariate", lambda: s.command() == "$ causal treated diagram.dag --given S" and s.printed() == "P(R|do(T),S,T') = P(R|T,S)", s.panel)
+    s.click("S")
+    s.keys(Keys.ESCAPE)
+    s.one("summary[data-key='condition']").click()
+    s.tab("adjustment")
+    s.soon("Adjust has sets for the effect alone", lambda: s.command() == "$ causal adjust diagram.dag"
+           and s.one("#panel [data-key='total']").get_attribute("aria-checked") == "true" and not s.all("#panel [data-key='treated']"), s.panel)
+    s.tab("effect")
+    s.example("bow")
+    s.soon("another diagram begins with the whole effect", lambda: s.command() == "$ causal identify diagram.dag", s.panel)
+    s.one("#panel [data-key='treated']").click()
+    s.soon("a confounded treatment", lambda: "Not identifiable" in s.panel() and "lead back from Y to X: Y <-> X." in s.panel(), s.panel)
+    s.check("is printed", s.printed().startswith("P(Y|do(X),X') is not identifiable\nX -> Y and Y <-> X\n"), s.printed())
+    s.check("with its two models", len(s.all(".models tbody tr")) == 3 and s.all("#drawing .hedge-small"), s.panel())
+    s.check("its path is drawn", len(s.all("#drawing .over path.open")) == 2, len(s.all("#drawing .over path.open")))
+    s.one("summary[data-key='next']").click()
+    s.soon("what would help", lambda: "the common cause of X and Y" in s.one("#what-next").text, s.panel)
+    s.check("and no trial, which gives another effect", "trial" not in s.one("#what-next").text, s.panel())
+    s.one("summary[data-key='next']").click()
+    s.example("napkin")
+    s.one("#panel [data-key='treated']").click()
+    s.soon("what is left open", lambda: "no formula was found, and no proof that there is none" in s.panel(), s.panel)
+    s.check("its path", "Y <-> W <-> X" in s.one("#panel .verdict").text and len(s.all("#drawing .over path.open")) == 3, s.panel())
+    s.check("that says neither yes nor no", not {"yes", "no"} & set(s.one("#tab-effect .dot").get_attribute("class").split()))
+    s.write("dag { X [exposure] Y [outcome] A [exposure] X -> A -> Y }")
+    s.one("#panel [data-key='treated']").click()
+    s.soon("a treatment that acts on another", lambda: "Mark one exposure at a time" in s.panel(), s.panel)
+    s.one("#panel [data-key='total']").click()
+    s.soon("and back", lambda: s.command().startswith("$ causal identify diagram.dag"), s.command)
+
+
 def adjusts_with_what_is_marked(s):
     s.tab("adjustment")
     s.write("dag { X [exposure] Y [outcome] M [adjusted] A -> X A -> M B -> M B -> Y X -> Y }")
@@ -1024,6 +1071,16 @@ def works_by_touch():
         s.soon("and conditions", lambda: s.all("[data-key='arm condition']"))
         wide = s.run("return document.documentElement.scrollWidth - innerWidth")
         s.check("nothing is wider than a phone: a condition", wide <= 0, wide)
+        over_tables.by(s, "bounds")
+        s.soon("and bounds", lambda: len(over_tables.bounded(s)) == 4, s.panel)
+        wide = s.run("return document.documentElement.scrollWidth - innerWidth")
+        s.check("nothing is wider than a phone: bounds", wide <= 0, wide)
+        s.run("document.getElementById('tab-effect').click()")
+        s.one("#panel [data-key='treated']")
+        s.run("document.querySelector('#panel [data-key=treated]').click()")
+        s.soon("and the treated", lambda: "among those for whom" in s.panel(), s.panel)
+        wide = s.run("return document.documentElement.scrollWidth - innerWidth")
+        s.check("nothing is wider than a phone: the treated", wide <= 0, wide)
         right = s.run("return document.getElementById('about').getBoundingClientRect().right - innerWidth")
         s.check("the head's buttons are seen on a phone", right <= 0, right)
     finally:
@@ -1035,7 +1092,7 @@ PARTS = [
     reads_a_formula, chooses_a_form, drags_and_takes_back, fits_places, draws_large_texts, breaks_the_text, chooses_sets, draws,
     uses_keys_alone, names_and_deletes, saves_a_certificate, says_it_plainly,
     adjusts_and_compares, shows_a_hedge, lists_what_is_implied, takes_trials, asks_under_a_condition,
-    *in_the_drawing.PARTS, *leaves_the_page.PARTS, *over_tables.PARTS, begins_well, takes_other_texts, asks_for_a_direct_effect, adjusts_with_what_is_marked, lists_separating_sets,
+    *in_the_drawing.PARTS, *leaves_the_page.PARTS, *over_tables.PARTS, begins_well, takes_other_texts, asks_for_a_direct_effect, asks_among_the_treated, adjusts_with_what_is_marked, lists_separating_sets,
     colours_paths, tells_paths_apart, shows_other_views, tells_what_would_help, changes_several, resizes_panes, saves_the_drawing_and_a_link, keeps_the_work, is_accessible, sends_nothing, is_served,
 ]
 

@@ -8,7 +8,8 @@ import { faultOf, placesOf } from "../src/faults.js";
 import { annotate, annotatePieces } from "../src/latex.js";
 import { latex, parse } from "../src/expression.js";
 import { keyOf } from "../src/diagram/geometry.js";
-import { bitsOf, boundIn, edgesOf, graphOf as graphIn, impliedBy, nodesIn, saidOf, sumText, textOf, valuesOf } from "../src/objects.js";
+import { bitsOf, boundIn, boundsOf, edgesOf, graphOf as graphIn, impliedBy, nodesIn, saidOf, sumText, textOf, valuesOf } from "../src/objects.js";
+import { digitsAbove, digitsBelow, nearly } from "../src/statistics/fraction.js";
 import { readSteps } from "../src/steps.js";
 import { missingOf } from "../src/support.js";
 import { levelsOf, readRows } from "../src/text/csv.js";
@@ -177,6 +178,8 @@ function testAnswers(text, graph) {
   if (KNOWN.given) testCondition(text, order, x, y);
   if (KNOWN.implications) testImplications(text, order);
   if (KNOWN.surrogate) testSurrogate(text, order, sets, identified);
+  testTreated(text, sets);
+  testBounds(text, order, sets, [x, y]);
   const ask = ["separate", "g", ...sets, "--given", "{}"], separated = read(ask, text);
   if (separated.status === 1) testPath(separated.object.open, run(ask, text).out, x, y, graph, text);
   const adjusted = read(["adjust", "g", ...sets], text).object.sets;
@@ -339,6 +342,44 @@ function testSurrogate(text, order, sets, identified) {
   for (const line of object.latex.split("\n")) typesets(annotate(line), line);
 }
 
+/** The effect among the treated: its object says what is printed. */
+function testTreated(text, sets) {
+  const words = ["treated", "g", ...sets], said = run(words, text), { status, object, fault } = read(words, text);
+  if (fault) return same("the fault of the treated", fault.stage, "target", text);
+  if (status === 0) {
+    same("the treated as they are printed", textOf(object), said.out, text);
+    typesets(annotate(object.latex), object.latex);
+    return same("the LaTeX of the treated", object.latex, [object.effect, object.formula].map((side) => latex(parse(side))).join(" = "), text);
+  }
+  const { treatment, child, path } = object, joint = termText({ term: object.joint.y, do: object.joint.x, given: [] });
+  const head = object.hedge ? `${object.effect} is not identifiable` : `${object.effect} is left open: ${joint} is identifiable`;
+  same("why the treated have no formula", said.out.split("\n").slice(0, 2), [head, `${pathText({ vertices: [treatment, child], marks: ["->"] })} and ${pathText(path)}`], text);
+  if (object.hedge) testHedge(object, said.out.split("\n").slice(2).join("\n"));
+}
+
+/** Bounds over random counts: their object says what is printed, and the digits that are shown enclose them. */
+function testBounds(text, order, sets, [x, y]) {
+  const others = order.filter((name) => name !== x && name !== y), instrument = random(2) ? shuffled(others).slice(0, 1) : [];
+  const rows = [order, ...Array.from({ length: 30 }, () => order.map(() => LEVELS[random(2)]))].map((row) => row.map(field).join(",")).join("\n");
+  const words = ["bounds", "g", "t", ...sets, ...(instrument.length ? ["--instrument", listWord(instrument)] : []), "--exact"];
+  const { out } = run(words, text, { t: `${rows}\n` }), { status, object, fault } = read(words, text, { t: `${rows}\n` });
+  same("bounds have no fault", fault, null, text + rows);
+  const cell = ({ y: of, x: doing, given }) => `P(${of}|do(${doing})${given ? `,${given}` : ""})`;
+  if (status === 0) {
+    const cells = boundsOf(object), lines = cells.map((c) => `${cell(c)} at least ${c.low.text}, at most ${c.high.text}\n`);
+    same("bounds as they are printed", lines.join(""), out, text + rows);
+    same("in digits they are no less wide", cells.every(({ low, high }) => Number(digitsBelow(low)) <= nearly(low) + 1e-9 && Number(digitsAbove(high)) >= nearly(high) - 1e-9), true, out);
+  } else if (object.crossed) same("bounds that cross", out.split("\n")[0], "no model of this diagram has these counts", text + rows);
+  else {
+    const why = object.moved ? `moved: ${pathText({ vertices: [object.moved], marks: [] })}` : `open: ${pathText(object.open)}`;
+    same("no instrument", out, `no instrument: ${setText(instrument)} given {}\n${why}\n`, text);
+    bounded.none++;
+  }
+  bounded.all++;
+}
+
+const bounded = { all: 0, none: 0 };
+
 /** Objects that few diagrams give. */
 function testObjects() {
   same("trials", experimentsWord([["a;b", "c"], ["{}"], ["-d,e"]]), '"a;b",c;"{}";"-d,e"', "");
@@ -387,6 +428,7 @@ const rows = readRows('a,"b ""x""",n\r\n1,"p,q",2\n1,r,3\n');
 same("a CSV", rows, [["a", 'b "x"', "n"], ["1", "p,q", "2"], ["1", "r", "3"]], "");
 same("levels", [...levelsOf(rows, ["a"], "n").get("a")], [["1", 5]], "");
 
+same("some sets are no instruments", bounded.none > bounded.all / 20 && bounded.none < bounded.all, true, JSON.stringify(bounded));
 same("some tables lack records", missed > accepted / 20, true, missed);
 console.log(`${compared} comparisons on ${accepted} random diagrams, ${wrong} wrong`);
 process.exit(wrong ? 1 : 0);

@@ -34,6 +34,11 @@ VIEWS = {
         setTimeout(() => { const el = document.querySelector('[data-key="add condition"]'); el.value = 'S'; el.dispatchEvent(new Event('change')); }, 500)"""),
     "contrast": ("kidney_stones", "data", """document.getElementById('sample')?.click();
         setTimeout(() => document.querySelector('.contrasts')?.scrollIntoView({block: 'center'}), 700)"""),
+    "bounds": ("noncompliance", "data", """document.getElementById('sample')?.click();
+        setTimeout(() => { const el = document.querySelector('[data-key="add instrument"]'); el.value = 'assigned'; el.dispatchEvent(new Event('change')); }, 300);
+        setTimeout(() => document.querySelector('table.bounds').scrollIntoView({block: 'center'}), 700)"""),
+    "treated": ("kidney_stones", "effect", "document.querySelector('#panel [data-key=treated]').click()"),
+    "left": ("napkin", "effect", "document.querySelector('#panel [data-key=treated]').click()"),
     "tests": ("fork", "implications", """const data = new DataTransfer();
         data.items.add(new File(["A,B,C,count\\n0,0,0,40\\n0,0,1,22\\n1,0,0,12\\n1,0,1,31\\n0,1,0,15\\n0,1,1,33\\n1,1,0,29\\n1,1,1,11\\n"], "fork.csv"));
         document.body.dispatchEvent(new DragEvent('drop', {dataTransfer: data, bubbles: true, cancelable: true}))"""),
@@ -58,8 +63,8 @@ VIEWS = {
 }
 SHAPES = {
     "light": ({}, list(VIEWS)),
-    "dark": ({"dark": True}, ["effect", "rule", "hedge", "biased", "data", "missing", "condition", "contrast", "tests", "paths", "several", "warning", "compare", "fault", "menu"]),
-    "phone": ({"width": 400, "height": 860}, ["effect", "form", "hedge", "adjust", "data", "formula", "missing", "condition", "contrast", "paths", "several", "warning", "fault", "menu"]),
+    "dark": ({"dark": True}, ["effect", "rule", "hedge", "biased", "data", "missing", "condition", "contrast", "bounds", "treated", "left", "tests", "paths", "several", "warning", "compare", "fault", "menu"]),
+    "phone": ({"width": 400, "height": 860}, ["effect", "form", "hedge", "adjust", "data", "formula", "missing", "condition", "contrast", "bounds", "treated", "paths", "several", "warning", "fault", "menu"]),
     "laptop": ({"width": 1280, "height": 720}, ["effect", "contrast", "paths", "several"]),
     "tablet": ({"width": 900, "height": 1100}, ["effect", "data", "paths"]),
 }

@@ -13,7 +13,7 @@ async function answer(ctx) {
   const { memory } = ctx, adjusted = withRole(ctx, "adjusted"), kind = await chosenKind(ctx), list = [...LIST, ...kind.words];
   const test = [...list, "--set", listWord(adjusted), ...(memory.backDoor ? ["--back-door"] : [])];
   const [said, tested] = await Promise.all([ctx.read(list), ctx.read(test)]);
-  if (said.fault) return refused(ctx, list, said, () => (memory.direct ? kind.row() : null));
+  if (said.fault) return refused(ctx, list, said, () => (kind.id === "direct" ? kind.row() : null));
   const sets = bySize(said.object.sets), set = sets.find((other) => isSame(other, memory.set ?? [])) ?? sets[0] ?? null;
   memory.set = set;
   const chosen = set && [...list, "--set", listWord(set)], formula = chosen && (await ctx.read(chosen));

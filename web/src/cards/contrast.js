@@ -14,8 +14,11 @@ const YES = /=(1|yes|true|success)$/i; // the outcome that is looked at first
 /** @typedef {{ctx: import("./parts.js").Context, words: string[], name: string, table: import("../statistics/table.js").Table,
  *   count: string, cells: Cell[], crude: Cell[]}} Order the draws of a table, which the words name */
 
-/** What is contrasted: what was chosen, as far as there is such a cell; nothing where the exposure has one value. @param {Order} order */
-function chosen({ ctx: { memory }, cells }) {
+/**
+ * What is contrasted: what was chosen, as far as there is such a cell; nothing where the exposure has one value.
+ * @param {{ctx: import("./parts.js").Context, cells: {y: string, x: string, given: string}[]}} order
+ */
+export function chosenContrast({ ctx: { memory }, cells }) {
   const settings = unique(cells.map((c) => c.x)), outcomes = unique(cells.map((c) => c.y)), groups = unique(cells.map((c) => c.given));
   if (settings.length < 2) return null;
   const now = memory.contrast ?? {}, pick = (value, list, other) => (list.includes(value) ? value : other);
@@ -27,18 +30,22 @@ function chosen({ ctx: { memory }, cells }) {
 
 /** The part of a card that contrasts two values of the exposure. @param {Order} order */
 export function contrastPart(order) {
-  const { ctx, cells } = order, { memory } = ctx, settings = unique(cells.map((c) => c.x)), outcomes = unique(cells.map((c) => c.y));
-  const groups = unique(cells.map((c) => c.given)), hasCondition = groups.length > 1 || groups[0], choice = chosen(order);
+  const choice = chosenContrast(order);
   if (!choice) return null;
-  const choose = (key, label, list) => h("label", {}, label, " ", h("select", { data: { key: `contrast ${key}` }, onchange: (e) => {
-    memory.contrast = { ...choice, [key]: e.target.value };
-    ctx.refresh();
-  } }, list.map((text) => h("option", { value: text, selected: text === choice[key] }, text))));
   const results = h("div", { class: "contrast" });
   fill(results, order, choice);
-  return h("div", { class: "stack" }, h("h3", {}, "Difference and ratio"),
-    h("div", { class: "choices" }, choose("y", "of", outcomes), choose("a", "when set to", settings), choose("b", "against", settings),
-      hasCondition && choose("among", "among", groups)), results);
+  return h("div", { class: "stack" }, h("h3", {}, "Difference and ratio"), contrastChoices(order, choice), results);
+}
+
+/** The choice of what is contrasted. */
+export function contrastChoices({ ctx, cells }, choice) {
+  const [outcomes, settings, groups] = ["y", "x", "given"].map((part) => unique(cells.map((c) => c[part]))), hasCondition = groups.length > 1 || groups[0];
+  const choose = (key, label, list) => h("label", {}, label, " ", h("select", { data: { key: `contrast ${key}` }, onchange: (e) => {
+    ctx.memory.contrast = { ...choice, [key]: e.target.value };
+    ctx.refresh();
+  } }, list.map((text) => h("option", { value: text, selected: text === choice[key] }, text))));
+  return h("div", { class: "choices" }, choose("y", "of", outcomes), choose("a", "when set to", settings), choose("b", "against", settings),
+    hasCondition && choose("among", "among", groups));
 }
 
 const unique = (list) => [...new Set(list)];
@@ -120,7 +127,7 @@ function rowsOf({ cells, crude }, { y, a, b, among }, { values, isReady }) {
 
 /** The rows for a report, with the draws made. @param {Order} order */
 export async function contrastRows(order) {
-  const choice = chosen(order), kept = keptDraws(order);
+  const choice = chosenContrast(order), kept = keptDraws(order);
   if (!choice) return [];
   kept.isAsked = true;
   kept.isWanted = () => true;

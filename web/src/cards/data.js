@@ -5,8 +5,9 @@ import { lacksMark } from "../faults.js";
 import { countName } from "../statistics/table.js";
 import { write } from "../text/edit.js";
 import { levelsText } from "../text/printed.js";
+import { askedBounds, boundsMarks, boundsPart } from "./bounds.js";
 import { contrastPart } from "./contrast.js";
-import { chosenFormula, withoutRecords, zeroPart } from "./formulas.js";
+import { BOUNDS, chosenFormula, withoutRecords, zeroPart } from "./formulas.js";
 import { fold, listed, sourceOf, verdict, withRole } from "./parts.js";
 import { dotPlot } from "./plot.js";
 import { asksForTable, cellsOf, countWords, tableName, tableRow } from "./table.js";
@@ -14,10 +15,11 @@ import { asksForTable, cellsOf, countWords, tableName, tableRow } from "./table.
 const MOST_DIGITS = 15; // of a fraction in the table
 const MOST_TRIED = 4; // sets whose formula is tried where another has no value
 
-/** What a report says of the table: the order of its draws, with the cells; null where there is no table or no value. */
+/** What a report says of the table: the order of its draws, with the cells; or the bounds that were asked for; null where there is no table. */
 export async function measured(ctx) {
   if (!ctx.memory.csv) return null;
-  const { way } = await chosenFormula(ctx), said = await ctx.read(wordsOf(ctx, way, tableName(ctx.memory.csv.name), countWords(ctx)));
+  const { way } = await chosenFormula(ctx), said = way.by === BOUNDS ? null : await ctx.read(wordsOf(ctx, way, tableName(ctx.memory.csv.name), countWords(ctx)));
+  if (!said || hasNoFormula(way, said)) return { way, asked: await askedBounds(ctx, way.given) };
   if (said.status !== 0) return { way, fault: said.fault };
   const crude = way.given.length ? [] : await crudeValues(ctx);
   return { way, order: orderOf({ ctx, way, crude }, valuesOf(said.object)) };
@@ -27,15 +29,26 @@ export async function measured(ctx) {
 async function answer(ctx) {
   if (!ctx.memory.csv) return { dot: "", view: () => invitation(ctx) };
   const choice = await chosenFormula(ctx), { way } = choice;
+  if (way.by === BOUNDS) return bounded(ctx, choice, () => null);
   const words = wordsOf(ctx, way, tableName(ctx.memory.csv.name), countWords(ctx)), exactWords = [...words, "--exact"];
   const [bounds, exact] = await Promise.all([ctx.read(words), ctx.read(exactWords)]), isExact = exact.status === 0;
+  if (hasNoFormula(way, bounds)) return bounded(ctx, choice, () => noFormula(way));
   const { fault } = bounds, hasValue = bounds.status === 0 || isExact;
   const without = !fault || hasValue ? null : await withoutRecords(ctx, way, fault);
   const crude = hasValue && !way.given.length ? await crudeValues(ctx) : [];
   const found = { ctx, choice, way, words, exactWords, bounds, exact, fault, without, crude, other: without && !way.given.length && (await otherWay(ctx, choice)) };
-  const view = bounds.status === 1 ? noFormula : hasValue ? values : noValue;
+  const view = bounds.status === 1 ? notAdmissible : hasValue ? values : noValue;
   const marks = { vertices: new Map([...(way.set ?? []), ...way.given].map((name) => [name, "chosen"])) };
   return { dot: hasValue ? "yes" : "no", view: () => view(found), marks };
+}
+
+/** Whether the effect has no formula. A set that isn't admissible leaves that open. */
+const hasNoFormula = ({ set }, { status }) => !set && status === 1;
+
+/** The bounds in place of values. */
+async function bounded(ctx, choice, told) {
+  const { given } = choice.way, asked = await askedBounds(ctx, given);
+  return { dot: asked.said.status === 0 ? "yes" : "no", view: () => h("div", {}, choices({ ctx, choice }), told(), boundsPart(asked)), marks: boundsMarks(asked, given) };
 }
 
 /** The values of the outcome among those that have each value of the exposure: as the program computes them where nothing else is drawn. */
@@ -68,19 +81,20 @@ const invitation = (ctx) => h("div", {},
 /** The table, and how the formula is found. */
 const choices = ({ ctx, choice }) => [tableRow(ctx), choice.row()];
 
-function noFormula(found) {
-  const { ctx, way, words, bounds } = found;
-  const told = way.set ? verdict("no", "Not admissible", "The table isn't read. See Adjust for what this set leaves open, or has too much.")
-    : way.given.length ? verdict("no", "Not identifiable under this condition", "The table isn't read. See Effect, with the same condition.")
-      : verdict("no", "Not identifiable", "The table isn't read. See Effect for the two models that differ.");
-  return h("div", {}, choices(found), told, sourceOf(ctx, words, bounds));
+const noFormula = ({ given }) =>
+  verdict("no", given.length ? "Not identifiable under this condition" : "Not identifiable", "See Effect for why. Below stands what it is at least and at most.");
+
+function notAdmissible(found) {
+  const { ctx, words, bounds } = found;
+  return h("div", {}, choices(found), verdict("no", "Not admissible", "The table isn't read. See Adjust for what this set leaves open, or has too much."),
+    sourceOf(ctx, words, bounds));
 }
 
 function noValue(found) {
   const { ctx, words, bounds, fault, without, other } = found, fine = without ? ctx.memory.csv.notes.filter(({ isFine, points }) => isFine && !points) : [];
   const many = fine.map(({ name, size }) => `${name} has ${size} different values`).join(", ");
-  const useOther = () => {
-    ctx.memory.by = other.by;
+  const use = (by) => () => {
+    ctx.memory.by = by;
     ctx.refresh();
   };
   return h("div", {}, choices(found), fine.length
@@ -89,7 +103,8 @@ function noValue(found) {
     : lacksMark(fault) ? verdict("ask", fault.sentence) : verdict("no", "No value", without ?? fault.sentence),
   zeroPart(ctx, without),
   other ? h("p", {}, "The formula of adjusting for ", other.set.length ? listed(other.set) : "nothing", " has a value over this table. ",
-    button("Use it", useOther, { id: "use" })) : null,
+    button("Use it", use(other.by), { id: "use" })) : null,
+  without && h("p", {}, "Bounds need no such records: ", button("At least and at most", use(BOUNDS), { id: "use-bounds" })),
   sourceOf(ctx, words, bounds));
 }
 

@@ -1,24 +1,27 @@
 import { h } from "../dom.js";
 import { kindOf } from "../explain.js";
 import { DIAGRAM } from "../names.js";
-import { boundIn, textOf } from "../objects.js";
+import { textOf } from "../objects.js";
 import { listWord } from "../text/printed.js";
 import { derivation } from "./derivation.js";
 import { askedAhead, chosenForm } from "./forms.js";
 import { hedge } from "./hedge.js";
 import { certificateRow, fold, formulaBox, listed, refused, source, verdict, withRole } from "./parts.js";
-import { chosenKind } from "./kind.js";
+import { ALL_KINDS, chosenKind } from "./kind.js";
 import { chosenSet, howToChoose } from "./sets.js";
+import { notesOn } from "./signs.js";
+import { amongTheTreated } from "./treated.js";
 
 const IDENTIFY = ["identify", DIAGRAM];
 
 /** @param {import("./parts.js").Context} ctx */
 async function answer(ctx) {
-  const given = chosenSet(ctx, "condition", "Given", []), { names } = given, kind = await chosenKind(ctx), { isDirect } = kind;
+  const given = chosenSet(ctx, "condition", "Given", []), { names } = given, kind = await chosenKind(ctx, ALL_KINDS), { isDirect } = kind;
   const asked = [...IDENTIFY, ...kind.words, ...(names.length ? ["--given", listWord(names)] : [])];
-  const more = () => [condition(ctx, given)];
+  const more = () => [condition(ctx, given, kind)];
+  if (kind.id === "treated") return amongTheTreated(ctx, kind, names, more);
   const form = await chosenForm(ctx, asked), { words, said } = form;
-  if (said.fault) return refused(ctx, words, said, () => (names.length || ctx.memory.direct ? h("div", { class: "stack" }, kind.row(), more()) : null));
+  if (said.fault) return refused(ctx, words, said, () => (names.length || kind.id === "direct" ? h("div", { class: "stack" }, kind.row(), more()) : null));
   if (said.status === 1) return hedge(ctx, words, said.object, names.length ? await kindOf(ctx, words) : "", kind, ...more());
   const isUnchanged = !names.length && !isDirect && (await leavesUnchanged(ctx));
   return {
@@ -36,9 +39,10 @@ async function leavesUnchanged(ctx) {
 }
 
 /** The choice of a condition: the effect among those with the same values of some variables. */
-function condition(ctx, given) {
-  return fold(ctx, "condition", "Given the values of other variables", () => h("div", { class: "stack" },
-    h("p", {}, "The effect among those who have the same values of these when the exposure is set."),
+function condition(ctx, given, { id }) {
+  const about = id === "treated" ? "The effect among those of the treated who have the same values of these."
+    : "The effect among those who have the same values of these when the exposure is set.";
+  return fold(ctx, "condition", "Given the values of other variables", () => h("div", { class: "stack" }, h("p", {}, about),
     h("div", { class: "pickers" }, given.row()), howToChoose()));
 }
 
@@ -60,30 +64,6 @@ function view({ ctx, form, given, kind: { isDirect, doing: xs, row }, isUnchange
     fold(ctx, "derivation", "Derivation in the do-calculus", () => derivation(ctx, words)),
     ...more(),
     certificateRow(ctx, words));
-}
-
-/** What there is to say of a formula's signs. */
-function notesOn(formula, xs, ys) {
-  const { free } = formula, bound = boundIn(formula), parts = formula.definitions.length, notes = [];
-  const note = (...text) => notes.push(h("li", {}, ...text));
-  if (xs.length) {
-    note("P(… | do(…)) is the distribution when the exposure is ", h("i", {}, "set"),
-      " from outside, not merely seen.");
-  }
-  if (bound.length) {
-    const isOutside = bound.some((n) => xs.includes(n) || ys.includes(n));
-    note(h("span", { class: "key bound" }, "Σ"), " runs over all values of ", listed(bound), ". Where such a "
-      + `name stands under its sum (coloured), it is a bound name${isOutside ? ", not the value on the left." : "."}`);
-  }
-  if (parts) {
-    note(h("span", { class: "key part" }, parts > 1 ? `q0 … q${parts - 1}` : "q0"),
-      parts > 1 ? " are named parts, each given on its own line." : " is a named part, given on its own line.");
-  }
-  if (free.length) {
-    note(h("span", { class: "key" }, `free ${free.join(", ")}`), " The formula reads ", listed(free),
-      ", yet its value doesn't depend on it: take any one level.");
-  }
-  return notes;
 }
 
 /** @type {import("./parts.js").Card} */

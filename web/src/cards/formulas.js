@@ -1,4 +1,5 @@
-// How the formula is found that a table is put into: that of the effect, also under a condition, or the adjustment formula of a set.
+// How the formula is found that a table is put into: that of the effect, also under a condition, or the adjustment formula of a set; or that
+// bounds are asked for in its place.
 import { h } from "../dom.js";
 import { isWithoutRecords } from "../faults.js";
 import { DIAGRAM } from "../names.js";
@@ -8,7 +9,8 @@ import { chosenForm } from "./forms.js";
 import { listed, withRole } from "./parts.js";
 import { chosenSet, howToChoose } from "./sets.js";
 
-const EFFECT = "", MARKED = "marked", CONDITION = "condition"; // beside these, a printed set
+const EFFECT = "", MARKED = "marked", CONDITION = "condition"; // beside these and the next, a printed set
+export const BOUNDS = "bounds";
 
 /**
  * A way to the formula: its name in the list, the words that `evaluate` is asked with, the words that print the formula, the set
@@ -20,9 +22,9 @@ const EFFECT = "", MARKED = "marked", CONDITION = "condition"; // beside these, 
 /** The ways that there are, and the one that is chosen. @param {import("./parts.js").Context} ctx @returns {Promise<Choice>} */
 export async function chosenFormula(ctx) {
   const { memory } = ctx, { sets = [] } = (await ctx.read(["adjust", DIAGRAM])).object;
-  const ways = [ofEffect, ...sets.map(ofSet), ...markedWays(ctx, sets), conditional(ctx)];
-  const way = ways.find(({ by }) => by === memory.by) ?? ofEffect, form = way.set ? null : await chosenForm(ctx, way.question);
-  const picker = way.by === CONDITION ? chosenSet(ctx, "condition", "Given", []) : null;
+  const ways = [ofEffect, ...sets.map(ofSet), ...markedWays(ctx, sets), conditional(ctx, CONDITION, "under a condition"), conditional(ctx, BOUNDS, "none: at least and at most")];
+  const way = ways.find(({ by }) => by === memory.by) ?? ofEffect, form = way.set || way.by === BOUNDS ? null : await chosenForm(ctx, way.question);
+  const picker = way.by === CONDITION || way.by === BOUNDS ? chosenSet(ctx, "condition", "Given", []) : null;
   return { ways, way: form ? inForm(way, form) : way, row: () => row(ctx, ways, way, picker, form) };
 }
 
@@ -47,9 +49,9 @@ function markedWays(ctx, minimal) {
   return [setWay(MARKED, `${adjusting(set)} (${byBackDoor ? "marked; back door" : "marked"})`, set, byBackDoor ? ["--back-door"] : [])];
 }
 
-function conditional({ memory, observed }) {
+function conditional({ memory, observed }, by, label) {
   const given = observed.filter((name) => memory.sets.condition?.includes(name)), words = given.length ? ["--given", listWord(given)] : [];
-  return { by: CONDITION, label: "under a condition", words, question: ["identify", DIAGRAM, ...words], set: null, given };
+  return { by, label, words, question: ["identify", DIAGRAM, ...words], set: null, given };
 }
 
 function row(ctx, ways, way, picker, form) {

@@ -13,9 +13,7 @@ const MOST_DIGITS = 12;
  * @param {import("./kind.js").Kind} asked which effect is asked for
  */
 export function hedge(ctx, words, object, kind, asked, ...more) {
-  const { larger, smaller, choices } = object.hedge, links = linksOf(object.hedge);
-  const classes = [[larger, "hedge-big"], [smaller, "hedge-small"]];
-  const vertices = new Map(classes.flatMap(([names, cls]) => names.map((n) => [n, cls])));
+  const { choices } = object.hedge, links = linksOf(object.hedge), vertices = hedgeVertices(object.hedge);
   const edges = [...choices.map(({ vertex, child }) => ({ a: vertex, b: child, both: false })), ...links];
   return {
     dot: "no", view: () => view(ctx, words, object, kind, asked, more),
@@ -23,11 +21,15 @@ export function hedge(ctx, words, object, kind, asked, ...more) {
   };
 }
 
+/** The vertices of a hedge, as the drawing marks them. @returns {Map<string, string>} */
+export const hedgeVertices = ({ larger, smaller }) =>
+  new Map([[larger, "hedge-big"], [smaller, "hedge-small"]].flatMap(([names, cls]) => names.map((n) => [n, cls])));
+
 /** Its bidirected edges. @returns {import("../text/printed.js").Edge[]} */
 const linksOf = ({ links }) => links.map(([a, b]) => ({ a, b, both: true }));
 
 function view(ctx, words, object, kind, { row }, more) {
-  const { joint, models, hedge: { larger, smaller, roots } } = object, isAsked = object.given.length > 0;
+  const { joint } = object, isAsked = object.given.length > 0;
   const effect = termText({ term: joint.y, do: joint.x, given: [] });
   return h("div", {}, row(),
     verdict("no", "Not identifiable", plainReason(ctx.graph, linksOf(object.hedge)), "What is observed doesn't settle ", h("code", {}, effect),
@@ -35,14 +37,21 @@ function view(ctx, words, object, kind, { row }, more) {
       + "observed equals it in both.",
     isAsked ? [" Nor does any formula equal ", h("code", {}, object.effect), DIFFER[kind] ?? "", "."] : ""),
     fold(ctx, "next", "What would help", () => whatNext(ctx, words)),
+    ...hedgeParts(object),
+    source(words, ctx.print(words)),
+    certificateRow(ctx, words), ...more);
+}
+
+/** The sets of a hedge, and its two models. */
+export function hedgeParts({ joint, models, hedge: { larger, smaller, roots } }) {
+  return [
     h("p", { class: "legendline" }, h("span", { class: "swatch hedge-big" }), "hedge ", listed(larger),
       h("span", { class: "swatch hedge-small" }), "over ", listed(smaller), "; roots ", listed(roots)),
     eventTable(models.event, joint.x),
     h("div", { class: "scroll" }, modelsTable(models)),
     h("p", { class: "small-print" }, "h and k are bits that a vertex carries; + is addition without carry (1 + 1 = 0). "
       + "Hidden causes, each 0 or 1: ", models.causes.map(causeText), "."),
-    source(words, ctx.print(words)),
-    certificateRow(ctx, words), ...more);
+  ];
 }
 
 /** Which models show it of the effect that was asked for. */

@@ -6,10 +6,15 @@ import { change, isSame, write } from "../text/edit.js";
 import { experimentsWord } from "../text/printed.js";
 import { listed, withRole } from "./parts.js";
 
-/** The part of a card that asks, when it is opened, and tells. @param {import("./parts.js").Context} ctx @param {string[]} words those of `identify` */
-export function whatNext(ctx, words) {
+/**
+ * The part of a card that asks, when it is opened, and tells.
+ * @param {import("./parts.js").Context} ctx @param {string[]} words those that gave no formula @param {boolean} hasTrials whether trials are asked for too
+ */
+export function whatNext(ctx, words, hasTrials = true) {
   const box = h("div", { class: "stack", id: "what-next" }, h("p", {}, "…"));
-  Promise.all([measurements(ctx, words), trials(ctx, words)]).then(([measured, tried]) => box.replaceChildren(...told(ctx, measured, tried)));
+  Promise.all([measurements(ctx, words), hasTrials && trials(ctx, words)]).then(([measured, tried]) => {
+    box.replaceChildren(...measuring(measured), ...(tried ? trying(ctx, tried) : []), h("p", { class: "small-print" }, "Each was asked of the program, one by one."));
+  });
   return box;
 }
 
@@ -38,19 +43,20 @@ async function trials(ctx, words) {
   return names.filter((_, i) => said[i].status === 0);
 }
 
-function told(ctx, measured, tried) {
+const measuring = (measured) => [
+  h("p", {}, h("b", {}, "Measure"), measured.length ? " one of these, and there is a formula:" : ": no single measurement of what is hidden here gives a formula."),
+  measured.length ? h("ul", {}, measured.map(({ label }) => h("li", {}, label.length > 1 ? [label[0], h("b", {}, label[1]), label[2], h("b", {}, label[3])] : h("b", {}, label[0])))) : "",
+];
+
+function trying(ctx, tried) {
   const take = (name) => {
     ctx.memory.experiments = 1;
     ctx.memory.sets["experiment 0"] = [name];
     ctx.show("experiments");
   };
-  const xs = withRole(ctx, "exposure");
   return [
-    h("p", {}, h("b", {}, "Measure"), measured.length ? " one of these, and there is a formula:" : ": no single measurement of what is hidden here gives a formula."),
-    measured.length ? h("ul", {}, measured.map(({ label }) => h("li", {}, label.length > 1 ? [label[0], h("b", {}, label[1]), label[2], h("b", {}, label[3])] : h("b", {}, label[0])))) : "",
-    h("p", {}, h("b", {}, "A trial"), " that sets ", listed(xs), " itself gives the effect. ", tried.length ? "So does one that sets one of these instead:"
+    h("p", {}, h("b", {}, "A trial"), " that sets ", listed(withRole(ctx, "exposure")), " itself gives the effect. ", tried.length ? "So does one that sets one of these instead:"
       : "No trial on a single other variable was found to."),
     tried.length ? h("div", { class: "chips" }, tried.map((name) => button(name, () => take(name), { class: "chip", data: { key: `trial ${name}` } }))) : "",
-    h("p", { class: "small-print" }, "Each was asked of the program, one by one."),
   ];
 }

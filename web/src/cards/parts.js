@@ -91,11 +91,11 @@ export const withRole = ({ graph }, role) => graph.vertices.filter((v) => v.role
 export const listed = (names) =>
   names.map((name, i) => [i ? (i === names.length - 1 ? " and " : ", ") : "", h("b", {}, name)]);
 
-/** What is shown where the program refuses the question, above it the choices that led to it. @param {Context} ctx @param {Said} said */
-export function refused({ graph }, words, { fault }, choices = () => null) {
+/** What is shown where the program refuses the question, above it the choices that led to it, and what to do. @param {Context} ctx @param {Said} said */
+export function refused({ graph }, words, { fault }, choices = () => null, toDo = "") {
   const isEmpty = !graph.vertices.length && lacksMark(fault), help = "Click a variable, and choose Exposure or Outcome (or focus it and press e or o).";
   const told = isEmpty ? verdict("ask", "Draw your variables", "Double-click the drawing, or press + Variable. Then mark exposure and outcome.")
-    : verdict("ask", fault.sentence, ...(lacksMark(fault) ? [help] : []));
+    : verdict("ask", fault.sentence, ...(lacksMark(fault) ? [help] : toDo ? [toDo] : []));
   return { dot: "", view: () => h("div", {}, choices(), told, source(words, lineOf(fault))) };
 }
 

@@ -1,6 +1,7 @@
 // What a report says: the diagram, the sets, the formula with its derivation, assumptions, tests and effects, all by the program's answers.
 import { inWords } from "../cards/derivation.js";
 import { contrastRows, intervalText, shown } from "../cards/contrast.js";
+import { boundsParts } from "../cards/bounds.js";
 import { measured } from "../cards/data.js";
 import { impliedPairs, part } from "../cards/implications.js";
 import { commandOf, withRole } from "../cards/parts.js";
@@ -104,6 +105,7 @@ async function valuesPart(ctx) {
   const found = await measured(ctx);
   if (!found) return [];
   const { csv, table } = ctx.memory, read = table.reading.leavesOut && csv.incomplete ? `, ${csv.incomplete} of ${csv.all} rows with missing values left out` : "";
+  if (found.asked) return [{ text: `Over ${table.name}${read}.` }, ...boundsParts(found.asked), { code: commandOf(found.asked.words) }];
   if (!found.order) return [{ text: `The table ${table.name} gives no value${found.fault ? `: ${found.fault.sentence}` : "."}` }];
   const rows = await contrastRows(found.order), hasCrude = found.order.crude.length > 0;
   return [
