@@ -544,11 +544,26 @@ def takes_trials(s):
     s.keys(Keys.ESCAPE)
 
 
+def fold(s, key, is_open=True):
+    """Opens a fold of the panel, or closes it, and waits until it stays so: a panel that is drawn anew has what was noted of it."""
+    looks = []
+
+    def stays():
+        summary = s.one(f"summary[data-key='{key}']")
+        looks.append(summary.find_element(By.XPATH, "..").get_property("open") == is_open)
+        if not looks[-1]:
+            summary.click()
+        return looks[-3:] == [True] * 3 or (time.sleep(0.05) or False)
+
+    if not wait(stays):
+        s.check(f"the fold {key}", False, s.panel())
+
+
 def asks_under_a_condition(s):
     s.tab("effect")
     s.write("dag { X [exposure] Y [outcome] Z -> X Z -> Y X -> Y }")
     s.soon("the effect", lambda: s.printed() == "P(Y|do(X)) = sum{Z} P(Z) * P(Y|X,Z)", s.panel)
-    s.one("summary[data-key='condition']").click()
+    fold(s, "condition")
     s.soon("a condition may be chosen", lambda: s.all("[data-key='arm condition']"), s.panel)
     s.one("[data-key='arm condition']").click()
     s.click("Z")
@@ -667,13 +682,13 @@ def asks_among_the_treated(s):
     copied = leaves_the_page.copied(s)
     s.check("what is copied is what is shown", copied == r"P(R \mid \mathrm{do}(T), T') = \sum_{S} P(S \mid T') P(R \mid T, S)", copied)
     s.check("no certificate is offered", not s.all("#save"))
-    s.one("summary[data-key='condition']").click()
+    fold(s, "condition")
     s.one("[data-key='arm condition']").click()
     s.click("S")
     s.soon("given a covariate", lambda: s.command() == "$ causal treated diagram.dag --given S" and s.printed() == "P(R|do(T),S,T') = P(R|T,S)", s.panel)
     s.click("S")
     s.keys(Keys.ESCAPE)
-    s.one("summary[data-key='condition']").click()
+    fold(s, "condition", is_open=False)
     s.tab("adjustment")
     s.soon("Adjust has sets for the effect alone", lambda: s.command() == "$ causal adjust diagram.dag"
            and s.one("#panel [data-key='total']").get_attribute("aria-checked") == "true" and not s.all("#panel [data-key='treated']"), s.panel)
@@ -685,10 +700,10 @@ def asks_among_the_treated(s):
     s.check("is printed", s.printed().startswith("P(Y|do(X),X') is not identifiable\nX -> Y and Y <-> X\n"), s.printed())
     s.check("with its two models", len(s.all(".models tbody tr")) == 3 and s.all("#drawing .hedge-small"), s.panel())
     s.check("its path is drawn", len(s.all("#drawing .over path.open")) == 2, len(s.all("#drawing .over path.open")))
-    s.one("summary[data-key='next']").click()
+    fold(s, "next")
     s.soon("what would help", lambda: "the common cause of X and Y" in s.one("#what-next").text, s.panel)
     s.check("and no trial, which gives another effect", "trial" not in s.one("#what-next").text, s.panel())
-    s.one("summary[data-key='next']").click()
+    fold(s, "next", is_open=False)
     s.example("napkin")
     s.one("#panel [data-key='treated']").click()
     s.soon("what is left open", lambda: "no formula was found, and no proof that there is none" in s.panel(), s.panel)
