@@ -1,25 +1,25 @@
 -- From the end of a run to its headline.
-use Rattle.std.proofs.Common.{◌≡◌, ◌⊎◌, ℕ, List, [], ◌∷◌, Option, Some, None, inl, inr, ◌<◌, ◌≤◌, refl, sym, ◌∙◌, subst, arith}
+use Rattle.std.proofs.Common.{◌≡◌, ◌⊎◌, ℕ, List, [], ◌∷◌, Option, Some, None, Result, Ok, Err, inl, inr, ◌<◌, ◌≤◌, refl, sym, ap, ◌∙◌, subst, arith}
 use Rattle.std.proofs.lemmas.Option.{same_Some, none-some}
-use Rattle.std.specs.Prelude.{unwrap_or, IfSome}
+use Rattle.std.specs.Prelude.{Bool, unwrap_or, IfSome}
 use Rattle.std.specs.Option.{option_or}
-use Rattle.std.specs.Io.KnownBytes.{Appends}
-use Rattle.mixed_graph.specs.Bits.{has}
 use Rattle.mixed_graph.specs.Graphs.{MixedGraph}
 use Rattle.mixed_graph.specs.Shown.{graph_of}
+use Rattle.causal_io.specs.Causes.{Rose}
 use Rattle.command_words.specs.Form.{Text, Use}
+use Rattle.prob_expr.specs.Tree.{effect_on}
+use Rattle.prob_expr.specs.View.{formula_view}
 use Rattle.dag_reader.specs.RoundTrip.{AreSame}
 use Rattle.dag_reader.proofs.OneReading.{reads_either}
-use Rattle.targets.specs.Targets.{EffectLists, AreEffectSets, listed}
-use Rattle.prob_expr.specs.Tree.{PlainFormula, PlainTarget, effect_on}
-use Rattle.prob_expr.specs.Values.{EqualsEffect}
 use Rattle.dag_reader.specs.declared.graph.ReadGraph.{ReadGraph}
-use Rattle.hidden_models.proofs.Drawn.{right_as_drawn}
+use Rattle.targets.specs.Targets.{EffectLists, AreEffectSets, IsEffectFault, listed}
+use Rattle.targets.specs.declared.fault.TargetFault.{TargetFault}
+use Rattle.targets.specs.declared.query.EffectSets.{EffectSets}
 use Rattle.replies.specs.Told.{Told}
 use Rattle.replies.specs.declared.outcome.Outcome.{Outcome}
-use Rattle.replies.specs.declared.outcome.Outcome.TheVariants.{Yes, No, Graph}
+use Rattle.replies.specs.declared.outcome.Outcome.TheVariants.{Graph}
 use Rattle.replies.specs.Refusals.{IsGraphRefusal, too_long, faulty}
-use Rattle.replies.specs.Observed.{HoldsGraph}
+use Rattle.replies.specs.Observed.{HoldsGraph, HoldsDiagram}
 use Rattle.replies.proofs.OneGraph.{one_reading}
 use Rattle.replies.proofs.OneTarget.{no_effect_fault}
 use Rattle.replies.specs.Outcomes.{code_of}
@@ -28,102 +28,106 @@ use Rattle.diagram.proofs.OneObserved.{same_observed_names}
 use Rattle.diagram.specs.Sets.{Names, effect_lists}
 use Rattle.diagram.specs.declared.diagram.Diagram.{Diagram}
 use Rattle.diagram.proofs.ObservedParts.{as_read, part_of}
-use Rattle.replies.specs.Observed.{HoldsDiagram}
-use Rattle.identify_command.specs.declared.form.Form.{Form}
-use Rattle.identify_command.specs.Answers.{EffectAnswer, IdentifyAnswer}
-use Rattle.identify_command.specs.Conditions.{IdentifyAnswerGiven}
-use Rattle.identify_command.specs.Requests.{Request as Asked}
-use Rattle.identify_command.specs.Requests.{identify_row}
+use Rattle.told.specs.Refusals.{target_refusal}
+use Rattle.told.specs.Telling.{outcome_in}
+use Rattle.identify_command.specs.declared.answer.Answer.{Answer}
+use Rattle.identify_command.specs.declared.answer.Answer.TheVariants.{Formula, Hedge, Joint}
 use Rattle.identify_command.specs.Command.{identify_command}
-use Rattle.identify_command.proofs.IdentifyTold.{identify_as_told}
+use Rattle.identify_command.specs.Forms.{is_certified, told_form}
+use Rattle.identify_command.specs.Requests.{Request as Asked, IsRequest, identify_row}
+use Rattle.identify_command.specs.Right.{IsFaultFor, IsForEffect, IsIdentifyAnswer, asked_of}
+use Rattle.identify_command.specs.Telling.{identify_telling}
 use Rattle.identify_command.proofs.Lawful.{identify_lawful}
-use Rattle.command_run.specs.Commands.{of, Asks}
+use Rattle.command_run.specs.Commands.{Request, of, command_of, Asks, IsRequest as IsRequestOf}
 use Rattle.command_run.specs.Answers.{Defined}
-use Rattle.command_run.specs.Run.{Run}
+use Rattle.command_run.specs.Run.{Run, ReadsName, file, second}
 use Rattle.command_run.specs.Complete.{Complete, NothingFailed}
-use Rattle.causal_cli.specs.Calls.{Call, call_of, IsCallOf}
-use Rattle.causal_cli.specs.Commands.{commands}
+use Rattle.command_run.proofs.Deliveries.{mapped}
+use Rattle.causal_cli.specs.Answered.{told_of_answer}
+use Rattle.causal_cli.specs.Calls.{Call, call_of, IsCallOf, WrittenFor}
+use Rattle.causal_cli.specs.Commands.{commands, form_of}
+use Rattle.causal_cli.specs.declared.commands.Command.{Command}
 use Rattle.causal_cli.specs.declared.commands.Command.TheVariants.{Identify}
-use Rattle.causal_cli.specs.Headline.{IsRightAsDrawn, ShowsRightFormula, ShowsRightHedge, IsShown, Identified, AsksEffect, Headline}
-use Rattle.causal_cli.proofs.CallAnswers.{CallAnswer, on_words, on_file, on_both, Gave, by_table, call_answer, written_for}
+use Rattle.causal_cli.specs.Drawn.{IsIdentifiedAsDrawn, RightAsDrawn}
+use Rattle.causal_cli.specs.Headline.{IsIdentified, Identified, AsksEffect, Headline}
+use Rattle.causal_cli.proofs.AsDrawn.{drawn, effect_lost}
+use Rattle.causal_cli.proofs.CallAnswers.{CallAnswer, on_words, on_file, on_both, by_table, is_of, by_them, call_answer}
 
--- what equals an effect in the observed graph is right in the diagram as drawn
-pub drawn : (g : ReadGraph) (q : MixedGraph) → IsObservedGraph g q → (t : PlainTarget) (f : PlainFormula) → EqualsEffect q t f → IsRightAsDrawn g t f
-drawn g q observed t f right = right_as_drawn (graph_of g.graph) g.graph.valid (has g.latent.bits) q observed t f right
+-- ---- right answers
 
--- where nothing is given, the answer is that for an effect
-of_effect : (form : Form) (d : Diagram) (x y given : Names) (o : Outcome) (text : Told) → unwrap_or given [] ≡ [] → IdentifyAnswerGiven form d x y given o text
-    → IdentifyAnswer form d x y o text
-of_effect form d x y None o text none h = h
-of_effect form d x y (Some []) o text none h = h
-of_effect form d x y (Some (n ∷ ns)) o text none h = absurd (cc none)
+module _ (asked : Asked) (bytes : List ℕ) (code : ℕ) (told : Told) (g : ReadGraph) (holds : HoldsGraph bytes g) (q : MixedGraph) (observed : IsObservedGraph g q)
+    (short certified : Bool) where
+  -- an answer for the lists of an effect
+  of_effect : (a : Answer) → IsForEffect short certified q (effect_lists g (observed_names g) asked.x asked.y) a
+      → code ≡ code_of (identify_telling.outcome a) → told ≡ told_of_answer identify_telling (told_form asked.form) (observed_names g) a
+      → IsIdentified asked bytes code told
+  of_effect (Formula f) h status prints = let x = h.sets.x.bits in let y = h.sets.y.bits in record {
+    graph = g;
+    holds = holds;
+    seen = q;
+    observed = observed;
+    x = x;
+    y = y;
+    sets = h.named;
+    answer = Formula f;
+    right = record {
+      target = h.decided.target;
+      derivation = h.decided.derivation;
+      right = h.decided.right;
+      drawn = drawn g q observed (effect_on x y) (formula_view f.formula) h.decided.right.effect;
+    };
+    status = status;
+    prints = prints;
+  }
+  of_effect (Hedge k) h status prints = let x = k.sets.x.bits in let y = k.sets.y.bits in let found = h.decided.1.found in record {
+    graph = g;
+    holds = holds;
+    seen = q;
+    observed = observed;
+    x = x;
+    y = y;
+    sets = subst (λ (s : EffectSets). AreEffectSets (effect_lists g (observed_names g) asked.x asked.y) s.x.bits s.y.bits) (sym h.decided.0) h.named;
+    answer = Hedge k;
+    right = record {
+      effect = refl;
+      right = found.right;
+      evidence = found.evidence;
+      built = found.models;
+      drawn = effect_lost g q observed x y k.pair found.right.counter;
+    };
+    status = status;
+    prints = prints;
+  }
+  of_effect (Joint t settled k) h status prints = absurd h.decided
 
-bare : (q : Asked) (d : Diagram) (o : Outcome) (text : Told) → unwrap_or q.given [] ≡ [] → identify_command.by_diagram q d o text
-    → IdentifyAnswer q.form d q.x q.y o text
-bare q d o text none h = of_effect q.form d q.x q.y q.given o text none (identify_as_told q.form d q.x q.y q.given o text h)
+-- where nothing is given, an answer is one for the lists of an effect
+bare : (short certified : Bool) (d : Diagram) (x y given : Names) (a : Answer) → unwrap_or given [] ≡ [] → IsIdentifyAnswer short certified d x y given (Ok a)
+    → IsForEffect short certified (graph_of d.observed.graph) (effect_lists d.read d.observed.names x y) a
+bare short certified d x y None a none h = h
+bare short certified d x y (Some []) a none h = h
+bare short certified d x y (Some (n ∷ ns)) a none h = absurd (cc none)
 
-shown_formula : (q : Asked) (bytes : List ℕ) (text : Told) (d : Diagram) → HoldsDiagram bytes d → IdentifyAnswer q.form d q.x q.y Yes text
-    → IsShown ShowsRightFormula q bytes text
-shown_formula q bytes text d holds a =
-    let k = as_read d (λ p ns. EffectAnswer q.form p (effect_lists d.read ns q.x q.y) Yes text) a in
-    let h = k.2 in
-    record {
-      graph = d.read;
-      holds = holds;
-      seen = k.0;
-      observed = k.1;
-      sets = record {
-        x = h.x;
-        y = h.y;
-        sets = h.sets;
-        answer = record {
-          formula = h.answer.formula;
-          derivation = h.answer.derivation;
-          right = h.answer.right;
-          drawn = drawn d.read k.0 k.1 (effect_on h.x h.y) h.answer.formula h.answer.right.effect;
-          prints = h.answer.prints;
-        };
-      };
-    }
+is_identified : (q : Asked) (bytes : List ℕ) (code : ℕ) (told : Told) → IsIdentifiedAsDrawn q bytes code told → unwrap_or q.given [] ≡ []
+    → IsIdentified q bytes code told
+is_identified q bytes code told h none =
+    let certified = is_certified q.form.writing in
+    let k = as_read h.diagram (λ p names. IsForEffect q.form.short certified p (effect_lists h.diagram.read names q.x q.y) h.answer
+    × (told ≡ told_of_answer identify_telling (told_form q.form) names h.answer))
+    (bare q.form.short certified h.diagram q.x q.y q.given h.answer none h.right, h.prints) in
+    of_effect q bytes code told h.diagram.read h.holds k.0 k.1 q.form.short certified h.answer k.2.0 h.status k.2.1
 
-shown_hedge : (q : Asked) (bytes : List ℕ) (text : Told) (d : Diagram) → HoldsDiagram bytes d → IdentifyAnswer q.form d q.x q.y No text
-    → IsShown ShowsRightHedge q bytes text
-shown_hedge q bytes text d holds a =
-    let k = as_read d (λ p ns. EffectAnswer q.form p (effect_lists d.read ns q.x q.y) No text) a in
-    let h = k.2 in
-    record {
-      graph = d.read;
-      holds = holds;
-      seen = k.0;
-      observed = k.1;
-      sets = record {
-        x = h.x;
-        y = h.y;
-        sets = h.sets;
-        answer = record {
-          hedge = h.answer.hedge;
-          models = h.answer.pair;
-          right = h.answer.found.right;
-          evidence = h.answer.found.evidence;
-          built = h.answer.found.models;
-          prints = h.answer.prints;
-        };
-      };
-    }
+identified_written : (r : Call) (code : ℕ) (uses : List Use) → WrittenFor IsRequest (λ q. q.file) (λ q bytes. IsIdentifiedAsDrawn q bytes code) r uses
+    → Identified r code uses
+identified_written r code uses w = record {
+  request = w.request;
+  told = w.told;
+  asks = w.asks;
+  right = mapped (r.held w.request.file) (λ bytes. IsIdentifiedAsDrawn w.request bytes code w.told)
+      (λ bytes. unwrap_or w.request.given [] ≡ [] → IsIdentified w.request bytes code w.told) (λ bytes. is_identified w.request bytes code w.told) w.right;
+  whole = w.whole;
+}
 
--- a yes to a request of `identify`, on its file, shows a right formula
-formula_written : (r : Call) (uses : List Use) (text : Told) → Appends r.before r.after text.text → CallAnswer r Identify uses Yes text
-    → Identified ShowsRightFormula r uses
-formula_written r uses text = written_for r Identify uses Yes text (λ q. q.file)
-    (λ q bytes line. unwrap_or q.given [] ≡ [] → IsShown ShowsRightFormula q bytes line) (λ q h. h) (λ q. refl) (λ q. refl)
-    (λ q is bytes a none. shown_formula q bytes text a.diagram a.holds (bare q a.diagram Yes text none a.answer))
-
--- and a no a right hedge
-hedge_written : (r : Call) (uses : List Use) (text : Told) → Appends r.before r.after text.text → CallAnswer r Identify uses No text
-    → Identified ShowsRightHedge r uses
-hedge_written r uses text = written_for r Identify uses No text (λ q. q.file)
-    (λ q bytes line. unwrap_or q.given [] ≡ [] → IsShown ShowsRightHedge q bytes line) (λ q h. h) (λ q. refl) (λ q. refl)
-    (λ q is bytes a none. shown_hedge q bytes text a.diagram a.holds (bare q a.diagram No text none a.answer))
+-- ---- that there is one
 
 -- the bytes of a graph aren't refused
 held_or_refused : (bytes : List ℕ) (g : ReadGraph) (told : Told) → HoldsGraph bytes g → IsGraphRefusal bytes told → ⊥
@@ -142,23 +146,34 @@ same_lists g d x y same = λ i. record {
 
 -- the words ask for the effect of two sets of a graph, and nothing failed: then the answer is yes or no
 module _ (r : Run) (code : ℕ) (uses : List Use) (call : IsCallOf identify_row r.words uses) (a : AsksEffect r uses) where
+  -- where nothing is given, a fault is one of the lists of an effect
+  effect_fault : (d : Diagram) (x y given : Names) (fault : TargetFault) → unwrap_or given [] ≡ [] → IsFaultFor (asked_of d x y given) fault
+      → IsEffectFault (effect_lists d.read d.observed.names x y) fault
+  effect_fault d x y None fault none is = is
+  effect_fault d x y (Some []) fault none is = is
+  effect_fault d x y (Some (n ∷ ns)) fault none is = absurd (cc none)
+
   -- on a diagram of the bytes the lists have no fault
-  on_diagram : (o : Outcome) (told : Told) (d : Diagram) → HoldsDiagram a.bytes d
-      → IdentifyAnswer a.request.form d a.request.x a.request.y o told → code ≡ code_of o → (code ≡ 0) ⊎ ((code ≡ 1) ⊎ (code ≡ 8))
-  on_diagram Yes told d holds h e = inl e
-  on_diagram No told d holds h e = inr (inl e)
-  on_diagram Graph told d holds h e = absurd (no_effect_fault (effect_lists d.read d.observed.names a.request.x a.request.y) a.x a.y h.fault
-      (subst (λ (l : EffectLists). AreEffectSets l a.x a.y)
-      (sym (same_lists a.graph d a.request.x a.request.y (one_reading a.bytes a.graph d.read a.holds holds))) a.sets) h.is_fault)
-  on_diagram o told d holds h e = absurd h
+  on_diagram : (o : Outcome) (told : Told) (d : Diagram) → HoldsDiagram a.bytes d → identify_command.by_diagram a.request d o told → code ≡ code_of o
+      → (code ≡ 0) ⊎ ((code ≡ 1) ⊎ (code ≡ 8))
+  on_diagram o told d holds h e = go h.answer h.right (e ∙ ap code_of h.ends)
+    where
+      go : (r : Result Answer TargetFault)
+          → IsIdentifyAnswer a.request.form.short (is_certified a.request.form.writing) d a.request.x a.request.y a.request.given r
+          → code ≡ code_of (outcome_in identify_telling target_refusal r) → (code ≡ 0) ⊎ ((code ≡ 1) ⊎ (code ≡ 8))
+      go (Ok (Formula f)) right c = inl c
+      go (Ok (Hedge k)) right c = inr (inl c)
+      go (Ok (Joint t settled k)) right c = inr (inl c)
+      go (Err fault) right c = absurd (no_effect_fault (effect_lists d.read d.observed.names a.request.x a.request.y) a.x a.y fault
+          (subst (λ (l : EffectLists). AreEffectSets l a.x a.y)
+          (sym (same_lists a.graph d a.request.x a.request.y (one_reading a.bytes a.graph d.read a.holds holds))) a.sets)
+          (effect_fault d a.request.x a.request.y a.request.given fault a.bare right))
 
   on_bytes : (o : Outcome) (told : Told) → Defined commands (of Identify a.request) a.bytes o told → code ≡ code_of o
       → (code ≡ 0) ⊎ ((code ≡ 1) ⊎ (code ≡ 8))
   on_bytes Graph told (inl refused) e = absurd (held_or_refused a.bytes a.graph told a.holds refused)
-  on_bytes Graph told (inr h) e = on_diagram Graph told h.diagram h.holds
-      (bare a.request h.diagram Graph told a.bare h.answer) e
-  on_bytes o told h e = on_diagram o told h.diagram h.holds
-      (bare a.request h.diagram o told a.bare h.answer) e
+  on_bytes Graph told (inr h) e = on_diagram Graph told h.diagram h.holds h.answer e
+  on_bytes o told h e = on_diagram o told h.diagram h.holds h.answer e
 
   of_request : (o : Outcome) (told : Told) → CallAnswer (call_of r) Identify uses o told → code ≡ code_of o → (code ≡ 0) ⊎ ((code ≡ 1) ⊎ (code ≡ 8))
   of_request o told (on_words q is h) e = absurd h
@@ -171,8 +186,26 @@ module _ (r : Run) (code : ℕ) (uses : List Use) (call : IsCallOf identify_row 
       on_bytes o told (subst (λ (m : Option (List ℕ)). IfSome m (λ bytes. Defined commands (of Identify a.request) bytes o told)) a.held told_bytes) e
   of_request o told (on_both q is file second names names_second h) e = absurd (none-some second names_second)
 
-  pub answered : Complete commands r code → NothingFailed commands r → (code ≡ 0) ⊎ ((code ≡ 1) ⊎ (code ≡ 8))
-  answered c nothing = elim (c.answered (of Identify a.request) asked nothing) [
+  -- nothing failed where no read of the file did
+  file_alone : (name : Text) → (w : Request commands) → command_of commands w ≡ Identify → IsRequestOf commands uses w → ReadsName commands r w name
+      → name ≡ a.request.file
+  file_alone name (of c q) e is reads =
+      (subst (λ (k : Command). (p : (form_of k).Request) → IsRequestOf commands uses (of k p) → ReadsName commands r (of k p) name → name ≡ a.request.file)
+      (sym e) own) q is reads
+    where
+      own : (p : Asked) → IsRequestOf commands uses (of Identify p) → ReadsName commands r (of Identify p) name → name ≡ a.request.file
+      own p is (file none names) = same_Some name p.file (sym names) ∙ ap (λ (k : Asked). k.file) (identify_lawful.one_request uses a.request p a.asks is)
+      own p is (second file names named there h) = absurd (none-some name named)
+
+  nothing_failed : (Rose r.out.faults r.out.faults_after → ⊥) → NothingFailed commands r
+  nothing_failed writes = record {
+    reads = λ w asks name reads rose. a.read (subst (λ (n : Text). Rose (r.read_faults n) (r.read_faults_after n))
+        (file_alone name w (is_of (call_of r) Identify uses call w asks) (by_them (call_of r) Identify uses call w asks) reads) rose);
+    writes = writes;
+  }
+
+  pub answered : Complete commands r code → (Rose r.out.faults r.out.faults_after → ⊥) → (code ≡ 0) ⊎ ((code ≡ 1) ⊎ (code ≡ 8))
+  answered c writes = elim (c.answered (of Identify a.request) asked (nothing_failed writes)) [
     | inl d ↦ of_request d.outcome d.told (call_answer r d.outcome d.told d.answers Identify uses call) d.status
     | inr e ↦ inr (inr e)
   ]
@@ -180,24 +213,8 @@ module _ (r : Run) (code : ℕ) (uses : List Use) (call : IsCallOf identify_row 
       asked : Asks commands r.words (of Identify a.request)
       asked = record { uses = uses; call = by_table (call_of r) Identify uses call; asks = a.asks }
 
--- a status that is none of an answer says nothing
-other_status : (r : Run) (code : ℕ) → 1 < code → Complete commands r code → Headline r code
-other_status r code high c = record {
-  formula = λ uses call e. absurd (omega (arith, high, e));
-  hedge = λ uses call e. absurd (omega (arith, high, e));
-  answered = λ uses call a. answered r code uses call a c;
-}
-
-pub headline : (r : Run) (code : ℕ) (o : Outcome) (text : Told) → code ≡ code_of o → (code ≤ 1 → Gave (call_of r) o text) → Complete commands r code
-    → Headline r code
-headline r code Yes text c g whole = let h = g (omega (arith, c)) in record {
-  formula = λ uses call zero. formula_written (call_of r) uses text h.whole (h.answers Identify uses call);
-  hedge = λ uses call one. absurd (omega (arith, c, one));
+pub headline : (r : Run) (code : ℕ) → RightAsDrawn (call_of r) code → Complete commands r code → Headline r code
+headline r code drawn whole = record {
+  right = λ uses call small. identified_written (call_of r) code uses (drawn.identified uses call small);
   answered = λ uses call a. answered r code uses call a whole;
 }
-headline r code No text c g whole = let h = g (omega (arith, c)) in record {
-  formula = λ uses call zero. absurd (omega (arith, c, zero));
-  hedge = λ uses call one. hedge_written (call_of r) uses text h.whole (h.answers Identify uses call);
-  answered = λ uses call a. answered r code uses call a whole;
-}
-headline r code o text c g whole = other_status r code (omega (arith, c)) whole

@@ -4,13 +4,10 @@ use Rattle.std.proofs.lemmas.Option.{none-some, same_Some}
 use Rattle.targets.specs.declared.fault.TargetFault.{TargetFault}
 use Rattle.targets.specs.declared.fault.TargetFault.TheVariants.{Unknown, Latent, Twice, EmptyY, EmptyX}
 use Rattle.targets.specs.Targets.{NameFault, unknown, latent, twice, IsFaultOfTarget, Lists, fault_in, IsListFault, RuleLists, rule_fault, EffectLists}
-use Rattle.targets.specs.Targets.{effect_fault, IsEffectFault}
+use Rattle.targets.specs.Targets.{effect_fault, IsEffectFault, IsTargetFault, IsRuleFault}
 use Rattle.replies.specs.Refusals.{target_told}
 use Rattle.replies.specs.Told.{Told}
-use Rattle.replies.specs.Observed.{IsTargetRefusal}
 use Rattle.effect_answers.specs.Effects.{IsEffectRefusal}
-use Rattle.identify_command.specs.Conditions.{IsListRefusal}
-use Rattle.separation_commands.specs.RuleAnswers.{IsRuleRefusal}
 use Rattle.surrogate_command.specs.Sets.{SurrogateLists, surrogate_fault, IsSurrogateFault}
 use Rattle.surrogate_command.specs.Asked.{IsRefusal}
 use Rattle.causal_cli.specs.Texts.{IsOneText}
@@ -55,24 +52,26 @@ one_line : (first : Option NameFault) (y x : List (List ℕ)) (f k : TargetFault
     → IsFaultOfTarget first y x k → text ≡ target_told f → line ≡ target_told k → line ≡ text
 one_line first y x f k text line a b p q = q ∙ ap (λ (e : TargetFault). target_told e) (one_fault first y x f k a b) ∙ sym p
 
-pub one_target_refusal : (l : Lists) → IsOneText (IsTargetRefusal l)
-one_target_refusal l text line a b = one_line (fault_in l) l.y l.x a.fault b.fault text line a.is_fault b.is_fault a.prints b.prints
+pub one_target_fault : (l : Lists) (f k : TargetFault) → IsTargetFault l f → IsTargetFault l k → k ≡ f
+one_target_fault l f k a b = one_fault (fault_in l) l.y l.x f k a b
 
-pub one_rule_refusal : (l : RuleLists) → IsOneText (IsRuleRefusal l)
-one_rule_refusal l text line a b = one_line (rule_fault l) l.y l.z a.fault b.fault text line a.is_fault b.is_fault a.prints b.prints
+pub one_rule_fault : (l : RuleLists) (f k : TargetFault) → IsRuleFault l f → IsRuleFault l k → k ≡ f
+one_rule_fault l f k a b = one_fault (rule_fault l) l.y l.z f k a b
 
 -- an empty x is no fault of some lists
 list_fault : (l : Lists) (f : TargetFault) → IsListFault l f → IsFaultOfTarget (fault_in l) l.y l.x f
 list_fault l EmptyX h = absurd h
 list_fault l f h = h
 
-pub one_list_refusal : (l : Lists) → IsOneText (IsListRefusal l)
-one_list_refusal l text line a b = one_line (fault_in l) l.y l.x a.fault b.fault text line (list_fault l a.fault a.is_fault) (list_fault l b.fault b.is_fault)
-    a.prints b.prints
+pub one_list_fault : (l : Lists) (f k : TargetFault) → IsListFault l f → IsListFault l k → k ≡ f
+one_list_fault l f k a b = one_fault (fault_in l) l.y l.x f k (list_fault l f a) (list_fault l k b)
 
 of_effect : (l : EffectLists) (f : TargetFault) → IsEffectFault l f → IsFaultOfTarget (effect_fault l) l.y l.x f
 of_effect l EmptyX h = absurd h
 of_effect l f h = h
+
+pub one_effect_fault : (l : EffectLists) (f k : TargetFault) → IsEffectFault l f → IsEffectFault l k → k ≡ f
+one_effect_fault l f k a b = one_fault (effect_fault l) l.y l.x f k (of_effect l f a) (of_effect l k b)
 
 pub one_effect_refusal : (l : EffectLists) → IsOneText (IsEffectRefusal l)
 one_effect_refusal l text line a b = one_line (effect_fault l) l.y l.x a.fault b.fault text line (of_effect l a.fault a.is_fault)

@@ -1,8 +1,8 @@
 -- That the text of an answer is fixed.
-use Rattle.std.proofs.Common.{◌≡◌, ◌≢◌, ℕ, Bool, true, false, List, [], ◌∷◌, ◌&&◌, nat_lt, map, Some, None, codes, refl, sym, ap, ◌∙◌, subst}
+use Rattle.std.proofs.Common.{◌≡◌, ◌≢◌, ◌≤◌, ℕ, Bool, true, false, List, [], ◌∷◌, ◌&&◌, nat_lt, map, Some, None, Result, Ok, Err, codes, refl, sym, ap, ◌∙◌}
+use Rattle.std.proofs.Common.{subst, arith}
 use mathlib.Core.Path.{fun_ext}
 use Rattle.std.proofs.lemmas.Bool.{false≢true}
-use Rattle.mixed_graph.specs.Bits.{has}
 use Rattle.mixed_graph.specs.Graphs.{MixedGraph}
 use Rattle.mixed_graph.specs.Shown.{graph_of}
 use Rattle.dag_reader.specs.declared.graph.ReadGraph.{ReadGraph}
@@ -10,9 +10,13 @@ use Rattle.dag_reader.specs.RoundTrip.{AreSame}
 use Rattle.dag_reader.specs.Rows.{count_up, pairs_below}
 use Rattle.dag_reader.specs.Written.{role_at, drawn_of, written}
 use Rattle.do_rules.specs.declared.rules.Rule.{Rule}
-use Rattle.targets.specs.Targets.{Lists, EffectLists, RuleLists}
+use Rattle.targets.specs.Targets.{Lists, EffectLists, RuleLists, AreSets, AreRuleSets}
+use Rattle.targets.specs.declared.fault.TargetFault.{TargetFault}
+use Rattle.targets.specs.declared.query.Sets.{Sets}
+use Rattle.targets.specs.declared.query.RuleSets.{RuleSets}
 use Rattle.replies.specs.declared.format.Format.{Format}
 use Rattle.replies.specs.Told.{Told, text_in, answer_of}
+use Rattle.replies.specs.Outcomes.{code_of}
 use Rattle.json.specs.Json.{string}
 use Rattle.answer_json.specs.Progress.{array_of, object_of, json_line}
 use Rattle.answer_json.specs.Values.{text_json, vertex_json, pairs_json}
@@ -23,30 +27,37 @@ use Rattle.diagram.specs.Sets.{Names, effect_lists, query_lists, rule_lists}
 use Rattle.diagram.specs.declared.diagram.Diagram.{Diagram}
 use Rattle.diagram.proofs.OneDiagram.{AreSameDiagrams, same_drawing, same_effect_lists, same_query_lists, same_rule_lists}
 use Rattle.replies.proofs.OneGraph.{one_holding}
-use Rattle.replies.proofs.OneTarget.{one_set, same_two, same_three}
+use Rattle.replies.proofs.OneTarget.{one_set, same_two}
+use Rattle.told.specs.declared.form.Form.{Form}
+use Rattle.told.specs.Forms.{plain_form}
+use Rattle.told.specs.Refusals.{target_refusal}
+use Rattle.told.specs.Telling.{Telling, Tells, outcome_in, told_in}
 use Rattle.effect_answers.specs.Hedges.{ShowsHedge}
 use Rattle.effect_answers.proofs.OneNo.{one_hedge_in}
-use Rattle.separation_commands.specs.GraphAnswers.{GraphAnswer}
 use Rattle.separation_commands.specs.GraphCommand.{graph_command}
-use Rattle.separation_commands.proofs.GraphTold.{graph_as_told}
-use Rattle.separation_commands.specs.GraphObjects.{role_json, graph_json}
-use Rattle.separation_commands.specs.SeparateAnswers as separations
+use Rattle.separation_commands.specs.GraphObjects.{role_json, graph_members}
+use Rattle.separation_commands.specs.GraphRight.{IsGraphAnswer, shown_of}
+use Rattle.separation_commands.specs.GraphTelling.{graph_telling}
+use Rattle.separation_commands.specs.declared.graph.answer.Answer.{Answer as GraphAnswer}
 use Rattle.separation_commands.specs.SeparateCommand.{separate_command}
+use Rattle.separation_commands.specs.SeparateRight as separate_right
+use Rattle.separation_commands.specs.SeparateTelling.{separate_telling}
+use Rattle.separation_commands.specs.declared.separate.answer.Answer.{Answer as SeparateAnswer}
+use Rattle.separation_commands.specs.declared.separate.answer.Answer.TheVariants as separated
 use Rattle.separation_commands.specs.RuleCommand.{rule_command}
-use Rattle.separation_commands.proofs.SeparateTold.{separate_as_told}
-use Rattle.separation_commands.proofs.RuleTold.{rule_as_told}
-use Rattle.separation_commands.specs.SeparateLines.{separated_text}
-use Rattle.separation_commands.specs.SeparateObjects.{separated_json}
-use Rattle.separation_commands.specs.RuleAnswers as rules
-use Rattle.separation_commands.specs.RuleLines.{rule_holds_text}
-use Rattle.separation_commands.specs.RuleObjects.{rule_holds_json}
-use Rattle.identify_command.specs.declared.form.Form.{Form}
-use Rattle.identify_command.specs.Forms.{plain_form}
-use Rattle.identify_command.specs.Answers.{EffectAnswer, IdentifyAnswer}
-use Rattle.identify_command.specs.Conditions.{ListsAnswer, ConditionalAnswer, IdentifyAnswerGiven}
+use Rattle.separation_commands.specs.RuleRight as rule_right
+use Rattle.separation_commands.specs.RuleTelling.{rule_telling}
+use Rattle.separation_commands.specs.declared.rule.answer.Answer.{Answer as RuleAnswer}
+use Rattle.separation_commands.specs.declared.rule.answer.Answer.TheVariants as ruled
+use Rattle.identify_command.specs.declared.form.Form.{Form as IdentifyForm}
+use Rattle.identify_command.specs.declared.answer.Answer.{Answer as IdentifyAnswer}
+use Rattle.identify_command.specs.declared.answer.Answer.TheVariants as identified
 use Rattle.identify_command.specs.Command.{identify_command}
-use Rattle.identify_command.proofs.IdentifyTold.{identify_as_told}
-use Rattle.identify_command.proofs.OneText.{effect_yes_once, target_yes_once, effect_no_once, target_no_once}
+use Rattle.identify_command.specs.Forms.{is_certified, told_form}
+use Rattle.identify_command.specs.Right.{Asked, an_effect, a_target, asked_of, IsForNames, IsFaultFor}
+use Rattle.identify_command.specs.Telling.{identify_telling}
+use Rattle.identify_command.proofs.Lawful.{same_asked}
+use Rattle.identify_command.proofs.OneText.{one_identification}
 use Rattle.experiment_lists.specs.Words.{Lists as Experiments}
 use Rattle.surrogate_command.specs.Answers as surrogates
 use Rattle.surrogate_command.specs.Sets.{SurrogateLists, surrogate_lists}
@@ -55,7 +66,6 @@ use Rattle.surrogate_command.proofs.Exclusive.{same_surrogate_lists}
 use Rattle.surrogate_command.specs.Command.{surrogate_command}
 use Rattle.surrogate_command.proofs.SurrogateTold.{surrogate_as_told}
 use Rattle.surrogate_command.proofs.OneText.{surrogate_yes_once, surrogate_no_once}
-use Rattle.survey_command.specs.Answers.{SurveyAnswer}
 use Rattle.survey_command.proofs.OneText.{one_survey_text}
 use Rattle.implications_command.specs.Answers.{FirstAnswer, DifferencesAnswer}
 use Rattle.implications_command.specs.Command.{implications_command}
@@ -65,7 +75,7 @@ use Rattle.evaluate_command.specs.Answers.{ProcedureFirst, EvaluateFirst, Evalua
 use Rattle.evaluate_command.specs.Ways.{Way, by_procedure, by_adjusting, by_condition}
 use Rattle.evaluate_command.proofs.OneText.{evaluate_text}
 use Rattle.causal_cli.specs.Texts.{IsOneText, adjusts, TextsAreOne}
-use Rattle.causal_cli.proofs.OneFault.{one_effect_refusal, one_list_refusal, one_target_refusal, one_rule_refusal, one_surrogate_refusal}
+use Rattle.causal_cli.proofs.OneFault.{one_target_fault, one_rule_fault, one_list_fault, one_effect_fault, one_effect_refusal, one_surrogate_refusal}
 
 -- an answer that has one text on diagrams that are the same has one on the bytes of a file
 on_bytes : (bytes : List ℕ) (answer : Diagram → Outcome → Told → Type 0) (o : Outcome)
@@ -89,81 +99,156 @@ for_diagrams : {L : Type 0} (lists : Diagram → L) (answer : MixedGraph → L �
     → answer (graph_of d.observed.graph) (lists d) text → answer (graph_of e.observed.graph) (lists e) line → line ≡ text
 for_diagrams lists answer same once = of_diagrams lists answer same (λ d. once (graph_of d.observed.graph) (lists d))
 
+-- ---- values
+
+-- right answers with one outcome, of which one thing is told, have one text; a yes or a no is no refusal
+module _ {A : Type 0} (t : Telling A) (form : Form) (names : List (List ℕ)) (small : (a : A) → code_of (t.outcome a) ≤ 1) (o : Outcome) where
+  one_told : (right : Result A TargetFault → Type 0)
+      → ((a b : A) → right (Ok a) → right (Ok b) → t.outcome a ≡ o → t.outcome b ≡ t.outcome a
+      → told_in t target_refusal form names (Ok b) ≡ told_in t target_refusal form names (Ok a))
+      → ((e f : TargetFault) → right (Err e) → right (Err f) → f ≡ e) → IsOneText (Tells t target_refusal right form names o)
+  one_told right answers faults told other x y = y.prints ∙ go x.answer y.answer x.right y.right x.ends y.ends ∙ sym x.prints
+    where
+      apart : (a : A) → o ≡ t.outcome a → o ≡ Graph → ⊥
+      apart a p q = let c : code_of (t.outcome a) ≡ 3 = ap code_of (sym p ∙ q) in omega (arith, c, small a)
+
+      go : (a b : Result A TargetFault) → right a → right b → o ≡ outcome_in t target_refusal a → o ≡ outcome_in t target_refusal b
+          → told_in t target_refusal form names b ≡ told_in t target_refusal form names a
+      go (Ok a) (Ok b) f g p q = answers a b f g (sym p) (sym q ∙ p)
+      go (Err e) (Err k) f g p q = ap (λ (r : TargetFault). told_in t target_refusal form names (Err r)) (faults e k f g)
+      go (Ok a) (Err e) f g p q = absurd (apart a p q)
+      go (Err e) (Ok a) f g p q = absurd (apart a q p)
+
 -- ---- separate
 
-separated_yes_once : (format : Format) (q : MixedGraph) (l : Lists) → IsOneText (separations.ListsAnswer format q l Yes)
-separated_yes_once format q l text line a b =
-    same_three (λ u v t. line ≡ answer_of (text_in format (separated_text l.observed u v t) (json_line (separated_json l.observed u v t))))
-    l a.x a.y a.w b.x b.y b.w a.sets b.sets b.answer.prints ∙ sym a.answer.prints
+-- the lists name three sets
+one_sets : (l : Lists) (s t : Sets) → AreSets l s.x.bits s.y.bits s.given.bits → AreSets l t.x.bits t.y.bits t.given.bits → t ≡ s
+one_sets l s t a b = λ i. record {
+  x = record { bits = one_set l.observed l.x s.x.bits t.x.bits a.set_x b.set_x i };
+  y = record { bits = one_set l.observed l.y s.y.bits t.y.bits a.set_y b.set_y i };
+  given = record { bits = one_set l.observed l.given s.given.bits t.given.bits a.set_given b.set_given i };
+}
 
-separated_once : (o : Outcome) → o ≢ No → (format : Format) (q : MixedGraph) (l : Lists) → IsOneText (separations.ListsAnswer format q l o)
-separated_once Yes told format q l = separated_yes_once format q l
-separated_once No told format q l = absurd (told refl)
-separated_once Graph told format q l = one_target_refusal l
-separated_once o told format q l = λ text line a b. absurd a
+separate_small : (a : SeparateAnswer) → code_of (separate_telling.outcome a) ≤ 1
+separate_small (separated.Separated s) = omega arith
+separate_small (separated.Connected s path) = omega arith
+
+separations_once : (form : Form) (o : Outcome) → o ≢ No → (q : MixedGraph) (l : Lists) (a b : SeparateAnswer) → separate_right.IsForLists q l a
+    → separate_right.IsForLists q l b → separate_telling.outcome a ≡ o → separate_telling.outcome b ≡ separate_telling.outcome a
+    → told_in separate_telling target_refusal form l.observed (Ok b) ≡ told_in separate_telling target_refusal form l.observed (Ok a)
+separations_once form o told q l (separated.Separated s) (separated.Separated t) f g p e =
+    ap (λ (k : Sets). told_in separate_telling target_refusal form l.observed (Ok (separated.Separated k)))
+    (g.decided.0 ∙ one_sets l f.sets g.sets f.named g.named ∙ sym f.decided.0)
+separations_once form o told q l (separated.Connected s path) b f g p e = absurd (told (sym p))
+separations_once form o told q l (separated.Separated s) (separated.Connected t path) f g p e = let c : 1 ≡ 0 = ap code_of e in absurd (omega (arith, c))
+
+separated_once : (format : Format) (o : Outcome) → o ≢ No → (q : MixedGraph) (l : Lists)
+    → IsOneText (Tells separate_telling target_refusal (separate_right.IsForNames q l) (plain_form format) l.observed o)
+separated_once format o told q l = one_told separate_telling (plain_form format) l.observed separate_small o (separate_right.IsForNames q l)
+    (separations_once (plain_form format) o told q l) (one_target_fault l)
 
 -- ---- rule
 
--- what is told of a rule that holds
-abbrev rule_told : Format → Rule → List (List ℕ) → (y x z given : ℕ) → Told
-rule_told format r names y x z given =
-    answer_of (text_in format (rule_holds_text r names (has x) (has y) (has z) (has given)) (json_line (rule_holds_json r names y x z given)))
+one_rule_sets : (l : RuleLists) (s t : RuleSets) → AreRuleSets l s.y.bits s.x.bits s.z.bits s.given.bits → AreRuleSets l t.y.bits t.x.bits t.z.bits t.given.bits
+    → t ≡ s
+one_rule_sets l s t a b = λ i. record {
+  y = record { bits = one_set l.observed l.y s.y.bits t.y.bits a.set_y b.set_y i };
+  x = record { bits = one_set l.observed l.x s.x.bits t.x.bits a.set_x b.set_x i };
+  z = record { bits = one_set l.observed l.z s.z.bits t.z.bits a.set_z b.set_z i };
+  given = record { bits = one_set l.observed l.given s.given.bits t.given.bits a.set_given b.set_given i };
+}
 
-ruled_yes_once : (format : Format) (r : Rule) (q : MixedGraph) (l : RuleLists) → IsOneText (rules.ListsAnswer format r q l Yes)
-ruled_yes_once format r q l text line a b =
-    let ys = one_set l.observed l.y a.y b.y a.sets.set_y b.sets.set_y in
-    let xs = one_set l.observed l.x a.x b.x a.sets.set_x b.sets.set_x in
-    let zs = one_set l.observed l.z a.z b.z a.sets.set_z b.sets.set_z in
-    let gs = one_set l.observed l.given a.given b.given a.sets.set_given b.sets.set_given in
-    b.answer.prints
-    ∙ ap (λ (k : ℕ). rule_told format r l.observed k b.x b.z b.given) ys
-    ∙ ap (λ (k : ℕ). rule_told format r l.observed a.y k b.z b.given) xs
-    ∙ ap (λ (k : ℕ). rule_told format r l.observed a.y a.x k b.given) zs
-    ∙ ap (λ (k : ℕ). rule_told format r l.observed a.y a.x a.z k) gs
-    ∙ sym a.answer.prints
+rule_small : (a : RuleAnswer) → code_of (rule_telling.outcome a) ≤ 1
+rule_small (ruled.Holds r s) = omega arith
+rule_small (ruled.Fails r s path) = omega arith
 
-ruled_once : (o : Outcome) → o ≢ No → (format : Format) (r : Rule) (q : MixedGraph) (l : RuleLists) → IsOneText (rules.ListsAnswer format r q l o)
-ruled_once Yes told format r q l = ruled_yes_once format r q l
-ruled_once No told format r q l = absurd (told refl)
-ruled_once Graph told format r q l = one_rule_refusal l
-ruled_once o told format r q l = λ text line a b. absurd a
+rules_once : (form : Form) (o : Outcome) → o ≢ No → (r : Rule) (q : MixedGraph) (l : RuleLists) (a b : RuleAnswer) → rule_right.IsForLists r q l a
+    → rule_right.IsForLists r q l b → rule_telling.outcome a ≡ o → rule_telling.outcome b ≡ rule_telling.outcome a
+    → told_in rule_telling target_refusal form l.observed (Ok b) ≡ told_in rule_telling target_refusal form l.observed (Ok a)
+rules_once form o told r q l (ruled.Holds c s) (ruled.Holds d t) f g p e =
+    ap (λ (k : Rule). told_in rule_telling target_refusal form l.observed (Ok (ruled.Holds k t))) (g.decided.0.0 ∙ sym f.decided.0.0)
+    ∙ ap (λ (k : RuleSets). told_in rule_telling target_refusal form l.observed (Ok (ruled.Holds c k)))
+    (g.decided.0.1 ∙ one_rule_sets l f.sets g.sets f.named g.named ∙ sym f.decided.0.1)
+rules_once form o told r q l (ruled.Fails c s path) b f g p e = absurd (told (sym p))
+rules_once form o told r q l (ruled.Holds c s) (ruled.Fails d t path) f g p e = let k : 1 ≡ 0 = ap code_of e in absurd (omega (arith, k))
+
+ruled_once : (format : Format) (o : Outcome) → o ≢ No → (r : Rule) (q : MixedGraph) (l : RuleLists)
+    → IsOneText (Tells rule_telling target_refusal (rule_right.IsForNames r q l) (plain_form format) l.observed o)
+ruled_once format o told r q l = one_told rule_telling (plain_form format) l.observed rule_small o (rule_right.IsForNames r q l)
+    (rules_once (plain_form format) o told r q l) (one_rule_fault l)
 
 -- ---- identify
 
--- where a formula is told, none that is short is asked for
-abbrev IsTold : Outcome → Form → Type 0
-IsTold o form = o ≡ Yes → form.short ≡ false
+identify_small : (a : IdentifyAnswer) → code_of (identify_telling.outcome a) ≤ 1
+identify_small (identified.Formula f) = omega arith
+identify_small (identified.Hedge h) = omega arith
+identify_small (identified.Joint t settled h) = omega arith
 
-effect_once : (o : Outcome) (form : Form) → IsTold o form → (d : Diagram) (l : EffectLists) → IsOneText (EffectAnswer form (graph_of d.observed.graph) l o)
-effect_once Yes form told d l = effect_yes_once form (told refl) (graph_of d.observed.graph) l
-effect_once No form told d l = effect_no_once form (graph_of d.observed.graph) d.observed.graph.valid d.observed.graph.small l
-effect_once Graph form told d l = one_effect_refusal l
-effect_once o form told d l = λ text line a b. absurd a
+one_asked_fault : (l : Asked) (e f : TargetFault) → IsFaultFor l e → IsFaultFor l f → f ≡ e
+one_asked_fault (an_effect l) = one_effect_fault l
+one_asked_fault (a_target l) = one_list_fault l
 
-target_once : (o : Outcome) (form : Form) → IsTold o form → (d : Diagram) (l : Lists) → IsOneText (ListsAnswer form (graph_of d.observed.graph) l o)
-target_once Yes form told d l = target_yes_once form (told refl) (graph_of d.observed.graph) l
-target_once No form told d l = target_no_once form (graph_of d.observed.graph) d.observed.graph.valid d.observed.graph.small l
-target_once Graph form told d l = one_list_refusal l
-target_once o form told d l = λ text line a b. absurd a
+identified_once : (form : IdentifyForm) (o : Outcome) → (o ≡ Yes → form.short ≡ false) → (d : Diagram) (l : Asked)
+    → IsOneText (Tells identify_telling target_refusal (IsForNames form.short (is_certified form.writing) (graph_of d.observed.graph) l) (told_form form)
+    d.observed.names o)
+identified_once form o plain d l = one_told identify_telling (told_form form) d.observed.names identify_small o
+    (IsForNames form.short (is_certified form.writing) (graph_of d.observed.graph) l)
+    (λ a b f g p e. one_identification form d.observed.names (graph_of d.observed.graph) d.observed.graph.valid d.observed.graph.small l a b f g (sym e)
+    (λ yes. plain (sym p ∙ yes)))
+    (one_asked_fault l)
 
--- where nothing is given
-bare_once : (o : Outcome) (form : Form) → IsTold o form → (x y : Names) (d e : Diagram) → AreSameDiagrams d e → (text line : Told)
-    → IdentifyAnswer form d x y o text → IdentifyAnswer form e x y o line → line ≡ text
-bare_once o form told x y = of_diagrams (λ d. effect_lists d.read d.observed.names x y) (λ q l. EffectAnswer form q l o) (same_effect_lists x y)
-    (λ d. effect_once o form told d (effect_lists d.read d.observed.names x y))
+-- ---- graph
 
--- and where something is
-conditional_once : (o : Outcome) (form : Form) → IsTold o form → (x y : Names) (given : List (List ℕ)) (d e : Diagram) → AreSameDiagrams d e
-    → (text line : Told) → ConditionalAnswer form d x y given o text → ConditionalAnswer form e x y given o line → line ≡ text
-conditional_once o form told x y given =
-    of_diagrams (λ d. query_lists d.read d.observed.names x y (Some given)) (λ q l. ListsAnswer form q l o) (same_query_lists x y (Some given))
-    (λ d. target_once o form told d (query_lists d.read d.observed.names x y (Some given)))
+-- graphs that are the same are written alike
+same_drawn : (g h : ReadGraph) → AreSame g h → drawn_of h ≡ drawn_of g
+same_drawn g h s =
+    let arrows : (graph_of h.graph).arrow ≡ (graph_of g.graph).arrow = fun_ext (λ a. fun_ext (λ b. s.arrows a b)) in
+    let doubles : (graph_of h.graph).both ≡ (graph_of g.graph).both = fun_ext (λ a. fun_ext (λ b. s.spouses a b)) in
+    let roles : role_at h ≡ role_at g = fun_ext (λ v. rw (s.exposures, s.outcomes, s.adjusted, s.latent) refl) in
+    λ i. record {
+      names = s.names i;
+      roles = map (roles i) (count_up (s.vertices i));
+      arrows = pairs_below (s.vertices i) (arrows i);
+      doubles = pairs_below (s.vertices i) (λ a b. doubles i a b && nat_lt a b);
+    }
 
-identified_once : (o : Outcome) (form : Form) → IsTold o form → (x y given : Names) (d e : Diagram) → AreSameDiagrams d e → (text line : Told)
-    → IdentifyAnswerGiven form d x y given o text → IdentifyAnswerGiven form e x y given o line → line ≡ text
-identified_once o form told x y None = bare_once o form told x y
-identified_once o form told x y (Some []) = bare_once o form told x y
-identified_once o form told x y (Some (n ∷ ns)) = conditional_once o form told x y (n ∷ ns)
+-- and have one object
+same_json : (g h : ReadGraph) → AreSame g h → object_of (graph_members h) ≡ object_of (graph_members g)
+same_json g h s =
+    let drawn : drawn_of h ≡ drawn_of g = same_drawn g h s in
+    let roles : role_at h ≡ role_at g = fun_ext (λ v. rw (s.exposures, s.outcomes, s.adjusted, s.latent) refl) in
+    λ i. object_of ((codes "answer", string (codes "graph"))
+    ∷ (
+      codes "vertices",
+      array_of (map (λ v. object_of ((codes "name", vertex_json (s.names i) v) ∷ (codes "role", role_json (roles i v)) ∷ []))
+          (count_up (s.vertices i))),
+    ) ∷ (codes "directed", pairs_json (s.names i) (drawn i).arrows)
+    ∷ (codes "bidirected", pairs_json (s.names i) (drawn i).doubles) ∷ (codes "text", text_json (written (drawn i))) ∷ [])
+
+-- what is told of a graph
+abbrev graph_told : Format → ReadGraph → Told
+graph_told format g = answer_of (text_in format (written (drawn_of g)) (json_line (object_of (graph_members g))))
+
+same_told : (format : Format) (g h : ReadGraph) → AreSame g h → graph_told format h ≡ graph_told format g
+same_told format g h s = λ i. answer_of (text_in format (written (same_drawn g h s i)) (json_line (same_json g h s i)))
+
+-- so one thing is told of them
+graph_once : (format : Format) (project : Bool) (o : Outcome) (d e : Diagram) → AreSameDiagrams d e → (told other : Told)
+    → graph_command.by_diagram (record { file = []; project = project; format = format }) d o told
+    → graph_command.by_diagram (record { file = []; project = project; format = format }) e o other → other ≡ told
+graph_once format project o d e s told other x y = y.prints ∙ go x.answer y.answer x.right y.right ∙ sym x.prints
+  where
+    same : (project : Bool) → AreSame (shown_of project d) (shown_of project e)
+    same false = s.read
+    same true = s.observed
+
+    go : (a b : Result GraphAnswer TargetFault) → IsGraphAnswer project d a → IsGraphAnswer project e b
+        → told_in graph_telling target_refusal (plain_form format) e.observed.names b ≡ told_in graph_telling target_refusal (plain_form format) d.observed.names a
+    go (Ok a) (Ok b) f g =
+        ap (λ (r : ReadGraph). graph_told format r) g ∙ same_told format (shown_of project d) (shown_of project e) (same project)
+        ∙ sym (ap (λ (r : ReadGraph). graph_told format r) f)
+    go (Err fault) b f g = absurd f
+    go (Ok a) (Err fault) f g = absurd g
 
 -- ---- surrogate
 
@@ -182,47 +267,6 @@ surrogate_once o form x y experiments =
     (same_surrogate_lists x y experiments) (λ d. surrogated_once o form d (surrogate_lists d.read d.observed.names x y experiments))
 
 -- ---- graph
-
--- graphs that are the same are written alike
-same_drawn : (g h : ReadGraph) → AreSame g h → drawn_of h ≡ drawn_of g
-same_drawn g h s =
-    let arrows : (graph_of h.graph).arrow ≡ (graph_of g.graph).arrow = fun_ext (λ a. fun_ext (λ b. s.arrows a b)) in
-    let doubles : (graph_of h.graph).both ≡ (graph_of g.graph).both = fun_ext (λ a. fun_ext (λ b. s.spouses a b)) in
-    let roles : role_at h ≡ role_at g = fun_ext (λ v. rw (s.exposures, s.outcomes, s.adjusted, s.latent) refl) in
-    λ i. record {
-      names = s.names i;
-      roles = map (roles i) (count_up (s.vertices i));
-      arrows = pairs_below (s.vertices i) (arrows i);
-      doubles = pairs_below (s.vertices i) (λ a b. doubles i a b && nat_lt a b);
-    }
-
--- and have one object
-same_json : (g h : ReadGraph) → AreSame g h → graph_json h ≡ graph_json g
-same_json g h s =
-    let drawn : drawn_of h ≡ drawn_of g = same_drawn g h s in
-    let roles : role_at h ≡ role_at g = fun_ext (λ v. rw (s.exposures, s.outcomes, s.adjusted, s.latent) refl) in
-    λ i. object_of ((codes "answer", string (codes "graph"))
-    ∷ (
-      codes "vertices",
-      array_of (map (λ v. object_of ((codes "name", vertex_json (s.names i) v) ∷ (codes "role", role_json (roles i v)) ∷ []))
-          (count_up (s.vertices i))),
-    ) ∷ (codes "directed", pairs_json (s.names i) (drawn i).arrows)
-    ∷ (codes "bidirected", pairs_json (s.names i) (drawn i).doubles) ∷ (codes "text", text_json (written (drawn i))) ∷ [])
-
--- so one thing is told of them
-same_told : (format : Format) (g h : ReadGraph) → AreSame g h → answer_of (text_in format (written (drawn_of h)) (json_line (graph_json h)))
-    ≡ answer_of (text_in format (written (drawn_of g)) (json_line (graph_json g)))
-same_told format g h s = λ i. answer_of (text_in format (written (same_drawn g h s i)) (json_line (same_json g h s i)))
-
-graph_yes_once : (format : Format) (project : Bool) (d e : Diagram) → AreSameDiagrams d e → (text line : Told) → GraphAnswer format project d Yes text
-    → GraphAnswer format project e Yes line → line ≡ text
-graph_yes_once format false d e s text line a b = b ∙ same_told format d.read e.read s.read ∙ sym a
-graph_yes_once format true d e s text line a b = b ∙ same_told format d.observed e.observed s.observed ∙ sym a
-
-graph_once : (format : Format) (project : Bool) (o : Outcome) (d e : Diagram) → AreSameDiagrams d e → (text line : Told) → GraphAnswer format project d o text
-    → GraphAnswer format project e o line → line ≡ text
-graph_once format project Yes = graph_yes_once format project
-graph_once format project o = λ d e s text line a b. absurd a
 
 -- ---- evaluate, before the counts
 
@@ -250,26 +294,23 @@ alone_once format (by_condition short given) other o x y = λ d e s text line a 
 
 -- ---- all of them
 
-survey_once : (format : Format) (seed : ℕ) (o : Outcome) → IsOneText (SurveyAnswer format seed o)
-survey_once format seed Yes = one_survey_text format seed
-survey_once format seed o = λ text line a b. absurd a
-
 pub texts_are_one : TextsAreOne
 texts_are_one = record {
-  survey = λ q o. survey_once q.format q.seed o;
-  graph = λ q o bytes. on_bytes bytes (λ d. graph_command.by_diagram q d) o (λ d e s text line a b. graph_once q.format q.project o d e s text line
-      (graph_as_told q.format q.project d o text a) (graph_as_told q.format q.project e o line b));
+  survey = one_survey_text;
+  graph = λ q o bytes. on_bytes bytes (λ d. graph_command.by_diagram q d) o (λ d e s text line a b. graph_once q.format q.project o d e s text line a b);
   separate = λ q o told bytes. on_bytes bytes (λ d. separate_command.by_diagram q d) o (λ d e s text line a b.
-      for_diagrams (λ d. query_lists d.read d.observed.names q.x q.y q.given) (λ p l. separations.ListsAnswer q.format p l o)
-      (same_query_lists q.x q.y q.given) (separated_once o told q.format) d e s text line
-      (separate_as_told q.format d q.x q.y q.given o text a) (separate_as_told q.format e q.x q.y q.given o line b));
+      for_diagrams (λ d. query_lists d.read d.observed.names q.x q.y q.given)
+      (λ p l. Tells separate_telling target_refusal (separate_right.IsForNames p l) (plain_form q.format) l.observed o)
+      (same_query_lists q.x q.y q.given) (separated_once q.format o told) d e s text line a b);
   rule = λ q o told bytes. on_bytes bytes (λ d. rule_command.by_diagram q d) o (λ d e s text line a b.
-      for_diagrams (λ d. rule_lists d.read d.observed.names q.y q.x q.z q.given) (λ p l. rules.ListsAnswer q.format q.rule p l o)
-      (same_rule_lists q.y q.x q.z q.given) (ruled_once o told q.format q.rule) d e s text line
-      (rule_as_told q.format q.rule d q.y q.x q.z q.given o text a) (rule_as_told q.format q.rule e q.y q.x q.z q.given o line b));
+      for_diagrams (λ d. rule_lists d.read d.observed.names q.y q.x q.z q.given)
+      (λ p l. Tells rule_telling target_refusal (rule_right.IsForNames q.rule p l) (plain_form q.format) l.observed o)
+      (same_rule_lists q.y q.x q.z q.given) (ruled_once q.format o told q.rule) d e s text line a b);
   identify = λ q o told bytes. on_bytes bytes (λ d. identify_command.by_diagram q d) o (λ d e s text line a b.
-      identified_once o q.form told q.x q.y q.given d e s text line
-      (identify_as_told q.form d q.x q.y q.given o text a) (identify_as_told q.form e q.x q.y q.given o line b));
+      of_diagrams (λ d. (asked_of d q.x q.y q.given, d.observed.names))
+      (λ p l. Tells identify_telling target_refusal (IsForNames q.form.short (is_certified q.form.writing) p l.0) (told_form q.form) l.1 o)
+      (λ d e s. λ i. (same_asked q.x q.y q.given d e s i, s.observed.names i))
+      (λ d. identified_once q.form o told d (asked_of d q.x q.y q.given)) d e s text line a b);
   surrogate = λ q o bytes. on_bytes bytes (λ d. surrogate_command.by_diagram q d) o (λ d e s text line a b.
       surrogate_once o q.form q.x q.y q.experiments d e s text line
       (surrogate_as_told q.form d q.x q.y q.experiments o text a) (surrogate_as_told q.form e q.x q.y q.experiments o line b));

@@ -1,95 +1,102 @@
 -- The headline, on a run: what words that ask for `identify`, and for `check`, are answered.
-use Rattle.std.specs.Prelude.{ℕ, ◌≡◌, ◌⊎◌, List, [], Some, unwrap_or}
+use Rattle.std.specs.Prelude.{ℕ, ◌≡◌, ◌≤◌, ◌⊎◌, List, [], Some, unwrap_or}
 use Rattle.std.specs.Option.{option_or}
-use Rattle.mixed_graph.specs.Bits.{has}
 use Rattle.mixed_graph.specs.Graphs.{MixedGraph}
-use Rattle.mixed_graph.specs.Shown.{graph_of}
 use Rattle.command_words.specs.Form.{Use}
-use Rattle.prob_expr.specs.Tree.{PlainFormula, PlainTarget, effect_on}
+use Rattle.prob_expr.specs.Tree.{effect_on}
+use Rattle.prob_expr.specs.View.{target_view, formula_view}
 use Rattle.do_derivation.specs.Plans.{PlainDerivation}
 use Rattle.dag_reader.specs.declared.graph.ReadGraph.{ReadGraph}
 use Rattle.hedge.specs.Hedges.{IsHedge}
-use Rattle.hedge.specs.declared.hedge.Hedge.{Hedge}
 use Rattle.counter_models.specs.Pairs.{IsPairOf}
-use Rattle.counter_models.specs.declared.counter_pair.CounterPair.{CounterPair}
-use Rattle.hidden_models.specs.FoldingLaws.{EqualsAsDrawn}
 use Rattle.identify.specs.Answers.{IsRightFormula, IsRightHedge}
+use Rattle.targets.specs.Targets.{AreEffectSets}
 use Rattle.replies.specs.declared.format.Format.{Format}
-use Rattle.replies.specs.Told.{Told, answer_of}
 use Rattle.replies.specs.declared.outcome.Outcome.TheVariants.{Yes}
+use Rattle.replies.specs.Told.{Told}
+use Rattle.replies.specs.Outcomes.{code_of}
+use Rattle.replies.specs.Observed.{HoldsGraph}
 use Rattle.diagram.specs.Observed.{IsObservedGraph, observed_names}
 use Rattle.diagram.specs.Sets.{effect_lists}
-use Rattle.replies.specs.Observed.{HoldsGraph}
-use Rattle.targets.specs.Targets.{AreEffectSets}
-use Rattle.effect_answers.specs.Effects.{IsOfSets}
-use Rattle.identify_command.specs.declared.form.Form.{Form}
-use Rattle.identify_command.specs.Answers.{formula_shown, hedge_shown}
+use Rattle.effect_answers.specs.declared.formulas.EffectFormula.{EffectFormula}
+use Rattle.effect_answers.specs.declared.hedges.EffectHedge.{EffectHedge}
+use Rattle.effect_answers.specs.HedgeTelling.{effect_of}
+use Rattle.identify_command.specs.declared.answer.Answer.{Answer}
+use Rattle.identify_command.specs.declared.answer.Answer.TheVariants.{Formula, Hedge, Joint}
+use Rattle.identify_command.specs.Forms.{told_form}
 use Rattle.identify_command.specs.Requests.{Request, IsRequest, identify_row}
+use Rattle.identify_command.specs.Telling.{identify_telling}
 use Rattle.check_command.specs.Answers as check
 use Rattle.check_command.specs.Requests.{check_row}
 use Rattle.check_command.specs.Requests as check_requests
 use Rattle.experiment_lists.specs.Words.{Lists}
-use Rattle.command_run.specs.Run.{Run}
-use Rattle.command_run.specs.Complete.{NothingFailed}
+use Rattle.command_run.specs.Run.{Run, Rose}
+use Rattle.causal_cli.specs.Answered.{told_of_answer}
+use Rattle.causal_cli.specs.AsDrawn.{IsRightAsDrawn, IsNotIdentifiable}
 use Rattle.causal_cli.specs.Calls.{Call, call_of, IsCallOf, WrittenFor, WrittenForBoth}
-use Rattle.causal_cli.specs.Commands.{commands}
 
--- The formula equals the effect of the target in the diagram as drawn: in every model of the graph that was read, whatever the mechanisms of its
--- hidden vertices, that is positive on the observed ones, at each assignment. Its terms are taken in that model.
-abbrev pub IsRightAsDrawn : ReadGraph → PlainTarget → PlainFormula → Type 0
-IsRightAsDrawn g t f = EqualsAsDrawn (graph_of g.graph) (has g.latent.bits) t f
-
--- What is told shows a formula for P(y | do(x)). It has no intervention, and a derivation that the checker accepts; it equals the effect at each
--- assignment in each positive finite model that fits the observed graph q, and in the diagram as drawn.
-pub record ShowsRightFormula (form : Form) (g : ReadGraph) (q : MixedGraph) (x y : ℕ) (told : Told) : Type 0 where
-  pub formula : PlainFormula
+-- The formula is for P(y | do(x)). It has no intervention, and a derivation that the checker accepts; it equals the effect at each assignment in each
+-- positive finite model that fits the observed graph q, and in the diagram as drawn.
+pub record IsRightFormulaFor (g : ReadGraph) (q : MixedGraph) (x y : ℕ) (f : EffectFormula) : Type 0 where
+  pub target : target_view f.target ≡ effect_on x y
   pub derivation : PlainDerivation
-  pub right : IsRightFormula q x y formula derivation
-  pub drawn : IsRightAsDrawn g (effect_on x y) formula
-  pub prints : told ≡ answer_of (formula_shown form (observed_names g) (effect_on x y) formula derivation)
+  pub right : IsRightFormula q x y (formula_view f.formula) derivation
+  pub drawn : IsRightAsDrawn g (effect_on x y) (formula_view f.formula)
 
--- What is told shows a hedge for P(y | do(x)), with its evidence, and the two models that are built of it: they are positive and finite, fit the observed
--- graph q, agree on all observations, and differ on the effect under every value of x.
-pub record ShowsRightHedge (form : Form) (g : ReadGraph) (q : MixedGraph) (x y : ℕ) (told : Told) : Type 0 where
-  pub hedge : Hedge
-  pub models : CounterPair
-  pub right : IsRightHedge q x y hedge models
-  pub evidence : IsHedge q x y hedge
-  pub built : IsPairOf q x y hedge models
-  pub prints : told ≡ answer_of (hedge_shown form (observed_names g) x y hedge models)
+-- The hedge is one for P(y | do(x)), with its evidence and the two models that are built of it: they are positive and finite, fit the observed graph q, agree
+-- on all observations, and differ on the effect under every value of x. So do two models of the diagram as drawn.
+pub record IsRightHedgeFor (g : ReadGraph) (q : MixedGraph) (x y : ℕ) (h : EffectHedge) : Type 0 where
+  pub effect : effect_of h ≡ effect_on x y
+  pub right : IsRightHedge q x y h.hedge h.pair
+  pub evidence : IsHedge q x y h.hedge
+  pub built : IsPairOf q x y h.hedge h.pair
+  pub drawn : IsNotIdentifiable g (effect_on x y)
 
--- the bytes hold a graph, in whose observed graph the lists of the request name two sets, for which the text is such a one; where nothing is given
-pub record IsShown (shows : Form → ReadGraph → MixedGraph → (x y : ℕ) → Told → Type 0) (q : Request) (bytes : List ℕ) (told : Told) : Type 0 where
+-- the one or the other
+abbrev pub IsRightAnswerFor : ReadGraph → MixedGraph → (x y : ℕ) → Answer → Type 0
+IsRightAnswerFor g q x y (Formula f) = IsRightFormulaFor g q x y f
+IsRightAnswerFor g q x y (Hedge h) = IsRightHedgeFor g q x y h
+IsRightAnswerFor g q x y (Joint t settled h) = ⊥
+
+-- The bytes hold a graph, in whose observed graph the lists of the request name two sets, and this is a right answer for them; the status is 0 for a formula
+-- and 1 for a hedge, and what is told is what is told of the answer.
+pub record IsIdentified (q : Request) (bytes : List ℕ) (code : ℕ) (told : Told) : Type 0 where
   pub graph : ReadGraph
   pub holds : HoldsGraph bytes graph
   pub seen : MixedGraph
   pub observed : IsObservedGraph graph seen
-  pub sets : IsOfSets (effect_lists graph (observed_names graph) q.x q.y) (λ x y. shows q.form graph seen x y told)
+  pub x : ℕ
+  pub y : ℕ
+  pub sets : AreEffectSets (effect_lists graph (observed_names graph) q.x q.y) x y
+  pub answer : Answer
+  pub right : IsRightAnswerFor graph seen x y answer
+  pub status : code ≡ code_of (identify_telling.outcome answer)
+  pub prints : told ≡ told_of_answer identify_telling (told_form q.form) (observed_names graph) answer
 
--- such a text was written for the bytes of the file that these uses ask for; nothing is said where they give a condition
-abbrev pub Identified : (Form → ReadGraph → MixedGraph → (x y : ℕ) → Told → Type 0) → Call → List Use → Type 0
-Identified shows = WrittenFor IsRequest (λ q. q.file) (λ q bytes told. unwrap_or q.given [] ≡ [] → IsShown shows q bytes told)
+-- such an answer was written for the bytes of the file that these uses ask for; nothing is said where they give a condition
+abbrev pub Identified : Call → (code : ℕ) → List Use → Type 0
+Identified r code = WrittenFor IsRequest (λ q. q.file) (λ q bytes told. unwrap_or q.given [] ≡ [] → IsIdentified q bytes code told) r
 
 -- these uses ask for the effect of x on y, without a condition, in the diagram of a file: its bytes, or the text that stands for them, are told and hold
--- a graph, in which the lists name these two sets of observed vertices, y not empty
+-- a graph, in which the lists name these two sets of observed vertices, y not empty; and no count of failed reads of the file rose
 pub record AsksEffect (r : Run) (uses : List Use) : Type 0 where
   pub request : Request
   pub asks : IsRequest uses request
   pub bare : unwrap_or request.given [] ≡ []
   pub bytes : List ℕ
   pub held : option_or r.kept (r.held request.file) ≡ Some bytes
+  pub read : Rose (r.read_faults request.file) (r.read_faults_after request.file) → ⊥
   pub graph : ReadGraph
   pub holds : HoldsGraph bytes graph
   pub x : ℕ
   pub y : ℕ
   pub sets : AreEffectSets (effect_lists graph (observed_names graph) request.x request.y) x y
 
--- Where the words ask for `identify` without a condition, status 0 says that a right formula was written, and status 1 that a right hedge was. Where they
--- ask for the effect of two sets in a graph, and no read and no write failed, the status is one of these, or memory was refused (8).
+-- Where the words ask for `identify` and the status is 0 or 1, a right answer was written. Where they ask for the effect of two sets in a graph that was read,
+-- and no count of failed writes rose, the status is one of these, or memory was refused (8).
 pub record Headline (r : Run) (code : ℕ) : Type 0 where
-  pub formula : (uses : List Use) → IsCallOf identify_row r.words uses → code ≡ 0 → Identified ShowsRightFormula (call_of r) uses
-  pub hedge : (uses : List Use) → IsCallOf identify_row r.words uses → code ≡ 1 → Identified ShowsRightHedge (call_of r) uses
-  pub answered : (uses : List Use) → IsCallOf identify_row r.words uses → AsksEffect r uses → NothingFailed commands r
+  pub right : (uses : List Use) → IsCallOf identify_row r.words uses → code ≤ 1 → Identified (call_of r) code uses
+  pub answered : (uses : List Use) → IsCallOf identify_row r.words uses → AsksEffect r uses → (Rose r.out.faults r.out.faults_after → ⊥)
       → (code ≡ 0) ⊎ ((code ≡ 1) ⊎ (code ≡ 8))
 
 -- The bytes of the file hold a graph, and those of the certificate are accepted in its observed graph `seen`, as the text says:

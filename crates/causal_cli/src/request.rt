@@ -200,7 +200,7 @@ fn reply_on<'a>(
 fn survey<'a>(alloc: Global, asked: &survey_command::Request) -> Result<AfterWords<'a>, AllocError>
     ensures { IfOk result (GivesOnWords commands (request_of (Request.Survey asked.now))) }
 {
-    match survey_reply(alloc, asked.seed, asked.format) {
+    match survey_reply(alloc, asked) {
         Ok(reply) => Ok(AfterWords::Replied(reply)),
         Err(refused) => Err(refused),
     }

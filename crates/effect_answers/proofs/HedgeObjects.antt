@@ -10,13 +10,10 @@ use Rattle.finite_models.specs.declared.model.Cause.{Cause}
 use Rattle.finite_models.specs.declared.model.Part.{Part}
 use Rattle.finite_models.specs.declared.model.Mechanism.{Mechanism}
 use Rattle.finite_models.specs.declared.model.Mechanism.TheVariants.{Table, Parity}
-use Rattle.prob_expr.specs.Tree.{PlainTarget, effect_on}
+use Rattle.prob_expr.specs.Tree.{PlainTarget}
 use Rattle.hedge.specs.declared.hedge.Hedge.{Hedge}
 use Rattle.counter_models.specs.declared.counter_pair.CounterPair.{CounterPair}
 use Rattle.identify_text.specs.HedgeLines.{chooses}
-use Rattle.certificate.specs.Plain.{PlainHedge, hedge_view}
-use Rattle.certificate.specs.Plain as plain
-use Rattle.certificate_json.specs.Certificates.{certificate_json}
 use Rattle.answer_json.specs.Progress.{array_of, object_of}
 use Rattle.answer_json.specs.Values.{set_json, vertex_json, pair_json}
 use Rattle.hedge_json.specs.Hedges.{choice_json, choices_json, link_json, links_json, hedge_json}
@@ -24,7 +21,7 @@ use Rattle.hedge_json.specs.Models.{cause_json, bit_members, bit_json, bits_json
 use Rattle.hedge_json.specs.Models.{vertex_values, event_json, models_json}
 use Rattle.hedge_json.specs.declared.bits.Bit.{Bit}
 use Rattle.hedge_json.specs.declared.bits.Bit.TheVariants.{HedgeBit, CarriedBit}
-use Rattle.effect_answers.specs.Objects.{target_members, effect_json, joint_json, hedge_object, certified_hedge_object}
+use Rattle.effect_answers.specs.Objects.{target_members, effect_json, joint_json, hedge_members}
 use Rattle.effect_answers.proofs.OneHedge.{AreAlike}
 use Rattle.effect_answers.proofs.AlikePairs.{members_alike, AreSameCauses, IsSamePart, AreSameParts, IsSameMechanism, AreSameMechanisms, ArePairsAlike}
 
@@ -141,20 +138,7 @@ members_with names t x y hedge models =
     (codes "answer", string (codes "hedge")) ∷ (target_members names t
     ++ (codes "effect", effect_json names t) ∷ (codes "joint", joint_json names x y) ∷ (codes "hedge", hedge) ∷ (codes "models", models) ∷ [])
 
--- hedges that are alike, with pairs that are, have one object
+-- hedges that are alike, with pairs that are, have the same members
 pub objects_alike : (names : List (List ℕ)) (t : PlainTarget) (x y : ℕ) (h k : Hedge) (p q : CounterPair) → AreAlike h k → ArePairsAlike p q
-    → hedge_object names t x y k q ≡ hedge_object names t x y h p
-unfolding hedge_object
-objects_alike names t x y h k p q a same =
-    ap₂ (λ (hedge models : Json). object_of (members_with names t x y hedge models)) (hedges_alike names h k a) (models_alike names p q same)
-
--- and where they have one plain form, one with its certificate
-pub certified_alike : (names : List (List ℕ)) (t : PlainTarget) (x y : ℕ) (h k : Hedge) (p q : CounterPair) → AreAlike h k → ArePairsAlike p q
-    → hedge_view k ≡ hedge_view h
-    → certified_hedge_object names t x y k q ≡ certified_hedge_object names t x y h p
-unfolding certified_hedge_object
-certified_alike names t x y h k p q a same views =
-    let hedge = hedges_alike names h k a in
-    let models = models_alike names p q same in
-    λ i. object_of (members_with names t x y (hedge i) (models i)
-    ++ (codes "certificate", certificate_json names (plain.hedge (effect_on x y) (views i))) ∷ [])
+    → hedge_members names t x y k q ≡ hedge_members names t x y h p
+objects_alike names t x y h k p q a same = ap₂ (members_with names t x y) (hedges_alike names h k a) (models_alike names p q same)

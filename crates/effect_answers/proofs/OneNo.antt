@@ -1,6 +1,7 @@
--- Where the procedure stops, one text shows its hedge, its certificate is one, and so is its object.
-use Rattle.std.proofs.Common.{◌≡◌, ◌≤◌, ℕ, List, ◌++◌, sym, ap, ap₂}
+-- Where the procedure stops, one thing is told of its hedge: its text, its certificate, and the members of its object.
+use Rattle.std.proofs.Common.{◌≡◌, ◌≤◌, ℕ, List, ◌++◌, Some, sym, ap, ap₂, ◌∙◌, subst}
 use Rattle.std.specs.Prelude.{codes}
+use Rattle.json.specs.Json.{Json}
 use Rattle.mixed_graph.specs.Graphs.{MixedGraph, IsMixedGraph}
 use Rattle.hedge.specs.declared.hedge.Hedge.{Hedge}
 use Rattle.counter_models.specs.declared.counter_pair.CounterPair.{CounterPair}
@@ -8,74 +9,76 @@ use Rattle.prob_expr.specs.Tree.{PlainTarget, effect_on, term_of}
 use Rattle.expr_text.specs.Write.{text_of}
 use Rattle.identification_theory.proofs.Answered.{one_stop}
 use Rattle.identify_text.specs.PairLines.{hedge_answer, joint_answer}
-use Rattle.answer_json.specs.Progress.{json_line}
-use Rattle.replies.specs.Told.{text_in}
-use Rattle.replies.specs.declared.format.Format.{Format}
-use Rattle.effect_answers.specs.Formats.{hedge_in, joint_in}
 use Rattle.certificate.specs.Plain.{hedge_view}
-use Rattle.effect_answers.specs.Hedges.{IsFoundHedge, HasArrays}
+use Rattle.certificate.specs.Plain as plain
+use Rattle.certificate_json.specs.Certificates.{certificate_line}
+use Rattle.targets.specs.declared.query.EffectSets.{EffectSets}
+use Rattle.told.specs.declared.form.Writing.{Writing}
+use Rattle.told.specs.declared.form.Writing.TheVariants.{Plain, Latex, Certificate}
+use Rattle.effect_answers.specs.declared.hedges.EffectHedge.{EffectHedge}
+use Rattle.effect_answers.specs.Certificates.{member_in}
+use Rattle.effect_answers.specs.HedgeTelling.{hedge_certificate, hedge_text, joint_text, joint_object}
+use Rattle.effect_answers.specs.Hedges.{IsFoundHedge}
+use Rattle.effect_answers.specs.Objects.{hedge_members}
+use Rattle.effect_answers.specs.Right.{IsEffectHedge}
 use Rattle.effect_answers.proofs.OneHedge.{AreAlike, hedges_alike}
-use Rattle.effect_answers.specs.Objects.{hedge_object, certified_hedge_object}
 use Rattle.effect_answers.proofs.AlikePairs.{ArePairsAlike, pairs_alike}
 use Rattle.effect_answers.proofs.HedgeTexts.{hedge_alike}
-use Rattle.effect_answers.proofs.HedgeObjects.{objects_alike, certified_alike}
+use Rattle.effect_answers.proofs.HedgeObjects.{objects_alike}
 use Rattle.effect_answers.proofs.HedgeViews.{views_alike}
 
--- two hedges at which the procedure stops are alike
-pub found_alike : (q : MixedGraph) (x y : ℕ) (h k : Hedge) (pair other : CounterPair) → IsFoundHedge q x y h pair → IsFoundHedge q x y k other → AreAlike h k
-found_alike q x y h k pair other a b =
-    let stop = one_stop q x y h.small.bits h.big.bits k.small.bits k.big.bits a.stop b.stop in
-    hedges_alike q h k (sym stop.1) (sym stop.0) a.evidence.sets.small_inside a.built b.built
+module _ (q : MixedGraph) (valid : IsMixedGraph q) (few : q.vertices ≤ 64) (names : List (List ℕ)) (h k : EffectHedge) (same : k.sets ≡ h.sets)
+    (a : IsEffectHedge q h) (b : IsEffectHedge q k) where
+  x : ℕ
+  x = h.sets.x.bits
 
--- and so are their models
-found_pairs : (q : MixedGraph) → IsMixedGraph q → q.vertices ≤ 64 → (x y : ℕ) (h k : Hedge) (pair other : CounterPair)
-    → IsFoundHedge q x y h pair → IsFoundHedge q x y k other → ArePairsAlike pair other
-found_pairs q valid few x y h k pair other a b =
-    let sets = a.evidence.sets in
-    pairs_alike q valid few x y h k (found_alike q x y h k pair other a b) sets.low sets.small_inside sets.roots_inside pair other a.models b.models
+  y : ℕ
+  y = h.sets.y.bits
 
--- they are printed alike
-pub one_hedge_text : (q : MixedGraph) → IsMixedGraph q → q.vertices ≤ 64 → (x y : ℕ) (names : List (List ℕ)) (h k : Hedge) (pair other : CounterPair)
-    → IsFoundHedge q x y h pair → IsFoundHedge q x y k other → hedge_answer names x y k other ≡ hedge_answer names x y h pair
-one_hedge_text q valid few x y names h k pair other a b =
-    hedge_alike names x y h k pair other (found_alike q x y h k pair other a b) (found_pairs q valid few x y h k pair other a b)
+  found : IsFoundHedge q x y k.hedge k.pair
+  found = subst (λ (s : EffectSets). IsFoundHedge q s.x.bits s.y.bits k.hedge k.pair) same b.found
 
--- have one object
-pub one_hedge_object : (q : MixedGraph) → IsMixedGraph q → q.vertices ≤ 64 → (x y : ℕ) (names : List (List ℕ)) (t : PlainTarget) (h k : Hedge)
-    (pair other : CounterPair) → IsFoundHedge q x y h pair → IsFoundHedge q x y k other
-    → hedge_object names t x y k other ≡ hedge_object names t x y h pair
-one_hedge_object q valid few x y names t h k pair other a b =
-    objects_alike names t x y h k pair other (found_alike q x y h k pair other a b) (found_pairs q valid few x y h k pair other a b)
+  -- two hedges at which the procedure stops are alike
+  alike : AreAlike h.hedge k.hedge
+  alike =
+      let stop = one_stop q x y h.hedge.small.bits h.hedge.big.bits k.hedge.small.bits k.hedge.big.bits a.found.stop found.stop in
+      hedges_alike q h.hedge k.hedge (sym stop.1) (sym stop.0) a.found.evidence.sets.small_inside a.found.built found.built
 
--- have one plain form
-pub one_hedge_view : (q : MixedGraph) (x y : ℕ) (h k : Hedge) (pair other : CounterPair) → IsFoundHedge q x y h pair → IsFoundHedge q x y k other → HasArrays h
-    → HasArrays k → hedge_view k ≡ hedge_view h
-one_hedge_view q x y h k pair other a b m n = views_alike h k (found_alike q x y h k pair other a b) m n
+  -- and so are their models
+  pairs : ArePairsAlike h.pair k.pair
+  pairs =
+      let sets = a.found.evidence.sets in
+      pairs_alike q valid few x y h.hedge k.hedge alike sets.low sets.small_inside sets.roots_inside h.pair k.pair a.found.models found.models
 
--- and one object with their certificate
-pub one_certified_object : (q : MixedGraph) → IsMixedGraph q → q.vertices ≤ 64 → (x y : ℕ) (names : List (List ℕ)) (t : PlainTarget) (h k : Hedge)
-    (pair other : CounterPair) → IsFoundHedge q x y h pair → IsFoundHedge q x y k other → HasArrays h → HasArrays k
-    → certified_hedge_object names t x y k other ≡ certified_hedge_object names t x y h pair
-one_certified_object q valid few x y names t h k pair other a b m n =
-    certified_alike names t x y h k pair other (found_alike q x y h k pair other a b) (found_pairs q valid few x y h k pair other a b)
-    (one_hedge_view q x y h k pair other a b m n)
+  shown : hedge_answer names k.sets.x.bits k.sets.y.bits k.hedge k.pair ≡ hedge_answer names x y h.hedge h.pair
+  shown = ap (λ (s : EffectSets). hedge_answer names s.x.bits s.y.bits k.hedge k.pair) same
+      ∙ hedge_alike names x y h.hedge k.hedge h.pair k.pair alike pairs
 
--- joint effects are printed alike too
-pub joint_with : (names : List (List ℕ)) (t : PlainTarget) (x y : ℕ) (h k : Hedge) (pair other : CounterPair)
-    → hedge_answer names x y k other ≡ hedge_answer names x y h pair → joint_answer names t x y k other ≡ joint_answer names t x y h pair
-joint_with names t x y h k pair other same = ap (λ (l : List ℕ). text_of names (term_of t) ++ (codes " not identified; " ++ l)) same
+  -- they have one certificate
+  certificates : hedge_certificate k ≡ hedge_certificate h
+  certificates = let views = views_alike h.hedge k.hedge alike a.arrays b.arrays in
+      λ i. plain.hedge (effect_on (same i).x.bits (same i).y.bits) (views i)
 
--- in either format
-pub one_hedge_in : (format : Format) (q : MixedGraph) → IsMixedGraph q → q.vertices ≤ 64 → (x y : ℕ) (names : List (List ℕ)) (h k : Hedge)
-    (pair other : CounterPair) → IsFoundHedge q x y h pair → IsFoundHedge q x y k other
-    → hedge_in format names x y k other ≡ hedge_in format names x y h pair
-one_hedge_in format q valid few x y names h k pair other a b =
-    ap₂ (text_in format) (one_hedge_text q valid few x y names h k pair other a b)
-    (ap json_line (one_hedge_object q valid few x y names (effect_on x y) h k pair other a b))
+  -- one text
+  pub one_hedge_text : (w : Writing) → hedge_text w names k ≡ hedge_text w names h
+  one_hedge_text Plain = shown
+  one_hedge_text Latex = shown
+  one_hedge_text Certificate = ap (certificate_line names) certificates
 
-pub one_joint_in : (format : Format) (q : MixedGraph) → IsMixedGraph q → q.vertices ≤ 64 → (x y : ℕ) (names : List (List ℕ)) (t : PlainTarget) (h k : Hedge)
-    (pair other : CounterPair) → IsFoundHedge q x y h pair → IsFoundHedge q x y k other
-    → joint_in format names t x y k other ≡ joint_in format names t x y h pair
-one_joint_in format q valid few x y names t h k pair other a b =
-    ap₂ (text_in format) (joint_with names t x y h k pair other (one_hedge_text q valid few x y names h k pair other a b))
-    (ap json_line (one_hedge_object q valid few x y names t h k pair other a b))
+  joined : (t : PlainTarget) → joint_answer names t k.sets.x.bits k.sets.y.bits k.hedge k.pair ≡ joint_answer names t x y h.hedge h.pair
+  joined t = ap (λ (l : List ℕ). text_of names (term_of t) ++ (codes " not identified; " ++ l)) shown
+
+  -- also where a target turns into the effect
+  pub one_joint_text : (w : Writing) (t : PlainTarget) → joint_text w names t k ≡ joint_text w names t h
+  one_joint_text Plain t = joined t
+  one_joint_text Latex t = joined t
+  one_joint_text Certificate t = ap (certificate_line names) certificates
+
+  members : (t : PlainTarget) → hedge_members names t k.sets.x.bits k.sets.y.bits k.hedge k.pair ≡ hedge_members names t x y h.hedge h.pair
+  members t = ap (λ (s : EffectSets). hedge_members names t s.x.bits s.y.bits k.hedge k.pair) same
+      ∙ objects_alike names t x y h.hedge k.hedge h.pair k.pair alike pairs
+
+  -- and one object
+  pub one_joint_object : (w : Writing) (t : PlainTarget) → joint_object w names t k ≡ joint_object w names t h
+  one_joint_object w t =
+      ap₂ (λ (l m : List (List ℕ × Json)). l ++ m) (members t) (ap (λ (c : plain.PlainCertificate). member_in w names (Some c)) certificates)

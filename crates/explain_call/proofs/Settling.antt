@@ -14,7 +14,7 @@ use Rattle.replies.specs.declared.outcome.Outcome.TheVariants.{Yes, No}
 use Rattle.replies.specs.declared.outcome.Reply.{Reply}
 use Rattle.replies.specs.Told.{Told, told_of}
 use Rattle.replies.proofs.Results.{mapped}
-use Rattle.identify_command.specs.Conditions.{AreTargetSets}
+use Rattle.identify_command.specs.Right.{AreTargetSets}
 use Rattle.explain_call.specs.Settled.{IsJoint, KindFor, KindIn}
 
 -- a joint effect that is answered

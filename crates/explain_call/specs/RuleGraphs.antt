@@ -4,11 +4,12 @@ use Rattle.mixed_graph.specs.Graphs.{MixedGraph}
 use Rattle.do_rules.specs.declared.rules.Rule.{Rule}
 use Rattle.mixed_graph.specs.Shown.{graph_of}
 use Rattle.diagram.specs.declared.diagram.Diagram.{Diagram}
-use Rattle.targets.specs.Targets.{RuleLists, AreRuleSets}
+use Rattle.targets.specs.declared.fault.TargetFault.{TargetFault}
+use Rattle.targets.specs.Targets.{RuleLists, AreRuleSets, IsRuleFault}
 use Rattle.replies.specs.Told.{Told, answer_of}
 use Rattle.replies.specs.declared.outcome.Outcome.{Outcome}
 use Rattle.replies.specs.declared.outcome.Outcome.TheVariants.{Yes, Graph}
-use Rattle.separation_commands.specs.RuleAnswers.{IsRuleRefusal}
+use Rattle.replies.specs.Refusals.{target_told}
 use Rattle.diagram.specs.Sets.{rule_lists}
 use Rattle.explain_call.specs.Graphs.{IsRuleGraphText}
 
@@ -22,6 +23,12 @@ pub record ShowsRuleGraph (r : Rule) (q : MixedGraph) (l : RuleLists) (told : To
   pub text : List ℕ
   pub shows : IsRuleGraphText r q l.observed x z given text
   pub prints : told ≡ answer_of text
+
+-- a name of a rule's lists is at fault, or y or z is empty: the line and the object say so
+pub record IsRuleRefusal (l : RuleLists) (told : Told) : Type 0 where
+  pub fault : TargetFault
+  pub is_fault : IsRuleFault l fault
+  pub prints : told ≡ target_told fault
 
 -- the answer for lists of names
 abbrev pub RuleGraphIn : Rule → MixedGraph → RuleLists → Outcome → Told → Type 0

@@ -8,12 +8,14 @@ use Rattle.counter_models.specs.declared.counter_pair.CounterPair.{CounterPair}
 use Rattle.conditional_id.specs.Answers.{IsRightJoint, IsJointShown, SomeFormula}
 use Rattle.mixed_graph.specs.Shown.{graph_of}
 use Rattle.diagram.specs.declared.diagram.Diagram.{Diagram}
-use Rattle.targets.specs.Targets.{Lists}
+use Rattle.targets.specs.declared.fault.TargetFault.{TargetFault}
+use Rattle.targets.specs.Targets.{Lists, IsListFault}
+use Rattle.replies.specs.Refusals.{target_told}
 use Rattle.replies.specs.Told.{Told, answer_of}
 use Rattle.replies.specs.declared.outcome.Outcome.{Outcome}
 use Rattle.replies.specs.declared.outcome.Outcome.TheVariants.{Yes, No, Graph}
 use Rattle.diagram.specs.Sets.{Names, query_lists}
-use Rattle.identify_command.specs.Conditions.{AreTargetSets, IsListRefusal}
+use Rattle.identify_command.specs.Right.{AreTargetSets}
 
 -- The observations of the target turn into a joint effect, which isn't identifiable: this is its hedge, with the two models that `identify` shows. No
 -- formula without interventions equals the target. Settled, exactly where no observation is left, or those that are left have an effect that is known,
@@ -38,6 +40,12 @@ pub record IsKindOfTarget (q : MixedGraph) (l : Lists) (o : Outcome) (told : Tol
   pub target : PlainTarget
   pub sets : AreTargetSets l target
   pub answer : KindFor q target o told
+
+-- a listed name is at fault, or y is empty: what is told says so
+pub record IsListRefusal (l : Lists) (told : Told) : Type 0 where
+  pub fault : TargetFault
+  pub is_fault : IsListFault l fault
+  pub prints : told ≡ target_told fault
 
 -- the answer for lists of names, which are refused as those of `identify --given` are
 abbrev pub KindIn : MixedGraph → Lists → Outcome → Told → Type 0

@@ -1,24 +1,27 @@
 -- The command's words ask for one request, and its right answers end alike.
-use Rattle.std.proofs.Common.{◌≡◌, Bool, true, false, List, [], ◌∷◌, Some, None, Ok, Err, refl, sym, ap, subst, ◌∙◌}
+use Rattle.std.proofs.Common.{◌≡◌, Bool, true, false, List, [], ◌∷◌, Some, None, Result, Ok, Err, refl, sym, ap, subst, ◌∙◌}
 use Rattle.std.specs.Prelude.{codes}
 use Rattle.std.proofs.lemmas.Option.{same_Some}
 use Rattle.mixed_graph.specs.Graphs.{MixedGraph}
+use Rattle.mixed_graph.specs.Shown.{graph_of}
 use Rattle.prob_expr.specs.Tree.{PlainTarget}
 use Rattle.prob_expr.specs.View.{formula_view}
 use Rattle.command_words.specs.Form.{Use, value_of, has_flag}
 use Rattle.command_words.proofs.OneValue.{one_listed}
 use Rattle.targets.specs.declared.fault.TargetFault.{TargetFault}
 use Rattle.targets.specs.declared.fault.TargetFault.TheVariants.{EmptyX}
-use Rattle.targets.specs.Targets.{EffectLists, Lists, AreListedSets, fault_in, IsFaultOfTarget, IsListFault}
+use Rattle.targets.specs.Targets.{EffectLists, Lists, fault_in, IsFaultOfTarget, IsListFault}
 use Rattle.diagram.specs.Sets.{Names}
 use Rattle.diagram.specs.declared.diagram.Diagram.{Diagram}
-use Rattle.diagram.proofs.OneDiagram.{AreSameDiagrams, same_effect_lists, same_query_lists}
+use Rattle.diagram.proofs.OneDiagram.{AreSameDiagrams, same_drawing, same_effect_lists, same_query_lists}
 use Rattle.replies.specs.Outcomes.{IsAnswered}
 use Rattle.replies.proofs.Commands.{IsLawful}
+use Rattle.replies.proofs.OneGraph.{one_holding}
 use Rattle.replies.proofs.OneTarget.{same_two, no_fault_of, no_effect_fault, some_list, is_some_list}
 use Rattle.told.specs.declared.form.Writing.{Writing}
 use Rattle.told.specs.Refusals.{target_refusal}
-use Rattle.told.proofs.ToldOnce.{EndAlike, lawful_told}
+use Rattle.told.specs.Telling.{outcome_in}
+use Rattle.told.proofs.ToldOnce.{lawful_told}
 use Rattle.identify.specs.Answers.{IsRightHedge}
 use Rattle.effect_answers.specs.declared.formulas.EffectFormula.{EffectFormula}
 use Rattle.effect_answers.specs.declared.hedges.EffectHedge.{EffectHedge}
@@ -30,8 +33,9 @@ use Rattle.identify_command.specs.Requests.{Request, IsRequest}
 use Rattle.identify_command.specs.Command.{identify_command}
 use Rattle.identify_command.specs.Telling.{identify_telling}
 use Rattle.identify_command.specs.Right.{IsJointHedge, Asked, an_effect, a_target, asked_of, IsForEffect, IsForTarget}
-use Rattle.identify_command.specs.Right.{IsAnswerFor, IsFaultFor, IsForNames}
-use Rattle.identify_command.proofs.Exclusive.{one_target}
+use Rattle.identify_command.specs.Right.{IsAnswerFor, IsFaultFor, IsForNames, AreTargetSets}
+use Rattle.identify_command.specs.Laws.{FormsAgree}
+use Rattle.identify_command.proofs.Lists.{one_target}
 
 one_writing : (certificate latex json : Bool) (f h : Writing) → IsWriting certificate latex json f → IsWriting certificate latex json h → h ≡ f
 one_writing false false json f h a b = b ∙ sym a
@@ -58,10 +62,11 @@ one_request uses q r a b = λ i. record {
       (has_flag uses (codes "json")) q.form r.form a.form b.form i;
 }
 
-module _ (short certified : Bool) (q : MixedGraph) where
+-- right answers in two forms end alike
+module _ (short certified other_short other_certified : Bool) (q : MixedGraph) where
   -- a formula is the effect, and by a hedge there is none
   formula_or_hedge : (l : EffectLists) (f : EffectFormula) (h : EffectHedge) → IsForEffect short certified q l (Formula f)
-      → IsForEffect short certified q l (Hedge h) → ⊥
+      → IsForEffect other_short other_certified q l (Hedge h) → ⊥
   formula_or_hedge l f h a b =
       let s = subst (λ s. IsRightHedge q s.x.bits s.y.bits h.hedge h.pair) b.decided.0 b.decided.1.found.right in
       (same_two (λ x y. IsRightHedge q x y h.hedge h.pair) l a.sets.x.bits a.sets.y.bits b.sets.x.bits b.sets.y.bits a.named b.named s).no_formula
@@ -69,25 +74,28 @@ module _ (short certified : Bool) (q : MixedGraph) where
 
   -- so it is of a target
   formula_or_joint : (l : Lists) (f : EffectFormula) (settled : Bool) (h : EffectHedge) (t : PlainTarget) → IsForTarget short certified q l (Formula f)
-      → AreListedSets l t.x t.y t.given → IsJointHedge q t settled h → ⊥
+      → AreTargetSets l t → IsJointHedge q t settled h → ⊥
   formula_or_joint l f settled h t a named joint =
       (subst (λ (u : PlainTarget). IsJointHedge q u settled h) (one_target l a.target t a.named named) joint).no_formula
       (formula_view f.formula) a.decided.right.do_free a.decided.right.effect
 
-  effects_alike : (l : EffectLists) (a b : Answer) → IsForEffect short certified q l a → IsForEffect short certified q l b
+module _ (short certified other_short other_certified : Bool) (q : MixedGraph) where
+  effects_alike : (l : EffectLists) (a b : Answer) → IsForEffect short certified q l a → IsForEffect other_short other_certified q l b
       → identify_telling.outcome a ≡ identify_telling.outcome b
   effects_alike l (Formula f) (Formula h) a b = refl
-  effects_alike l (Formula f) (Hedge h) a b = absurd (formula_or_hedge l f h a b)
-  effects_alike l (Hedge h) (Formula f) a b = absurd (formula_or_hedge l f h b a)
+  effects_alike l (Formula f) (Hedge h) a b = absurd (formula_or_hedge short certified other_short other_certified q l f h a b)
+  effects_alike l (Hedge h) (Formula f) a b = absurd (formula_or_hedge other_short other_certified short certified q l f h b a)
   effects_alike l (Hedge f) (Hedge h) a b = refl
   effects_alike l (Joint t settled f) h a b = absurd a.decided
   effects_alike l f (Joint t settled h) a b = absurd b.decided
 
-  targets_alike : (l : Lists) (a b : Answer) → IsForTarget short certified q l a → IsForTarget short certified q l b
+  targets_alike : (l : Lists) (a b : Answer) → IsForTarget short certified q l a → IsForTarget other_short other_certified q l b
       → identify_telling.outcome a ≡ identify_telling.outcome b
   targets_alike l (Formula f) (Formula h) a b = refl
-  targets_alike l (Formula f) (Joint t settled h) a b = absurd (formula_or_joint l f settled h b.target a b.named b.decided.1)
-  targets_alike l (Joint t settled h) (Formula f) a b = absurd (formula_or_joint l f settled h a.target b a.named a.decided.1)
+  targets_alike l (Formula f) (Joint t settled h) a b =
+      absurd (formula_or_joint short certified other_short other_certified q l f settled h b.target a b.named b.decided.1)
+  targets_alike l (Joint t settled h) (Formula f) a b =
+      absurd (formula_or_joint other_short other_certified short certified q l f settled h a.target b a.named a.decided.1)
   targets_alike l (Joint t settled f) (Joint u other h) a b = refl
   targets_alike l (Hedge f) h a b = absurd a.decided
   targets_alike l f (Hedge h) a b = absurd b.decided
@@ -102,13 +110,16 @@ no_fault short certified q (an_effect l) a fault h is = no_effect_fault l h.sets
 no_fault short certified q (a_target l) a fault h is = no_fault_of (fault_in l) l.y some_list fault h.named.no_fault h.named.some_y is_some_list
     (list_fault_of l fault is)
 
--- right answers end alike
-alike : (short certified : Bool) → EndAlike identify_telling target_refusal (IsForNames short certified)
-alike short certified q (an_effect l) (Ok a) (Ok b) f g = effects_alike short certified q l a b f g
-alike short certified q (a_target l) (Ok a) (Ok b) f g = targets_alike short certified q l a b f g
-alike short certified q l (Ok a) (Err fault) f g = absurd (no_fault short certified q l a fault f g)
-alike short certified q l (Err fault) (Ok a) f g = absurd (no_fault short certified q l a fault g f)
-alike short certified q l (Err fault) (Err other) f g = refl
+alike : (short certified other_short other_certified : Bool) (q : MixedGraph) (l : Asked) (a b : Result Answer TargetFault)
+    → IsForNames short certified q l a → IsForNames other_short other_certified q l b
+    → outcome_in identify_telling target_refusal a ≡ outcome_in identify_telling target_refusal b
+alike short certified other_short other_certified q (an_effect l) (Ok a) (Ok b) f g =
+    effects_alike short certified other_short other_certified q l a b f g
+alike short certified other_short other_certified q (a_target l) (Ok a) (Ok b) f g =
+    targets_alike short certified other_short other_certified q l a b f g
+alike short certified other_short other_certified q l (Ok a) (Err fault) f g = absurd (no_fault short certified q l a fault f g)
+alike short certified other_short other_certified q l (Err fault) (Ok a) f g = absurd (no_fault other_short other_certified q l a fault g f)
+alike short certified other_short other_certified q l (Err fault) (Err other) f g = refl
 
 answered : (a : Answer) → IsAnswered (identify_telling.outcome a)
 answered (Formula f) = tt
@@ -116,12 +127,25 @@ answered (Hedge h) = tt
 answered (Joint t settled h) = tt
 
 -- diagrams that are the same are asked for the same
-same_asked : (x y given : Names) (d e : Diagram) → AreSameDiagrams d e → asked_of e x y given ≡ asked_of d x y given
+pub same_asked : (x y given : Names) (d e : Diagram) → AreSameDiagrams d e → asked_of e x y given ≡ asked_of d x y given
 same_asked x y None d e s = ap an_effect (same_effect_lists x y d e s)
 same_asked x y (Some []) d e s = ap an_effect (same_effect_lists x y d e s)
 same_asked x y (Some (n ∷ ns)) d e s = ap a_target (same_query_lists x y (Some (n ∷ ns)) d e s)
 
+-- answers in two forms end alike
+pub forms_agree : FormsAgree
+forms_agree bytes x y given o p told other a b =
+    let s = one_holding bytes a.diagram b.diagram a.holds b.holds in
+    let d = a.diagram in
+    let e = b.diagram in
+    let f = a.given.2.2.1 in
+    let g = b.given.2.2.1 in
+    let there = subst (λ (l : Asked). IsForNames b.given.0 b.given.1 (graph_of d.observed.graph) l g.answer) (same_asked x y given d e s)
+        (subst (λ (q : MixedGraph). IsForNames b.given.0 b.given.1 q (asked_of e x y given) g.answer) (sym (same_drawing d e s)) g.right) in
+    f.ends ∙ alike a.given.0 a.given.1 b.given.0 b.given.1 (graph_of d.observed.graph) (asked_of d x y given) f.answer g.answer f.right there ∙ sym g.ends
+
 -- what holds of each command holds of it
 pub identify_lawful : IsLawful identify_command
 identify_lawful = lawful_told identify_telling one_request answered (λ q d. asked_of d q.x q.y q.given) (λ q. same_asked q.x q.y q.given)
-    (λ q. IsForNames q.form.short (is_certified q.form.writing)) (λ q. alike q.form.short (is_certified q.form.writing))
+    (λ q. IsForNames q.form.short (is_certified q.form.writing))
+    (λ q. let certified = is_certified q.form.writing in alike q.form.short certified q.form.short certified)

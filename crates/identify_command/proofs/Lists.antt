@@ -1,12 +1,13 @@
 -- What the sets of a target have.
-use Rattle.std.proofs.Common.{◌≡◌, ◌<◌, ℕ, zero, suc, true, length, arith}
+use Rattle.std.proofs.Common.{◌≡◌, ◌<◌, ℕ, zero, suc, true, length, ap, ◌∙◌, arith}
 use Rattle.mixed_graph.specs.Bits.{has}
 use Rattle.do_rules.specs.Rules.{AreThreeSets}
 use Rattle.prob_expr.specs.Tree.{PlainTarget}
 use Rattle.mixed_graph.proofs.MaskLaws.{has_none}
 use Rattle.targets.specs.Targets.{Lists}
 use Rattle.targets.proofs.Disjoint.{disjoint_listed_sets}
-use Rattle.identify_command.specs.Conditions.{AreTargetSets}
+use Rattle.replies.proofs.OneTarget.{one_set}
+use Rattle.identify_command.specs.Right.{AreTargetSets}
 
 -- the sets of a target are within the observed vertices, and no two of them meet
 pub three_sets : (l : Lists) (n : ℕ) (t : PlainTarget) → length l.observed ≡ n → AreTargetSets l t → AreThreeSets n (has t.x) (has t.y) (has t.given)
@@ -18,3 +19,13 @@ three_sets l n t e s =
 pub with_member : (set v : ℕ) → has set v ≡ true → 0 < set
 with_member zero v h = absurd (let no = has_none v in cc (h, no))
 with_member (suc k) v h = omega arith
+
+abbrev target : (x y given : ℕ) → PlainTarget
+target x y given = record { x = x; y = y; given = given }
+
+-- the lists name one target
+pub one_target : (l : Lists) (t u : PlainTarget) → AreTargetSets l t → AreTargetSets l u → u ≡ t
+one_target l t u s v =
+    ap (λ (k : ℕ). target k u.y u.given) (one_set l.observed l.x t.x u.x s.set_x v.set_x)
+    ∙ ap (λ (k : ℕ). target t.x k u.given) (one_set l.observed l.y t.y u.y s.set_y v.set_y)
+    ∙ ap (λ (k : ℕ). target t.x t.y k) (one_set l.observed l.given t.given u.given s.set_given v.set_given)

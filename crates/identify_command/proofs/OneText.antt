@@ -1,139 +1,144 @@
--- A yes is told in one way, but for a short formula, and so is a no.
-use Rattle.std.proofs.Common.{◌≡◌, ◌≤◌, ℕ, Bool, false, List, sym, ap, ap₂, ◌∙◌, subst}
+-- One thing is told of the formula of an effect, but for a short one, and so it is of a hedge.
+use Rattle.std.proofs.Common.{◌≡◌, ◌≤◌, ℕ, Bool, false, List, Ok, refl, sym, ap, ◌∙◌, subst, arith}
 use Rattle.mixed_graph.specs.Graphs.{MixedGraph, IsMixedGraph}
 use Rattle.mixed_graph.specs.Masks.{union}
-use Rattle.hedge.specs.declared.hedge.Hedge.{Hedge}
-use Rattle.counter_models.specs.declared.counter_pair.CounterPair.{CounterPair}
 use Rattle.prob_expr.specs.Tree.{PlainFormula, PlainTarget, effect_on}
+use Rattle.prob_expr.specs.View.{target_view, formula_view}
 use Rattle.do_derivation.specs.Plans.{PlainDerivation}
 use Rattle.identification_theory.specs.Derivations.{IsDerived}
 use Rattle.identification_theory.proofs.Answered.{one_formula, one_derivation, derived_is_identified}
 use Rattle.conditional_id.specs.Conditionals.{IsConditionalBySteps}
+use Rattle.conditional_id.specs.Answers.{IsJointEffect}
 use Rattle.short_formulas.specs.Short.{IsOrShorter}
 use Rattle.conditional_id.proofs.Answered.{one_conditional, one_conditional_derivation, derived_is_conditional, one_turned}
-use Rattle.targets.specs.Targets.{EffectLists, Lists}
-use Rattle.identify_text.specs.PairLines.{hedge_answer}
-use Rattle.certificate.specs.Plain.{PlainHedge, hedge_view}
-use Rattle.certificate.specs.Plain as plain
-use Rattle.replies.specs.declared.outcome.Outcome.TheVariants.{Yes, No}
-use Rattle.replies.proofs.OneTarget.{same_two}
-use Rattle.answer_json.specs.Progress.{json_line}
-use Rattle.replies.specs.Told.{Told, text_in, answer_of}
-use Rattle.effect_answers.specs.Hedges.{IsFoundHedge, HasArrays}
-use Rattle.certificate_json.specs.Certificates.{certificate_line}
-use Rattle.effect_answers.specs.Objects.{hedge_object, certified_hedge_object}
-use Rattle.effect_answers.proofs.OneNo.{one_hedge_text, one_hedge_view, one_hedge_object, one_certified_object, joint_with}
-use Rattle.identify_command.specs.declared.form.Form.{Form}
+use Rattle.targets.specs.declared.query.EffectSets.{EffectSets}
+use Rattle.targets.specs.Targets.{EffectLists, AreEffectSets, Lists}
+use Rattle.answer_json.specs.Progress.{object_of, json_line}
+use Rattle.replies.proofs.OneTarget.{one_set}
+use Rattle.replies.specs.declared.outcome.Outcome.TheVariants.{Yes}
+use Rattle.replies.specs.Outcomes.{code_of}
+use Rattle.replies.specs.Told.{answer_of, text_in}
 use Rattle.told.specs.declared.form.Writing.{Writing}
-use Rattle.told.specs.declared.form.Writing.TheVariants.{Plain, Certificate, Latex}
-use Rattle.identify_command.specs.Answers.{formula_shown, hedge_text, ShowsFormula, ShowsHedge, EffectAnswer}
-use Rattle.identify_command.specs.Objects.{hedge_json}
-use Rattle.identify_command.specs.Conditions.{joint_text, joint_shown, ShowsConditional, ShowsJoint, ListsAnswer}
-use Rattle.identify_command.proofs.Exclusive.{one_target}
-
--- ---- yes
+use Rattle.told.specs.declared.form.Writing.TheVariants.{Certificate}
+use Rattle.told.specs.Refusals.{target_refusal}
+use Rattle.told.specs.Telling.{told_in}
+use Rattle.effect_answers.specs.declared.formulas.EffectFormula.{EffectFormula}
+use Rattle.effect_answers.specs.declared.hedges.EffectHedge.{EffectHedge}
+use Rattle.effect_answers.specs.HedgeTelling.{joint_text, joint_object}
+use Rattle.effect_answers.specs.Right.{IsKept}
+use Rattle.effect_answers.proofs.OneNo.{one_hedge_text, one_joint_text, one_joint_object}
+use Rattle.effect_answers.proofs.Telling.{one_certificate, one_formula_text, one_formula_object}
+use Rattle.identify_command.specs.declared.form.Form.{Form}
+use Rattle.identify_command.specs.declared.answer.Answer.{Answer}
+use Rattle.identify_command.specs.declared.answer.Answer.TheVariants.{Formula, Hedge, Joint}
+use Rattle.identify_command.specs.Forms.{is_certified, told_form}
+use Rattle.identify_command.specs.Right.{IsJointHedge, Asked, an_effect, a_target, IsForEffect, IsForTarget, IsAnswerFor, IsEffectFormula, IsTargetFormula}
+use Rattle.identify_command.specs.Telling.{identify_telling, identify_text, identify_object}
+use Rattle.identify_command.proofs.Lists.{one_target}
 
 -- where no short formula is asked for, the formula is that of the procedure
 of_procedure : (short : Bool) → short ≡ false → (P : PlainFormula → PlainDerivation → Type 0) (f : PlainFormula) (d : PlainDerivation) → IsOrShorter short P f d
     → P f d
 of_procedure short plain P f d h = subst (λ (s : Bool). IsOrShorter s P f d) plain h
 
--- one formula with one derivation is told in one way
-shown_once : (form : Form) → form.short ≡ false → (q : MixedGraph) (names : List (List ℕ)) (x y : ℕ) (told other : Told)
-    → ShowsFormula form q names x y told → ShowsFormula form q names x y other → other ≡ told
-shown_once form plain q names x y told other a b =
-    let of_a = of_procedure form.short plain (IsDerived q x y) a.formula a.derivation a.derived in
-    let of_b = of_procedure form.short plain (IsDerived q x y) b.formula b.derivation b.derived in
-    let fs : b.formula ≡ a.formula = one_formula q x y b.formula a.formula (derived_is_identified q x y b.formula b.derivation of_b)
-    (derived_is_identified q x y a.formula a.derivation of_a) in
-    let ds : b.derivation ≡ a.derivation = one_derivation q x y b.formula a.formula b.derivation a.derivation of_b of_a in
-    b.prints ∙ ap (λ (f : PlainFormula). answer_of (formula_shown form names (effect_on x y) f b.derivation)) fs
-    ∙ ap (λ (d : PlainDerivation). answer_of (formula_shown form names (effect_on x y) a.formula d)) ds ∙ sym a.prints
+-- the lists name two sets of an effect
+one_sets : (l : EffectLists) (s t : EffectSets) → AreEffectSets l s.x.bits s.y.bits → AreEffectSets l t.x.bits t.y.bits → t ≡ s
+one_sets l s t a b = λ i. record {
+  x = record { bits = one_set l.observed l.x s.x.bits t.x.bits a.set_x b.set_x i };
+  y = record { bits = one_set l.observed l.y s.y.bits t.y.bits a.set_y b.set_y i };
+}
 
-pub effect_yes_once : (form : Form) → form.short ≡ false → (q : MixedGraph) (l : EffectLists) (told other : Told) → EffectAnswer form q l Yes told
-    → EffectAnswer form q l Yes other → other ≡ told
-effect_yes_once form plain q l told other a b = shown_once form plain q l.observed a.x a.y told other a.answer
-    (same_two (λ u v. ShowsFormula form q l.observed u v other) l a.x a.y b.x b.y a.sets b.sets b.answer)
+-- answers of which one thing is told
+record AreOne (w : Writing) (names : List (List ℕ)) (a b : Answer) : Type 0 where
+  text : identify_text w names b ≡ identify_text w names a
+  object : identify_object w names b ≡ identify_object w names a
 
-conditional_once : (form : Form) → form.short ≡ false → (q : MixedGraph) (names : List (List ℕ)) (t : PlainTarget) (told other : Told)
-    → ShowsConditional form q names t told → ShowsConditional form q names t other → other ≡ told
-conditional_once form plain q names t told other a b =
-    let of_a = of_procedure form.short plain (IsConditionalBySteps q t) a.formula a.derivation a.derived in
-    let of_b = of_procedure form.short plain (IsConditionalBySteps q t) b.formula b.derivation b.derived in
-    let fs : b.formula ≡ a.formula =
-    one_conditional q t b.formula a.formula (derived_is_conditional q t b.formula b.derivation of_b) (derived_is_conditional q t a.formula a.derivation of_a) in
-    let ds : b.derivation ≡ a.derivation = one_conditional_derivation q t b.formula a.formula b.derivation a.derivation of_b of_a in
-    b.prints ∙ ap (λ (f : PlainFormula). answer_of (formula_shown form names t f b.derivation)) fs
-    ∙ ap (λ (d : PlainDerivation). answer_of (formula_shown form names t a.formula d)) ds ∙ sym a.prints
+module _ (w : Writing) (names : List (List ℕ)) where
+  -- formulas that are the same, with one derivation where the certificate is asked for
+  formulas : (t : PlainTarget) (f g : EffectFormula) (d e : PlainDerivation) → target_view f.target ≡ t → target_view g.target ≡ t
+      → formula_view g.formula ≡ formula_view f.formula → e ≡ d → IsKept (is_certified w) f.derivation d → IsKept (is_certified w) g.derivation e
+      → AreOne w names (Formula f) (Formula g)
+  formulas t f g d e at_t of_t fs ds kept other =
+      let ts = of_t ∙ sym at_t in
+      let certified = λ (c : w ≡ Certificate). one_certificate f g d e ts fs ds
+          (subst (λ (v : Writing). IsKept (is_certified v) f.derivation d) c kept) (subst (λ (v : Writing). IsKept (is_certified v) g.derivation e) c other) in
+      record { text = one_formula_text names f g ts fs w certified; object = one_formula_object names f g ts fs w certified }
 
-pub target_yes_once : (form : Form) → form.short ≡ false → (q : MixedGraph) (l : Lists) (told other : Told) → ListsAnswer form q l Yes told
-    → ListsAnswer form q l Yes other → other ≡ told
-target_yes_once form plain q l told other a b = conditional_once form plain q l.observed a.target told other a.answer
-    (subst (λ (t : PlainTarget). ShowsConditional form q l.observed t other) (one_target l a.target b.target a.sets b.sets) b.answer)
+  -- effects and targets
+  effects : (q : MixedGraph) → IsMixedGraph q → q.vertices ≤ 64 → (short : Bool) (l : EffectLists) (a b : Answer)
+      → IsForEffect short (is_certified w) q l a → IsForEffect short (is_certified w) q l b
+      → identify_telling.outcome a ≡ identify_telling.outcome b → (identify_telling.outcome a ≡ Yes → short ≡ false) → AreOne w names a b
+  effects q valid few short l (Formula f) (Formula g) a b ends plain =
+      let s = a.sets in
+      let h = subst (λ (t : EffectSets). IsEffectFormula short (is_certified w) q t.x.bits t.y.bits g) (one_sets l a.sets b.sets a.named b.named) b.decided in
+      let of_f = of_procedure short (plain refl) (IsDerived q s.x.bits s.y.bits) (formula_view f.formula) a.decided.derivation a.decided.derived in
+      let of_g = of_procedure short (plain refl) (IsDerived q s.x.bits s.y.bits) (formula_view g.formula) h.derivation h.derived in
+      formulas (effect_on s.x.bits s.y.bits) f g a.decided.derivation h.derivation a.decided.target h.target
+      (one_formula q s.x.bits s.y.bits (formula_view g.formula) (formula_view f.formula)
+      (derived_is_identified q s.x.bits s.y.bits (formula_view g.formula) h.derivation of_g)
+      (derived_is_identified q s.x.bits s.y.bits (formula_view f.formula) a.decided.derivation of_f))
+      (one_derivation q s.x.bits s.y.bits (formula_view g.formula) (formula_view f.formula) h.derivation a.decided.derivation of_g of_f)
+      a.decided.kept h.kept
+  effects q valid few short l (Hedge h) (Hedge k) a b ends plain =
+      let same : k.sets ≡ h.sets = b.decided.0 ∙ one_sets l a.sets b.sets a.named b.named ∙ sym a.decided.0 in
+      record {
+        text = one_hedge_text q valid few names h k same a.decided.1 b.decided.1 w;
+        object = one_joint_object q valid few names h k same a.decided.1 b.decided.1 w (effect_on k.sets.x.bits k.sets.y.bits)
+            ∙ ap (λ (s : EffectSets). joint_object w names (effect_on s.x.bits s.y.bits) h) same;
+      }
+  effects q valid few short l (Formula f) (Hedge h) a b ends plain = let c : 0 ≡ 1 = ap code_of ends in absurd (omega (arith, c))
+  effects q valid few short l (Hedge h) (Formula f) a b ends plain = let c : 1 ≡ 0 = ap code_of ends in absurd (omega (arith, c))
+  effects q valid few short l (Joint t settled h) b x y ends plain = absurd x.decided
+  effects q valid few short l a (Joint t settled h) x y ends plain = absurd y.decided
 
--- ---- no
+  -- the sets of the joint effect into which a target turns
+  joint_sets : (q : MixedGraph) (t : PlainTarget) (h k : EffectHedge) → IsJointEffect q t h.sets.x.bits h.sets.y.bits
+      → IsJointEffect q t k.sets.x.bits k.sets.y.bits → k.sets ≡ h.sets
+  joint_sets q t h k a b =
+      let turned = one_turned q t h.sets.x.bits a.left k.sets.x.bits b.left a.moved b.moved a.turned b.turned in
+      let ys : k.sets.y.bits ≡ h.sets.y.bits = b.joint ∙ ap (union t.y) (sym turned.1) ∙ sym a.joint in
+      λ i. record { x = record { bits = sym turned.0 i }; y = record { bits = ys i } }
 
--- hedges that are shown alike and have one plain form have one text, in each way of writing
-hedges_same : (w : Writing) (names : List (List ℕ)) (x y : ℕ) (h k : Hedge) (pair other : CounterPair)
-    → hedge_answer names x y k other ≡ hedge_answer names x y h pair → hedge_view k ≡ hedge_view h
-    → hedge_text w names x y k other ≡ hedge_text w names x y h pair
-hedges_same Plain names x y h k pair other shown views = shown
-hedges_same Certificate names x y h k pair other shown views = ap (λ (v : PlainHedge). certificate_line names (plain.hedge (effect_on x y) v)) views
-hedges_same Latex names x y h k pair other shown views = shown
+  targets : (q : MixedGraph) → IsMixedGraph q → q.vertices ≤ 64 → (short : Bool) (l : Lists) (a b : Answer)
+      → IsForTarget short (is_certified w) q l a → IsForTarget short (is_certified w) q l b
+      → identify_telling.outcome a ≡ identify_telling.outcome b → (identify_telling.outcome a ≡ Yes → short ≡ false) → AreOne w names a b
+  targets q valid few short l (Formula f) (Formula g) a b ends plain =
+      let t = a.target in
+      let h = subst (λ (u : PlainTarget). IsTargetFormula short (is_certified w) q u g) (one_target l a.target b.target a.named b.named) b.decided in
+      let of_f = of_procedure short (plain refl) (IsConditionalBySteps q t) (formula_view f.formula) a.decided.derivation a.decided.derived in
+      let of_g = of_procedure short (plain refl) (IsConditionalBySteps q t) (formula_view g.formula) h.derivation h.derived in
+      formulas t f g a.decided.derivation h.derivation a.decided.target h.target
+      (one_conditional q t (formula_view g.formula) (formula_view f.formula) (derived_is_conditional q t (formula_view g.formula) h.derivation of_g)
+      (derived_is_conditional q t (formula_view f.formula) a.decided.derivation of_f))
+      (one_conditional_derivation q t (formula_view g.formula) (formula_view f.formula) h.derivation a.decided.derivation of_g of_f)
+      a.decided.kept h.kept
+  targets q valid few short l (Joint u settled h) (Joint v other k) a b ends plain =
+      let t = a.target in
+      let joint = subst (λ (s : PlainTarget). IsJointHedge q s other k) (one_target l a.target b.target a.named b.named) b.decided.1 in
+      let vs : target_view v ≡ target_view u = b.decided.0 ∙ one_target l a.target b.target a.named b.named ∙ sym a.decided.0 in
+      let same = joint_sets q t h k a.decided.1.joint joint.joint in
+      record {
+        text = ap (λ (s : PlainTarget). joint_text w names s k) vs
+            ∙ one_joint_text q valid few names h k same a.decided.1.hedge joint.hedge w (target_view u);
+        object = ap (λ (s : PlainTarget). joint_object w names s k) vs
+            ∙ one_joint_object q valid few names h k same a.decided.1.hedge joint.hedge w (target_view u);
+      }
+  targets q valid few short l (Formula f) (Joint u settled h) a b ends plain = let c : 0 ≡ 1 = ap code_of ends in absurd (omega (arith, c))
+  targets q valid few short l (Joint u settled h) (Formula f) a b ends plain = let c : 1 ≡ 0 = ap code_of ends in absurd (omega (arith, c))
+  targets q valid few short l (Hedge h) b x y ends plain = absurd x.decided
+  targets q valid few short l a (Hedge h) x y ends plain = absurd y.decided
 
-joints_same : (w : Writing) (names : List (List ℕ)) (t : PlainTarget) (x y : ℕ) (h k : Hedge) (pair other : CounterPair)
-    → hedge_answer names x y k other ≡ hedge_answer names x y h pair → hedge_view k ≡ hedge_view h
-    → joint_text w names t x y k other ≡ joint_text w names t x y h pair
-joints_same Plain names t x y h k pair other shown views = joint_with names t x y h k pair other shown
-joints_same Certificate names t x y h k pair other shown views = ap (λ (v : PlainHedge). certificate_line names (plain.hedge (effect_on x y) v)) views
-joints_same Latex names t x y h k pair other shown views = joint_with names t x y h k pair other shown
+  answers : (q : MixedGraph) → IsMixedGraph q → q.vertices ≤ 64 → (short : Bool) (l : Asked) (a b : Answer)
+      → IsAnswerFor short (is_certified w) q l a → IsAnswerFor short (is_certified w) q l b
+      → identify_telling.outcome a ≡ identify_telling.outcome b → (identify_telling.outcome a ≡ Yes → short ≡ false) → AreOne w names a b
+  answers q valid few short (an_effect l) a b x y ends plain = effects q valid few short l a b x y ends plain
+  answers q valid few short (a_target l) a b x y ends plain = targets q valid few short l a b x y ends plain
 
--- and so for its objects
-objects_same : (w : Writing) (names : List (List ℕ)) (t : PlainTarget) (x y : ℕ) (h k : Hedge) (pair other : CounterPair)
-    → hedge_object names t x y k other ≡ hedge_object names t x y h pair
-    → certified_hedge_object names t x y k other ≡ certified_hedge_object names t x y h pair
-    → hedge_json w names t x y k other ≡ hedge_json w names t x y h pair
-objects_same Plain names t x y h k pair other object certified = object
-objects_same Certificate names t x y h k pair other object certified = certified
-objects_same Latex names t x y h k pair other object certified = object
-
-module _ (form : Form) (q : MixedGraph) (valid : IsMixedGraph q) (few : q.vertices ≤ 64) where
-  -- the object of a hedge for the effect of x on y, into which a target turns, is one
-  object_once : (names : List (List ℕ)) (t : PlainTarget) (x y : ℕ) (h k : Hedge) (pair other : CounterPair) → IsFoundHedge q x y h pair
-      → IsFoundHedge q x y k other → HasArrays h → HasArrays k → hedge_json form.writing names t x y k other ≡ hedge_json form.writing names t x y h pair
-  object_once names t x y h k pair other a b m n = objects_same form.writing names t x y h k pair other
-      (one_hedge_object q valid few x y names t h k pair other a b) (one_certified_object q valid few x y names t h k pair other a b m n)
-
-  -- the hedge of an effect is told in one way
-  hedge_once : (names : List (List ℕ)) (x y : ℕ) (told other : Told) → ShowsHedge form q names x y told → ShowsHedge form q names x y other → other ≡ told
-  hedge_once names x y told other a b =
-      let text = hedges_same form.writing names x y a.hedge b.hedge a.pair b.pair
-      (one_hedge_text q valid few x y names a.hedge b.hedge a.pair b.pair a.found b.found)
-      (one_hedge_view q x y a.hedge b.hedge a.pair b.pair a.found b.found a.arrays b.arrays) in
-      let object = object_once names (effect_on x y) x y a.hedge b.hedge a.pair b.pair a.found b.found a.arrays b.arrays in
-      b.prints ∙ ap₂ (λ (l m : List ℕ). answer_of (text_in form.format l m)) text (ap json_line object) ∙ sym a.prints
-
-  -- so is that of the joint effect into which a target turns
-  joint_once : (names : List (List ℕ)) (t : PlainTarget) (told other : Told) → ShowsJoint form q names t told → ShowsJoint form q names t other → other ≡ told
-  joint_once names t told other a b =
-      let turned = one_turned q t a.x a.joint.left b.x b.joint.left a.joint.moved b.joint.moved a.joint.turned b.joint.turned in
-      let xs : b.x ≡ a.x = sym turned.0 in
-      let ys : b.y ≡ a.y = b.joint.joint ∙ ap (union t.y) (sym turned.1) ∙ sym a.joint.joint in
-      let found : IsFoundHedge q a.x a.y b.hedge b.pair =
-      subst (λ (k : ℕ). IsFoundHedge q a.x k b.hedge b.pair) ys (subst (λ (k : ℕ). IsFoundHedge q k b.y b.hedge b.pair) xs b.found) in
-      let text = joints_same form.writing names t a.x a.y a.hedge b.hedge a.pair b.pair
-      (one_hedge_text q valid few a.x a.y names a.hedge b.hedge a.pair b.pair a.found found)
-      (one_hedge_view q a.x a.y a.hedge b.hedge a.pair b.pair a.found found a.arrays b.arrays) in
-      let object = object_once names t a.x a.y a.hedge b.hedge a.pair b.pair a.found found a.arrays b.arrays in
-      b.prints
-      ∙ ap₂ (λ (x y : ℕ). answer_of (joint_shown form names t x y b.hedge b.pair)) xs ys
-      ∙ ap₂ (λ (l m : List ℕ). answer_of (text_in form.format l m)) text (ap json_line object)
-      ∙ sym a.prints
-
-  pub effect_no_once : (l : EffectLists) (told other : Told) → EffectAnswer form q l No told → EffectAnswer form q l No other → other ≡ told
-  effect_no_once l told other a b = hedge_once l.observed a.x a.y told other a.answer
-      (same_two (λ u v. ShowsHedge form q l.observed u v other) l a.x a.y b.x b.y a.sets b.sets b.answer)
-
-  pub target_no_once : (l : Lists) (told other : Told) → ListsAnswer form q l No told → ListsAnswer form q l No other → other ≡ told
-  target_no_once l told other a b = joint_once l.observed a.target told other a.answer
-      (subst (λ (t : PlainTarget). ShowsJoint form q l.observed t other) (one_target l a.target b.target a.sets b.sets) b.answer)
+-- of two right answers that end alike, without a short formula, one thing is told
+pub one_identification : (form : Form) (names : List (List ℕ)) (q : MixedGraph) → IsMixedGraph q → q.vertices ≤ 64 → (l : Asked) (a b : Answer)
+    → IsAnswerFor form.short (is_certified form.writing) q l a → IsAnswerFor form.short (is_certified form.writing) q l b
+    → identify_telling.outcome a ≡ identify_telling.outcome b → (identify_telling.outcome a ≡ Yes → form.short ≡ false)
+    → told_in identify_telling target_refusal (told_form form) names (Ok b) ≡ told_in identify_telling target_refusal (told_form form) names (Ok a)
+one_identification form names q valid few l a b x y ends plain =
+    let one = answers form.writing names q valid few form.short l a b x y ends plain in
+    λ i. answer_of (text_in form.format (one.text i) (json_line (object_of (one.object i))))

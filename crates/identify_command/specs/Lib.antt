@@ -1,7 +1,4 @@
 pub mod Forms
-pub mod Objects
-pub mod Answers
-pub mod Conditions
 pub mod Telling
 pub mod Right
 pub mod Requests

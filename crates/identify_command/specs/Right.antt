@@ -84,10 +84,14 @@ pub record IsForEffect (short certified : Bool) (q : MixedGraph) (l : EffectList
   pub named : AreEffectSets l sets.x.bits sets.y.bits
   pub decided : DecidesEffect short certified q sets a
 
+-- the sets of a target: no name is at fault, and y isn't empty
+abbrev pub AreTargetSets : Lists → PlainTarget → Type 0
+AreTargetSets l t = AreListedSets l t.x t.y t.given
+
 -- the answer for the target whose sets the lists name
 pub record IsForTarget (short certified : Bool) (q : MixedGraph) (l : Lists) (a : Answer) : Type 0 where
   pub target : PlainTarget
-  pub named : AreListedSets l target.x target.y target.given
+  pub named : AreTargetSets l target
   pub decided : DecidesTarget short certified q target a
 
 -- what the lists ask for: an effect, or where names are given a target

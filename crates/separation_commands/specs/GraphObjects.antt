@@ -30,7 +30,3 @@ abbrev pub graph_members : ReadGraph → List (List ℕ × Json)
 graph_members g = (codes "answer", string (codes "graph")) ∷ (codes "vertices", named_vertices_json g)
     ∷ (codes "directed", pairs_json g.names (drawn_of g).arrows) ∷ (codes "bidirected", pairs_json g.names (drawn_of g).doubles)
     ∷ (codes "text", text_json (written (drawn_of g))) ∷ []
-
--- its object
-abbrev pub graph_json : ReadGraph → Json
-graph_json g = object_of (graph_members g)

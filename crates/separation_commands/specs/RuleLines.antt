@@ -18,12 +18,3 @@ side_of t = record { of = has t.of.bits; doing = has t.doing.bits; given = has t
 -- the equation of a rule
 abbrev pub equation_text : Rule → List (List ℕ) → (x y z w : ℕ → Bool) → List ℕ
 equation_text r names x y z w = side_text names (left_of r x y z w) ++ (codes " = " ++ side_text names (right_of r x y z w))
-
--- the answer where a rule holds
-abbrev pub rule_holds_text : Rule → List (List ℕ) → (x y z w : ℕ → Bool) → List ℕ
-rule_holds_text r names x y z w = codes "rule " ++ (decimal (number_of r) ++ (codes " holds: " ++ (equation_text r names x y z w ++ 10 ∷ [])))
-
--- the answer where a path is open
-abbrev pub rule_fails_text : Rule → List (List ℕ) → (x y z w : ℕ → Bool) → List ℕ → List ℕ
-rule_fails_text r names x y z w open_line = codes "rule " ++ (decimal (number_of r)
-    ++ (codes " does not hold: " ++ (equation_text r names x y z w ++ (10 ∷ open_line))))

@@ -18,14 +18,3 @@ rule_members r names y x z given = (codes "rule", number (decimal (number_of r))
 abbrev pub side_members : Rule → List (List ℕ) → (y x z given : ℕ) → List (List ℕ × Json)
 side_members r names y x z given = (codes "left", text_json (side_text names (left_of r (has x) (has y) (has z) (has given))))
     ∷ (codes "right", text_json (side_text names (right_of r (has x) (has y) (has z) (has given)))) ∷ []
-
--- the object where a rule holds
-abbrev pub rule_holds_json : Rule → List (List ℕ) → (y x z given : ℕ) → Json
-rule_holds_json r names y x z given = object_of ((codes "answer", string (codes "holds"))
-    ∷ (rule_members r names y x z given ++ side_members r names y x z given))
-
--- the object where this path is open
-abbrev pub rule_fails_json : Rule → List (List ℕ) → (y x z given : ℕ) → OpenPath → Json
-rule_fails_json r names y x z given path = object_of ((codes "answer", string (codes "does not hold"))
-    ∷ (rule_members r names y x z given ++ (side_members r names y x z given
-    ++ (codes "open", path_json names path.vertices path.marks path.count) ∷ [])))

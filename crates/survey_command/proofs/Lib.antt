@@ -2,8 +2,6 @@ mod Answering
 mod OneSets
 mod Surveying
 mod Tallying
-pub mod Outcomes
-pub mod Exclusive
 pub mod Lawful
 pub mod OneText
 pub mod Counting

@@ -1,8 +1,14 @@
 -- The command `survey`.
+use Rattle.std.specs.Prelude.{[]}
 use Rattle.replies.specs.Command.{CommandForm, on_words}
-use Rattle.survey_command.specs.Answers.{SurveyAnswer}
+use Rattle.told.specs.Forms.{plain_form}
+use Rattle.told.specs.Refusals.{target_refusal}
+use Rattle.told.specs.Telling.{Tells}
 use Rattle.survey_command.specs.Requests.{Request, IsRequest}
+use Rattle.survey_command.specs.Right.{IsSurveyAnswer}
+use Rattle.survey_command.specs.Telling.{survey_telling}
 
--- its request and its answers
+-- its request and its answers, in which no name of a vertex stands
 abbrev pub survey_command : CommandForm
-survey_command = on_words Request IsRequest (λ q. q.format) (λ q. SurveyAnswer q.format q.seed)
+survey_command = on_words Request IsRequest (λ q. q.format)
+    (λ q. Tells survey_telling target_refusal (IsSurveyAnswer q.seed) (plain_form q.format) [])

@@ -1,9 +1,10 @@
-pub mod Answers
-pub mod Objects
-pub mod Tallies
-pub mod Requests
-pub mod Command
 pub mod Counts
 pub mod Drawn
 pub mod Draws
 pub mod Rows
+pub mod Objects
+pub mod Right
+pub mod Telling
+pub mod Tallies
+pub mod Requests
+pub mod Command

@@ -3,7 +3,7 @@ use Rattle.std.specs.Prelude.{ℕ, ◌≡◌, ◌<◌, Bool, true, false, not, �
 use Rattle.mixed_graph.specs.Bits.{members_below}
 use Rattle.mixed_graph.specs.Graphs.{MixedGraph}
 use Rattle.survey_command.specs.Counts.{pairs_from}
-use Rattle.survey_command.specs.Answers.{HasHedge, HasFormula}
+use Rattle.survey_command.specs.Right.{HasHedge, HasFormula}
 use Rattle.survey_command.specs.declared.tally.Tally.{Tally}
 
 -- the answer for the effect of a on b: it has a hedge; or it has none, but a right formula

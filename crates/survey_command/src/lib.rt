@@ -1,11 +1,13 @@
 //! The command `survey`.
 #![tactic(auto)]
 
-mod objects;
+mod answer;
 pub mod random_graph;
 mod reply;
 mod request;
 mod tally;
 
-pub use reply::survey_reply;
+pub use answer::Survey;
+pub use reply::{survey, survey_reply};
 pub use request::{ROW, Request};
+pub use tally::Tally;

@@ -1,59 +1,46 @@
 //! The answer of `survey`.
 
-ghost use Rattle.std.specs.Prelude.{◌≡◌, IfOk};
-ghost use Rattle.mixed_graph.specs.Shown.{graph_of};
-ghost use Rattle.answer_json.specs.Progress.{json_line};
-ghost use Rattle.replies.specs.Told.{told_of, text_in};
-ghost use Rattle.survey_command.specs.Counts.{arrow_count, spouse_count};
-ghost use Rattle.survey_command.specs.Answers.{SurveyAnswer, survey_text};
-ghost use Rattle.survey_command.specs.Objects.{survey_json};
+ghost use Rattle.std.specs.Prelude.{[], IfOk};
+ghost use Rattle.replies.specs.Told.{told_of};
+ghost use Rattle.told.specs.Forms.{plain_form};
+ghost use Rattle.told.specs.Refusals.{target_refusal};
+ghost use Rattle.told.specs.Telling.{Tells};
+ghost use Rattle.survey_command.specs.Drawn.{drawn_graph};
+ghost use Rattle.survey_command.specs.Requests.{request_of};
+ghost use Rattle.survey_command.specs.Right.{IsSurvey, IsSurveyAnswer};
+ghost use Rattle.survey_command.specs.Telling.{survey_telling};
 
-use crate::objects::survey_object;
+use crate::answer::Survey;
 use crate::random_graph::{bidirected_count, directed_count, survey_graph};
+use crate::request::Request;
 use crate::tally::Tally;
-use mixed_graph::Graph;
-use replies::{Format, Outcome, Reply};
+use mixed_graph::Names;
+use replies::Reply;
 use std::alloc::{AllocError, Global};
+use told::{Form, tell};
 
-/// Of how many ordered pairs of two vertices the effect of the first on the second can be computed from
-/// observations, in the survey graph of a seed.
-pub fn survey_reply(alloc: Global, seed: u64, format: Format) -> Result<Reply, AllocError>
-    ensures { IfOk result (λ r. SurveyAnswer format seed r.outcome (told_of r)) }
+/// What is told of a survey.
+pub fn survey_reply(alloc: Global, asked: &Request) -> Result<Reply, AllocError>
+    ensures { let q = request_of asked.now in
+        IfOk result (λ r. Tells survey_telling target_refusal (IsSurveyAnswer q.seed) (plain_form q.format) [] r.outcome (told_of r)) }
+{
+    let answer = survey(alloc, asked.seed)?;
+    let names = Names::empty(alloc);
+    tell(alloc, Form::plain(asked.format), &names, &answer)
+}
+
+/// Of how many ordered pairs of two vertices the effect of the first on the second can be computed from observations, in the survey graph of a
+/// seed.
+pub fn survey(alloc: Global, seed: u64) -> Result<Survey, AllocError>
+    ensures { IfOk result (IsSurvey seed (drawn_graph seed)) }
 {
     let graph = survey_graph(seed);
     let tally = Tally::of_graph(alloc, &graph)?;
-    let text = survey_in(alloc, format, seed, &graph, tally)?;
-    Ok(Reply::answer(alloc, Outcome::Yes, text))
-}
-
-/// A survey, in either format.
-fn survey_in(
-    alloc: Global,
-    format: Format,
-    seed: u64,
-    graph: &Graph,
-    tally: Tally,
-) -> Result<Vec<u8>, AllocError>
-    ensures { IfOk result (λ v. v.items ≡ text_in format (survey_text graph.now.n (arrow_count (graph_of graph.now)) (spouse_count (graph_of graph.now)) tally.formulas tally.hedges)
-        (json_line (survey_json seed graph.now.n (arrow_count (graph_of graph.now)) (spouse_count (graph_of graph.now)) tally.formulas tally.hedges))) }
-{
-    match format {
-        Format::Text => survey_text(alloc, graph, tally),
-        Format::Json => survey_object(alloc, seed, graph, tally),
-    }
-}
-
-/// The five lines of a survey.
-fn survey_text(alloc: Global, graph: &Graph, tally: Tally) -> Result<Vec<u8>, AllocError>
-    ensures { IfOk result (λ v. v.items ≡ survey_text graph.now.n (arrow_count (graph_of graph.now)) (spouse_count (graph_of graph.now)) tally.formulas tally.hedges) }
-{
-    let vertices = graph.n;
-    let directed = directed_count(graph);
-    let bidirected = bidirected_count(graph);
-    let formulas = tally.formulas;
-    let hedges = tally.hedges;
-    let text = format!(in alloc;
-        "vertices {vertices}\ndirected {directed}\nbidirected {bidirected}\nformulas {formulas}\nhedges {hedges}\n"
-    )?;
-    Ok(text.into_bytes())
+    Ok(Survey {
+        seed,
+        vertices: graph.n,
+        directed: directed_count(&graph),
+        bidirected: bidirected_count(&graph),
+        tally,
+    })
 }

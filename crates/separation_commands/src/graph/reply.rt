@@ -5,8 +5,7 @@ ghost use Rattle.replies.specs.Told.{told_of};
 ghost use Rattle.told.specs.Forms.{plain_form};
 ghost use Rattle.told.specs.Refusals.{target_refusal};
 ghost use Rattle.told.specs.Telling.{Tells};
-ghost use Rattle.separation_commands.specs.GraphAnswers.{shown_of};
-ghost use Rattle.separation_commands.specs.GraphRight.{IsGraphAnswer};
+ghost use Rattle.separation_commands.specs.GraphRight.{IsGraphAnswer, shown_of};
 ghost use Rattle.separation_commands.specs.GraphTelling.{graph_telling};
 
 use crate::graph::answer::Answer;

@@ -1,4 +1,4 @@
-use Rattle.identify_command.proofs.Exclusive.{forms_agree}
+use Rattle.identify_command.proofs.Lawful.{forms_agree}
 use Rattle.identify_command.proofs.theory.laws.Goals as goal
 
 pub returns : goal.returns

@@ -5,8 +5,7 @@ use Rattle.replies.specs.Told.{told_of}
 use Rattle.told.specs.declared.form.Form.{Form}
 use Rattle.told.specs.Refusals.{target_refusal}
 use Rattle.told.specs.Telling.{Tells, told_in}
-use Rattle.separation_commands.specs.GraphAnswers.{shown_of}
-use Rattle.separation_commands.specs.GraphRight.{IsGraphAnswer}
+use Rattle.separation_commands.specs.GraphRight.{IsGraphAnswer, shown_of}
 use Rattle.separation_commands.specs.GraphTelling.{graph_telling}
 use Rattle.separation_commands.specs.declared.graph.answer.Answer.{Answer}
 use Rattle.separation_commands.proofs.graph.reply.graph_reply.Goals as goal

@@ -1,0 +1,365 @@
+-- What right answers say of the diagram as drawn.
+use Rattle.std.proofs.Common.{◌≡◌, ℕ, Bool, true, false, List, [], ◌∷◌, Option, Some, None, Ok, refl, sym, ap, subst, ◌∙◌}
+use Rattle.std.specs.Prelude.{IsSome, IfSome, IsTrue, All}
+use Rattle.std.proofs.lemmas.Bool.{false≢true}
+use Rattle.std.proofs.lemmas.List.Elements.{All-weaker}
+use Rattle.mixed_graph.specs.Bits.{has}
+use Rattle.mixed_graph.specs.Graphs.{MixedGraph}
+use Rattle.mixed_graph.specs.Shown.{graph_of}
+use Rattle.mixed_graph.specs.declared.sets.VSet.{VSet}
+use Rattle.finite_models.specs.Data.{meaning}
+use Rattle.do_rules.specs.Rules.{AreThreeSets, AreIndependent, left_of, right_of}
+use Rattle.do_rules.specs.declared.rules.Rule.{Rule}
+use Rattle.prob_expr.specs.Differences.{DifferOnTarget}
+use Rattle.prob_expr.specs.Experiments.{AgreeUnderAll}
+use Rattle.prob_expr.specs.Listed.{masks_of}
+use Rattle.prob_expr.specs.Tree.{PlainFormula, PlainTarget, effect_on}
+use Rattle.prob_expr.specs.Values.{EqualsEffect}
+use Rattle.prob_expr.specs.View.{target_view, formula_view}
+use Rattle.counter_models.specs.Events.{AreCounterModels}
+use Rattle.counter_models.specs.declared.counter_pair.CounterPair.{CounterPair}
+use Rattle.counter_models.proofs.Excluded.{differ_on}
+use Rattle.dag_reader.specs.declared.graph.ReadGraph.{ReadGraph}
+use Rattle.hidden_models.proofs.Drawn.{right_as_drawn, matched_folded}
+use Rattle.hidden_models.proofs.Folded.{each_has_folded}
+use Rattle.hidden_models.proofs.Drawing.{difference_is_drawn, difference_over_is_drawn, formula_as_drawn_fixes, formula_failure_is_drawn}
+use Rattle.hidden_models.proofs.Statements.{independence_is_drawn, equation_is_drawn, dependence_is_drawn, failure_is_drawn}
+use Rattle.adjustment.specs.Criteria.{IsAdmissible}
+use Rattle.adjustment.specs.Formulas.{adjustment_formula}
+use Rattle.adjustment.proofs.Exceeding.{Exceeds, exceeds_fails}
+use Rattle.adjustment.proofs.FaultWalks.{forbidden_exceeds, unblocked_exceeds}
+use Rattle.diagram.specs.Observed.{IsObservedGraph}
+use Rattle.diagram.specs.Sets.{Names, effect_lists, query_lists}
+use Rattle.diagram.specs.declared.diagram.Diagram.{Diagram}
+use Rattle.diagram.proofs.ObservedParts.{part_of}
+use Rattle.diagram.proofs.OneObserved.{observed_is_mixed}
+use Rattle.hedge.specs.declared.hedge.Hedge.{Hedge}
+use Rattle.hidden_models.specs.Unfolding.{FailsSomewhereAsDrawn}
+use Rattle.count_rows.specs.Rows.{Table}
+use Rattle.count_table.specs.Cells.{total}
+use Rattle.count_eval.specs.Programs.{weights_in, is_used}
+use Rattle.implications.specs.Separable.{only}
+use Rattle.implications.specs.declared.pairs.Implication.{Implication}
+use Rattle.implied_differences.specs.Laws.{IsZeroIfMatched}
+use Rattle.implied_differences.specs.declared.largest.Difference.{Difference}
+use Rattle.command_words.specs.Form.{Text}
+use Rattle.surrogates.specs.Answers.{IsRightBlock}
+use Rattle.surrogates.specs.declared.answer.CommonHedge.{CommonHedge}
+use Rattle.targets.specs.Targets.{EffectLists, Lists}
+use Rattle.targets.specs.declared.query.Sets.{Sets}
+use Rattle.targets.specs.declared.query.RuleSets.{RuleSets}
+use Rattle.experiment_lists.specs.Words.{Lists as Experiments}
+use Rattle.effect_answers.specs.declared.hedges.EffectHedge.{EffectHedge}
+use Rattle.effect_answers.specs.HedgeTelling.{effect_of}
+use Rattle.effect_answers.specs.Right.{IsEffectHedge}
+use Rattle.identify_command.specs.declared.answer.Answer.{Answer as IdentifyAnswer}
+use Rattle.identify_command.specs.declared.answer.Answer.TheVariants as identified
+use Rattle.identify_command.specs.Right.{IsJointHedge, IsForEffect, IsForTarget, IsAnswerFor, IsIdentifyAnswer, asked_of}
+use Rattle.adjust_command.specs.Queries.{Query, by_set, by_back_door, listing}
+use Rattle.adjust_command.specs.Right.{Decides, IsAdjustAnswer}
+use Rattle.adjust_command.specs.Verdicts.{IsVerdict}
+use Rattle.adjust_command.specs.declared.criteria.Verdict.TheVariants.{Meets}
+use Rattle.adjust_command.specs.declared.answer.Answer.{Answer as AdjustAnswer}
+use Rattle.adjust_command.specs.declared.answer.Answer.TheVariants as adjusted
+use Rattle.surrogate_command.specs.Right as surrogate_right
+use Rattle.surrogate_command.specs.Right.{IsStop, IsSurrogateAnswer, stop_shown}
+use Rattle.surrogate_command.specs.declared.answer.Answer.{Answer as SurrogateAnswer}
+use Rattle.surrogate_command.specs.declared.answer.Answer.TheVariants as surrogated
+use Rattle.surrogate_command.specs.declared.sets.SurrogateSets.{SurrogateSets}
+use Rattle.separation_commands.specs.SeparateRight as separate_right
+use Rattle.separation_commands.specs.SeparateRight.{IsSeparateAnswer}
+use Rattle.separation_commands.specs.declared.separate.answer.Answer.{Answer as SeparateAnswer}
+use Rattle.separation_commands.specs.declared.separate.answer.Answer.TheVariants as separated
+use Rattle.separation_commands.specs.RuleRight as rule_right
+use Rattle.separation_commands.specs.RuleRight.{IsRuleAnswer}
+use Rattle.separation_commands.specs.declared.rule.answer.Answer.{Answer as RuleAnswer}
+use Rattle.separation_commands.specs.declared.rule.answer.Answer.TheVariants as ruled
+use Rattle.implications_command.specs.Pairs.{ArePairs, pairs_in}
+use Rattle.implications_command.specs.Right.{IsForGraph, IsForCounts}
+use Rattle.implications_command.specs.declared.differences.Measured.{Measured}
+use Rattle.implications_command.specs.declared.answer.Answer.{Answer as ImplicationsAnswer}
+use Rattle.implications_command.specs.declared.answer.Answer.TheVariants as implied
+use Rattle.causal_cli.specs.AsDrawn.{IsRightAsDrawn, IsNotIdentifiable, IsNotIdentifiableOver, IsJointLost, IdentifiesAsDrawn, AdjustsAsDrawn}
+use Rattle.causal_cli.specs.AsDrawn.{IsAdjustedAsDrawn, IsSurrogateAsDrawn, IsSeparatedAsDrawn, IsRuledAsDrawn, IsIndependentAsDrawn, IsZeroAsDrawn}
+use Rattle.causal_cli.specs.AsDrawn.{ArePairsAsDrawn, AreZeroAsDrawn, AreDifferencesAsDrawn}
+
+-- the observed graph of a diagram is that of the graph that was read
+observed : (d : Diagram) → IsObservedGraph d.read (graph_of d.observed.graph)
+observed d = (part_of d).graph
+
+-- what equals an effect in the observed graph is right in the diagram as drawn
+pub drawn : (g : ReadGraph) (q : MixedGraph) → IsObservedGraph g q → (t : PlainTarget) (f : PlainFormula) → EqualsEffect q t f → IsRightAsDrawn g t f
+drawn g q observed t f right = right_as_drawn (graph_of g.graph) g.graph.valid (has g.latent.bits) q observed t f right
+
+-- two models that show an effect not to be identifiable in the observed graph show it of any target on which they differ, in the diagram as drawn
+pub not_identifiable : (g : ReadGraph) (q : MixedGraph) → IsObservedGraph g q → (x y : ℕ) (pair : CounterPair) → AreCounterModels q x y pair
+    → (t : PlainTarget) → DifferOnTarget (meaning q pair.first) (meaning q pair.second) t → IsNotIdentifiable g t
+not_identifiable g q observed x y pair m t differ =
+    difference_is_drawn (graph_of g.graph) g.graph.valid (has g.latent.bits) q observed (meaning q pair.first) (meaning q pair.second)
+    m.first.fits m.second.fits m.two.0 m.two.1 m.first.positive m.second.positive m.observed t differ
+
+-- the effect itself is one
+pub effect_lost : (g : ReadGraph) (q : MixedGraph) → IsObservedGraph g q → (x y : ℕ) (pair : CounterPair) → AreCounterModels q x y pair
+    → IsNotIdentifiable g (effect_on x y)
+effect_lost g q observed x y pair m =
+    not_identifiable g q observed x y pair m (effect_on x y) (differ_on q (observed_is_mixed g q observed) x y pair m)
+
+-- where they agree under experiments too, it isn't identifiable by these either
+pub effect_lost_over : (g : ReadGraph) (q : MixedGraph) → IsObservedGraph g q → (x y : ℕ) (pair : CounterPair) → AreCounterModels q x y pair
+    → (zs : List ℕ) → AgreeUnderAll zs (meaning q pair.first) (meaning q pair.second) → IsNotIdentifiableOver g zs (effect_on x y)
+effect_lost_over g q observed x y pair m zs under =
+    difference_over_is_drawn (graph_of g.graph) g.graph.valid (has g.latent.bits) q observed (meaning q pair.first) (meaning q pair.second)
+    m.first.fits m.second.fits m.two.0 m.two.1 m.first.positive m.second.positive m.observed zs under (effect_on x y)
+    (differ_on q (observed_is_mixed g q observed) x y pair m)
+
+-- ---- identify
+
+-- a formula for a target
+formula_drawn : (d : Diagram) (t u : PlainTarget) (f : PlainFormula) → u ≡ t → EqualsEffect (graph_of d.observed.graph) t f → IsRightAsDrawn d.read u f
+formula_drawn d t u f e right = subst (λ (v : PlainTarget). IsRightAsDrawn d.read v f) (sym e) (drawn d.read (graph_of d.observed.graph) (observed d) t f right)
+
+-- a hedge with its models
+hedge_drawn : (d : Diagram) (a : EffectHedge) → IsEffectHedge (graph_of d.observed.graph) a → IsNotIdentifiable d.read (effect_of a)
+hedge_drawn d a h = effect_lost d.read (graph_of d.observed.graph) (observed d) a.sets.x.bits a.sets.y.bits a.pair h.found.right.counter
+
+-- one for the joint effect into which a target turns
+joint_drawn : (d : Diagram) (t : PlainTarget) (settled : Bool) (a : EffectHedge) → IsJointHedge (graph_of d.observed.graph) t settled a
+    → IsJointLost d.read t settled a
+joint_drawn d t settled a h =
+    let g = d.read in
+    let q = graph_of d.observed.graph in
+    record {
+      joint = hedge_drawn d a h.hedge;
+      no_formula = λ f free equal. h.not_fixed
+          (λ one two fit fit' serves serves' positive positive' agreed s within. formula_as_drawn_fixes (graph_of g.graph) g.graph.valid (has g.latent.bits)
+          q (observed d) t f free equal one two fit fit' serves serves' positive positive' agreed s within);
+      differs = λ is. not_identifiable g q (observed d) a.sets.x.bits a.sets.y.bits a.pair h.hedge.found.right.counter t (h.differs is);
+    }
+
+-- a right answer of `identify`
+pub identifies : (short certified : Bool) (x y given : Names) (d : Diagram) (a : IdentifyAnswer) → IsIdentifyAnswer short certified d x y given (Ok a)
+    → IdentifiesAsDrawn d a
+identifies short certified x y given d a h = go given h
+  where
+    q : MixedGraph
+    q = graph_of d.observed.graph
+
+    of_effect : (l : EffectLists) (a : IdentifyAnswer) → IsForEffect short certified q l a → IdentifiesAsDrawn d a
+    of_effect l (identified.Formula f) h = formula_drawn d (effect_on h.sets.x.bits h.sets.y.bits) (target_view f.target) (formula_view f.formula)
+        h.decided.target h.decided.right.effect
+    of_effect l (identified.Hedge k) h = hedge_drawn d k h.decided.1
+    of_effect l (identified.Joint t settled k) h = absurd h.decided
+
+    of_target : (l : Lists) (a : IdentifyAnswer) → IsForTarget short certified q l a → IdentifiesAsDrawn d a
+    of_target l (identified.Formula f) h = formula_drawn d h.target (target_view f.target) (formula_view f.formula) h.decided.target h.decided.right.effect
+    of_target l (identified.Hedge k) h = absurd h.decided
+    of_target l (identified.Joint t settled k) h =
+        subst (λ (u : PlainTarget). IsJointLost d.read u settled k) (sym h.decided.0) (joint_drawn d h.target settled k h.decided.1)
+
+    go : (given : Names) → IsAnswerFor short certified q (asked_of d x y given) a → IdentifiesAsDrawn d a
+    go None h = of_effect (effect_lists d.read d.observed.names x y) a h
+    go (Some []) h = of_effect (effect_lists d.read d.observed.names x y) a h
+    go (Some (n ∷ ns)) h = of_target (query_lists d.read d.observed.names x y (Some (n ∷ ns))) a h
+
+-- ---- adjust
+
+-- a set whose formula is the effect in the diagram as drawn is admissible
+admissible_as_drawn : (g : ReadGraph) (q : MixedGraph) → IsObservedGraph g q → (x y z : ℕ) → AreThreeSets q.vertices (has x) (has y) (has z)
+    → AdjustsAsDrawn g x y z → IsAdmissible q (has x) (has y) (has z)
+admissible_as_drawn g q observed x y z sets right =
+    let ok = observed_is_mixed g q observed in
+    let breaks = λ (d : Exceeds q (has x) (has y) (has z)).
+    let u = formula_failure_is_drawn (graph_of g.graph) g.graph.valid (has g.latent.bits) q observed (effect_on x y) (adjustment_formula x y z)
+    (exceeds_fails q ok x y z d) in
+    u.unequal (right u.model u.fits u.positive u.at u.within) in
+    record {
+      clear = λ v inside f. breaks (forbidden_exceeds q ok (has x) (has y) (has z) sets v inside f);
+      blocked = λ v r p not_causal o. breaks (unblocked_exceeds q ok (has x) (has y) (has z) sets v r p not_causal o);
+    }
+
+-- a set that meets a criterion, or doesn't
+judged : (back_door : Bool) (d : Diagram) (s of : Sets) → of ≡ s → IsVerdict back_door (graph_of d.observed.graph) s.x.bits s.y.bits s.given.bits Meets
+    → AdjustsAsDrawn d.read of.x.bits of.y.bits of.given.bits
+judged false d s of e h = subst (λ (t : Sets). AdjustsAsDrawn d.read t.x.bits t.y.bits t.given.bits) (sym e)
+    (drawn d.read (graph_of d.observed.graph) (observed d) (effect_on s.x.bits s.y.bits) (adjustment_formula s.x.bits s.y.bits s.given.bits) h.1)
+judged true d s of e (v, one, set, effect) = subst (λ (t : Sets). AdjustsAsDrawn d.read t.x.bits t.y.bits t.given.bits) (sym e)
+    (drawn d.read (graph_of d.observed.graph) (observed d) (effect_on s.x.bits s.y.bits) (adjustment_formula s.x.bits s.y.bits s.given.bits) effect)
+
+-- the answer for sets
+adjusts_sets : (query : Query) (d : Diagram) (s : Sets) (a : AdjustAnswer) → Decides query (graph_of d.observed.graph) s a → IsAdjustedAsDrawn query d a
+adjusts_sets (by_set set) d s (adjusted.Admissible of) h = judged false d s of h.0 h.1
+adjusts_sets (by_set set) d s (adjusted.NotAdmissible of fault) h =
+    subst (λ (t : Sets). FailsSomewhereAsDrawn (graph_of d.read.graph) (has d.read.latent.bits) (effect_on t.x.bits t.y.bits)
+    (adjustment_formula t.x.bits t.y.bits t.given.bits)) (sym h.0)
+    (formula_failure_is_drawn (graph_of d.read.graph) d.read.graph.valid (has d.read.latent.bits) (graph_of d.observed.graph) (observed d)
+    (effect_on s.x.bits s.y.bits) (adjustment_formula s.x.bits s.y.bits s.given.bits) h.1.1)
+adjusts_sets (by_set set) d s (adjusted.Listed of sets more) h = absurd h
+adjusts_sets (by_set set) d s (adjusted.NoSet of) h = absurd h
+adjusts_sets (by_back_door set) d s (adjusted.Admissible of) h = judged true d s of h.0 h.1
+adjusts_sets (by_back_door set) d s (adjusted.NotAdmissible of fault) h = tt
+adjusts_sets (by_back_door set) d s (adjusted.Listed of sets more) h = absurd h
+adjusts_sets (by_back_door set) d s (adjusted.NoSet of) h = absurd h
+adjusts_sets (listing most) d s (adjusted.Admissible of) h = absurd h
+adjusts_sets (listing most) d s (adjusted.NotAdmissible of fault) h = absurd h
+adjusts_sets (listing most) d s (adjusted.Listed of sets more) h =
+    subst (λ (t : Sets). All (λ (z : VSet). AdjustsAsDrawn d.read t.x.bits t.y.bits z.bits) sets.items) (sym h.0)
+    (All-weaker (λ (z : VSet). EqualsEffect (graph_of d.observed.graph) (effect_on s.x.bits s.y.bits) (adjustment_formula s.x.bits s.y.bits z.bits))
+    (λ (z : VSet). AdjustsAsDrawn d.read s.x.bits s.y.bits z.bits)
+    (λ z e. drawn d.read (graph_of d.observed.graph) (observed d) (effect_on s.x.bits s.y.bits) (adjustment_formula s.x.bits s.y.bits z.bits) e)
+    sets.items h.1.effect)
+adjusts_sets (listing most) d s (adjusted.NoSet of) h =
+    subst (λ (t : Sets). (z : ℕ) → AreThreeSets d.observed.graph.n (has t.x.bits) (has t.y.bits) (has z)
+    → AdjustsAsDrawn d.read t.x.bits t.y.bits z → ⊥) (sym h.0)
+    (λ z three right. h.1.none (has z) three
+    (admissible_as_drawn d.read (graph_of d.observed.graph) (observed d) s.x.bits s.y.bits z three right))
+
+-- a right answer of `adjust`
+pub adjusts : (query : Query) (x y : Names) (d : Diagram) (a : AdjustAnswer) → IsAdjustAnswer d x y query (Ok a) → IsAdjustedAsDrawn query d a
+adjusts query x y d a h = adjusts_sets query d h.sets a h.decided
+
+-- ---- surrogate
+
+common_lost : (g : ReadGraph) (q : MixedGraph) → IsObservedGraph g q → (zs : List ℕ) (x y : ℕ) (common : Option CommonHedge)
+    → IfSome common (λ k. IsRightBlock q zs x y k.hedge k.pair) → IsSome common → IsNotIdentifiableOver g zs (effect_on x y)
+common_lost g q observed zs x y None right some = absurd (cc some)
+common_lost g q observed zs x y (Some k) right some = effect_lost_over g q observed x y k.pair right.hedge.counter zs right.under
+
+-- the sets of an answer, and whether it shows a common hedge
+sets_of : SurrogateAnswer → SurrogateSets
+sets_of (surrogated.Formula s f) = s
+sets_of (surrogated.Unfound s district h) = s
+sets_of (surrogated.Blocked s district h) = s
+
+is_blocked : SurrogateAnswer → Bool
+is_blocked (surrogated.Formula s f) = false
+is_blocked (surrogated.Unfound s district h) = false
+is_blocked (surrogated.Blocked s district h) = true
+
+-- what is shown of a stop has its sets
+stop_sets : (wanted : Bool) (s : SurrogateSets) (district : VSet) (h : Hedge) (common : Option CommonHedge)
+    → sets_of (stop_shown wanted s district h common) ≡ s
+stop_sets wanted s district h None = refl
+stop_sets false s district h (Some k) = refl
+stop_sets true s district h (Some k) = refl
+
+-- and a common hedge only where there is one
+blocked_some : (wanted : Bool) (s : SurrogateSets) (district : VSet) (h : Hedge) (common : Option CommonHedge)
+    → is_blocked (stop_shown wanted s district h common) ≡ true → IsSome common
+blocked_some wanted s district h None e = absurd (false≢true e)
+blocked_some wanted s district h (Some k) e = refl
+
+-- where the procedure stops the effect isn't identifiable
+stop_lost : (wanted : Bool) (d : Diagram) (s : SurrogateSets) (a : SurrogateAnswer) → IsStop wanted (graph_of d.observed.graph) s a
+    → IsNotIdentifiable d.read (effect_on s.x.bits s.y.bits)
+stop_lost wanted d s a h = effect_lost d.read (graph_of d.observed.graph) (observed d) s.x.bits s.y.bits h.pair h.right.counter
+
+-- nor by the experiments, where there is a common hedge
+stop_lost_over : (wanted : Bool) (d : Diagram) (s : SurrogateSets) (a : SurrogateAnswer) (h : IsStop wanted (graph_of d.observed.graph) s a)
+    → IsSome h.common → IsNotIdentifiableOver d.read (masks_of s.experiments.items) (effect_on s.x.bits s.y.bits)
+stop_lost_over wanted d s a h some = common_lost d.read (graph_of d.observed.graph) (observed d) (masks_of s.experiments.items) s.x.bits s.y.bits h.common
+    h.blocked some
+
+-- a stop of either kind is so of the sets that it shows
+unfound_drawn : (wanted : Bool) (d : Diagram) (s u : SurrogateSets) (district : VSet) (k : Hedge)
+    → IsStop wanted (graph_of d.observed.graph) s (surrogated.Unfound u district k) → IsSurrogateAsDrawn d (surrogated.Unfound u district k)
+unfound_drawn wanted d s u district k h =
+    subst (λ (v : SurrogateSets). IsSurrogateAsDrawn d (surrogated.Unfound v district k))
+    (sym (ap sets_of h.is ∙ stop_sets wanted s h.district h.hedge h.common))
+    (stop_lost wanted d s (surrogated.Unfound u district k) h,
+      λ together. stop_lost_over wanted d s (surrogated.Unfound u district k) h (h.exact.1 together))
+
+blocked_drawn : (wanted : Bool) (d : Diagram) (s u : SurrogateSets) (district : VSet) (k : EffectHedge)
+    → IsStop wanted (graph_of d.observed.graph) s (surrogated.Blocked u district k) → IsSurrogateAsDrawn d (surrogated.Blocked u district k)
+blocked_drawn wanted d s u district k h =
+    subst (λ (v : SurrogateSets). IsSurrogateAsDrawn d (surrogated.Blocked v district k))
+    (sym (ap sets_of h.is ∙ stop_sets wanted s h.district h.hedge h.common))
+    (stop_lost wanted d s (surrogated.Blocked u district k) h,
+      stop_lost_over wanted d s (surrogated.Blocked u district k) h
+      (blocked_some wanted s h.district h.hedge h.common (sym (ap is_blocked h.is))))
+
+surrogates_sets : (wanted : Bool) (d : Diagram) (s : SurrogateSets) (a : SurrogateAnswer) → surrogate_right.Decides wanted (graph_of d.observed.graph) s a
+    → IsSurrogateAsDrawn d a
+surrogates_sets wanted d s (surrogated.Formula u f) h =
+    subst (λ (v : SurrogateSets). IsSurrogateAsDrawn d (surrogated.Formula v f)) (sym h.0)
+    (drawn d.read (graph_of d.observed.graph) (observed d) (effect_on s.x.bits s.y.bits) (formula_view f.formula) h.1.right.effect)
+surrogates_sets wanted d s (surrogated.Unfound u district k) h = unfound_drawn wanted d s u district k h
+surrogates_sets wanted d s (surrogated.Blocked u district k) h = blocked_drawn wanted d s u district k h
+
+-- a right answer of `surrogate`
+pub surrogates : (wanted : Bool) (x y : Names) (experiments : Experiments) (d : Diagram) (a : SurrogateAnswer)
+    → IsSurrogateAnswer wanted d x y experiments (Ok a) → IsSurrogateAsDrawn d a
+surrogates wanted x y experiments d a h = surrogates_sets wanted d h.sets a h.decided
+
+-- ---- separate and rule
+
+separates_sets : (d : Diagram) (s : Sets) (a : SeparateAnswer) → separate_right.Decides (graph_of d.observed.graph) s a → IsSeparatedAsDrawn d a
+separates_sets d s (separated.Separated of) h =
+    subst (λ (t : Sets). IsSeparatedAsDrawn d (separated.Separated t)) (sym h.0)
+    (independence_is_drawn (graph_of d.read.graph) d.read.graph.valid (has d.read.latent.bits) (graph_of d.observed.graph) (observed d)
+    (has s.x.bits) (has s.y.bits) (has s.given.bits) h.1.independent)
+separates_sets d s (separated.Connected of path) h =
+    subst (λ (t : Sets). IsSeparatedAsDrawn d (separated.Connected t path)) (sym h.0)
+    (dependence_is_drawn (graph_of d.read.graph) d.read.graph.valid (has d.read.latent.bits) (graph_of d.observed.graph) (observed d)
+    (has s.x.bits) (has s.y.bits) (has s.given.bits) h.1.dependent)
+
+-- a right answer of `separate`
+pub separates : (x y given : Names) (d : Diagram) (a : SeparateAnswer) → IsSeparateAnswer d x y given (Ok a) → IsSeparatedAsDrawn d a
+separates x y given d a h = separates_sets d h.sets a h.decided
+
+rules_sets : (r : Rule) (d : Diagram) (s : RuleSets) (a : RuleAnswer) → rule_right.Decides r (graph_of d.observed.graph) s a → IsRuledAsDrawn d a
+rules_sets r d s (ruled.Holds rule of) h =
+    subst (λ (k : Rule). IsRuledAsDrawn d (ruled.Holds k of)) (sym h.0.0)
+    (subst (λ (t : RuleSets). IsRuledAsDrawn d (ruled.Holds r t)) (sym h.0.1)
+    (equation_is_drawn (graph_of d.read.graph) d.read.graph.valid (has d.read.latent.bits) (graph_of d.observed.graph) (observed d)
+    (left_of r (has s.x.bits) (has s.y.bits) (has s.z.bits) (has s.given.bits)) (right_of r (has s.x.bits) (has s.y.bits) (has s.z.bits) (has s.given.bits))
+    h.1.equation))
+rules_sets r d s (ruled.Fails rule of path) h =
+    subst (λ (k : Rule). IsRuledAsDrawn d (ruled.Fails k of path)) (sym h.0.0)
+    (subst (λ (t : RuleSets). IsRuledAsDrawn d (ruled.Fails r t path)) (sym h.0.1)
+    (failure_is_drawn (graph_of d.read.graph) d.read.graph.valid (has d.read.latent.bits) (graph_of d.observed.graph) (observed d)
+    (left_of r (has s.x.bits) (has s.y.bits) (has s.z.bits) (has s.given.bits)) (right_of r (has s.x.bits) (has s.y.bits) (has s.z.bits) (has s.given.bits))
+    h.1.fails))
+
+-- a right answer of `rule`
+pub rules : (r : Rule) (y x z given : List (List ℕ)) (d : Diagram) (a : RuleAnswer) → IsRuleAnswer r d y x z given (Ok a) → IsRuledAsDrawn d a
+rules r y x z given d a h = rules_sets r d h.sets a h.decided
+
+-- ---- implications
+
+-- each pair is independent in the diagram as drawn
+independent : (d : Diagram) (list : List Implication) → ArePairs (pairs_in d.observed list) → All (IsIndependentAsDrawn d.read) list
+independent d list are = All-weaker (λ (i : Implication). AreIndependent (graph_of d.observed.graph) (only i.a) (only i.b) (has i.given.bits))
+    (IsIndependentAsDrawn d.read)
+    (λ i h. independence_is_drawn (graph_of d.read.graph) d.read.graph.valid (has d.read.latent.bits) (graph_of d.observed.graph) (observed d)
+    (only i.a) (only i.b) (has i.given.bits) h) list are.independent
+
+-- a difference that is 0 where a model of the observed graph has the counts is so where one of the diagram as drawn has them
+zero_as_drawn : (g : ReadGraph) (q : MixedGraph) → IsObservedGraph g q → (t : Table) (d : Difference) → IsZeroIfMatched q t d → IsZeroAsDrawn g q t d
+zero_as_drawn g q observed t d zero m fit matched =
+    let f = each_has_folded (graph_of g.graph) g.graph.valid (has g.latent.bits) q observed m fit in
+    zero f.folded (record {
+      fits = f.fits;
+      matched = matched_folded (graph_of g.graph) g.graph.valid (has g.latent.bits) q observed m f.folded fit f.fits f.folds (is_used t)
+          (weights_in q.vertices t) (total t.rows) matched;
+    })
+
+-- a right answer of `implications` on the graph alone
+pub implies : (counts : Option Text) (d : Diagram) (a : ImplicationsAnswer) → IsForGraph counts d.observed (Ok a) → ArePairsAsDrawn d a
+implies counts d implied.NoPairs h = tt
+implies None d (implied.Pairs list) h = independent d list.items h
+implies (Some counts) d (implied.Pairs list) h = absurd h
+implies counts d (implied.Differences t measured) h = tt
+
+measures : (d : Diagram) (list : List Implication) (count : Option Text) (other : List ℕ) (a : ImplicationsAnswer)
+    → IsForCounts (pairs_in d.observed list) count other (Ok a) → AreZeroAsDrawn d a
+measures d list count other implied.NoPairs h = absurd h
+measures d list count other (implied.Pairs pairs) h = absurd h
+measures d list count other (implied.Differences t measured) h =
+    All-weaker (λ (m : Measured). IsZeroIfMatched (graph_of d.observed.graph) t m.difference)
+    (λ (m : Measured). IsZeroAsDrawn d.read (graph_of d.observed.graph) t m.difference)
+    (λ m e. zero_as_drawn d.read (graph_of d.observed.graph) (observed d) t m.difference e) measured.items h.1.matched
+
+-- and one over counts
+pub implies_over_counts : (count : Option Text) (other : List ℕ) (d : Diagram) (list : List Implication) (a : ImplicationsAnswer)
+    → ArePairs (pairs_in d.observed list) → IsForCounts (pairs_in d.observed list) count other (Ok a) → AreDifferencesAsDrawn d list a
+implies_over_counts count other d list a are h = record { independent = independent d list are; zero = measures d list count other a h }

@@ -1,0 +1,154 @@
+-- What an answer says of the diagram as drawn, with its hidden vertices: of the models of the graph that was read, whatever the mechanisms of these.
+-- What it says of the observed graph stands with the answers that are right, in the crate of each command.
+use Rattle.std.specs.Prelude.{ℕ, ◌≡◌, Bool, true, List, All, IsTrue, pos}
+use Rattle.mixed_graph.specs.Bits.{has}
+use Rattle.mixed_graph.specs.Graphs.{MixedGraph}
+use Rattle.mixed_graph.specs.Shown.{graph_of}
+use Rattle.mixed_graph.specs.declared.sets.VSet.{VSet}
+use Rattle.finite_models.specs.Models.{FiniteModel, Fits}
+use Rattle.do_rules.specs.Rules.{AreThreeSets, left_of, right_of}
+use Rattle.prob_expr.specs.Listed.{masks_of}
+use Rattle.prob_expr.specs.Terms.{is_do_free}
+use Rattle.prob_expr.specs.Tree.{PlainFormula, PlainTarget, effect_on}
+use Rattle.prob_expr.specs.View.{target_view, formula_view}
+use Rattle.dag_reader.specs.declared.graph.ReadGraph.{ReadGraph}
+use Rattle.hidden_models.specs.Folding.{IsMatchedAsDrawn}
+use Rattle.hidden_models.specs.FoldingLaws.{EqualsAsDrawn}
+use Rattle.hidden_models.specs.Statements.{AreIndependentAsDrawn, AreDependentAsDrawn, AreEqualSidesAsDrawn, DifferSomewhereAsDrawn}
+use Rattle.hidden_models.specs.Unfolding.{NotIdentifiableAsDrawn, NotIdentifiableOverAsDrawn, FailsSomewhereAsDrawn}
+use Rattle.adjustment.specs.Formulas.{adjustment_formula}
+use Rattle.surrogates.specs.Answers.{IsBlockedTogether}
+use Rattle.count_rows.specs.Rows.{Table}
+use Rattle.count_table.specs.Cells.{total}
+use Rattle.count_eval.specs.Programs.{weights_in, is_used}
+use Rattle.implications.specs.Separable.{only}
+use Rattle.implications.specs.declared.pairs.Implication.{Implication}
+use Rattle.implied_differences.specs.declared.largest.Difference.{Difference}
+use Rattle.diagram.specs.declared.diagram.Diagram.{Diagram}
+use Rattle.effect_answers.specs.declared.hedges.EffectHedge.{EffectHedge}
+use Rattle.effect_answers.specs.HedgeTelling.{effect_of}
+use Rattle.identify_command.specs.declared.answer.Answer.{Answer as IdentifyAnswer}
+use Rattle.identify_command.specs.declared.answer.Answer.TheVariants as identified
+use Rattle.adjust_command.specs.Queries.{Query, by_set, by_back_door, listing}
+use Rattle.adjust_command.specs.declared.answer.Answer.{Answer as AdjustAnswer}
+use Rattle.adjust_command.specs.declared.answer.Answer.TheVariants as adjusted
+use Rattle.surrogate_command.specs.declared.answer.Answer.{Answer as SurrogateAnswer}
+use Rattle.surrogate_command.specs.declared.answer.Answer.TheVariants as surrogated
+use Rattle.separation_commands.specs.declared.separate.answer.Answer.{Answer as SeparateAnswer}
+use Rattle.separation_commands.specs.declared.separate.answer.Answer.TheVariants as separated
+use Rattle.separation_commands.specs.declared.rule.answer.Answer.{Answer as RuleAnswer}
+use Rattle.separation_commands.specs.declared.rule.answer.Answer.TheVariants as ruled
+use Rattle.implications_command.specs.declared.differences.Measured.{Measured}
+use Rattle.implications_command.specs.declared.answer.Answer.{Answer as ImplicationsAnswer}
+use Rattle.implications_command.specs.declared.answer.Answer.TheVariants as implied
+
+-- ---- formulas and effects
+
+-- The formula equals the effect of the target in the diagram as drawn: in every model of the graph that was read, whatever the mechanisms of its
+-- hidden vertices, that is positive on the observed ones, at each assignment. Its terms are taken in that model.
+abbrev pub IsRightAsDrawn : ReadGraph → PlainTarget → PlainFormula → Type 0
+IsRightAsDrawn g t f = EqualsAsDrawn (graph_of g.graph) (has g.latent.bits) t f
+
+-- In the diagram as drawn the target isn't identifiable: two models of the graph that was read, positive on the observed vertices, agree on all
+-- observations and differ on the target, under every value of its x.
+abbrev pub IsNotIdentifiable : ReadGraph → PlainTarget → Type 0
+IsNotIdentifiable g t = NotIdentifiableAsDrawn (graph_of g.graph) (has g.latent.bits) t
+
+-- no formula without interventions equals the target in the diagram as drawn
+abbrev pub HasNoFormulaAsDrawn : ReadGraph → PlainTarget → Type 0
+HasNoFormulaAsDrawn g t = (f : PlainFormula) → is_do_free f ≡ true → IsRightAsDrawn g t f → ⊥
+
+-- Nor is it by the experiments on the sets zs: the two models agree under each of them too, so no formula whose terms are observed or under one of
+-- them equals the target.
+abbrev pub IsNotIdentifiableOver : ReadGraph → List ℕ → PlainTarget → Type 0
+IsNotIdentifiableOver g zs t = NotIdentifiableOverAsDrawn (graph_of g.graph) (has g.latent.bits) zs t
+
+-- ---- identify
+
+-- The joint effect into which the target turns isn't identifiable, and the target itself has no formula; where its observations settle it, it isn't
+-- identifiable by the same two models.
+pub record IsJointLost (g : ReadGraph) (t : PlainTarget) (settled : Bool) (h : EffectHedge) : Type 0 where
+  pub joint : IsNotIdentifiable g (effect_of h)
+  pub no_formula : HasNoFormulaAsDrawn g t
+  pub differs : IsTrue settled → IsNotIdentifiable g t
+
+-- a formula is right, and what has a hedge isn't identifiable
+abbrev pub IdentifiesAsDrawn : Diagram → IdentifyAnswer → Type 0
+IdentifiesAsDrawn d (identified.Formula f) = IsRightAsDrawn d.read (target_view f.target) (formula_view f.formula)
+IdentifiesAsDrawn d (identified.Hedge h) = IsNotIdentifiable d.read (effect_of h)
+IdentifiesAsDrawn d (identified.Joint t settled h) = IsJointLost d.read (target_view t) settled h
+
+-- ---- adjust
+
+-- the adjustment formula of z equals the effect of x on y in the diagram as drawn
+abbrev pub AdjustsAsDrawn : ReadGraph → (x y z : ℕ) → Type 0
+AdjustsAsDrawn g x y z = IsRightAsDrawn g (effect_on x y) (adjustment_formula x y z)
+
+-- Of the set that may be adjusted for, and of each that is listed, the formula is right. Of a set that may not by the adjustment criterion it fails in
+-- some model, and where there is none it is right of no set; a set that breaks the back-door criterion alone may be right all the same.
+abbrev pub IsAdjustedAsDrawn : Query → Diagram → AdjustAnswer → Type 0
+IsAdjustedAsDrawn query d (adjusted.Admissible s) = AdjustsAsDrawn d.read s.x.bits s.y.bits s.given.bits
+IsAdjustedAsDrawn (by_set set) d (adjusted.NotAdmissible s fault) = FailsSomewhereAsDrawn (graph_of d.read.graph) (has d.read.latent.bits)
+    (effect_on s.x.bits s.y.bits) (adjustment_formula s.x.bits s.y.bits s.given.bits)
+IsAdjustedAsDrawn (by_back_door set) d (adjusted.NotAdmissible s fault) = Unit {0}
+IsAdjustedAsDrawn (listing most) d (adjusted.NotAdmissible s fault) = Unit {0}
+IsAdjustedAsDrawn query d (adjusted.Listed s sets more) = All (λ (z : VSet). AdjustsAsDrawn d.read s.x.bits s.y.bits z.bits) sets.items
+IsAdjustedAsDrawn query d (adjusted.NoSet s) = (z : ℕ) → AreThreeSets d.observed.graph.n (has s.x.bits) (has s.y.bits) (has z)
+    → AdjustsAsDrawn d.read s.x.bits s.y.bits z → ⊥
+
+-- ---- surrogate
+
+-- A formula is right. Where the procedure stops the effect isn't identifiable, and where there is a common hedge, it isn't by the experiments either.
+abbrev pub IsSurrogateAsDrawn : Diagram → SurrogateAnswer → Type 0
+IsSurrogateAsDrawn d (surrogated.Formula s f) = IsRightAsDrawn d.read (effect_on s.x.bits s.y.bits) (formula_view f.formula)
+IsSurrogateAsDrawn d (surrogated.Unfound s district h) = IsNotIdentifiable d.read (effect_on s.x.bits s.y.bits)
+    × (IsBlockedTogether (graph_of d.observed.graph) (masks_of s.experiments.items) s.x.bits s.y.bits
+    → IsNotIdentifiableOver d.read (masks_of s.experiments.items) (effect_on s.x.bits s.y.bits))
+IsSurrogateAsDrawn d (surrogated.Blocked s district h) = IsNotIdentifiable d.read (effect_on s.x.bits s.y.bits)
+    × IsNotIdentifiableOver d.read (masks_of s.experiments.items) (effect_on s.x.bits s.y.bits)
+
+-- ---- separate and rule
+
+-- sets that are separated are independent in every model of the diagram as drawn, and where a path is open they are dependent in some
+abbrev pub IsSeparatedAsDrawn : Diagram → SeparateAnswer → Type 0
+IsSeparatedAsDrawn d (separated.Separated s) =
+    AreIndependentAsDrawn (graph_of d.read.graph) (has d.read.latent.bits) (has s.x.bits) (has s.y.bits) (has s.given.bits)
+IsSeparatedAsDrawn d (separated.Connected s path) =
+    AreDependentAsDrawn (graph_of d.read.graph) (has d.read.latent.bits) (has s.x.bits) (has s.y.bits) (has s.given.bits)
+
+-- the equation of a rule that holds is so in every model of the diagram as drawn that is positive on the observed vertices, and of one that fails in some
+-- it isn't
+abbrev pub IsRuledAsDrawn : Diagram → RuleAnswer → Type 0
+IsRuledAsDrawn d (ruled.Holds r s) = AreEqualSidesAsDrawn (graph_of d.read.graph) (has d.read.latent.bits)
+    (left_of r (has s.x.bits) (has s.y.bits) (has s.z.bits) (has s.given.bits)) (right_of r (has s.x.bits) (has s.y.bits) (has s.z.bits) (has s.given.bits))
+IsRuledAsDrawn d (ruled.Fails r s path) = DifferSomewhereAsDrawn (graph_of d.read.graph) (has d.read.latent.bits)
+    (left_of r (has s.x.bits) (has s.y.bits) (has s.z.bits) (has s.given.bits)) (right_of r (has s.x.bits) (has s.y.bits) (has s.z.bits) (has s.given.bits))
+
+-- ---- implications
+
+-- the vertices of the pair are independent given its set in every model of the diagram as drawn
+abbrev pub IsIndependentAsDrawn : ReadGraph → Implication → Type 0
+IsIndependentAsDrawn g i = AreIndependentAsDrawn (graph_of g.graph) (has g.latent.bits) (only i.a) (only i.b) (has i.given.bits)
+
+-- the difference is 0 wherever a model of the diagram as drawn, positive or not, has the counts of the observed vertices: its observed weights are
+-- those of the counts, up to one factor
+abbrev pub IsZeroAsDrawn : ReadGraph → MixedGraph → Table → Difference → Type 0
+IsZeroAsDrawn g q t d = (m : FiniteModel) → Fits (graph_of g.graph) m → IsMatchedAsDrawn (has g.latent.bits) (is_used t) (weights_in q.vertices t)
+    (total t.rows) m → d.value ≡ pos 0
+
+-- each pair of the answer is so
+abbrev pub ArePairsAsDrawn : Diagram → ImplicationsAnswer → Type 0
+ArePairsAsDrawn d implied.NoPairs = Unit {0}
+ArePairsAsDrawn d (implied.Pairs list) = All (IsIndependentAsDrawn d.read) list.items
+ArePairsAsDrawn d (implied.Differences t measured) = Unit {0}
+
+-- and each largest difference over the counts
+abbrev pub AreZeroAsDrawn : Diagram → ImplicationsAnswer → Type 0
+AreZeroAsDrawn d implied.NoPairs = Unit {0}
+AreZeroAsDrawn d (implied.Pairs list) = Unit {0}
+AreZeroAsDrawn d (implied.Differences t measured) = All (λ (m : Measured). IsZeroAsDrawn d.read (graph_of d.observed.graph) t m.difference) measured.items
+
+-- so are the pairs that are kept for the counts, and their differences
+pub record AreDifferencesAsDrawn (d : Diagram) (list : List Implication) (a : ImplicationsAnswer) : Type 0 where
+  pub independent : All (IsIndependentAsDrawn d.read) list
+  pub zero : AreZeroAsDrawn d a
