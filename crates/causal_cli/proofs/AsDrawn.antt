@@ -1,7 +1,8 @@
 -- What right answers say of the diagram as drawn.
-use Rattle.std.proofs.Common.{◌≡◌, ℕ, Bool, true, false, List, [], ◌∷◌, Option, Some, None, Ok, refl, sym, ap, subst, ◌∙◌}
+use Rattle.std.proofs.Common.{◌≡◌, ℕ, Bool, true, false, List, [], ◌∷◌, Option, Some, None, option_map, Ok, refl, sym, ap, subst, ◌∙◌}
 use Rattle.std.specs.Prelude.{IsSome, IfSome, IsTrue, All}
 use Rattle.std.proofs.lemmas.Bool.{false≢true}
+use Rattle.std.proofs.lemmas.Option.{none-some, same_Some}
 use Rattle.std.proofs.lemmas.List.Elements.{All-weaker}
 use Rattle.mixed_graph.specs.Bits.{has}
 use Rattle.mixed_graph.specs.Graphs.{MixedGraph}
@@ -79,6 +80,18 @@ use Rattle.implications_command.specs.Right.{IsForGraph, IsForCounts}
 use Rattle.implications_command.specs.declared.differences.Measured.{Measured}
 use Rattle.implications_command.specs.declared.answer.Answer.{Answer as ImplicationsAnswer}
 use Rattle.implications_command.specs.declared.answer.Answer.TheVariants as implied
+use Rattle.certificate.specs.Plain.{formula}
+use Rattle.do_derivation.specs.Plans.{PlainDerivation}
+use Rattle.do_derivation.specs.View.{derivation_view}
+use Rattle.do_derivation.specs.declared.steps.Derivation.{Derivation}
+use Rattle.evaluate_command.specs.First.{IsForDiagram}
+use Rattle.evaluate_command.specs.Ways.{Way, by_procedure, by_adjusting, by_condition}
+use Rattle.evaluate_command.specs.declared.answer.Answer.{Answer as EvaluateAnswer}
+use Rattle.evaluate_command.specs.declared.answer.Answer.TheVariants as evaluated
+use Rattle.check_command.specs.Right.{IsForText, of_formula, of_hedge, IsForCertificate}
+use Rattle.check_command.specs.declared.answer.Answer.{Answer as CheckAnswer}
+use Rattle.check_command.specs.declared.answer.Answer.TheVariants as checked
+use Rattle.causal_cli.specs.AsDrawn.{IsUnevaluatedAsDrawn, IsCheckedAsDrawn}
 use Rattle.causal_cli.specs.AsDrawn.{IsRightAsDrawn, IsNotIdentifiable, IsNotIdentifiableOver, IsJointLost, IdentifiesAsDrawn, AdjustsAsDrawn}
 use Rattle.causal_cli.specs.AsDrawn.{IsAdjustedAsDrawn, IsSurrogateAsDrawn, IsSeparatedAsDrawn, IsRuledAsDrawn, IsIndependentAsDrawn, IsZeroAsDrawn}
 use Rattle.causal_cli.specs.AsDrawn.{ArePairsAsDrawn, AreZeroAsDrawn, AreDifferencesAsDrawn}
@@ -363,3 +376,54 @@ measures d list count other (implied.Differences t measured) h =
 pub implies_over_counts : (count : Option Text) (other : List ℕ) (d : Diagram) (list : List Implication) (a : ImplicationsAnswer)
     → ArePairs (pairs_in d.observed list) → IsForCounts (pairs_in d.observed list) count other (Ok a) → AreDifferencesAsDrawn d list a
 implies_over_counts count other d list a are h = record { independent = independent d list are; zero = measures d list count other a h }
+
+-- ---- evaluate
+
+-- a right answer of `evaluate` before counts are read
+pub unevaluated : (way : Way) (x y : Names) (d : Diagram) (a : EvaluateAnswer) → IsForDiagram way d x y (Ok a) → IsUnevaluatedAsDrawn way d a
+unevaluated (by_procedure short) x y d (evaluated.Hedge h) is = hedge_drawn d h is.1
+unevaluated (by_procedure short) x y d (evaluated.Joint t settled h) is = absurd is
+unevaluated (by_procedure short) x y d (evaluated.NotAdmissible s fault) is = tt
+unevaluated (by_condition short given) x y d (evaluated.Joint t settled h) is = joint_drawn d (target_view t) settled h is.1
+unevaluated (by_condition short given) x y d (evaluated.Hedge h) is = absurd is
+unevaluated (by_condition short given) x y d (evaluated.NotAdmissible s fault) is = tt
+unevaluated (by_adjusting true set) x y d (evaluated.NotAdmissible s fault) is = tt
+unevaluated (by_adjusting false set) x y d (evaluated.NotAdmissible s fault) is =
+    formula_failure_is_drawn (graph_of d.read.graph) d.read.graph.valid (has d.read.latent.bits) (graph_of d.observed.graph) (observed d)
+    (effect_on s.x.bits s.y.bits) (adjustment_formula s.x.bits s.y.bits s.given.bits) is.1.1
+unevaluated (by_adjusting back_door set) x y d (evaluated.Hedge h) is = absurd is
+unevaluated (by_adjusting back_door set) x y d (evaluated.Joint t settled h) is = absurd is
+unevaluated way x y d (evaluated.Values a) is = tt
+
+-- ---- check
+
+-- a certificate has one target and one formula
+same_formula : (t : PlainTarget) (f : PlainFormula) (e : PlainDerivation) (u : PlainTarget) (g : PlainFormula) (d : Option Derivation)
+    → option_map (λ (k : Derivation). formula u g (derivation_view k)) d ≡ Some (formula t f e) → (u ≡ t) × (g ≡ f)
+same_formula t f e u g None is = absurd (none-some (formula t f e) is)
+same_formula t f e u g (Some d) is =
+    let one : formula u g (derivation_view d) ≡ formula t f e = same_Some (formula u g (derivation_view d)) (formula t f e) is in (cc one, cc one)
+
+checks_text : (q : MixedGraph) (d : Diagram) → IsObservedGraph d.read q → (names : List (List ℕ)) (zs other : List ℕ) (a : CheckAnswer)
+    → IsForText q names zs other a → IsCheckedAsDrawn d zs a
+checks_text q d observed names zs other (checked.AcceptedFormula a) (of_formula t f e holds is) =
+    let same = same_formula t f e (target_view a.target) (formula_view a.formula) a.derivation is.0 in
+    subst (λ (u : PlainTarget). IsRightAsDrawn d.read u (formula_view a.formula)) (sym same.0)
+    (subst (λ (g : PlainFormula). IsRightAsDrawn d.read t g) (sym same.1) (drawn d.read q observed t f is.1.effect))
+checks_text q d observed names zs other (checked.AcceptedFormula a) (of_hedge t h entries holds is) = absurd is
+checks_text q d observed names zs other (checked.AcceptedHedge s k over) (of_formula t f e holds is) = absurd is
+checks_text q d observed names zs other (checked.AcceptedHedge s k over) (of_hedge t h entries holds is) =
+    let lost = effect_lost d.read q observed t.x t.y is.4.pair is.4.models in
+    let lost_over = effect_lost_over d.read q observed t.x t.y is.4.pair is.4.models zs is.4.under in
+    (subst (λ (x : ℕ). IsNotIdentifiable d.read (effect_on x s.y.bits)) (sym is.0)
+    (subst (λ (y : ℕ). IsNotIdentifiable d.read (effect_on t.x y)) (sym is.1) lost),
+      subst (λ (x : ℕ). IsNotIdentifiableOver d.read zs (effect_on x s.y.bits)) (sym is.0)
+      (subst (λ (y : ℕ). IsNotIdentifiableOver d.read zs (effect_on t.x y)) (sym is.1) lost_over))
+checks_text q d observed names zs other (checked.RefusedDerivation lemmas fault) is = tt
+checks_text q d observed names zs other (checked.RefusedHedge fault) is = tt
+checks_text q d observed names zs other checked.MetHedge is = tt
+
+-- a right answer of `check`
+pub checks : (other : List ℕ) (d : Diagram) (zs : List ℕ) (a : CheckAnswer) → IsForCertificate (graph_of d.observed.graph) d.observed.names zs other (Ok a)
+    → IsCheckedAsDrawn d zs a
+checks other d zs a h = checks_text (graph_of d.observed.graph) d (observed d) d.observed.names zs other a h

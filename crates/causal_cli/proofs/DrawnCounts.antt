@@ -1,5 +1,6 @@
 -- What the counts cover in the diagram as drawn.
-use Rattle.std.proofs.Common.{◌≡◌, ℕ, ◌<◌, Bool, true, false, ◌||◌, refl, ap₂, subst}
+use Rattle.std.proofs.Common.{◌≡◌, ℕ, ◌<◌, Bool, true, false, ◌||◌, List, Option, Ok, refl, sym, ap₂, subst}
+use Rattle.std.specs.Prelude.{All}
 use Rattle.std.proofs.lemmas.List.Elements.{All-weaker}
 use Rattle.mixed_graph.specs.Bits.{has}
 use Rattle.mixed_graph.specs.Graphs.{MixedGraph, IsMixedGraph}
@@ -23,14 +24,21 @@ use Rattle.quantity.specs.Laws.Interval.{bounds_lawful}
 use Rattle.count_rows.specs.Rows.{Table}
 use Rattle.count_table.specs.Cells as cells
 use Rattle.count_eval.specs.Programs.{weights_in, is_used, cell_of}
-use Rattle.replies.specs.declared.format.Format.{Format}
-use Rattle.replies.specs.Told.{Told}
-use Rattle.replies.specs.declared.outcome.Outcome.TheVariants.{Yes}
 use Rattle.diagram.specs.Observed.{IsObservedGraph}
-use Rattle.evaluate_command.specs.Answers.{CoversEffect, QuantityAnswer}
-use Rattle.evaluate_command.specs.Cells.{CellValue}
-use Rattle.evaluate_command.specs.Effects.{PlainEffect, target_of}
-use Rattle.causal_cli.specs.Drawn.{CoversAsDrawn, EachCoversAsDrawn}
+use Rattle.command_words.specs.Form.{Text}
+use Rattle.diagram.specs.Sets.{Names}
+use Rattle.diagram.specs.declared.diagram.Diagram.{Diagram}
+use Rattle.diagram.proofs.ObservedParts.{part_of}
+use Rattle.evaluate_command.specs.Cells.{CellValue, CoversEffect}
+use Rattle.evaluate_command.specs.Effects.{PlainEffect, target_of, Identifies}
+use Rattle.evaluate_command.specs.Right.{IsOverTable, IsForTable, IsForCounts}
+use Rattle.evaluate_command.specs.Ways.{Way}
+use Rattle.evaluate_command.specs.declared.answer.Values.{Values}
+use Rattle.evaluate_command.specs.declared.answer.Values.TheVariants as values
+use Rattle.evaluate_command.specs.declared.answer.Answer.{Answer}
+use Rattle.evaluate_command.specs.declared.answer.Answer.TheVariants as evaluated
+use Rattle.causal_cli.specs.AsDrawn.{CoversAsDrawn, EachCoversAsDrawn, AreCoveredAsDrawn, IsEvaluatedAsDrawn}
+use Rattle.causal_cli.proofs.AsDrawn.{drawn}
 
 -- an effect depends on the values of the model's vertices alone
 same_effect : (q : MixedGraph) → IsMixedGraph q → (m : FiniteModel) → Fits q m → (t : PlainTarget) (s r : ℕ → ℕ) → ((v : ℕ) → v < m.vertices → s v ≡ r v)
@@ -59,13 +67,32 @@ covers_as_drawn kind covers lawful g e is ok t v h m fit observed matched s hs a
     (subst (λ x. IsEqual x (drawn_effect l m (target_of e) s)) same
     (folded_keeps_effects (graph_of g.graph) g.graph.valid l e.graph is m f.folded fit f.fits f.folds observed (target_of e) s hs))
 
--- each value of the answer is so, in either kind of quantity
-pub each_covers : (format : Format) (is_exact zero : Bool) (g : ReadGraph) (e : PlainEffect) (t : Table) (text : Told)
-    → IsObservedGraph g e.graph → IsMixedGraph e.graph
-    → (shows : QuantityAnswer format is_exact zero e t Yes text) → EachCoversAsDrawn format is_exact zero g e t text shows
-each_covers format true zero g e t text is ok h =
-    All-weaker (CoversEffect Equals e t) (CoversAsDrawn Equals g e t) (λ v c.
-    covers_as_drawn exact Equals exact_lawful g e is ok t v c) h.values.values h.values.effects
-each_covers format false zero g e t text is ok h =
-    All-weaker (CoversEffect Covers e t) (CoversAsDrawn Covers g e t) (λ v c.
-    covers_as_drawn bounds Covers bounds_lawful g e is ok t v c) h.values.values h.values.effects
+-- each value is so, in either kind of quantity
+pub each_covers : (is_exact zero : Bool) (g : ReadGraph) (e : PlainEffect) (t : Table) (v : Values) → IsObservedGraph g e.graph → IsMixedGraph e.graph
+    → IsOverTable is_exact zero e t v → EachCoversAsDrawn g e t v
+each_covers true zero g e t (values.Exact list) is ok h = subst (All (CoversAsDrawn Equals g e t)) (sym h.listed)
+    (All-weaker (CoversEffect Equals e t) (CoversAsDrawn Equals g e t) (λ v c. covers_as_drawn exact Equals exact_lawful g e is ok t v c)
+    h.values.values h.values.effects)
+each_covers false zero g e t (values.Bounds list) is ok h = subst (All (CoversAsDrawn Covers g e t)) (sym h.listed)
+    (All-weaker (CoversEffect Covers e t) (CoversAsDrawn Covers g e t) (λ v c. covers_as_drawn bounds Covers bounds_lawful g e is ok t v c)
+    h.values.values h.values.effects)
+each_covers true zero g e t (values.Bounds list) is ok h = absurd h
+each_covers false zero g e t (values.Exact list) is ok h = absurd h
+
+-- a right answer of `evaluate` over counts
+pub evaluates : (way : Way) (x y : Names) (is_exact zero : Bool) (count : Option Text) (other : List ℕ) (d : Diagram) (e : PlainEffect) (a : Answer)
+    → Identifies way d x y e → IsForCounts is_exact zero e count other (Ok a) → IsEvaluatedAsDrawn d e a
+evaluates way x y is_exact zero count other d e a identifies h = record {
+  formula = drawn d.read e.graph seen (target_of e) e.formula identifies.identified.effect;
+  values = covered a h.answer;
+}
+  where
+    seen : IsObservedGraph d.read e.graph
+    seen = subst (IsObservedGraph d.read) (sym identifies.graph) (part_of d).graph
+
+    covered : (b : Answer) → IsForTable is_exact zero e h.table b → AreCoveredAsDrawn d e b
+    covered (evaluated.Values v) k = subst (λ (t : Table). EachCoversAsDrawn d.read e t v.values) (sym k.table)
+        (each_covers is_exact zero d.read e h.table v.values seen identifies.identified.graph k.values)
+    covered (evaluated.Hedge k) f = absurd f
+    covered (evaluated.Joint t settled k) f = absurd f
+    covered (evaluated.NotAdmissible s fault) f = absurd f

@@ -3,15 +3,18 @@ use Rattle.std.proofs.Common.{◌≡◌, ℕ, ◌<◌, ◌≤◌, List, Option, 
 use Rattle.std.proofs.lemmas.Option.{none-some}
 use Rattle.std.specs.Prelude.{IfSome}
 use Rattle.std.specs.Io.KnownBytes.{Appends}
+use Rattle.mixed_graph.specs.Shown.{graph_of}
 use Rattle.command_words.specs.Form.{Text, Use}
 use Rattle.targets.specs.declared.fault.TargetFault.{TargetFault}
 use Rattle.replies.specs.declared.outcome.Outcome.{Outcome}
 use Rattle.replies.specs.declared.outcome.Outcome.TheVariants.{Yes, No}
 use Rattle.replies.specs.Outcomes.{code_of}
 use Rattle.replies.specs.Told.{Told}
+use Rattle.diagram.specs.Sets.{Names}
+use Rattle.diagram.specs.declared.diagram.Diagram.{Diagram}
 use Rattle.told.specs.Forms.{plain_form}
 use Rattle.told.specs.Refusals.{target_refusal}
-use Rattle.told.specs.Telling.{outcome_in}
+use Rattle.told.specs.Telling.{Tells, outcome_in}
 use Rattle.identify_command.specs.Forms.{is_certified, told_form}
 use Rattle.identify_command.specs.Requests as identify_requests
 use Rattle.identify_command.specs.Right.{IsIdentifyAnswer}
@@ -37,16 +40,37 @@ use Rattle.implications_command.specs.Telling.{implications_telling}
 use Rattle.implications_command.specs.declared.answer.Answer.{Answer}
 use Rattle.implications_command.specs.declared.answer.Answer.TheVariants.{NoPairs, Pairs, Differences}
 use Rattle.implications_command.specs.declared.fault.CountsFault.{CountsFault}
+use Rattle.experiment_lists.specs.Words.{Lists as Experiments}
+use Rattle.check_command.specs.Refusals.{certificate_refusal}
+use Rattle.check_command.specs.Requests as check_requests
+use Rattle.check_command.specs.Right.{AreExperimentsOn, IsForFirst, IsForCertificate}
+use Rattle.check_command.specs.Telling.{check_telling}
+use Rattle.check_command.specs.declared.answer.Answer.{Answer as CheckAnswer}
+use Rattle.check_command.specs.declared.fault.CertificateFault.{CertificateFault}
+use Rattle.check_command.specs.declared.fault.CertificateFault.TheVariants as certificates
+use Rattle.evaluate_command.specs.Effects.{PlainEffect, Identifies}
+use Rattle.evaluate_command.specs.First.{IsForDiagram}
+use Rattle.evaluate_command.specs.Requests as evaluate_requests
+use Rattle.evaluate_command.specs.Right as evaluations_right
+use Rattle.evaluate_command.specs.Telling.{evaluate_telling}
+use Rattle.evaluate_command.specs.ValuesFaults.{values_refusal}
+use Rattle.evaluate_command.specs.Ways.{Way, by_procedure, by_adjusting, by_condition}
+use Rattle.evaluate_command.specs.declared.answer.Answer.{Answer as EvaluateAnswer}
+use Rattle.evaluate_command.specs.declared.answer.Answer.TheVariants as evaluations
+use Rattle.evaluate_command.specs.declared.faults.ValuesFault.{ValuesFault}
+use Rattle.evaluate_command.specs.declared.faults.ValuesFault.TheVariants as faults
 use Rattle.command_run.specs.Answers.{HoldsAnswer, Defined, DefinedWith}
 use Rattle.command_run.specs.Commands.{Request, of}
 use Rattle.command_run.proofs.Deliveries.{mapped}
 use Rattle.causal_cli.specs.AsDrawn.{IdentifiesAsDrawn, IsAdjustedAsDrawn, IsSurrogateAsDrawn, IsSeparatedAsDrawn, IsRuledAsDrawn, ArePairsAsDrawn}
-use Rattle.causal_cli.specs.AsDrawn.{AreDifferencesAsDrawn}
-use Rattle.causal_cli.specs.Calls.{Call, WrittenFor}
+use Rattle.causal_cli.specs.AsDrawn.{AreDifferencesAsDrawn, IsUnevaluatedAsDrawn, IsEvaluatedAsDrawn, IsCheckedAsDrawn}
+use Rattle.causal_cli.specs.Calls.{Call, WrittenFor, WrittenForBoth}
 use Rattle.causal_cli.specs.Commands.{commands, form_of}
-use Rattle.causal_cli.specs.declared.commands.Command.TheVariants.{Identify, Adjust, Surrogate, Separate, Rule, Implications}
+use Rattle.causal_cli.specs.declared.commands.Command.TheVariants.{Identify, Adjust, Surrogate, Separate, Rule, Implications, Check, Evaluate}
 use Rattle.causal_cli.specs.Drawn.{IsIdentifiedAsDrawn, IsAdjusted, IsSurrogated, IsSeparated, IsRuled, IsImplied, IsImpliedOverCounts, IsImpliedIn, Implied, RightAsDrawn}
-use Rattle.causal_cli.proofs.AsDrawn.{identifies, adjusts, surrogates, separates, rules, implies, implies_over_counts}
+use Rattle.causal_cli.specs.Drawn.{IsChecked, IsEvaluated, IsUnevaluated}
+use Rattle.causal_cli.proofs.AsDrawn.{identifies, adjusts, surrogates, separates, rules, implies, implies_over_counts, unevaluated, checks}
+use Rattle.causal_cli.proofs.DrawnCounts.{evaluates}
 use Rattle.causal_cli.proofs.CallAnswers.{CallAnswer, on_words, on_file, on_both, Gave, under_name, under_names, written_for}
 use Rattle.causal_cli.proofs.ToldAnswers.{answered, answered_on_both}
 
@@ -147,6 +171,134 @@ module _ (r : Call) (code : ℕ) (text : Told) (status : code ≡ 0) where
     whole = whole;
   }
 
+-- ---- check and evaluate
+
+-- certificates that are refused have another status
+certificate_refused : (e : CertificateFault) → 1 < code_of (certificate_refusal.outcome e)
+certificate_refused certificates.TooLong = omega arith
+certificate_refused (certificates.Faulty fault) = omega arith
+certificate_refused certificates.NoMemory = omega arith
+
+-- and so have evaluations
+values_refused : (e : ValuesFault) → 1 < code_of (values_refusal.outcome e)
+values_refused faults.TooLong = omega arith
+values_refused (faults.Counts fault) = omega arith
+values_refused (faults.NoValue names t fault) = omega arith
+values_refused faults.NoMemory = omega arith
+
+-- the diagram alone has no answer of `check`
+not_first : (d : Diagram) (experiments : Experiments) (code : ℕ) (o : Outcome) (r : Result CheckAnswer TargetFault) → IsForFirst d experiments r
+    → code ≡ code_of o → code ≤ 1 → o ≡ outcome_in check_telling target_refusal r → ⊥
+not_first d experiments code o (Ok a) right status small ends = right
+not_first d experiments code o (Err fault) right status small ends = let c = status ∙ ap code_of ends in omega (arith, c, small)
+
+module _ (r : Call) (uses : List Use) (code : ℕ) (o : Outcome) (text : Told) (status : code ≡ code_of o) (small : code ≤ 1)
+    (whole : Appends r.before r.after text.text)
+    (held : (w : Request commands) (bytes : List ℕ) → Defined commands w bytes o text → HoldsAnswer commands w bytes o text) where
+  pub checked : CallAnswer r Check uses o text
+      → WrittenForBoth check_requests.IsRequest (λ q. q.file) (λ q. q.certificate) (λ q bytes other. IsChecked q bytes other code) r uses
+  checked (on_words q is h) = absurd h
+  checked (on_file q is file names h) = record {
+    request = q;
+    told = text;
+    asks = is;
+    right = under_name r.held q.file file (λ bytes. Defined commands (of Check q) bytes o text)
+        (λ bytes. IfSome (r.held_second q.certificate) (λ other. IsChecked q bytes other code text))
+        (λ bytes a. let b = held (of Check q) bytes a in
+        absurd (not_first b.diagram q.experiments code o b.answer.answer b.answer.right status small b.answer.ends)) names h;
+    whole = whole;
+  }
+  checked (on_both q is file second names names_second h) = record {
+    request = q;
+    told = text;
+    asks = is;
+    right = under_names r.held r.held_second q.file file q.certificate second (λ bytes other. DefinedWith commands (of Check q) bytes other o text)
+        (λ bytes other. IsChecked q bytes other code text)
+        (λ bytes other d. answered_on_both check_telling certificate_refusal certificate_refused (plain_form q.format) bytes code o text status small other
+        (λ d. AreExperimentsOn d.read.names d.observed.names q.experiments) (λ d. IsForCertificate (graph_of d.observed.graph) d.observed.names)
+        IsCheckedAsDrawn (λ d zs a are h. checks other d zs a h) d.0 d.1 d.3.0 d.3.1 d.3.2) names names_second h;
+    whole = whole;
+  }
+
+-- ---- evaluate
+
+-- a yes is given over counts
+module _ (r : Call) (uses : List Use) (code : ℕ) (text : Told) (status : code ≡ 0) (whole : Appends r.before r.after text.text) where
+  no_values_alone : (way : Way) (d : Diagram) (x y : Names) (k : Result EvaluateAnswer TargetFault) → IsForDiagram way d x y k
+      → Yes ≡ outcome_in evaluate_telling target_refusal k → ⊥
+  no_values_alone (by_procedure short) d x y (Ok (evaluations.Values a)) right e = right
+  no_values_alone (by_adjusting back_door set) d x y (Ok (evaluations.Values a)) right e = right
+  no_values_alone (by_condition short given) d x y (Ok (evaluations.Values a)) right e = right
+  no_values_alone way d x y (Ok (evaluations.Hedge h)) right e = let c : 0 ≡ 1 = ap code_of e in omega (arith, c)
+  no_values_alone way d x y (Ok (evaluations.Joint t settled h)) right e = let c : 0 ≡ 1 = ap code_of e in omega (arith, c)
+  no_values_alone way d x y (Ok (evaluations.NotAdmissible s fault)) right e = let c : 0 ≡ 1 = ap code_of e in omega (arith, c)
+  no_values_alone way d x y (Err fault) right e = let c : 0 ≡ 3 = ap code_of e in omega (arith, c)
+
+  pub evaluated : CallAnswer r Evaluate uses Yes text
+      → WrittenForBoth evaluate_requests.IsRequest (λ q. q.file) (λ q. q.counts) (λ q bytes other. IsEvaluated q bytes other code) r uses
+  evaluated (on_words q is h) = absurd h
+  evaluated (on_file q is file names h) = record {
+    request = q;
+    told = text;
+    asks = is;
+    right = under_name r.held q.file file (λ bytes. HoldsAnswer commands (of Evaluate q) bytes Yes text)
+        (λ bytes. IfSome (r.held_second q.counts) (λ other. IsEvaluated q bytes other code text))
+        (λ bytes b. absurd (no_values_alone q.way b.diagram q.x q.y b.answer.answer b.answer.right b.answer.ends)) names h;
+    whole = whole;
+  }
+  evaluated (on_both q is file second names names_second h) = record {
+    request = q;
+    told = text;
+    asks = is;
+    right = under_names r.held r.held_second q.file file q.counts second (λ bytes other. DefinedWith commands (of Evaluate q) bytes other Yes text)
+        (λ bytes other. IsEvaluated q bytes other code text)
+        (λ bytes other d. answered_on_both evaluate_telling values_refusal values_refused (plain_form q.format) bytes code Yes text status
+        (omega (arith, status)) other (λ d. Identifies q.way d q.x q.y) (λ d e. evaluations_right.IsForCounts q.exact q.zero e q.count)
+        IsEvaluatedAsDrawn (λ d e a identifies h. evaluates q.way q.x q.y q.exact q.zero q.count other d e a identifies h) d.0 d.1 d.3.0 d.3.1
+        (subst (λ (names : List (List ℕ)). Tells evaluate_telling values_refusal (evaluations_right.IsForCounts q.exact q.zero d.3.0 q.count other) (plain_form q.format)
+        names Yes text) d.3.1.names d.3.2)) names names_second h;
+    whole = whole;
+  }
+
+-- a no is given on the diagram alone
+module _ (r : Call) (uses : List Use) (code : ℕ) (text : Told) (status : code ≡ 1) (whole : Appends r.before r.after text.text) where
+  no_over_counts : (exact zero : Bool) (e : PlainEffect) (count : Option Text) (other : List ℕ) (k : Result EvaluateAnswer ValuesFault)
+      → evaluations_right.IsForCounts exact zero e count other k → No ≡ outcome_in evaluate_telling values_refusal k → ⊥
+  no_over_counts exact zero e count other (Ok (evaluations.Values a)) right n = let c : 1 ≡ 0 = ap code_of n in omega (arith, c)
+  no_over_counts exact zero e count other (Ok (evaluations.Hedge h)) right n = right.answer
+  no_over_counts exact zero e count other (Ok (evaluations.Joint t settled h)) right n = right.answer
+  no_over_counts exact zero e count other (Ok (evaluations.NotAdmissible s fault)) right n = right.answer
+  no_over_counts exact zero e count other (Err fault) right n = let c : 1 ≡ code_of (values_refusal.outcome fault) = ap code_of n in
+      omega (arith, c, values_refused fault)
+
+  if_told : (other : Option (List ℕ)) (P : Type 0) → P → IfSome other (λ bytes. P)
+  if_told (Some other) P p = p
+  if_told None P p = tt
+
+  pub not_evaluated : CallAnswer r Evaluate uses No text
+      → WrittenForBoth evaluate_requests.IsRequest (λ q. q.file) (λ q. q.counts) (λ q bytes other. IsUnevaluated q bytes code) r uses
+  not_evaluated (on_words q is h) = absurd h
+  not_evaluated (on_file q is file names h) = record {
+    request = q;
+    told = text;
+    asks = is;
+    right = under_name r.held q.file file (λ bytes. HoldsAnswer commands (of Evaluate q) bytes No text)
+        (λ bytes. IfSome (r.held_second q.counts) (λ other. IsUnevaluated q bytes code text))
+        (λ bytes b. if_told (r.held_second q.counts) (IsUnevaluated q bytes code text)
+        (answered evaluate_telling target_refusal target_refused (plain_form q.format) bytes code No text status (omega (arith, status))
+        (λ d. IsForDiagram q.way d q.x q.y) (IsUnevaluatedAsDrawn q.way) (unevaluated q.way q.x q.y) b.diagram b.holds b.answer)) names h;
+    whole = whole;
+  }
+  not_evaluated (on_both q is file second names names_second h) = record {
+    request = q;
+    told = text;
+    asks = is;
+    right = under_names r.held r.held_second q.file file q.counts second (λ bytes other. DefinedWith commands (of Evaluate q) bytes other No text)
+        (λ bytes other. IsUnevaluated q bytes code text)
+        (λ bytes other d. absurd (no_over_counts q.exact q.zero d.3.0 q.count other d.3.2.answer d.3.2.right d.3.2.ends)) names names_second h;
+    whole = whole;
+  }
+
 -- ---- a run
 
 pub right_as_drawn_of : (r : Call) (code : ℕ) (o : Outcome) (text : Told) → code ≡ code_of o → (code ≤ 1 → Gave r o text) → RightAsDrawn r code
@@ -156,7 +308,10 @@ right_as_drawn_of r code Yes text c g = let h = g (omega (arith, c)) in record {
   surrogated = λ uses call small. surrogated r uses code Yes text c small h.whole (λ w bytes a. a) (h.answers Surrogate uses call);
   separated = λ uses call small. separated r uses code Yes text c small h.whole (λ w bytes a. a) (h.answers Separate uses call);
   ruled = λ uses call small. ruled r uses code Yes text c small h.whole (λ w bytes a. a) (h.answers Rule uses call);
+  checked = λ uses call small. checked r uses code Yes text c small h.whole (λ w bytes a. a) (h.answers Check uses call);
   implied = λ uses call zero. implied r code text c uses h.whole (h.answers Implications uses call);
+  evaluated = λ uses call zero. evaluated r uses code text zero h.whole (h.answers Evaluate uses call);
+  unevaluated = λ uses call one. absurd (omega (arith, c, one));
 }
 right_as_drawn_of r code No text c g = let h = g (omega (arith, c)) in record {
   identified = λ uses call small. identified r uses code No text c small h.whole (λ w bytes a. a) (h.answers Identify uses call);
@@ -164,7 +319,10 @@ right_as_drawn_of r code No text c g = let h = g (omega (arith, c)) in record {
   surrogated = λ uses call small. surrogated r uses code No text c small h.whole (λ w bytes a. a) (h.answers Surrogate uses call);
   separated = λ uses call small. separated r uses code No text c small h.whole (λ w bytes a. a) (h.answers Separate uses call);
   ruled = λ uses call small. ruled r uses code No text c small h.whole (λ w bytes a. a) (h.answers Rule uses call);
+  checked = λ uses call small. checked r uses code No text c small h.whole (λ w bytes a. a) (h.answers Check uses call);
   implied = λ uses call zero. absurd (omega (arith, c, zero));
+  evaluated = λ uses call zero. absurd (omega (arith, c, zero));
+  unevaluated = λ uses call one. not_evaluated r uses code text one h.whole (h.answers Evaluate uses call);
 }
 right_as_drawn_of r code o text c g = record {
   identified = λ uses call small. absurd (omega (arith, c, small));
@@ -173,4 +331,7 @@ right_as_drawn_of r code o text c g = record {
   separated = λ uses call small. absurd (omega (arith, c, small));
   ruled = λ uses call small. absurd (omega (arith, c, small));
   implied = λ uses call zero. absurd (omega (arith, c, zero));
+  checked = λ uses call small. absurd (omega (arith, c, small));
+  evaluated = λ uses call zero. absurd (omega (arith, c, zero));
+  unevaluated = λ uses call one. absurd (omega (arith, c, one));
 }

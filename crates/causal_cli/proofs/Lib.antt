@@ -1,12 +1,11 @@
 pub mod Lawful
 pub mod CallAnswers
-pub mod CheckedRuns
+mod AsDrawn
 mod DrawnCounts
-mod DrawnPairs
+mod ToldAnswers
 pub mod DrawnRuns
 pub mod Headlines
 pub mod LongInputs
 mod OneFault
 mod Readable
-pub mod RefutedRuns
 mod Texts

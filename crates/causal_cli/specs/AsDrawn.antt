@@ -1,18 +1,19 @@
 -- What an answer says of the diagram as drawn, with its hidden vertices: of the models of the graph that was read, whatever the mechanisms of these.
 -- What it says of the observed graph stands with the answers that are right, in the crate of each command.
-use Rattle.std.specs.Prelude.{ℕ, ◌≡◌, Bool, true, List, All, IsTrue, pos}
+use Rattle.std.specs.Prelude.{ℕ, ◌≡◌, ◌<◌, Bool, true, false, List, All, IsTrue, pos}
 use Rattle.mixed_graph.specs.Bits.{has}
 use Rattle.mixed_graph.specs.Graphs.{MixedGraph}
 use Rattle.mixed_graph.specs.Shown.{graph_of}
 use Rattle.mixed_graph.specs.declared.sets.VSet.{VSet}
-use Rattle.finite_models.specs.Models.{FiniteModel, Fits}
+use Rattle.fractions.specs.Fractions.{Fraction}
+use Rattle.finite_models.specs.Models.{FiniteModel, Fits, IsAssignment}
 use Rattle.do_rules.specs.Rules.{AreThreeSets, left_of, right_of}
 use Rattle.prob_expr.specs.Listed.{masks_of}
 use Rattle.prob_expr.specs.Terms.{is_do_free}
 use Rattle.prob_expr.specs.Tree.{PlainFormula, PlainTarget, effect_on}
 use Rattle.prob_expr.specs.View.{target_view, formula_view}
 use Rattle.dag_reader.specs.declared.graph.ReadGraph.{ReadGraph}
-use Rattle.hidden_models.specs.Folding.{IsMatchedAsDrawn}
+use Rattle.hidden_models.specs.Folding.{IsObservedPositive, IsMatchedAsDrawn, values_after, drawn_effect}
 use Rattle.hidden_models.specs.FoldingLaws.{EqualsAsDrawn}
 use Rattle.hidden_models.specs.Statements.{AreIndependentAsDrawn, AreDependentAsDrawn, AreEqualSidesAsDrawn, DifferSomewhereAsDrawn}
 use Rattle.hidden_models.specs.Unfolding.{NotIdentifiableAsDrawn, NotIdentifiableOverAsDrawn, FailsSomewhereAsDrawn}
@@ -20,7 +21,10 @@ use Rattle.adjustment.specs.Formulas.{adjustment_formula}
 use Rattle.surrogates.specs.Answers.{IsBlockedTogether}
 use Rattle.count_rows.specs.Rows.{Table}
 use Rattle.count_table.specs.Cells.{total}
-use Rattle.count_eval.specs.Programs.{weights_in, is_used}
+use Rattle.count_eval.specs.Programs.{weights_in, is_used, cell_of}
+use Rattle.quantity.specs.Kinds.{Pair}
+use Rattle.quantity.specs.Exacts.{Equals}
+use Rattle.quantity.specs.Intervals.{Covers}
 use Rattle.implications.specs.Separable.{only}
 use Rattle.implications.specs.declared.pairs.Implication.{Implication}
 use Rattle.implied_differences.specs.declared.largest.Difference.{Difference}
@@ -41,6 +45,15 @@ use Rattle.separation_commands.specs.declared.rule.answer.Answer.TheVariants as 
 use Rattle.implications_command.specs.declared.differences.Measured.{Measured}
 use Rattle.implications_command.specs.declared.answer.Answer.{Answer as ImplicationsAnswer}
 use Rattle.implications_command.specs.declared.answer.Answer.TheVariants as implied
+use Rattle.evaluate_command.specs.Cells.{CellValue, plain_in, exact_numbers, bounds_numbers}
+use Rattle.evaluate_command.specs.Effects.{PlainEffect, target_of}
+use Rattle.evaluate_command.specs.Ways.{Way, by_procedure, by_adjusting, by_condition}
+use Rattle.evaluate_command.specs.declared.answer.Values.{Values}
+use Rattle.evaluate_command.specs.declared.answer.Values.TheVariants as values
+use Rattle.evaluate_command.specs.declared.answer.Answer.{Answer as EvaluateAnswer}
+use Rattle.evaluate_command.specs.declared.answer.Answer.TheVariants as evaluated
+use Rattle.check_command.specs.declared.answer.Answer.{Answer as CheckAnswer}
+use Rattle.check_command.specs.declared.answer.Answer.TheVariants as checked
 
 -- ---- formulas and effects
 
@@ -152,3 +165,50 @@ AreZeroAsDrawn d (implied.Differences t measured) = All (λ (m : Measured). IsZe
 pub record AreDifferencesAsDrawn (d : Diagram) (list : List Implication) (a : ImplicationsAnswer) : Type 0 where
   pub independent : All (IsIndependentAsDrawn d.read) list
   pub zero : AreZeroAsDrawn d a
+
+-- ---- evaluate
+
+-- what is answered before counts are read: what has a hedge isn't identifiable, and the formula of a set that breaks the adjustment criterion fails in some
+-- model
+abbrev pub IsUnevaluatedAsDrawn : Way → Diagram → EvaluateAnswer → Type 0
+IsUnevaluatedAsDrawn way d (evaluated.Hedge h) = IsNotIdentifiable d.read (effect_of h)
+IsUnevaluatedAsDrawn way d (evaluated.Joint t settled h) = IsJointLost d.read (target_view t) settled h
+IsUnevaluatedAsDrawn (by_adjusting false set) d (evaluated.NotAdmissible s fault) = FailsSomewhereAsDrawn (graph_of d.read.graph) (has d.read.latent.bits)
+    (effect_on s.x.bits s.y.bits) (adjustment_formula s.x.bits s.y.bits s.given.bits)
+IsUnevaluatedAsDrawn (by_adjusting true set) d (evaluated.NotAdmissible s fault) = Unit {0}
+IsUnevaluatedAsDrawn (by_procedure short) d (evaluated.NotAdmissible s fault) = Unit {0}
+IsUnevaluatedAsDrawn (by_condition short given) d (evaluated.NotAdmissible s fault) = Unit {0}
+IsUnevaluatedAsDrawn way d (evaluated.Values a) = Unit {0}
+
+-- The quantity covers P(y | do(x), given) at the cell in the diagram as drawn: in every model of the graph that was read that is positive on the observed
+-- vertices and whose observed weights are those of the counts, up to one factor, at each assignment in which the observed vertices have the levels of
+-- the cell.
+abbrev pub CoversAsDrawn : (Pair → Fraction → Type 0) → ReadGraph → PlainEffect → Table → CellValue → Type 0
+CoversAsDrawn covers g e t v = (m : FiniteModel) → Fits (graph_of g.graph) m → IsObservedPositive (has g.latent.bits) m
+    → IsMatchedAsDrawn (has g.latent.bits) (is_used t) (weights_in e.graph.vertices t) (total t.rows) m
+    → (s : ℕ → ℕ) → IsAssignment m.vertices m.size s → ((k : ℕ) → k < e.graph.vertices → values_after (has g.latent.bits) m.vertices s k ≡ cell_of v.cell k)
+    → covers v.quantity (drawn_effect (has g.latent.bits) m (target_of e) s)
+
+-- so does each value, in exact fractions or in bounds
+abbrev pub EachCoversAsDrawn : ReadGraph → PlainEffect → Table → Values → Type 0
+EachCoversAsDrawn g e t (values.Exact list) = All (CoversAsDrawn Equals g e t) (plain_in exact_numbers list.items)
+EachCoversAsDrawn g e t (values.Bounds list) = All (CoversAsDrawn Covers g e t) (plain_in bounds_numbers list.items)
+
+-- those of an answer
+abbrev pub AreCoveredAsDrawn : Diagram → PlainEffect → EvaluateAnswer → Type 0
+AreCoveredAsDrawn d e (evaluated.Values a) = EachCoversAsDrawn d.read e a.counts a.values
+AreCoveredAsDrawn d e a = Unit {0}
+
+-- the formula of the effect is right, and the values over counts are so
+pub record IsEvaluatedAsDrawn (d : Diagram) (e : PlainEffect) (a : EvaluateAnswer) : Type 0 where
+  pub formula : IsRightAsDrawn d.read (target_of e) e.formula
+  pub values : AreCoveredAsDrawn d e a
+
+-- ---- check
+
+-- the formula of an accepted certificate is right, and the effect of an accepted hedge isn't identifiable, nor is it by the experiments on the sets zs
+abbrev pub IsCheckedAsDrawn : Diagram → (zs : List ℕ) → CheckAnswer → Type 0
+IsCheckedAsDrawn d zs (checked.AcceptedFormula a) = IsRightAsDrawn d.read (target_view a.target) (formula_view a.formula)
+IsCheckedAsDrawn d zs (checked.AcceptedHedge s h over) =
+    IsNotIdentifiable d.read (effect_on s.x.bits s.y.bits) × IsNotIdentifiableOver d.read zs (effect_on s.x.bits s.y.bits)
+IsCheckedAsDrawn d zs a = Unit {0}

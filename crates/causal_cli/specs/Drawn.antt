@@ -1,6 +1,7 @@
 -- What the answers of the commands say of the diagram as drawn, with its hidden vertices, beside what they say of the observed graph.
 use Rattle.std.specs.Prelude.{ℕ, ◌≡◌, ◌≤◌, List, Option, Some, None, IfSome}
 use Rattle.std.specs.Io.KnownBytes.{Appends}
+use Rattle.mixed_graph.specs.Shown.{graph_of}
 use Rattle.command_words.specs.Form.{Text, Use}
 use Rattle.replies.specs.Told.{Told}
 use Rattle.told.specs.Forms.{plain_form}
@@ -31,9 +32,20 @@ use Rattle.implications_command.specs.Requests.{implications_row}
 use Rattle.implications_command.specs.Requests as implications_requests
 use Rattle.implications_command.specs.Right.{IsForGraph, IsForCounts}
 use Rattle.implications_command.specs.Telling.{implications_telling}
+use Rattle.check_command.specs.Requests.{check_row}
+use Rattle.check_command.specs.Requests as check_requests
+use Rattle.check_command.specs.Right.{AreExperimentsOn, IsForCertificate}
+use Rattle.check_command.specs.Telling.{check_telling}
+use Rattle.evaluate_command.specs.Effects.{Identifies}
+use Rattle.evaluate_command.specs.First.{IsForDiagram}
+use Rattle.evaluate_command.specs.Requests.{evaluate_row}
+use Rattle.evaluate_command.specs.Requests as evaluate_requests
+use Rattle.evaluate_command.specs.Right as evaluate_right
+use Rattle.evaluate_command.specs.Telling.{evaluate_telling}
 use Rattle.causal_cli.specs.Answered.{IsAnswered, IsAnsweredOnBoth}
 use Rattle.causal_cli.specs.AsDrawn.{IdentifiesAsDrawn, IsAdjustedAsDrawn, IsSurrogateAsDrawn, IsSeparatedAsDrawn, IsRuledAsDrawn, ArePairsAsDrawn, AreDifferencesAsDrawn}
-use Rattle.causal_cli.specs.Calls.{Call, IsCallOf, WrittenFor}
+use Rattle.causal_cli.specs.AsDrawn.{IsUnevaluatedAsDrawn, IsEvaluatedAsDrawn, IsCheckedAsDrawn}
+use Rattle.causal_cli.specs.Calls.{Call, IsCallOf, WrittenFor, WrittenForBoth}
 
 -- ---- identify, adjust, surrogate, separate and rule
 
@@ -83,10 +95,26 @@ pub record Implied (r : Call) (code : ℕ) (uses : List Use) : Type 0 where
   pub right : IsImpliedIn r request request.counts code told
   pub whole : Appends r.before r.after told.text
 
+-- ---- check and evaluate
+
+-- the answer to a request of `check` on a certificate
+abbrev pub IsChecked : check_requests.Request → (bytes other : List ℕ) (code : ℕ) (told : Told) → Type 0
+IsChecked q = IsAnsweredOnBoth check_telling (λ d. AreExperimentsOn d.read.names d.observed.names q.experiments)
+    (λ d. IsForCertificate (graph_of d.observed.graph) d.observed.names) IsCheckedAsDrawn (plain_form q.format)
+
+-- the answer to a request of `evaluate` over counts
+abbrev pub IsEvaluated : evaluate_requests.Request → (bytes other : List ℕ) (code : ℕ) (told : Told) → Type 0
+IsEvaluated q = IsAnsweredOnBoth evaluate_telling (λ d. Identifies q.way d q.x q.y)
+    (λ d e. evaluate_right.IsForCounts q.exact q.zero e q.count) IsEvaluatedAsDrawn (plain_form q.format)
+
+-- and before they are read
+abbrev pub IsUnevaluated : evaluate_requests.Request → (bytes : List ℕ) (code : ℕ) (told : Told) → Type 0
+IsUnevaluated q = IsAnswered evaluate_telling (λ d. IsForDiagram q.way d q.x q.y) (IsUnevaluatedAsDrawn q.way) (plain_form q.format)
+
 -- ---- a run
 
--- What is written with status 0 or 1 for `identify`, `adjust`, `surrogate`, `separate` and `rule`, and with status 0 for `implications`, is told of a right
--- answer, which is so in the diagram as drawn.
+-- What is written with status 0 or 1 for `identify`, `adjust`, `surrogate`, `separate`, `rule`, `check` and `evaluate`, and with status 0 for `implications`, is
+-- told of a right answer, which is so in the diagram as drawn. A status of 1 of `evaluate` is one of the diagram alone.
 pub record RightAsDrawn (r : Call) (code : ℕ) : Type 0 where
   pub identified : (uses : List Use) → IsCallOf identify_row r.words uses → code ≤ 1
       → WrittenFor identify_requests.IsRequest (λ q. q.file) (λ q bytes. IsIdentifiedAsDrawn q bytes code) r uses
@@ -99,3 +127,9 @@ pub record RightAsDrawn (r : Call) (code : ℕ) : Type 0 where
   pub ruled : (uses : List Use) → IsCallOf rule_row r.words uses → code ≤ 1
       → WrittenFor rule_requests.IsRequest (λ q. q.file) (λ q bytes. IsRuled q bytes code) r uses
   pub implied : (uses : List Use) → IsCallOf implications_row r.words uses → code ≡ 0 → Implied r code uses
+  pub checked : (uses : List Use) → IsCallOf check_row r.words uses → code ≤ 1
+      → WrittenForBoth check_requests.IsRequest (λ q. q.file) (λ q. q.certificate) (λ q bytes other. IsChecked q bytes other code) r uses
+  pub evaluated : (uses : List Use) → IsCallOf evaluate_row r.words uses → code ≡ 0
+      → WrittenForBoth evaluate_requests.IsRequest (λ q. q.file) (λ q. q.counts) (λ q bytes other. IsEvaluated q bytes other code) r uses
+  pub unevaluated : (uses : List Use) → IsCallOf evaluate_row r.words uses → code ≡ 1
+      → WrittenForBoth evaluate_requests.IsRequest (λ q. q.file) (λ q. q.counts) (λ q bytes other. IsUnevaluated q bytes code) r uses

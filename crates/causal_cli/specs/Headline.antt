@@ -1,4 +1,4 @@
--- The headline, on a run: what words that ask for `identify`, and for `check`, are answered.
+-- The headline, on a run: what words that ask for `identify` are answered.
 use Rattle.std.specs.Prelude.{ℕ, ◌≡◌, ◌≤◌, ◌⊎◌, List, [], Some, unwrap_or}
 use Rattle.std.specs.Option.{option_or}
 use Rattle.mixed_graph.specs.Graphs.{MixedGraph}
@@ -11,8 +11,6 @@ use Rattle.hedge.specs.Hedges.{IsHedge}
 use Rattle.counter_models.specs.Pairs.{IsPairOf}
 use Rattle.identify.specs.Answers.{IsRightFormula, IsRightHedge}
 use Rattle.targets.specs.Targets.{AreEffectSets}
-use Rattle.replies.specs.declared.format.Format.{Format}
-use Rattle.replies.specs.declared.outcome.Outcome.TheVariants.{Yes}
 use Rattle.replies.specs.Told.{Told}
 use Rattle.replies.specs.Outcomes.{code_of}
 use Rattle.replies.specs.Observed.{HoldsGraph}
@@ -26,14 +24,11 @@ use Rattle.identify_command.specs.declared.answer.Answer.TheVariants.{Formula, H
 use Rattle.identify_command.specs.Forms.{told_form}
 use Rattle.identify_command.specs.Requests.{Request, IsRequest, identify_row}
 use Rattle.identify_command.specs.Telling.{identify_telling}
-use Rattle.check_command.specs.Answers as check
-use Rattle.check_command.specs.Requests.{check_row}
-use Rattle.check_command.specs.Requests as check_requests
-use Rattle.experiment_lists.specs.Words.{Lists}
-use Rattle.command_run.specs.Run.{Run, Rose}
+use Rattle.causal_io.specs.Causes.{Rose}
+use Rattle.command_run.specs.Run.{Run}
 use Rattle.causal_cli.specs.Answered.{told_of_answer}
 use Rattle.causal_cli.specs.AsDrawn.{IsRightAsDrawn, IsNotIdentifiable}
-use Rattle.causal_cli.specs.Calls.{Call, call_of, IsCallOf, WrittenFor, WrittenForBoth}
+use Rattle.causal_cli.specs.Calls.{Call, call_of, IsCallOf, WrittenFor}
 
 -- The formula is for P(y | do(x)). It has no intervention, and a derivation that the checker accepts; it equals the effect at each assignment in each
 -- positive finite model that fits the observed graph q, and in the diagram as drawn.
@@ -98,21 +93,3 @@ pub record Headline (r : Run) (code : ℕ) : Type 0 where
   pub right : (uses : List Use) → IsCallOf identify_row r.words uses → code ≤ 1 → Identified (call_of r) code uses
   pub answered : (uses : List Use) → IsCallOf identify_row r.words uses → AsksEffect r uses → (Rose r.out.faults r.out.faults_after → ⊥)
       → (code ≡ 0) ⊎ ((code ≡ 1) ⊎ (code ≡ 8))
-
--- The bytes of the file hold a graph, and those of the certificate are accepted in its observed graph `seen`, as the text says:
--- each term of its formula is observed or under one of the experiments, and it equals its effect at each assignment in each positive finite model that fits,
--- or its hedge has two positive finite models that fit, agree on all observations and under each of the experiments, and differ on the effect.
-pub record IsRightCertificate (format : Format) (experiments : Lists) (bytes other : List ℕ) (told : Told) : Type 0 where
-  pub graph : ReadGraph
-  pub holds : HoldsGraph bytes graph
-  pub seen : MixedGraph
-  pub observed : IsObservedGraph graph seen
-  pub accepted : check.ListsAnswer format seen graph.names (observed_names graph) experiments other Yes told
-
--- a certificate that these uses ask about was accepted for the file and the experiments that they ask for, of which there may be none, and the text was written
-abbrev pub Checked : Call → List Use → Type 0
-Checked = WrittenForBoth check_requests.IsRequest (λ q. q.file) (λ q. q.certificate) (λ q. IsRightCertificate q.format q.experiments)
-
--- where the words ask for `check`, status 0 says that the certificate is right
-abbrev pub HeadlineOfCheck : Call → ℕ → Type 0
-HeadlineOfCheck r code = (uses : List Use) → IsCallOf check_row r.words uses → code ≡ 0 → Checked r uses

@@ -8,8 +8,7 @@ ghost use Rattle.command_run.specs.Run.{Ended, run_on, stream_of};
 ghost use Rattle.causal_cli.specs.Calls.{call_on};
 ghost use Rattle.causal_cli.specs.Commands.{commands};
 ghost use Rattle.causal_cli.specs.Drawn.{RightAsDrawn};
-ghost use Rattle.causal_cli.specs.Headline.{Headline, HeadlineOfCheck};
-ghost use Rattle.causal_cli.specs.Refuted.{RefutedAsDrawn};
+ghost use Rattle.causal_cli.specs.Headline.{Headline};
 
 use crate::request::Request;
 use causal_io::{Sink, SureShelf, SureSink};
@@ -28,9 +27,7 @@ pub fn run_surely<E: Sink>(
         (stream_of (E.written err.old) (E.written err.new) (E.faults err.old) (E.faults err.new)) result.code }
     ensures complete { Complete commands (run_on (texts_of words.now) (held_surely shelf.old) (λ _. false) (λ _. 0) (λ _. 0) (stream_of None None 0 0)) result.code }
     ensures headline { Headline (run_on (texts_of words.now) (held_surely shelf.old) (λ _. false) (λ _. 0) (λ _. 0) (stream_of None None 0 0)) result.code }
-    ensures checked { HeadlineOfCheck (call_on (texts_of words.now) (held_surely shelf.old) None None) result.code }
     ensures drawn { RightAsDrawn (call_on (texts_of words.now) (held_surely shelf.old) None None) result.code }
-    ensures refuted { RefutedAsDrawn (call_on (texts_of words.now) (held_surely shelf.old) None None) result.code }
     ensures exact { IsExact commands (run_on (texts_of words.now) (held_surely shelf.old) (λ _. false) (λ _. 0) (λ _. 0) (stream_of None None 0 0)) result.code }
     ensures read { result.code ≢ 6 }
     ensures write { result.code ≢ 7 }

@@ -7,9 +7,8 @@ ghost use Rattle.command_run.specs.Complete.{Complete};
 ghost use Rattle.command_run.specs.Ends.{RepliesWith, IsInFormat, IsTextOf, Stays};
 ghost use Rattle.causal_cli.specs.Calls.{call_on};
 ghost use Rattle.causal_cli.specs.Commands.{commands};
-ghost use Rattle.causal_cli.specs.Headline.{Headline, HeadlineOfCheck};
+ghost use Rattle.causal_cli.specs.Headline.{Headline};
 ghost use Rattle.causal_cli.specs.Drawn.{RightAsDrawn};
-ghost use Rattle.causal_cli.specs.Refuted.{RefutedAsDrawn};
 
 use crate::request::Request;
 use causal_io::{Shelf, Sink};
@@ -33,9 +32,7 @@ pub fn run<S: Shelf, O: Sink, E: Sink>(
         (stream_of (O.written out.old) (O.written out.new) (O.faults out.old) (O.faults out.new))) result.code }
     ensures headline { Headline (run_on (texts_of words.now) (S.held shelf.old) (S.lacks shelf.old) (S.faults shelf.old) (S.faults shelf.new)
         (stream_of (O.written out.old) (O.written out.new) (O.faults out.old) (O.faults out.new))) result.code }
-    ensures checked { HeadlineOfCheck (call_on (texts_of words.now) (S.held shelf.old) (O.written out.old) (O.written out.new)) result.code }
     ensures drawn { RightAsDrawn (call_on (texts_of words.now) (S.held shelf.old) (O.written out.old) (O.written out.new)) result.code }
-    ensures refuted { RefutedAsDrawn (call_on (texts_of words.now) (S.held shelf.old) (O.written out.old) (O.written out.new)) result.code }
     ensures reads { ReadsAsAsked commands (run_on (texts_of words.now) (S.held shelf.old) (S.lacks shelf.old) (S.faults shelf.old) (S.faults shelf.new)
         (stream_of (O.written out.old) (O.written out.new) (O.faults out.old) (O.faults out.new))) (reads_of (S.reads shelf.old) (S.reads shelf.new) (S.given shelf.old) (S.given shelf.new)) }
     ensures holds { S.held shelf.new ≡ S.held shelf.old }

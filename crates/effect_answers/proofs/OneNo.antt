@@ -29,10 +29,10 @@ use Rattle.effect_answers.proofs.HedgeViews.{views_alike}
 
 module _ (q : MixedGraph) (valid : IsMixedGraph q) (few : q.vertices ≤ 64) (names : List (List ℕ)) (h k : EffectHedge) (same : k.sets ≡ h.sets)
     (a : IsEffectHedge q h) (b : IsEffectHedge q k) where
-  x : ℕ
+  abbrev x : ℕ
   x = h.sets.x.bits
 
-  y : ℕ
+  abbrev y : ℕ
   y = h.sets.y.bits
 
   found : IsFoundHedge q x y k.hedge k.pair

@@ -18,13 +18,11 @@ use Rattle.command_run.proofs.CompleteRuns.{complete, exact_unless_lacked}
 use Rattle.command_run.proofs.Deliveries.{delivered}
 use Rattle.causal_cli.specs.Calls.{call_of}
 use Rattle.causal_cli.specs.Commands.{commands}
-use Rattle.causal_cli.specs.Headline.{HeadlineOfCheck}
+use Rattle.causal_cli.specs.Drawn.{RightAsDrawn}
 use Rattle.causal_cli.proofs.CallAnswers.{Gave, gave}
-use Rattle.causal_cli.proofs.CheckedRuns.{checked}
 use Rattle.causal_cli.proofs.DrawnRuns.{right_as_drawn_of}
 use Rattle.causal_cli.proofs.Headlines.{headline}
 use Rattle.causal_cli.proofs.Lawful.{lawful}
-use Rattle.causal_cli.proofs.RefutedRuns.{refuted_as_drawn_of}
 use Rattle.span_call.specs.declared.Sizes.{Sizes}
 use Rattle.span_call.specs.Called.{IsRunOf, Called, line_of}
 use Rattle.span_call.specs.Rooms.{ShowsText}
@@ -74,8 +72,8 @@ module _ (kept : Option (List ℕ)) (bytes : List ℕ) (words : List Span) (inpu
     gives : code ≤ 1 → Gave (call_of run_of) reply.outcome (told_as commands reply)
     gives = gave run_of code reply.outcome (told_as commands reply) status ends
 
-    certificate : HeadlineOfCheck (call_of run_of) code
-    certificate = checked (call_of run_of) code reply.outcome (told_as commands reply) status gives
+    drawn : RightAsDrawn (call_of run_of) code
+    drawn = right_as_drawn_of (call_of run_of) code reply.outcome (told_as commands reply) status gives
 
     -- the rooms show what it wrote
     pub called : ShowsText (shown_of format reply) out_before out sizes.out → ShowsText (line_of reply) err_before err sizes.err
@@ -95,11 +93,8 @@ module _ (kept : Option (List ℕ)) (bytes : List ℕ) (words : List Span) (inpu
       told = known kept bytes words inputs run_of is_run;
       exact = exact_unless_lacked commands lawful run_of code reply.outcome (told_as commands reply) status ends
           (known kept bytes words inputs run_of is_run) (fails_lacked kept bytes words inputs run_of is_run) (λ rose. absurd (omega (arith, rose)));
-      headline = headline run_of code reply.outcome (told_as commands reply) status gives
-          (complete commands lawful run_of code reply.outcome (told_as commands reply) status ends);
-      checked = certificate;
-      drawn = right_as_drawn_of (call_of run_of) code reply.outcome (told_as commands reply) status gives certificate;
-      refuted = refuted_as_drawn_of (call_of run_of) code reply.outcome (told_as commands reply) status gives certificate;
+      headline = headline run_of code drawn (complete commands lawful run_of code reply.outcome (told_as commands reply) status ends);
+      drawn = drawn;
       shows_out = record { text = shown_of format reply; empty = refl; none_failed = refl; fails_never = refl; wrote = refl; shown = shows_out };
       shows_err = record { text = line_of reply; empty = refl; none_failed = refl; fails_never = refl; wrote = refl; shown = shows_err };
     }

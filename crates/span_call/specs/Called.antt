@@ -15,8 +15,7 @@ use Rattle.command_run.specs.Ends.{text_of}
 use Rattle.causal_cli.specs.Calls.{call_of}
 use Rattle.causal_cli.specs.Commands.{commands}
 use Rattle.causal_cli.specs.Drawn.{RightAsDrawn}
-use Rattle.causal_cli.specs.Headline.{Headline, HeadlineOfCheck}
-use Rattle.causal_cli.specs.Refuted.{RefutedAsDrawn}
+use Rattle.causal_cli.specs.Headline.{Headline}
 
 -- the run is one over these words and inputs, with the text that stands for their file where one is kept: its words are the spans' texts, what it holds
 -- under a name is the first input of that name, and a read fails only where no input has the name
@@ -49,9 +48,7 @@ pub record Called (kept : Option (List ℕ)) (bytes : List ℕ) (words : List Sp
   pub told : InputsAreKnown commands run
   pub exact : IsExact commands run code
   pub headline : Headline run code
-  pub checked : HeadlineOfCheck (call_of run) code
   pub drawn : RightAsDrawn (call_of run) code
-  pub refuted : RefutedAsDrawn (call_of run) code
   pub shows_out : Shows run.out out_before out sizes.out
   pub shows_err : Shows line err_before err sizes.err
 
