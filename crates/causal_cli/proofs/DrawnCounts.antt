@@ -29,7 +29,8 @@ use Rattle.command_words.specs.Form.{Text}
 use Rattle.diagram.specs.Sets.{Names}
 use Rattle.diagram.specs.declared.diagram.Diagram.{Diagram}
 use Rattle.diagram.proofs.ObservedParts.{part_of}
-use Rattle.evaluate_command.specs.Cells.{CellValue, CoversEffect}
+use Rattle.evaluate_command.specs.Answers.{CoversEffect}
+use Rattle.evaluate_command.specs.Cells.{CellValue}
 use Rattle.evaluate_command.specs.Effects.{PlainEffect, target_of, Identifies}
 use Rattle.evaluate_command.specs.Right.{IsOverTable, IsForTable, IsForCounts}
 use Rattle.evaluate_command.specs.Ways.{Way}

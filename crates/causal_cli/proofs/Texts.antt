@@ -10,10 +10,13 @@ use Rattle.dag_reader.specs.RoundTrip.{AreSame}
 use Rattle.dag_reader.specs.Rows.{count_up, pairs_below}
 use Rattle.dag_reader.specs.Written.{role_at, drawn_of, written}
 use Rattle.do_rules.specs.declared.rules.Rule.{Rule}
-use Rattle.targets.specs.Targets.{Lists, EffectLists, RuleLists, AreSets, AreRuleSets}
+use Rattle.prob_expr.specs.Tree.{PlainTarget, effect_on}
+use Rattle.prob_expr.specs.View.{target_view}
+use Rattle.targets.specs.Targets.{Lists, EffectLists, RuleLists, AreSets, AreRuleSets, IsEffectFault, IsListFault}
 use Rattle.targets.specs.declared.fault.TargetFault.{TargetFault}
 use Rattle.targets.specs.declared.query.Sets.{Sets}
 use Rattle.targets.specs.declared.query.RuleSets.{RuleSets}
+use Rattle.targets.specs.declared.query.EffectSets.{EffectSets}
 use Rattle.replies.specs.declared.format.Format.{Format}
 use Rattle.replies.specs.Told.{Told, text_in, answer_of}
 use Rattle.replies.specs.Outcomes.{code_of}
@@ -31,9 +34,9 @@ use Rattle.replies.proofs.OneTarget.{one_set, same_two}
 use Rattle.told.specs.declared.form.Form.{Form}
 use Rattle.told.specs.Forms.{plain_form}
 use Rattle.told.specs.Refusals.{target_refusal}
-use Rattle.told.specs.Telling.{Telling, Tells, outcome_in, told_in}
-use Rattle.effect_answers.specs.Hedges.{ShowsHedge}
-use Rattle.effect_answers.proofs.OneNo.{one_hedge_in}
+use Rattle.told.specs.Telling.{Telling, Refusal, Tells, outcome_in, told_in}
+use Rattle.effect_answers.specs.HedgeTelling.{effect_of, joint_text, joint_object}
+use Rattle.effect_answers.proofs.OneNo.{one_hedge_text, one_joint_text, one_joint_object}
 use Rattle.separation_commands.specs.GraphCommand.{graph_command}
 use Rattle.separation_commands.specs.GraphObjects.{role_json, graph_members}
 use Rattle.separation_commands.specs.GraphRight.{IsGraphAnswer, shown_of}
@@ -54,10 +57,11 @@ use Rattle.identify_command.specs.declared.answer.Answer.{Answer as IdentifyAnsw
 use Rattle.identify_command.specs.declared.answer.Answer.TheVariants as identified
 use Rattle.identify_command.specs.Command.{identify_command}
 use Rattle.identify_command.specs.Forms.{is_certified, told_form}
-use Rattle.identify_command.specs.Right.{Asked, an_effect, a_target, asked_of, IsForNames, IsFaultFor}
+use Rattle.identify_command.specs.Right.{Asked, an_effect, a_target, asked_of, IsForNames, IsFaultFor, IsJointHedge}
 use Rattle.identify_command.specs.Telling.{identify_telling}
 use Rattle.identify_command.proofs.Lawful.{same_asked}
-use Rattle.identify_command.proofs.OneText.{one_identification}
+use Rattle.identify_command.proofs.Lists.{one_target}
+use Rattle.identify_command.proofs.OneText.{one_identification, joint_sets, one_sets as one_effect_sets}
 use Rattle.experiment_lists.specs.Words.{Lists as Experiments}
 use Rattle.surrogate_command.specs.Answers as surrogates
 use Rattle.surrogate_command.specs.Sets.{SurrogateLists, surrogate_lists}
@@ -71,8 +75,13 @@ use Rattle.implications_command.specs.Answers.{FirstAnswer, DifferencesAnswer}
 use Rattle.implications_command.specs.Command.{implications_command}
 use Rattle.implications_command.proofs.ImplicationsTold.{first_as_told, differences_as_told}
 use Rattle.implications_command.proofs.OneText.{first_text, differences_text}
-use Rattle.evaluate_command.specs.Answers.{ProcedureFirst, EvaluateFirst, EvaluateAnswer}
+use Rattle.evaluate_command.specs.Command.{evaluate_command}
+use Rattle.evaluate_command.specs.First.{HasHedge, HasJointHedge, IsForDiagram}
+use Rattle.evaluate_command.specs.Telling.{evaluate_telling}
+use Rattle.evaluate_command.specs.declared.answer.Answer.{Answer as EvaluateAnswer}
+use Rattle.evaluate_command.specs.declared.answer.Answer.TheVariants as evaluated
 use Rattle.evaluate_command.specs.Ways.{Way, by_procedure, by_adjusting, by_condition}
+use Rattle.evaluate_command.proofs.EvaluateTold.{evaluate_as_told}
 use Rattle.evaluate_command.proofs.OneText.{evaluate_text}
 use Rattle.causal_cli.specs.Texts.{IsOneText, adjusts, TextsAreOne}
 use Rattle.causal_cli.proofs.OneFault.{one_target_fault, one_rule_fault, one_list_fault, one_effect_fault, one_effect_refusal, one_surrogate_refusal}
@@ -270,27 +279,98 @@ surrogate_once o form x y experiments =
 
 -- ---- evaluate, before the counts
 
-procedure_once : (format : Format) (o : Outcome) (d : Diagram) (l : EffectLists) → IsOneText (ProcedureFirst format (graph_of d.observed.graph) l o)
-procedure_once format No d l text line a b =
+-- what is right by one test and so by another
+tells_by : {A F : Type 0} (t : Telling A) (f : Refusal F) (P Q : Result A F → Type 0) (form : Form) (names : List (List ℕ)) (o : Outcome) (told : Told)
+    → ((r : Result A F) → P r → Q r) → Tells t f P form names o told → Tells t f Q form names o told
+tells_by t f P Q form names o told by h = record { answer = h.answer; right = by h.answer h.right; ends = h.ends; prints = h.prints }
+
+evaluate_small : (a : EvaluateAnswer) → code_of (evaluate_telling.outcome a) ≤ 1
+evaluate_small (evaluated.Values a) = omega arith
+evaluate_small (evaluated.Hedge h) = omega arith
+evaluate_small (evaluated.Joint t settled h) = omega arith
+evaluate_small (evaluated.NotAdmissible s fault) = omega arith
+
+-- by the procedure
+abbrev IsHedgeFor : MixedGraph → EffectLists → Result EvaluateAnswer TargetFault → Type 0
+IsHedgeFor q l (Ok a) = HasHedge q l a
+IsHedgeFor q l (Err fault) = IsEffectFault l fault
+
+hedges_once : (form : Form) (d : Diagram) (names : List (List ℕ)) (l : EffectLists) (a b : EvaluateAnswer) → HasHedge (graph_of d.observed.graph) l a
+    → HasHedge (graph_of d.observed.graph) l b
+    → told_in evaluate_telling target_refusal form names (Ok b) ≡ told_in evaluate_telling target_refusal form names (Ok a)
+hedges_once form d names l (evaluated.Hedge h) (evaluated.Hedge k) f g =
     let q = graph_of d.observed.graph in
-    let c = same_two (λ u v. ShowsHedge format q l.observed u v line) l a.x a.y b.x b.y a.sets b.sets b.answer in
-    c.prints
-    ∙ ap answer_of (one_hedge_in format q d.observed.graph.valid d.observed.graph.small a.x a.y l.observed a.answer.hedge c.hedge
-    a.answer.pair c.pair a.answer.found c.found)
-    ∙ sym a.answer.prints
-procedure_once format Graph d l text line a b = one_effect_refusal l text line a b
-procedure_once format o d l text line a b = absurd a
+    let same : k.sets ≡ h.sets = one_effect_sets l h.sets k.sets f.0 g.0 in
+    let text = one_hedge_text q d.observed.graph.valid d.observed.graph.small names h k same f.1 g.1 form.writing in
+    let object = one_joint_object q d.observed.graph.valid d.observed.graph.small names h k same f.1 g.1 form.writing (effect_of k)
+    ∙ ap (λ (s : EffectSets). joint_object form.writing names (effect_on s.x.bits s.y.bits) h) same in
+    λ i. answer_of (text_in form.format (text i) (json_line (object_of (object i))))
+hedges_once form d names l (evaluated.Values v) b f g = absurd f
+hedges_once form d names l (evaluated.Joint t settled h) b f g = absurd f
+hedges_once form d names l (evaluated.NotAdmissible s fault) b f g = absurd f
+hedges_once form d names l (evaluated.Hedge h) (evaluated.Values v) f g = absurd g
+hedges_once form d names l (evaluated.Hedge h) (evaluated.Joint t settled k) f g = absurd g
+hedges_once form d names l (evaluated.Hedge h) (evaluated.NotAdmissible s fault) f g = absurd g
 
-plain_told : (format : Format) (o : Outcome) → IsTold o (plain_form format)
-plain_told format o = λ yes. refl
+-- under a condition
+abbrev IsJointFor : MixedGraph → Lists → Result EvaluateAnswer TargetFault → Type 0
+IsJointFor q l (Ok a) = HasJointHedge q l a
+IsJointFor q l (Err fault) = IsListFault l fault
 
-alone_once : (format : Format) (way : Way) → adjusts way ≡ false → (o : Outcome) (x y : Names) (d e : Diagram) → AreSameDiagrams d e → (text line : Told)
-    → EvaluateFirst format way d x y o text → EvaluateFirst format way e x y o line → line ≡ text
-alone_once format (by_procedure short) other o x y = of_diagrams (λ d. effect_lists d.read d.observed.names x y) (λ q l. ProcedureFirst format q l o)
-    (same_effect_lists x y) (λ d. procedure_once format o d (effect_lists d.read d.observed.names x y))
-alone_once format (by_adjusting back_door set) other o x y = absurd (false≢true (sym other))
-alone_once format (by_condition short given) other o x y = λ d e s text line a b.
-    conditional_once o (plain_form format) (plain_told format o) x y given d e s text line a.1 b.1
+joints_once : (form : Form) (d : Diagram) (names : List (List ℕ)) (l : Lists) (a b : EvaluateAnswer) → HasJointHedge (graph_of d.observed.graph) l a
+    → HasJointHedge (graph_of d.observed.graph) l b
+    → told_in evaluate_telling target_refusal form names (Ok b) ≡ told_in evaluate_telling target_refusal form names (Ok a)
+joints_once form d names l (evaluated.Joint u settled h) (evaluated.Joint v other k) f g =
+    let q = graph_of d.observed.graph in
+    let vs : target_view v ≡ target_view u = one_target l (target_view u) (target_view v) f.0 g.0 in
+    let joint = subst (λ (t : PlainTarget). IsJointHedge q t other k) vs g.1 in
+    let same = joint_sets q (target_view u) h k f.1.joint joint.joint in
+    let text = ap (λ (t : PlainTarget). joint_text form.writing names t k) vs
+    ∙ one_joint_text q d.observed.graph.valid d.observed.graph.small names h k same f.1.hedge joint.hedge form.writing (target_view u) in
+    let object = ap (λ (t : PlainTarget). joint_object form.writing names t k) vs
+    ∙ one_joint_object q d.observed.graph.valid d.observed.graph.small names h k same f.1.hedge joint.hedge form.writing (target_view u) in
+    λ i. answer_of (text_in form.format (text i) (json_line (object_of (object i))))
+joints_once form d names l (evaluated.Values v) b f g = absurd f
+joints_once form d names l (evaluated.Hedge h) b f g = absurd f
+joints_once form d names l (evaluated.NotAdmissible s fault) b f g = absurd f
+joints_once form d names l (evaluated.Joint t settled h) (evaluated.Values v) f g = absurd g
+joints_once form d names l (evaluated.Joint t settled h) (evaluated.Hedge k) f g = absurd g
+joints_once form d names l (evaluated.Joint t settled h) (evaluated.NotAdmissible s fault) f g = absurd g
+
+hedge_for : (short : Bool) (d : Diagram) (x y : Names) (r : Result EvaluateAnswer TargetFault) → IsForDiagram (by_procedure short) d x y r
+    → IsHedgeFor (graph_of d.observed.graph) (effect_lists d.read d.observed.names x y) r
+hedge_for short d x y (Ok a) h = h
+hedge_for short d x y (Err fault) h = h
+
+joint_for : (short : Bool) (given : List (List ℕ)) (d : Diagram) (x y : Names) (r : Result EvaluateAnswer TargetFault)
+    → IsForDiagram (by_condition short given) d x y r → IsJointFor (graph_of d.observed.graph) (query_lists d.read d.observed.names x y (Some given)) r
+joint_for short given d x y (Ok a) h = h
+joint_for short given d x y (Err fault) h = h
+
+alone_once : (form : Form) (way : Way) → adjusts way ≡ false → (o : Outcome) (x y : Names) (d e : Diagram) → AreSameDiagrams d e → (text line : Told)
+    → Tells evaluate_telling target_refusal (IsForDiagram way d x y) form d.observed.names o text
+    → Tells evaluate_telling target_refusal (IsForDiagram way e x y) form e.observed.names o line → line ≡ text
+alone_once form (by_procedure short) other o x y d e s text line a b =
+    of_diagrams (λ d. effect_lists d.read d.observed.names x y)
+    (λ q l. Tells evaluate_telling target_refusal (IsHedgeFor q l) form l.observed o) (same_effect_lists x y)
+    (λ d. let l = effect_lists d.read d.observed.names x y in one_told evaluate_telling form l.observed evaluate_small o
+    (IsHedgeFor (graph_of d.observed.graph) l) (λ a b f g p e. hedges_once form d l.observed l a b f g) (one_effect_fault l))
+    d e s text line
+    (tells_by evaluate_telling target_refusal (IsForDiagram (by_procedure short) d x y) (IsHedgeFor (graph_of d.observed.graph)
+    (effect_lists d.read d.observed.names x y)) form d.observed.names o text (hedge_for short d x y) a)
+    (tells_by evaluate_telling target_refusal (IsForDiagram (by_procedure short) e x y) (IsHedgeFor (graph_of e.observed.graph)
+    (effect_lists e.read e.observed.names x y)) form e.observed.names o line (hedge_for short e x y) b)
+alone_once form (by_adjusting back_door set) other o x y d e s text line a b = absurd (false≢true (sym other))
+alone_once form (by_condition short given) other o x y d e s text line a b =
+    of_diagrams (λ d. query_lists d.read d.observed.names x y (Some given))
+    (λ q l. Tells evaluate_telling target_refusal (IsJointFor q l) form l.observed o) (same_query_lists x y (Some given))
+    (λ d. let l = query_lists d.read d.observed.names x y (Some given) in one_told evaluate_telling form l.observed evaluate_small o
+    (IsJointFor (graph_of d.observed.graph) l) (λ a b f g p e. joints_once form d l.observed l a b f g) (one_list_fault l))
+    d e s text line
+    (tells_by evaluate_telling target_refusal (IsForDiagram (by_condition short given) d x y) (IsJointFor (graph_of d.observed.graph)
+    (query_lists d.read d.observed.names x y (Some given))) form d.observed.names o text (joint_for short given d x y) a)
+    (tells_by evaluate_telling target_refusal (IsForDiagram (by_condition short given) e x y) (IsJointFor (graph_of e.observed.graph)
+    (query_lists e.read e.observed.names x y (Some given))) form e.observed.names o line (joint_for short given e x y) b)
 
 -- ---- all of them
 
@@ -321,7 +401,9 @@ texts_are_one = record {
       for_diagrams (λ d. d.observed.names) (λ p names. DifferencesAnswer q.format p names q.count other o) (λ d e s. s.observed.names)
       (differences_text q.format q.count other o) d e s text line
       (differences_as_told q.format d.observed q.count other o text a) (differences_as_told q.format e.observed q.count other o line b));
-  evaluate_before_counts = λ q other o bytes. on_bytes bytes (λ d. EvaluateFirst q.format q.way d q.x q.y) o (alone_once q.format q.way other o q.x q.y);
-  evaluate_over_counts = λ q fixed o bytes other. on_bytes bytes (λ d. EvaluateAnswer q.format q.exact q.zero q.way d q.x q.y q.count other) o
-      (evaluate_text q.format q.exact q.zero q.way fixed q.x q.y q.count other o);
+  evaluate_before_counts = λ q other o bytes. on_bytes bytes (λ d. evaluate_command.by_diagram q d) o (alone_once (plain_form q.format) q.way other o q.x q.y);
+  evaluate_over_counts = λ q fixed o bytes other. on_bytes bytes (λ d. evaluate_command.by_both q d other) o (λ d e s text line a b.
+      evaluate_text q.format q.exact q.zero q.way fixed q.x q.y q.count other o d e s text line
+      (evaluate_as_told q.format q.exact q.zero q.way d q.x q.y q.count other o text a)
+      (evaluate_as_told q.format q.exact q.zero q.way e q.x q.y q.count other o line b));
 }

@@ -45,7 +45,8 @@ use Rattle.separation_commands.specs.declared.rule.answer.Answer.TheVariants as 
 use Rattle.implications_command.specs.declared.differences.Measured.{Measured}
 use Rattle.implications_command.specs.declared.answer.Answer.{Answer as ImplicationsAnswer}
 use Rattle.implications_command.specs.declared.answer.Answer.TheVariants as implied
-use Rattle.evaluate_command.specs.Cells.{CellValue, plain_in, exact_numbers, bounds_numbers}
+use Rattle.evaluate_command.specs.Cells.{CellValue}
+use Rattle.evaluate_command.specs.Listed.{plain_in, exact_numbers, bounds_numbers}
 use Rattle.evaluate_command.specs.Effects.{PlainEffect, target_of}
 use Rattle.evaluate_command.specs.Ways.{Way, by_procedure, by_adjusting, by_condition}
 use Rattle.evaluate_command.specs.declared.answer.Values.{Values}

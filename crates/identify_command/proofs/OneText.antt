@@ -42,11 +42,19 @@ of_procedure : (short : Bool) → short ≡ false → (P : PlainFormula → Plai
 of_procedure short plain P f d h = subst (λ (s : Bool). IsOrShorter s P f d) plain h
 
 -- the lists name two sets of an effect
-one_sets : (l : EffectLists) (s t : EffectSets) → AreEffectSets l s.x.bits s.y.bits → AreEffectSets l t.x.bits t.y.bits → t ≡ s
+pub one_sets : (l : EffectLists) (s t : EffectSets) → AreEffectSets l s.x.bits s.y.bits → AreEffectSets l t.x.bits t.y.bits → t ≡ s
 one_sets l s t a b = λ i. record {
   x = record { bits = one_set l.observed l.x s.x.bits t.x.bits a.set_x b.set_x i };
   y = record { bits = one_set l.observed l.y s.y.bits t.y.bits a.set_y b.set_y i };
 }
+
+-- the sets of the joint effect into which a target turns
+pub joint_sets : (q : MixedGraph) (t : PlainTarget) (h k : EffectHedge) → IsJointEffect q t h.sets.x.bits h.sets.y.bits
+    → IsJointEffect q t k.sets.x.bits k.sets.y.bits → k.sets ≡ h.sets
+joint_sets q t h k a b =
+    let turned = one_turned q t h.sets.x.bits a.left k.sets.x.bits b.left a.moved b.moved a.turned b.turned in
+    let ys : k.sets.y.bits ≡ h.sets.y.bits = b.joint ∙ ap (union t.y) (sym turned.1) ∙ sym a.joint in
+    λ i. record { x = record { bits = sym turned.0 i }; y = record { bits = ys i } }
 
 -- answers of which one thing is told
 record AreOne (w : Writing) (names : List (List ℕ)) (a b : Answer) : Type 0 where
@@ -90,14 +98,6 @@ module _ (w : Writing) (names : List (List ℕ)) where
   effects q valid few short l (Hedge h) (Formula f) a b ends plain = let c : 1 ≡ 0 = ap code_of ends in absurd (omega (arith, c))
   effects q valid few short l (Joint t settled h) b x y ends plain = absurd x.decided
   effects q valid few short l a (Joint t settled h) x y ends plain = absurd y.decided
-
-  -- the sets of the joint effect into which a target turns
-  joint_sets : (q : MixedGraph) (t : PlainTarget) (h k : EffectHedge) → IsJointEffect q t h.sets.x.bits h.sets.y.bits
-      → IsJointEffect q t k.sets.x.bits k.sets.y.bits → k.sets ≡ h.sets
-  joint_sets q t h k a b =
-      let turned = one_turned q t h.sets.x.bits a.left k.sets.x.bits b.left a.moved b.moved a.turned b.turned in
-      let ys : k.sets.y.bits ≡ h.sets.y.bits = b.joint ∙ ap (union t.y) (sym turned.1) ∙ sym a.joint in
-      λ i. record { x = record { bits = sym turned.0 i }; y = record { bits = ys i } }
 
   targets : (q : MixedGraph) → IsMixedGraph q → q.vertices ≤ 64 → (short : Bool) (l : Lists) (a b : Answer)
       → IsForTarget short (is_certified w) q l a → IsForTarget short (is_certified w) q l b
