@@ -15,8 +15,12 @@ use Rattle.finite_models.proofs.Indicators.{number, cond-number, matches, agree-
 use Rattle.finite_models.proofs.Solutions.{IsRanked, solution_within, agree_from}
 use Rattle.finite_models.proofs.SumLaws.{along, over-congr, over-congr_within, over-swap, over-scale, over-add, set_at-other}
 use Rattle.prob_expr.proofs.Boxes.{assignment_set, IsStable}
+use Rattle.natural_bounds.specs.declared.ends.End.TheVariants.{AtLeast, AtMost}
+use Rattle.natural_bounds.specs.Natural.{nothing}
+use Rattle.natural_bounds.proofs.Orders.{times-le}
+use Rattle.crossed_bounds.specs.Crossed.{chosen}
 use Rattle.crossed_bounds.proofs.Pairs.{weight_where}
-use Rattle.crossed_bounds.proofs.Levels.{nothing, where_le, where_either, where_both, shows, first, second, at_level, in_stratum, with_second}
+use Rattle.crossed_bounds.proofs.Levels.{where_le, where_either, where_both, shows, first, has_level, in_stratum, with_second}
 use Rattle.crossed_bounds.proofs.Levels.{pair_independent, second_independent}
 
 -- ---- sums in order
@@ -39,16 +43,6 @@ sum_over_le u s P (suc n) f h b k p le = go (u n) refl (λ c pc. sum_over_le u s
     go false e ih = ih b p
 
 -- ---- numbers
-abbrev pub smaller : ℕ → ℕ → ℕ
-smaller p q = cond (leb p q) p q
-
-abbrev pub larger : ℕ → ℕ → ℕ
-larger p q = cond (leb p q) q p
-
-times-le : (a b c : ℕ) → a ≤ b → a * c ≤ b * c
-times-le a b zero h = omega arith
-times-le a b (suc c) h = let k = times-le a b c h in let p : a * suc c ≡ a * c + a = omega arith in let q : b * suc c ≡ b * c + b = omega arith in omega arith
-
 -- k * f = h * a and k <= v + o give h * (a * b) <= f * (v * b + o * b)
 one_level : (h a b f k v o : ℕ) → k * f ≡ h * a → k ≤ v + o → h * (a * b) ≤ f * (v * b + o * b)
 one_level h a b f k v o e le =
@@ -68,7 +62,7 @@ one_more h a b f k v e le =
     omega (arith, p, left, right)
 
 upper_numbers : (h a b f k l v w o q : ℕ) → k * f ≡ h * a → l * f ≡ h * b → k ≤ v + o → l ≤ w + q
-    → h * (a * b) ≤ f * ((v * b + w * a) + smaller (o * b) (q * a))
+    → h * (a * b) ≤ f * ((v * b + w * a) + chosen AtMost (o * b) (q * a))
 upper_numbers h a b f k l v w o q e d le le' = go (leb (o * b) (q * a))
   where
     go : (c : Bool) → h * (a * b) ≤ f * ((v * b + w * a) + cond c (o * b) (q * a))
@@ -84,7 +78,7 @@ upper_numbers h a b f k l v w o q e d le le' = go (leb (o * b) (q * a))
 
 lower_numbers : (h t a b f k l i j v w o q : ℕ) → k * f ≡ h * a → l * f ≡ h * b → i * f ≡ t * a → j * f ≡ t * b
     → v ≤ k → w ≤ l → v + o ≤ i → w + q ≤ j
-    → f * ((v * b + w * a) + larger (o * b) (q * a)) ≤ (h + t) * (a * b)
+    → f * ((v * b + w * a) + chosen AtLeast (o * b) (q * a)) ≤ (h + t) * (a * b)
 lower_numbers h t a b f k l i j v w o q e d p r vk wl vi wj = go (leb (o * b) (q * a))
   where
     split : (h + t) * (a * b) ≡ h * (a * b) + t * (a * b)
@@ -132,7 +126,7 @@ module _ (g : MixedGraph) (m : FiniteModel) (rank : ℕ → ℕ) (ok : IsMixedGr
   here = in_stratum g m rank ok ranked follows x y z w sets unmoved separated s o s_in o_in same differ two
 
   abbrev at : (r u : ℕ → ℕ) → Bool
-  at = at_level g m rank ok ranked follows x y z w sets unmoved separated s o s_in o_in same differ two
+  at = has_level g m rank ok ranked follows x y z w sets unmoved separated s o s_in o_in same differ two
 
   abbrev along_with : ((ℕ → ℕ) → Bool) → (ℕ → ℕ) → ℕ
   along_with = with_second g m rank ok ranked follows x y z w sets unmoved separated s o s_in o_in same differ two
@@ -226,7 +220,7 @@ module _ (g : MixedGraph) (m : FiniteModel) (rank : ℕ → ℕ) (ok : IsMixedGr
 
     pub upper_levels : weight_where m (λ u. one u && here u) * (weight_where m (at r) * weight_where m (at t)) ≤ weight_where m here
         * ((weight_where m (λ u. show u && (one u && at r u)) * weight_where m (at t) + weight_where m (λ u. show u && (one u && at t u)) * weight_where m (at r))
-        + sum_over y m.size m.vertices (λ c. smaller (along_with (λ u. not (show u) && at r u) c * weight_where m (at t))
+        + sum_over y m.size m.vertices (λ c. chosen AtMost (along_with (λ u. not (show u) && at r u) c * weight_where m (at t))
         (along_with (λ u. not (show u) && at t u) c * weight_where m (at r))) o)
     upper_levels =
         let le = sum_over_le y m.size Outcome m.vertices (λ c. along_with (λ u. one u && here u) c * (weight_where m (at r) * weight_where m (at t)))
@@ -242,12 +236,12 @@ module _ (g : MixedGraph) (m : FiniteModel) (rank : ℕ → ℕ) (ok : IsMixedGr
         rw (sym left, sym right) le
       where
         smallest : (ℕ → ℕ) → ℕ
-        smallest c = smaller (along_with (λ u. not (show u) && at r u) c * weight_where m (at t))
+        smallest c = chosen AtMost (along_with (λ u. not (show u) && at r u) c * weight_where m (at t))
             (along_with (λ u. not (show u) && at t u) c * weight_where m (at r))
 
     pub lower_levels : weight_where m here
         * ((weight_where m (λ u. show u && (one u && at r u)) * weight_where m (at t) + weight_where m (λ u. show u && (one u && at t u)) * weight_where m (at r))
-        + sum_over y m.size m.vertices (λ c. larger (along_with (λ u. not (show u) && at r u) c * weight_where m (at t))
+        + sum_over y m.size m.vertices (λ c. chosen AtLeast (along_with (λ u. not (show u) && at r u) c * weight_where m (at t))
         (along_with (λ u. not (show u) && at t u) c * weight_where m (at r))) o)
         ≤ (weight_where m (λ u. one u && here u) + weight_where m here) * (weight_where m (at r) * weight_where m (at t))
     lower_levels =
@@ -272,5 +266,5 @@ module _ (g : MixedGraph) (m : FiniteModel) (rank : ℕ → ℕ) (ok : IsMixedGr
         rw (sym left, sym right) le
       where
         largest : (ℕ → ℕ) → ℕ
-        largest c = larger (along_with (λ u. not (show u) && at r u) c * weight_where m (at t))
+        largest c = chosen AtLeast (along_with (λ u. not (show u) && at r u) c * weight_where m (at t))
             (along_with (λ u. not (show u) && at t u) c * weight_where m (at r))
