@@ -4,13 +4,15 @@ The draws and the interval are computed here, and nothing about them is proved.
 """
 from __future__ import annotations
 
+import html
 from dataclasses import dataclass, field
 from operator import itemgetter
 from typing import TYPE_CHECKING, Any, Callable, Dict, List, Mapping, Optional, Sequence, Tuple
 
-from causal.contrasts import MANY_LOST, ContrastInterval, Support
+from causal.contrasts import ContrastInterval
 from causal.display import html_table
 from causal.effects import Effects, Level, Value, level_text, levels_at
+from causal.events import Support, doubt_of, in_one, lost_text, many_lost
 from causal.intervals import KINDS, Interval, Measure, corrected_interval, estimated, interval_of, told
 from causal.vocabulary import Renamed
 
@@ -24,16 +26,28 @@ Progress = Callable[[int, int], object]
 
 @dataclass(frozen=True)
 class MeanInterval:
-    """The mean of a numeric outcome under levels of the exposures, or the difference of two, with its interval. Both are computed."""
+    """The mean of a numeric outcome under levels of the exposures, or the difference of two, with its interval. Both are computed.
+
+    `note` is what has to be known beside the numbers: resamples that had no value, or an interval of width 0.
+    """
 
     value: Value
     interval: Optional[Interval]
     x: Dict[str, Level] = field(default_factory=dict)
     given: Dict[str, Level] = field(default_factory=dict)
+    note: str = ""
 
     def __str__(self) -> str:
         at = "".join(f"{name}={level_text(level)}, " for name, level in (*self.x.items(), *self.given.items()))
-        return f"{at}mean {told(self.value, self.interval)}"
+        return beside(f"{at}mean {told(self.value, self.interval)}", self.note)
+
+    def _repr_html_(self) -> str:
+        return f"<pre>{html.escape(str(self))}</pre>"
+
+
+def beside(text: str, note: str) -> str:
+    """A text with what has to be known beside it."""
+    return f"{text} ({note})" if note else text
 
 
 @dataclass(frozen=True)
@@ -65,6 +79,8 @@ class Bootstrap:
     # How many records there are at each effect.
     support: Tuple[Support, ...] = ()
     design: str = ""
+    # What `count` counts, in words.
+    counted: str = ""
 
     def __hash__(self) -> int:
         return hash((self.effects, self.draws, self.level, self.seed, self.kind))
@@ -128,6 +144,8 @@ class Bootstrap:
             self.interval(itemgetter(second)),
             self.notes,
             tuple(self.support[place] for place in (first, second)) if self.support else (),
+            self.resamples,
+            self.resamples - self.without_value,
         )
 
     def effect_means(self) -> Tuple[MeanInterval, ...]:
@@ -139,9 +157,15 @@ class Bootstrap:
         >>> [float(mean.value) for mean in answer.effect_means()], answer.effect_means()[0].interval.lower < 5 < answer.effect_means()[0].interval.upper
         ([5.0, 10.0], True)
         """
-        return tuple(
-            MeanInterval(mean.value, self.interval(self._mean_at(mean.x, mean.given)), mean.x, mean.given) for mean in self.effects.effect_means()
-        )
+        means = self.effects.effect_means()
+        return tuple(self._told_mean(mean.value, self.interval(self._mean_at(mean.x, mean.given)), mean.x, mean.given) for mean in means)
+
+    def _told_mean(
+        self, value: Value, interval: Optional[Interval], x: Mapping[str, Level] = {}, given: Mapping[str, Level] = {}
+    ) -> MeanInterval:
+        """A mean with what has to be known beside it."""
+        flat = "width 0: no resample differs" if interval is not None and interval.is_point else ""
+        return MeanInterval(value, interval, dict(x), dict(given), in_one([self.lost, flat]))
 
     means = Renamed("effect_means")
 
@@ -158,7 +182,7 @@ class Bootstrap:
         treated, control = (levels_at(names, x, self.effects.typed[0]) for x in (treated, control))
         first, second = [self._mean_at(x, under) for x in (treated, control)]
         value = self.effects.mean(treated, given).minus(self.effects.mean(control, given))
-        return MeanInterval(value, self.interval(lambda values: first(values) - second(values)))
+        return self._told_mean(value, self.interval(lambda values: first(values) - second(values)))
 
     def _mean_at(self, x: Mapping[str, Level], given: Mapping[str, Level]) -> Callable[[Sequence[float]], float]:
         """What computes a mean of the values of all effects."""
@@ -167,20 +191,32 @@ class Bootstrap:
         weights = [float(of[effect.y[name]]) if (effect.x, effect.given) == at else 0.0 for effect in self.effects]
         return lambda values: sum(weight * value for weight, value in zip(weights, values))
 
-    HEADS = ("estimate", "conf_low", "conf_high", "draws")
+    HEADS = ("estimate", "conf_low", "conf_high", "draws", "note")
+
+    @property
+    def lost(self) -> str:
+        """How many resamples had no value, where some hadn't."""
+        return lost_text(self.without_value, self.resamples)
+
+    @property
+    def row_notes(self) -> Tuple[str, ...]:
+        """What has to be known beside each effect: an interval of width 0, and few events."""
+        support = self.support or (None,) * len(self.effects)
+        return tuple(doubt_of(interval, own) for interval, own in zip(self.intervals, support))
 
     def frame(self) -> "pandas.DataFrame":
-        """A DataFrame with a row for each effect (it needs pandas): the levels, `estimate`, `conf_low`, `conf_high` and `draws`.
+        """A DataFrame with a row for each effect (it needs pandas): the levels, `estimate`, `conf_low`, `conf_high`, `draws` and `note`.
 
         >>> import pandas
         >>> from causal import Diagram
         >>> data = pandas.DataFrame({"X": ["a", "b"] * 50, "Y": [0, 0, 1, 1] * 25})
         >>> list(Diagram("dag{ X -> Y }").bootstrap(data, "X", "Y", resamples=20).frame().columns)
-        ['X', 'Y', 'estimate', 'conf_low', 'conf_high', 'draws']
+        ['X', 'Y', 'estimate', 'conf_low', 'conf_high', 'draws', 'note']
         """
         nan = float("nan")
         rows = [(i.lower, i.upper, i.draws) if i else (nan, nan, self.resamples - self.without_value) for i in self.intervals]
-        values = [(float(effect.value), *row) for effect, row in zip(self.effects, rows)]
+        notes = [in_one([self.lost, note]) for note in self.row_notes]
+        values = [(float(effect.value), *row, note) for effect, row, note in zip(self.effects, rows, notes)]
         frame = self.effects.frame_with(self.HEADS, values)
         frame.attrs.update(level=self.level, interval=self.kind, notes=list(self.notes), resamples=self.resamples, seed=self.seed)
         frame.attrs.update(without_value=self.without_value)
@@ -208,24 +244,21 @@ class Bootstrap:
     def notes(self) -> Tuple[str, ...]:
         """What the intervals rest on."""
         drawn = f"{100 * self.level:g}% {KINDS[self.kind]} intervals of {self.resamples} resamples, of which {self.without_value} had no value"
-        return (*self.effects.notes, f"{drawn}; seed {self.seed}{self.design}", *self.doubts)
+        return (*self.effects.notes, *([self.counted] if self.counted else []), f"{drawn}; seed {self.seed}{self.design}", *self.doubts)
 
     @property
     def doubts(self) -> Tuple[str, ...]:
         """That many resamples had no value, where they had: what is left of them says less."""
-        if self.without_value <= MANY_LOST * self.resamples:
-            return ()
-        part = 100 * self.without_value / self.resamples
-        return (f"{part:.0f}% of the resamples have no value, since records are few at some levels: the intervals say little",)
+        return many_lost(self.without_value, self.resamples)
 
     def __str__(self) -> str:
         rows = [f"{effect.cell} {told(effect.value, interval)}" for effect, interval in zip(self.effects, self.intervals)]
-        return "\n".join([*rows, *self.notes])
+        return "\n".join([*map(beside, rows, self.row_notes), *self.notes])
 
     def _repr_html_(self) -> str:
         heads = [*self.effects.names, *self.HEADS]
         rows = [
-            [*effect.under.values(), *effect.y.values(), *estimated(effect.value, interval)]
-            for effect, interval in zip(self.effects, self.intervals)
+            [*effect.under.values(), *effect.y.values(), *estimated(effect.value, interval), note]
+            for effect, interval, note in zip(self.effects, self.intervals, self.row_notes)
         ]
         return html_table(heads, rows, self.notes)

@@ -6,10 +6,11 @@ from fractions import Fraction
 from typing import TYPE_CHECKING, Any, Dict, Iterator, List, Mapping, Optional, Sequence, Tuple, Union, overload
 
 from causal.answers import Path
-from causal.columns import Data, path_of, read_bytes
+from causal.columns import Data, path_of
 from causal.display import html_table
 from causal.effects import Level, LevelOf, Value, cell_text, digits, levels_at, typed_order
 from causal.errors import CausalError, RequestError
+from causal.files import read_bytes
 from causal.framed import Shown
 from causal.names import Names, list_word, names_of, printed_name, printed_set
 from causal.objects import Told, name_in

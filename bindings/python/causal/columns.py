@@ -9,6 +9,7 @@ from dataclasses import dataclass
 from typing import Any, Callable, Dict, Hashable, Iterable, List, Mapping, Optional, Sequence, Tuple, Union
 
 from causal.errors import CountsError, RequestError
+from causal.files import read_bytes
 from causal.vocabulary import meant
 
 # A DataFrame or a table, a mapping of columns, the path of a CSV file, or a connection with the name of a table.
@@ -145,12 +146,6 @@ def path_of(data: Data) -> Optional[str]:
     ('counts.csv', None)
     """
     return os.fspath(data) if isinstance(data, (str, os.PathLike)) else None
-
-
-def read_bytes(path: Union[str, "os.PathLike[str]"]) -> bytes:
-    """What a file holds."""
-    with open(path, "rb") as file:
-        return file.read()
 
 
 def columns_of(data: Data, used: Sequence[str]) -> Dict[str, Column]:

@@ -7,7 +7,7 @@ from typing import TYPE_CHECKING, Any, Dict, List, Mapping, Optional, Sequence, 
 from causal.columns import Data
 from causal.contrasts import Contrast
 from causal.display import html_table
-from causal.effects import levels_at, typed_order
+from causal.effects import check_arms, levels_at, typed_order
 from causal.errors import CausalError, EvaluationError
 from causal.estimates import Estimates
 from causal.evaluation import identified
@@ -42,12 +42,25 @@ class Way:
         return "" if self.answer is None else "counts" if isinstance(self.answer, Contrast) else "models"
 
     @property
+    def rests_on(self) -> Tuple[str, ...]:
+        """What the intervals of a contrast rest on."""
+        interval = self.answer.interval if isinstance(self.answer, Contrast) else None
+        return tuple(note for note in interval.notes if note not in interval.lost) if interval else ()
+
+    @property
+    def doubts(self) -> Tuple[str, ...]:
+        """What speaks against the numbers."""
+        if isinstance(self.answer, Contrast):
+            return (*self.answer.interval.lost, *self.answer.interval.doubts) if self.answer.interval else ()
+        return () if self.answer is None else self.answer.doubts
+
+    @property
     def row(self) -> List[Any]:
-        """Both risks, the difference and its interval."""
+        """Both risks, the difference and its interval, and what has to be known beside them."""
         value, interval = self.difference
         risks: List[Any] = [None, None] if self.answer is None else [float(self.answer.treated), float(self.answer.control)]
         ends: List[Any] = [None, None] if interval is None else [interval.lower, interval.upper]
-        return [self.name, self.kind, *risks, value, *ends]
+        return [self.name, self.kind, *risks, value, *ends, "; ".join(self.doubts) or self.reason]
 
 
 @dataclass(frozen=True)
@@ -66,13 +79,19 @@ class Comparison(Framed):
     @property
     def notes(self) -> Tuple[str, ...]:
         """What the table says, in words."""
-        found = [f"{way.name}: no value: {way.reason}" for way in self.ways if way.answer is None]
+        found = list(dict.fromkeys(note for way in self.ways for note in way.rests_on))
+        found += [f"{way.name}: no value: {way.reason}" for way in self.ways if way.answer is None]
+        doubts: Dict[str, List[str]] = {}
+        for way in self.ways:
+            for doubt in way.doubts:
+                doubts.setdefault(doubt, []).append(way.name)
+        found += [f"{', '.join(names)}: {doubt}" for doubt, names in doubts.items()]
         if not self.agree:
             found.append("the adjusted effects differ by more than their intervals: the data speaks against the diagram")
         found += ["by models: computed, and nothing but the formula is proved"] if any(way.kind == "models" for way in self.ways) else []
         return tuple(found)
 
-    HEADS = ("way", "by", "risk_treated", "risk_control", "estimate", "conf_low", "conf_high")
+    HEADS = ("way", "by", "risk_treated", "risk_control", "estimate", "conf_low", "conf_high", "note")
 
     def _table(self) -> Tuple[Sequence[str], List[List[Any]]]:
         return self.HEADS, [way.row for way in self.ways]
@@ -112,6 +131,7 @@ def compared(
     typed = typed_order(x), typed_order(y)
     named: Dict[str, Any] = {name: levels_at(target.x, arms[name], typed[0]) for name in ("treated", "control")}
     named["outcome"] = levels_at(target.y, arms["outcome"], typed[1])
+    check_arms(named["treated"], named["control"])
 
     def way(name: str, asked: "Diagram", **more: Any) -> Way:
         try:

@@ -6,6 +6,7 @@ from typing import TYPE_CHECKING, Any, Dict, Iterator, List, Mapping, Optional, 
 
 from causal.display import html_table
 from causal.effects import Level, Value, level_text, levels_text
+from causal.events import Support, doubt_of, in_one, lost_text, many_lost
 from causal.framed import Framed
 from causal.intervals import Interval, estimated, told
 from causal.sensitivity import EValue, e_value
@@ -16,8 +17,6 @@ if TYPE_CHECKING:
 MEASURES = ("risk under treated", "risk under control", "risk difference", "risk ratio", "odds ratio")
 # The same in the column `measure` of a DataFrame.
 IN_COLUMNS = dict(zip(MEASURES, ("risk_treated", "risk_control", "difference", "ratio", "odds_ratio")))
-# Fewer records with the outcome than these are few, and where more than this part of the resamples had no value they are many.
-FEW_EVENTS, MANY_LOST = 5, 0.05
 
 
 def arm_level(levels: Mapping[str, Level]) -> Level:
@@ -33,14 +32,6 @@ def arm_level(levels: Mapping[str, Level]) -> Level:
 def no_arms() -> Tuple[Dict[str, Level], Dict[str, Level]]:
     """Arms that aren't told."""
     return {}, {}
-
-
-@dataclass(frozen=True)
-class Support:
-    """How many records there are with the levels of an arm, and in how many of them the outcome is."""
-
-    events: int
-    records: int
 
 
 @dataclass(frozen=True)
@@ -60,6 +51,9 @@ class ContrastInterval(Framed):
     control: Optional[Interval] = None
     notes: Tuple[str, ...] = ()
     support: Tuple[Support, ...] = ()
+    # How many resamples were drawn, and how many of them had a value.
+    resamples: int = 0
+    with_value: int = 0
 
     @property
     def rows(self) -> Tuple[Tuple[str, Optional[Value], Optional[Interval]], ...]:
@@ -70,23 +64,35 @@ class ContrastInterval(Framed):
     @property
     def doubts(self) -> Tuple[str, ...]:
         """What speaks against the intervals."""
-        found = []
-        for name, interval, support in zip(MEASURES, (self.treated, self.control), self.support):
-            if interval is not None and interval.is_point:
-                which = "none" if not support.events else "all"
-                found.append(f"the interval of the {name} has width 0: {which} of the records there has the outcome")
-                if which == "none" and support.records:
-                    found[-1] += "" if support.records < 30 else f" (by the rule of three up to {3 / support.records:.3g})"
-            elif min(support.events, support.records - support.events) < FEW_EVENTS:
-                few = min(support.events, support.records - support.events)
-                kind = "with" if few == support.events else "without"
-                found.append(f"only {few} of {support.records} records {name[5:]} are {kind} the outcome: no interval reaches its level there")
-        return tuple(found)
+        found = [
+            doubt_of(interval, support, name, name[5:])
+            for name, interval, support in zip(MEASURES, (self.treated, self.control), self.support)
+        ]
+        return tuple(doubt for doubt in found if doubt)
 
-    HEADS = ("treated", "control", "measure", "estimate", "conf_low", "conf_high", "draws")
+    @property
+    def lost(self) -> Tuple[str, ...]:
+        """That many resamples had no value, where they had."""
+        return many_lost(self.resamples - self.with_value, self.resamples)
+
+    @property
+    def row_notes(self) -> Tuple[str, ...]:
+        """What has to be known beside each measure: resamples that had no value, a width of 0, and few events of its arms."""
+        arms = [doubt_of(self.treated, self._support(0), where=MEASURES[0][5:]), doubt_of(self.control, self._support(1), where=MEASURES[1][5:])]
+        found = [arms[0], arms[1]]
+        for interval in (self.difference, self.ratio, self.odds_ratio):
+            own = "" if interval is None else lost_text(self.with_value - interval.draws, self.resamples, "ratio")
+            found.append(in_one([own, *(f"{name}: {doubt}" for name, doubt in zip(("treated", "control"), arms) if doubt)]))
+        lost = lost_text(self.resamples - self.with_value, self.resamples)
+        return tuple(in_one([lost, own]) for own in found)
+
+    def _support(self, place: int) -> Optional[Support]:
+        return self.support[place] if self.support else None
+
+    HEADS = ("treated", "control", "measure", "estimate", "conf_low", "conf_high", "draws", "note")
 
     def _cells(self) -> List[List[Any]]:
-        return [[name, *estimated(value, interval)] for name, value, interval in self.rows]
+        return [[name, *estimated(value, interval), note] for (name, value, interval), note in zip(self.rows, self.row_notes)]
 
     def _table(self) -> Tuple[Sequence[str], List[List[Any]]]:
         return self.HEADS, [[*map(arm_level, self.contrast.arms), IN_COLUMNS[name], *cells] for name, *cells in self._cells()]
@@ -96,8 +102,8 @@ class ContrastInterval(Framed):
         return "\n".join([*self.contrast.head, *lines, *self.notes, *self.doubts])
 
     def frame(self) -> Any:
-        """A DataFrame with a row for each measure (it needs pandas): the arms, `measure`, `estimate`, `conf_low`, `conf_high` and
-        `draws`. What they rest on stands in its `attrs`, as `notes` and `doubts`."""
+        """A DataFrame with a row for each measure (it needs pandas): the arms, `measure`, `estimate`, `conf_low`, `conf_high`, `draws`,
+        and `note`, what has to be known beside the numbers. What they rest on stands in its `attrs`, as `notes` and `doubts`."""
         frame = super().frame()
         frame.attrs.update(notes=list(self.notes), doubts=list(self.doubts))
         return frame
@@ -268,5 +274,5 @@ class Contrasts(Framed, Sequence[Contrast]):
 
     def _repr_html_(self) -> str:
         heads, rows = self._table()
-        notes = dict.fromkeys(note for it in self.contrasts for note in (*it.head[:1], *it.notes))
+        notes = dict.fromkeys(note for it in self.contrasts for note in (*it.head[:1], *(it.interval.notes if it.interval else it.notes)))
         return html_table(heads, [[level_text(cell) if k < 2 else cell for k, cell in enumerate(row)] for row in rows], list(notes))

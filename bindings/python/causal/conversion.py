@@ -4,7 +4,7 @@ from __future__ import annotations
 from typing import Any, Dict, Iterable, List, Mapping, Sequence, Tuple
 
 from causal.answers import GraphText
-from causal.errors import RequestError
+from causal.errors import RequestError, WrongType
 from causal.names import Name, Names, names_of, written_name
 from causal.vocabulary import meant, needed
 
@@ -44,6 +44,8 @@ def text_of_edges(
 
 def _pairs_of(edges: Iterable[Sequence[Name]]) -> List[Pair]:
     pairs: List[Pair] = []
+    if isinstance(edges, str) or not hasattr(edges, "__iter__"):
+        raise WrongType(f"edges are pairs of names, as [('X', 'Y')], and no {type(edges).__name__}")
     for edge in edges:
         names = () if isinstance(edge, (str, int)) else names_of(edge)
         if len(names) != 2:

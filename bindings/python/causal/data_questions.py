@@ -551,6 +551,7 @@ class DataQuestions:
         crude: risk difference 0.10864 [0.0433486, 0.172755]
         by the formula: risk difference 0.103672 [0.0480298, 0.156314]
         adjusted for {S}: risk difference 0.103672 [0.0480298, 0.156314]
+        95% percentile intervals of 200 resamples, of which 0 had no value; seed 0
         """
         from causal.comparison import compared
 

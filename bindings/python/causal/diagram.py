@@ -9,6 +9,7 @@ from causal._library import KeptDiagram, Text, as_bytes, ask
 from causal.data_questions import DataQuestions
 from causal.doubts import doubts_of
 from causal.errors import DiagramWarning, RequestError, WrongType
+from causal.files import read_bytes
 from causal.formula import Formula, Hedge, HedgeSets
 from causal.graph_questions import GraphQuestions
 from causal.names import Name, Names, list_word, names_of
@@ -16,7 +17,7 @@ from causal.objects import Answer, Told, text_in
 from causal.positions import positions_in
 from causal.question import Question
 from causal.surrogates import Stopped, StoppedHedge, experiments_word
-from causal.vocabulary import Renamed, renamed, warn
+from causal.vocabulary import Renamed, check_whole, renamed, warn
 
 if TYPE_CHECKING:
     import os
@@ -87,10 +88,9 @@ class Diagram(DataQuestions, GraphQuestions):
         >>> Diagram.from_file("no/such/file.dag")
         Traceback (most recent call last):
             ...
-        FileNotFoundError: [Errno 2] No such file or directory: 'no/such/file.dag'
+        causal.errors.FileMissing: there is no file no/such/file.dag
         """
-        with open(path, "rb") as file:
-            return cls(file.read())
+        return cls(read_bytes(path))
 
     @classmethod
     def from_edges(
@@ -522,8 +522,8 @@ class Diagram(DataQuestions, GraphQuestions):
         >>> list(Diagram("dag { Z -> X Z -> Y X -> Y }").adjustment_sets("X", "Y"))
         [('Z',)]
         """
-        if most is not None and (isinstance(most, bool) or not hasattr(most, "__index__") or most < 1):
-            raise RequestError(f"most is a whole number from 1 on, and not {most!r}")
+        if most is not None:
+            check_whole("most", most)
         limit = [] if most is None else ["--most", str(most)]
         return self._ask(reading.read_sets, "adjust", *options(x=x, y=y), *limit)
 

@@ -386,6 +386,7 @@ class Effects(Sequence[Effect]):
         from causal.contrasts import Contrast
 
         first, second = self.effects[self.place(outcome, treated, given)], self.effects[self.place(outcome, control, given)]
+        check_arms(first.x, second.x)
         return Contrast(first.value, second.value, (first.x, second.x), first.y, first.given, self.notes)
 
     @property
@@ -475,6 +476,19 @@ class Effects(Sequence[Effect]):
         values = [[str(e.value.exact)] if self.exact else [repr(bound) for bound in e.value.floats()] for e in self]
         rows = [[*e.under.values(), *e.y.values(), float(e.value), *value] for e, value in zip(self, values)]
         return html_table([*self.names, *heads], rows, self.notes)
+
+
+def check_arms(treated: Mapping[str, Level], control: Mapping[str, Level]) -> None:
+    """Refuses a contrast of an arm with itself.
+
+    >>> from causal.effects import check_arms
+    >>> check_arms({"X": 1}, {"X": 1})
+    Traceback (most recent call last):
+        ...
+    causal.errors.RequestError: treated and control are one arm: X=1
+    """
+    if treated == control:
+        raise RequestError(f"treated and control are one arm: {levels_text(treated)}")
 
 
 def _apart(head: str, names: Sequence[str]) -> str:

@@ -157,7 +157,7 @@ class EvaluationError(CausalError):
     ...     Diagram("dag { S -> T S -> R T -> R }").effects(data, "T", "R")
     ... except EvaluationError as error:
     ...     print(error)
-    evaluation fault 1: no record has S=t, T=b, which P(R|S,T) is given; support(data) shows the combinations that lack records, and estimate(data, ..) gives a value by models
+    evaluation fault 1: no record has S=t, T=b, which P(R|S,T) is given; support(data) shows the combinations that lack records, estimate(data, ..) gives a value by models, and bounds(data) what it is at least and at most
     """
 
     stage = "evaluation"
@@ -195,6 +195,22 @@ class WrongType(RequestError, TypeError):
 
 class PackageMissing(CausalError, ImportError):
     """A package that an answer needs isn't there."""
+
+
+class FileRefused(CausalError, OSError):
+    """A file that can't be read or written. The place is its path."""
+
+
+class FileMissing(FileRefused, FileNotFoundError):
+    """A file that isn't there.
+
+    >>> from causal import Diagram, FileMissing
+    >>> try:
+    ...     Diagram.from_file("no/such.dag")
+    ... except FileMissing as error:
+    ...     print(error)
+    there is no file no/such.dag
+    """
 
 
 class UnreadableAnswer(CausalError):

@@ -13,19 +13,19 @@ from causal.columns import Data
 from causal.contrasts import IN_COLUMNS, MEASURES, arm_level
 from causal.display import html_table
 from causal.draws import seed_of
-from causal.effects import Level, levels_at, levels_text, typed_order
+from causal.effects import Level, check_arms, levels_at, levels_text, typed_order
 from causal.errors import DataWarning, RequestError
 from causal.estimators import Asked, ByTree, DoublyRobust, Estimator, Standardized, Weighted, pattern_of
 from causal.evaluation import adjusted, identified
 from causal.formula import Formula
 from causal.framed import Framed
-from causal.intervals import Interval, interval_of
+from causal.intervals import Interval, check_level, interval_of
 from causal.models import Fit
 from causal.names import Names, names_of, printed_set
 from causal.rows import Rows, rows_of
 from causal.samples import Design
 from causal.sensitivity import EValue, e_value
-from causal.vocabulary import meant, needed, warn
+from causal.vocabulary import check_progress, check_whole, meant, needed, warn
 from causal.weighting import Weighting, weighting_of
 
 if TYPE_CHECKING:
@@ -206,6 +206,12 @@ def estimated_by(
         raise RequestError(f"method is {', '.join(map(repr, METHODS))}, and not {method!r}")
     if interval not in (None, *INTERVALS):
         raise RequestError(f"interval is {', '.join(map(repr, INTERVALS))} or None, and not {interval!r}")
+    check_level(level)
+    check_progress(progress)
+    if not isinstance(smoothing, (int, float)) or not 0 <= smoothing < math.inf:
+        raise RequestError(f"smoothing is a number of records from 0 on, and not {smoothing!r}")
+    for role, listed in (("factors", names_of(factors)), ("model", tuple(model) if isinstance(model, Mapping) else ())):
+        check_named(role, listed, diagram.vertices)
     formula, members = formula_of(diagram, x, y, method, set, back_door, given, short)
     target = formula.target
     if len(target.y) != 1:
@@ -214,6 +220,7 @@ def estimated_by(
     design.check(names, count)
     rows = rows_of(numpy, data, names, target.x, names_of(factors), count, missing, design, target.y)
     arms = levels_at(target.x, treated, typed_order(x)), levels_at(target.x, control, typed_order(x))
+    check_arms(*arms)
     pinned = pins_of(rows, formula, at)
     codes = [{name: code_of(rows, name, own) for name, own in arm.items()} for arm in arms]
     fixed = {name: code_of(rows, name, own) for name, own in {**(given or {}), **pinned}.items()}
@@ -250,6 +257,20 @@ def estimated_by(
     for doubt in found.doubts:
         warn(doubt, DataWarning)
     return found
+
+
+def check_named(role: str, names: Sequence[str], vertices: Sequence[str]) -> None:
+    """Refuses a name that no vertex has, where it says how a variable is modelled.
+
+    >>> from causal.estimates import check_named
+    >>> check_named("factors", ["Age"], ["age"])
+    Traceback (most recent call last):
+        ...
+    causal.errors.RequestError: factors names Age, which is no vertex; did you mean age?
+    """
+    for name in names:
+        if name not in vertices:
+            raise RequestError(f"{role} names {name}, which is no vertex{meant(name, vertices)}")
 
 
 def formula_of(
@@ -352,8 +373,7 @@ def logit(value: float) -> float:
 
 def by_draws(rows: Rows, estimator: Estimator, resamples: int, seed: int, progress: Optional[Progress]) -> List[Optional[Tuple[float, float]]]:
     """The numbers of both arms over records that are drawn anew, with the models fitted to each draw."""
-    if isinstance(resamples, bool) or not hasattr(resamples, "__index__") or resamples < 1:
-        raise RequestError(f"resamples is a whole number from 1 on, and not {resamples!r}")
+    check_whole("resamples", resamples)
     source, members = rows.numpy.random.RandomState(seed % 2**32), rows.members
     found: List[Optional[Tuple[float, float]]] = []
     for done in range(resamples):

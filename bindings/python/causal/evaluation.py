@@ -9,11 +9,12 @@ from typing import TYPE_CHECKING, Any, Dict, Iterable, Iterator, List, Mapping, 
 
 from causal._library import Text
 from causal.bootstrap import Bootstrap, Progress
-from causal.columns import Data, in_order, may_have_blanks, path_of, read_bytes
-from causal.contrasts import Support
+from causal.columns import Data, in_order, may_have_blanks, path_of
 from causal.draws import drawn_numbers, seed_of
 from causal.effects import Effect, Effects, Level, LevelOf, Spread, read_effects, typed_order
-from causal.errors import CausalError, DataWarning, EvaluationError, NotIdentifiable, RequestError
+from causal.errors import CausalError, DataWarning, EvaluationError, NotIdentifiable, RequestError, WrongType
+from causal.events import Support
+from causal.files import read_bytes
 from causal.formula import Formula, Hedge
 from causal.intervals import check_asked
 from causal.names import Names, list_word
@@ -21,7 +22,7 @@ from causal.objects import Told
 from causal.samples import Design, Sample, sample_of
 from causal.tables import Cell, Table, check_request, table_of, table_of_file
 from causal.values import Evaluator, evaluator_of
-from causal.vocabulary import warn
+from causal.vocabulary import check_progress, warn
 
 if TYPE_CHECKING:
     from causal.diagram import Diagram
@@ -32,7 +33,10 @@ Given = Union[Names, Mapping[str, Level]]
 Values = Optional[Tuple[float, ...]]
 # So many of the minimal sets are tried where a formula has no value.
 MOST_TRIED = 12
-OTHERWISE = "support(data) shows the combinations that lack records, and estimate(data, ..) gives a value by models"
+OTHERWISE = (
+    "support(data) shows the combinations that lack records, estimate(data, ..) gives a value by models, and bounds(data) what it is at"
+    " least and at most"
+)
 
 
 class Evaluation:
@@ -139,6 +143,7 @@ class Evaluation:
     ) -> Bootstrap:
         """The effects with intervals: see `Diagram.bootstrap`."""
         check_asked(resamples, level, kind)
+        check_progress(progress)
         seed = seed_of(seed)
         if self.design and kind == "bca":
             raise RequestError("with weights, clusters or strata intervals are percentiles: interval='percentile'")
@@ -153,12 +158,14 @@ class Evaluation:
             draws = self.over_sample(sample, table, estimate, resamples, seed, progress)
             support = support_of(estimate, table, sample.records_in(table))
             return told_doubts(Bootstrap(estimate, draws, level, seed, kind, (), support, f"; {self.design}"))
+        counted = "" if self.count is None else f"{self.count} holds frequencies: {sum(table.counts.values())} records"
         cells = [place for place, count in enumerate(table.counts.values()) if count] if kind == "bca" else []
         counts, source = list(table.counts.values()), random.Random(seed)
         numbers = chain((drawn_numbers(source, counts) for _ in range(resamples)), without_one(counts, cells))
         values = tuple(self.over_numbers(table, whole, estimate, numbers, resamples + len(cells), progress))
         left_out = tuple((counts[place], value) for place, value in zip(cells, values[resamples:]))
-        return told_doubts(Bootstrap(estimate, values[:resamples], level, seed, kind, left_out, support_of(estimate, table, table.counts)))
+        support = support_of(estimate, table, table.counts)
+        return told_doubts(Bootstrap(estimate, values[:resamples], level, seed, kind, left_out, support, counted=counted))
 
     # How data is read.
 
@@ -195,6 +202,8 @@ class Evaluation:
 
     def pinned(self, table: Table, at: Pins) -> Table:
         """The table in which the level comes first that each free variable is pinned at: the first in order unless it is given."""
+        if at is not None and not isinstance(at, Mapping):
+            raise WrongType(f"at names levels, as in at={{'Z': 1}}, and is no {type(at).__name__}")
         pins = {name: order[0] for name, order in zip(table.names, table.ranked) if name in self.formula.free and order}
         for name, level in (at or {}).items():
             pins[name] = self.place_of(table, name, level)

@@ -8,7 +8,8 @@ from typing import Any, Dict, Iterable, Iterator, List, Mapping, NamedTuple, Opt
 
 from causal.conversion import ROLES, Pair, labelled, text_of_edges, texts_of
 from causal.diagram import Diagram
-from causal.errors import RequestError
+from causal.errors import FileRefused, RequestError
+from causal.files import read_bytes
 
 Attributes = Mapping[str, Any]
 # The form of a file by the end of its name; any other is the text of a diagram.
@@ -48,8 +49,11 @@ def read(path: Union[str, "os.PathLike[str]"], form: Optional[str] = None, **rol
     makers = {"dot": Diagram.from_dot, "gml": Diagram.from_gml}
     if form not in makers:
         raise RequestError(f"the form of a file is 'dag', 'dot' or 'gml', and not {form!r}")
-    with open(path, encoding="utf-8-sig") as file:
-        return makers[form](file.read(), **roles)
+    try:
+        text = read_bytes(path).decode("utf-8-sig").replace("\r\n", "\n").replace("\r", "\n")
+    except UnicodeDecodeError as cause:
+        raise FileRefused(f"the file {os.fspath(path)} isn't written in UTF-8: {cause.reason} at byte {cause.start}", place=path) from cause
+    return makers[form](text, **roles)
 
 
 def _says_yes(value: Any) -> bool:

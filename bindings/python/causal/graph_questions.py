@@ -6,9 +6,9 @@ from __future__ import annotations
 
 from typing import TYPE_CHECKING, Dict, List, Optional, Sequence, Tuple, Union, cast
 
-from causal.errors import RequestError, TargetError
+from causal.errors import RequestError, TargetError, WrongType
 from causal.names import Name, Names, names_of
-from causal.vocabulary import meant
+from causal.vocabulary import check_whole, meant
 
 if TYPE_CHECKING:
     from causal.diagram import Diagram
@@ -126,8 +126,11 @@ class GraphQuestions:
         """
         from causal.walks import paths_of
 
-        (start,), (end,) = self._named(x), self._named(y)
-        return paths_of(self._whole(), start, end, self._named(given), most)
+        ends = self._named(x), self._named(y)
+        if [len(end) for end in ends] != [1, 1]:
+            raise RequestError("paths lead from one vertex to another: x and y are one name each")
+        check_whole("most", most)
+        return paths_of(self._whole(), ends[0][0], ends[1][0], self._named(given), most)
 
     def simulate(self, records: int, seed: Optional[int] = 0, levels: int = 2, strength: float = 1.0) -> Dict[str, List[int]]:
         """Records of a model of the diagram that is drawn by chance: a column of whole numbers for each observed vertex.
@@ -142,6 +145,8 @@ class GraphQuestions:
         """
         from causal.simulation import simulated
 
-        if isinstance(records, bool) or not hasattr(records, "__index__") or records < 1 or levels < 2:
-            raise RequestError("records is a whole number from 1 on, and levels one from 2 on")
+        check_whole("records", records)
+        check_whole("levels", levels, 2)
+        if not isinstance(strength, (int, float)):
+            raise WrongType(f"strength is a number, and no {type(strength).__name__}")
         return simulated(self._whole(), records, seed, levels, strength)

@@ -4,9 +4,10 @@ from __future__ import annotations
 from dataclasses import dataclass
 from typing import TYPE_CHECKING, Dict, Iterator, Optional, Sequence, Tuple, Union, overload
 
-from causal.columns import Data, may_have_blanks, path_of, read_bytes
+from causal.columns import Data, may_have_blanks, path_of
 from causal.display import html_table
 from causal.effects import Level, LevelOf
+from causal.files import read_bytes
 from causal.names import printed_name, printed_set
 from causal.objects import Told, name_in
 from causal.tables import Table, check_request, table_of, table_of_file

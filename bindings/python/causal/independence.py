@@ -19,7 +19,7 @@ from causal.implications import Implication, read_implications, table_for
 from causal.names import printed_name, printed_set
 from causal.strata import Cells, Strata, cells_of, strata_in
 from causal.tables import Table
-from causal.vocabulary import Renamed, needed, warn
+from causal.vocabulary import Renamed, check_progress, check_whole, needed, warn
 
 if TYPE_CHECKING:
     import matplotlib.axes
@@ -241,8 +241,8 @@ def tests_of(
     """The tests of all implications of a diagram: see `Diagram.test_implications`."""
     if method not in METHODS:
         raise RequestError(f"the method is {', '.join(METHODS[:-1])} or {METHODS[-1]}, and not {method!r}")
-    if isinstance(permutations, bool) or not hasattr(permutations, "__index__") or permutations < 1:
-        raise RequestError(f"permutations is a whole number from 1 on, and not {permutations!r}")
+    check_whole("permutations", permutations)
+    check_progress(progress)
     first = seed_of(seed)
     pairs = diagram._ask(read_implications, "implications")
     if not pairs:

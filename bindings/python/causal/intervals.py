@@ -7,6 +7,7 @@ from typing import Any, Callable, List, Optional, Sequence, Tuple
 
 from causal.effects import Value
 from causal.errors import RequestError
+from causal.vocabulary import check_whole
 
 # What computes a number of the values of all effects, or gives None where there is none.
 Measure = Callable[[Sequence[float]], Optional[float]]
@@ -122,6 +123,18 @@ def told(value: Optional[Value], interval: Optional[Interval]) -> str:
     return f"{estimate}, no interval" if interval is None else f"{estimate} [{interval.lower:.6g}, {interval.upper:.6g}]"
 
 
+def check_level(level: float) -> None:
+    """Refuses a level of intervals that there isn't.
+
+    >>> from causal.intervals import check_level
+    >>> check_level(95)
+    Traceback (most recent call last):
+        ...
+    causal.errors.RequestError: level lies between 0 and 1, as 0.95, and is not 95
+    """
+    if not isinstance(level, (int, float)) or not 0 < level < 1:
+        raise RequestError(f"level lies between 0 and 1, as 0.95, and is not {level!r}")
+
 
 def check_asked(resamples: int, level: float, interval: str, least: int = 1) -> None:
     """Refuses numbers of resamples, levels and kinds of intervals that there aren't.
@@ -132,9 +145,7 @@ def check_asked(resamples: int, level: float, interval: str, least: int = 1) -> 
         ...
     causal.errors.RequestError: interval is 'percentile' or 'bca', and not 'normal'
     """
-    if isinstance(resamples, bool) or not hasattr(resamples, "__index__") or resamples < least:
-        raise RequestError(f"resamples is a whole number from {least} on, and not {resamples!r}")
-    if not isinstance(level, (int, float)) or not 0 < level < 1:
-        raise RequestError(f"level lies between 0 and 1, as 0.95, and is not {level!r}")
+    check_whole("resamples", resamples, least)
+    check_level(level)
     if interval not in KINDS:
         raise RequestError(f"interval is {' or '.join(map(repr, KINDS))}, and not {interval!r}")

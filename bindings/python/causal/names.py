@@ -72,7 +72,7 @@ def quoted(name: str) -> str:
     '"a,b"'
     """
     if not _QUOTABLE.fullmatch(name):
-        raise ValueError(f"no vertex can be named {name!r}: a name isn't empty, and holds no double quote and no line break")
+        raise RequestError(f"no vertex can be named {name!r}: a name isn't empty, and holds no double quote and no line break")
     return f'"{name}"'
 
 

@@ -10,6 +10,7 @@ from typing import TYPE_CHECKING, Any, List, Mapping, Optional, Sequence, Tuple,
 from causal.columns import Data
 from causal.display import shown
 from causal.errors import CausalError, RequestError
+from causal.files import refusals_of
 from causal.formula import Formula
 from causal.names import Names, printed_set
 from causal.tables import table_of
@@ -104,7 +105,7 @@ class Report:
         kind = kinds.get(os.path.splitext(os.fspath(path))[1].lower())
         if kind is None:
             raise RequestError(f"a report is written to a file that ends with {', '.join(kinds)}, and not to {os.fspath(path)!r}")
-        with open(path, "w", encoding="utf-8") as file:
+        with refusals_of(path, "written"), open(path, "w", encoding="utf-8") as file:
             file.write(getattr(self, kind))
 
     def _repr_html_(self) -> str:

@@ -5,6 +5,7 @@ They are computed of a ratio and the ends of its interval (VanderWeele and Ding,
 from __future__ import annotations
 
 import math
+import numbers
 from dataclasses import dataclass
 from typing import Optional
 
@@ -33,7 +34,7 @@ def e_value(ratio: float, lower: Optional[float] = None, upper: Optional[float] 
     >>> e_value(0.8, 0.6, 1.1).interval
     1.0
     """
-    if not ratio > 0 or not math.isfinite(ratio):
+    if not isinstance(ratio, numbers.Real) or not ratio > 0 or not math.isfinite(ratio):
         raise RequestError(f"a risk ratio is a positive number, and not {ratio!r}")
     if lower is None or upper is None:
         return EValue(_of(ratio))

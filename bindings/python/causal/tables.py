@@ -239,7 +239,9 @@ def record_counts(values: Sequence[Any], kept: Sequence[int]) -> List[int]:
     for record in kept:
         number = _whole(values[record])
         if number is None:
-            raise CountsError(f"the count of record {record + 1} isn't a whole number from 0 to 10^15", 4, record + 1)
+            told = f"the count of record {record + 1} isn't a whole number from 0 to 10^15"
+            hint = f"{told}; the weights of a survey are named by weights" if isinstance(values[record], float) else told
+            raise CountsError(hint, 4, record + 1)
         counts.append(number)
     return counts
 

@@ -8,9 +8,9 @@ import sys
 import warnings
 from difflib import get_close_matches
 from types import FrameType
-from typing import Any, Callable, Iterable, Optional, Type, TypeVar, cast
+from typing import Any, Callable, Iterable, Optional, Sequence, Type, TypeVar, cast
 
-from causal.errors import PackageMissing, RequestError
+from causal.errors import PackageMissing, RequestError, WrongType
 
 Call = TypeVar("Call", bound=Callable[..., Any])
 # How many names a refusal lists at most.
@@ -93,6 +93,17 @@ class Renamed:
         return getattr(of, self.new)
 
 
+def alike(name: str, names: Sequence[str]) -> Optional[str]:
+    """The name that is most like this one, where one is.
+
+    >>> from causal.vocabulary import alike
+    >>> alike("ages", ["age", "sex"]), alike("Q", ["X"])
+    ('age', None)
+    """
+    near = [it for it in names if it.strip().lower() == name.strip().lower()] or get_close_matches(name, names, 1, 0.75)
+    return near[0] if near else None
+
+
 def meant(name: str, names: Iterable[str]) -> str:
     """What a refusal adds on a name that isn't there: the one that is like it, or those that there are.
 
@@ -101,12 +112,37 @@ def meant(name: str, names: Iterable[str]) -> str:
     ('; did you mean X?', '; did you mean age?', '; there are X, Y', '')
     """
     there = [str(it) for it in names]
-    alike = [it for it in there if it.strip().lower() == name.strip().lower()] or get_close_matches(name, there, 1, 0.75)
-    if alike:
-        shown = repr(alike[0]) if alike[0] != alike[0].strip() else alike[0]
-        return f"; did you mean {shown}?"
+    near = alike(name, there)
+    if near is not None:
+        return f"; did you mean {repr(near) if near != near.strip() else near}?"
     listed = ", ".join(there[:MOST_NAMES]) + (f" and {len(there) - MOST_NAMES} more" if len(there) > MOST_NAMES else "")
     return f"; there are {listed}" if there else ""
+
+
+def check_whole(name: str, value: Any, least: int = 1) -> None:
+    """Refuses what is no whole number from `least` on.
+
+    >>> from causal.vocabulary import check_whole
+    >>> check_whole("resamples", 1.5)
+    Traceback (most recent call last):
+        ...
+    causal.errors.RequestError: resamples is a whole number from 1 on, and not 1.5
+    """
+    if isinstance(value, bool) or not hasattr(value, "__index__") or value < least:
+        raise RequestError(f"{name} is a whole number from {least} on, and not {value!r}")
+
+
+def check_progress(progress: Any) -> None:
+    """Refuses what can't be told of progress.
+
+    >>> from causal.vocabulary import check_progress
+    >>> check_progress(True)
+    Traceback (most recent call last):
+        ...
+    causal.errors.WrongType: progress is called with how many are done, and of how many; a bool can't be
+    """
+    if progress is not None and not callable(progress):
+        raise WrongType(f"progress is called with how many are done, and of how many; a {type(progress).__name__} can't be")
 
 
 def needed(module: str, what: str) -> Any:

@@ -136,7 +136,7 @@ class Given(unittest.TestCase):
             frame = drawn.frame()
         except ImportError:
             return
-        self.assertEqual(list(frame.columns), ["T", "S", "R", "estimate", "conf_low", "conf_high", "draws"])
+        self.assertEqual(list(frame.columns), ["T", "S", "R", "estimate", "conf_low", "conf_high", "draws", "note"])
 
     def test_a_file(self):
         path = __file__.replace("test_asked.py", "../../../examples/kidney_stones.csv")

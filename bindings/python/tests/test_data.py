@@ -573,7 +573,7 @@ class Frames(unittest.TestCase):
 
     def test_bootstrap_frame(self):
         frame = KIDNEY.bootstrap(pandas.DataFrame(COUNTS), count="n", resamples=50).frame()
-        self.assertEqual(list(frame.columns), ["T", "R", "estimate", "conf_low", "conf_high", "draws"])
+        self.assertEqual(list(frame.columns), ["T", "R", "estimate", "conf_low", "conf_high", "draws", "note"])
         self.assertTrue((frame["conf_low"] < frame["estimate"]).all() and (frame["estimate"] < frame["conf_high"]).all())
 
     def test_nothing_to_draw(self):

@@ -198,6 +198,11 @@ class Told(unittest.TestCase):
             ({"model": "table", "interval": "influence"}, "percentile"),
             ({"set": ["age"]}, "can't be adjusted for"),
             ({"outcome": 7}, "death has no level 7"),
+            ({"factors": "Sex"}, "factors names Sex, which is no vertex; did you mean sex"),
+            ({"model": {"Death": "table"}}, "model names Death, which is no vertex; did you mean death"),
+            ({"model": "table", "smoothing": -1}, "smoothing is a number of records from 0 on"),
+            ({"level": 95}, "level lies between 0 and 1"),
+            ({"control": 1}, "treated and control are one arm"),
         ):
             with self.subTest(more), self.assertRaisesRegex(causal.RequestError, told):
                 STUDY.estimate(data, **{**ARMS, **more})

@@ -50,6 +50,13 @@ class Arms(unittest.TestCase):
         with self.assertRaisesRegex(causal.RequestError, "a level is needed for each"):
             diagram.contrast(data, "X", ["Z", "Y"], outcome=1, **asked)
 
+    def test_an_arm_against_itself(self):
+        data = {"X": [0, 1] * 4, "Y": [0, 0, 1, 1] * 2}
+        edge = Diagram("dag { X -> Y }")
+        for ask in (edge.contrast, edge.compare):
+            with self.assertRaisesRegex(causal.RequestError, "treated and control are one arm: X=1"):
+                ask(data, "X", "Y", treated=1, control=1, outcome=1)
+
     def test_an_interval_of_two(self):
         drawn = Diagram(TWO).bootstrap(two_arms(), ["A", "B"], "Y", resamples=20)
         self.assertAlmostEqual(float(drawn.contrast(1, (1, 0), (0, 0)).contrast.treated), 0.3)
@@ -64,6 +71,15 @@ class Roles(unittest.TestCase):
             with self.assertRaisesRegex(causal.RequestError, "no vertex has the name Statin.*did you mean statin"):
                 Diagram.from_edges(edges, **{role: "Statin"})
         self.assertEqual(Diagram.from_edges(edges, vertices=["Statin"], latent="Statin").roles, {"Statin": "latent"})
+
+    def test_a_file_that_was_meant(self):
+        import os
+        import tempfile
+
+        with tempfile.TemporaryDirectory() as folder:
+            open(os.path.join(folder, "counts.csv"), "w").close()
+            with self.assertRaisesRegex(causal.FileMissing, r"there is no file .*count\.csv; did you mean .*counts\.csv\?"):
+                Diagram("dag { X -> Y }").effects(os.path.join(folder, "count.csv"), "X", "Y")
 
     def test_a_role_without_an_edge(self):
         with self.assertWarnsRegex(causal.DiagramWarning, "the exposure Statin has no edge"):
@@ -144,6 +160,58 @@ class Told(unittest.TestCase):
             frame = Diagram("dag { X -> Y }").contrast(data, "X", "Y", treated=1, control=0, outcome=1, resamples=50).frame()
         self.assertIn("width 0", frame.attrs["doubts"][0])
         self.assertIn("50 resamples", frame.attrs["notes"][0])
+        self.assertIn("width 0", frame["note"][1])
+        self.assertIn("control: width 0", frame["note"][2])
+        with warnings.catch_warnings():
+            warnings.simplefilter("ignore")
+            drawn = Diagram("dag { X -> Y }").bootstrap(data, "X", "Y", resamples=50).frame()
+        self.assertIn("width 0", drawn["note"][0])
+
+    def test_beside_each_effect(self):
+        data = {"X": [0] * 226 + [1] * 100, "Y": [0] * 316 + [1] * 10}
+        drawn = Diagram("dag { X -> Y }").bootstrap(data, "X", "Y", resamples=50)
+        for text in (str(drawn), drawn._repr_html_()):
+            self.assertIn("width 0: none of the records there has the outcome (by the rule of three up to 0.0133)", text)
+        self.assertEqual(str(drawn.effect_means()[0]), "X=0, mean 0 [0, 0] (width 0: no resample differs)")
+        some = {"X": [0] * 226 + [1] * 100, "Y": [1] * 3 + [0] * 313 + [1] * 10}
+        self.assertIn("(only 3 of 226 records there are with the outcome", str(Diagram("dag { X -> Y }").bootstrap(some, "X", "Y", resamples=50)))
+
+    def test_beside_means_and_comparisons(self):
+        source = random.Random(1)
+        data = {"S": [source.randrange(25) for _ in range(200)], "T": [source.randrange(2) for _ in range(200)]}
+        data["R"] = [source.randrange(2) for _ in range(200)]
+        data = {name: column + extra for (name, column), extra in zip(data.items(), (list(range(25)) * 2, [0] * 25 + [1] * 25, [0, 1] * 25))}
+        diagram = Diagram(read_example("kidney_stones.dag"))
+        with warnings.catch_warnings():
+            warnings.simplefilter("ignore")
+            drawn = diagram.bootstrap(data, resamples=100)
+            found = diagram.compare(data, treated=1, control=0, outcome=1, resamples=100)
+        lost = f"{drawn.without_value} of 100 resamples had no value"
+        self.assertGreater(drawn.without_value, 0)
+        for mean in (*drawn.effect_means(), drawn.mean_difference(1, 0)):
+            self.assertIn(f"({lost})", str(mean))
+        self.assertIn("by the formula, adjusted for {S}: ", str(found))
+        for text in (str(found), found._repr_html_()):
+            self.assertIn("of the resamples have no value", text)
+
+    def test_in_groups(self):
+        data = {"X": [0] * 226 + [1] * 100, "Y": [0] * 316 + [1] * 10, "Z": [0, 1] * 163}
+        with warnings.catch_warnings():
+            warnings.simplefilter("ignore")
+            found = Diagram("dag { X -> Y Z -> X Z -> Y }").contrast(
+                data, "X", "Y", treated=1, control=0, outcome=1, resamples=50, given="Z"
+            )
+        self.assertIn("width 0: none of the records", found._repr_html_())
+        self.assertIn("50 resamples", found._repr_html_())
+
+    def test_frequencies(self):
+        data = {"X": [0, 1] * 4, "Y": [0, 0, 1, 1] * 2, "w": [150, 200, 50, 400, 75, 125, 300, 100]}
+        edge = Diagram("dag { X -> Y }")
+        found = edge.contrast(data, "X", "Y", treated=1, control=0, outcome=1, count="w", resamples=20)
+        for text in (str(found), found._repr_html_(), str(edge.bootstrap(data, "X", "Y", count="w", resamples=20))):
+            self.assertIn("w holds frequencies: 1400 records", text)
+        with self.assertRaisesRegex(causal.CountsError, "the weights of a survey are named by weights"):
+            edge.effects({**data, "w": [0.5] * 8}, "X", "Y", count="w")
 
     def test_a_contrast_in_words(self):
         data = {"X": ["a", "b"] * 20, "Y": [0, 1, 1, 1] * 10}
@@ -244,6 +312,19 @@ class Refusals(unittest.TestCase):
             lambda: Diagram(3),
             lambda: edge.effects(data, "X", "Z"),
             lambda: edge.parents("Q"),
+            lambda: edge.effects("no_such_file.csv", "X", "Y"),
+            lambda: Diagram.from_file("no_such_file"),
+            lambda: causal.read("no_such_file.dot"),
+            lambda: causal.read("/"),
+            lambda: edge.effects(data, "X", "Y", at=3),
+            lambda: edge.bootstrap(data, "X", "Y", progress=3),
+            lambda: edge.test_implications(data, progress=3),
+            lambda: Diagram.from_edges(3),
+            lambda: Diagram.from_edges([("", "Y")]),
+            lambda: edge.simulate(5, levels="a"),
+            lambda: edge.simulate(5, strength="a"),
+            lambda: edge.paths(["X", "Y"], "Y"),
+            lambda: causal.e_value("a"),
         ):
             with self.assertRaises(causal.Refusal) as caught:
                 ask()

@@ -1,0 +1,6 @@
+pub mod Pairs
+pub mod Levels
+pub mod Outcomes
+pub mod Counted
+pub mod Sharper
+pub mod Summed

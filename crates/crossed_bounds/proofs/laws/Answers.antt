@@ -1,0 +1,15 @@
+use Rattle.crossed_bounds.proofs.laws.Goals as goal
+use Rattle.crossed_bounds.proofs.Sharper.{two_levels_bound, sharper_is_tight, sharper_crossed_have_no_model}
+use Rattle.crossed_bounds.proofs.Summed.{sharper_bounds_hold}
+
+pub returns-clause-levels : goal.returns-clause-levels
+returns-clause-levels c = two_levels_bound
+
+pub returns-clause-tight : goal.returns-clause-tight
+returns-clause-tight c = sharper_is_tight
+
+pub returns-clause-effect : goal.returns-clause-effect
+returns-clause-effect c = sharper_bounds_hold
+
+pub returns-clause-crossed : goal.returns-clause-crossed
+returns-clause-crossed c = sharper_crossed_have_no_model

@@ -1,0 +1,4 @@
+mod Isolated
+mod Separating
+mod Listing
+pub mod Turns

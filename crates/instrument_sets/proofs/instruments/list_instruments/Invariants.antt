@@ -1,0 +1,7 @@
+use Rattle.mixed_graph.specs.Bits.{has}
+use Rattle.mixed_graph.specs.Shown.{graph_of}
+use Rattle.instrument_sets.proofs.Turns.{IsOnTheWay}
+use Rattle.instrument_sets.proofs.instruments.list_instruments.Given as goal
+
+abbrev pub invariant-vertices : goal.invariant-vertices
+invariant-vertices g l = IsOnTheWay (graph_of l.g) (has l.x.bits) (has l.y.bits) l.most l.z-iterator l.list.items

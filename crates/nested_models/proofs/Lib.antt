@@ -1,0 +1,7 @@
+pub mod Apart
+pub mod Worlds
+pub mod Held
+pub mod Effects
+pub mod Product
+pub mod Witnesses
+pub mod NoFormula
