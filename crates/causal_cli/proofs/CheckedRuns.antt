@@ -9,11 +9,13 @@ use Rattle.replies.specs.declared.outcome.Outcome.{Outcome}
 use Rattle.replies.specs.declared.outcome.Outcome.TheVariants.{Yes}
 use Rattle.replies.specs.Outcomes.{code_of}
 use Rattle.replies.specs.Observed.{HoldsDiagram}
+use Rattle.told.specs.Forms.{plain_form}
 use Rattle.diagram.specs.declared.diagram.Diagram.{Diagram}
 use Rattle.diagram.proofs.ObservedParts.{as_read}
 use Rattle.experiment_lists.specs.Words.{Lists}
 use Rattle.check_command.specs.Answers as check
 use Rattle.check_command.specs.Answers.{CheckAnswer}
+use Rattle.check_command.proofs.CheckTold.{check_as_told, first_is_no_yes}
 use Rattle.command_run.specs.Answers.{HoldsAnswer, DefinedWith}
 use Rattle.command_run.specs.Commands.{of}
 use Rattle.causal_cli.specs.Commands.{commands}
@@ -38,7 +40,7 @@ on_yes r uses text whole (on_file q is file names h) = record {
   asks = is;
   right = under_name r.held q.file file (λ bytes. HoldsAnswer commands (of Check q) bytes Yes text)
       (λ bytes. IfSome (r.held_second q.certificate) (λ other. IsRightCertificate q.format q.experiments bytes other text))
-      (λ bytes a. absurd a.answer) names h;
+      (λ bytes a. absurd (first_is_no_yes a.diagram q.experiments (plain_form q.format) text a.answer)) names h;
   whole = whole;
 }
 on_yes r uses text whole (on_both q is file second names names_second h) = record {
@@ -47,7 +49,8 @@ on_yes r uses text whole (on_both q is file second names names_second h) = recor
   asks = is;
   right = under_names r.held r.held_second q.file file q.certificate second (λ bytes other. DefinedWith commands (of Check q) bytes other Yes text)
       (λ bytes other. IsRightCertificate q.format q.experiments bytes other text)
-      (λ bytes other h. is_right q.format q.experiments bytes other text h.0 h.1 h.3) names names_second h;
+      (λ bytes other h. is_right q.format q.experiments bytes other text h.0 h.1
+      (check_as_told q.format h.0 q.experiments other h.3.0 h.3.1 Yes text h.3.2)) names names_second h;
   whole = whole;
 }
 

@@ -33,7 +33,8 @@ use Rattle.identify_command.specs.Answers.{EffectAnswer, IdentifyAnswer}
 use Rattle.identify_command.specs.Conditions as conditions
 use Rattle.identify_command.specs.Conditions.{IdentifyAnswerGiven}
 use Rattle.identify_command.proofs.IdentifyTold.{identify_as_told}
-use Rattle.check_command.specs.Answers.{HoldsCertificate, CertificateAnswer, of_formula, of_hedge}
+use Rattle.check_command.specs.Answers.{CertificateAnswer, of_formula, of_hedge}
+use Rattle.check_command.specs.Right.{HoldsCertificate}
 use Rattle.adjust_command.specs.Answers.{AdjustAnswer, SetsAnswer, adjust_lists}
 use Rattle.adjust_command.specs.Answers as adjustments
 use Rattle.adjust_command.proofs.AdjustTold.{adjust_as_told}
@@ -142,7 +143,7 @@ certificate_as_drawn : (format : Format) (g : ReadGraph) (q : MixedGraph) → Is
     → (t : PlainTarget) (f : PlainFormula) (d : PlainDerivation) → HoldsCertificate (observed_names g) other (certificates.formula t f d) → IsRightAsDrawn g t f
 certificate_as_drawn format g q observed zs other text (of_formula u h e read answer) t f d is =
     let same = same_read _ (certificates.formula u h e) (certificates.formula t f d) read.reads is.reads in
-    let right = drawn g q observed u h answer.effect in
+    let right = drawn g q observed u h answer.is.effect in
     subst (λ x. IsRightAsDrawn g x f) (same_target u t h f e d same) (subst (λ x. IsRightAsDrawn g u x) (same_formula u t h f e d same) right)
 certificate_as_drawn format g q observed zs other text (of_hedge u h entries read answer) t f d is =
     let same = same_read _ (certificates.hedge u (certificates.hedge_view h)) (certificates.formula t f d) read.reads is.reads in absurd (cc same)

@@ -42,7 +42,8 @@ use Rattle.identify_command.specs.Conditions as conditions
 use Rattle.identify_command.specs.Conditions.{ConditionalAnswer, IdentifyAnswerGiven}
 use Rattle.identify_command.specs.Requests.{IsRequest}
 use Rattle.identify_command.proofs.IdentifyTold.{identify_as_told}
-use Rattle.check_command.specs.Answers.{HoldsCertificate, CertificateAnswer, of_formula, of_hedge}
+use Rattle.check_command.specs.Answers.{CertificateAnswer, of_formula, of_hedge}
+use Rattle.check_command.specs.Right.{HoldsCertificate}
 use Rattle.experiment_lists.specs.Words.{Lists}
 use Rattle.experiment_lists.proofs.OneSet.{one_by_one}
 use Rattle.surrogates.specs.Answers.{IsRightBlock}
@@ -275,7 +276,7 @@ hedge_as_drawn format g q observed zs other text (of_formula u f d read answer) 
 hedge_as_drawn format g q observed zs other text (of_hedge u k entries read answer) t h is =
     let same = same_read _ (certificates.hedge u (certificates.hedge_view k)) (certificates.hedge t h) read.reads is.reads in
     subst (λ x. IsNotIdentifiable g (effect_on x.x x.y)) (same_hedge_target u t (certificates.hedge_view k) h same)
-    (effect_lost g q observed u.x u.y answer.pair answer.models)
+    (effect_lost g q observed u.x u.y answer.is.pair answer.is.models)
 
 -- and of the experiments with which it was accepted
 hedge_over_as_drawn : (format : Format) (g : ReadGraph) (q : MixedGraph) → IsObservedGraph g q → (zs other : List ℕ) (text : Told)
@@ -287,7 +288,7 @@ hedge_over_as_drawn format g q observed zs other text (of_formula u f d read ans
 hedge_over_as_drawn format g q observed zs other text (of_hedge u k entries read answer) t h is =
     let same = same_read _ (certificates.hedge u (certificates.hedge_view k)) (certificates.hedge t h) read.reads is.reads in
     subst (λ x. IsNotIdentifiableOver g zs (effect_on x.x x.y)) (same_hedge_target u t (certificates.hedge_view k) h same)
-    (effect_lost_over g q observed u.x u.y answer.pair answer.models zs answer.under)
+    (effect_lost_over g q observed u.x u.y answer.is.pair answer.is.models zs answer.is.under)
 
 certificate_refutes : (format : Format) (experiments : Lists) (bytes other : List ℕ) (text : Told) → IsRightCertificate format experiments bytes other text
     → IsHedgeCertificateAsDrawn format experiments bytes other text

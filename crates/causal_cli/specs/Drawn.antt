@@ -40,7 +40,7 @@ use Rattle.identify_command.specs.Answers.{ShowsFormula}
 use Rattle.identify_command.specs.Conditions.{AreTargetSets, ShowsConditional}
 use Rattle.identify_command.specs.Requests.{IsRequest, identify_row}
 use Rattle.check_command.specs.Answers as check
-use Rattle.check_command.specs.Answers.{HoldsCertificate}
+use Rattle.check_command.specs.Right.{HoldsCertificate}
 use Rattle.experiment_lists.specs.Words.{Lists}
 use Rattle.check_command.specs.Requests.{check_row}
 use Rattle.check_command.specs.Requests as check_requests

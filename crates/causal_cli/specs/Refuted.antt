@@ -29,7 +29,7 @@ use Rattle.identify_command.specs.Answers.{ShowsHedge}
 use Rattle.identify_command.specs.Conditions.{AreTargetSets, ShowsJoint}
 use Rattle.identify_command.specs.Requests.{IsRequest, identify_row}
 use Rattle.check_command.specs.Answers as check
-use Rattle.check_command.specs.Answers.{HoldsCertificate, AreExperimentsOn}
+use Rattle.check_command.specs.Right.{HoldsCertificate, AreExperimentsOn}
 use Rattle.check_command.specs.Requests.{check_row}
 use Rattle.check_command.specs.Requests as check_requests
 use Rattle.evaluate_command.specs.Ways.{Way, by_procedure, by_adjusting, by_condition, criterion_query}
