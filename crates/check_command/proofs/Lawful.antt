@@ -1,17 +1,21 @@
--- The command's words ask for one request, and its answers have one outcome.
-use Rattle.std.proofs.Common.{◌≡◌, ℕ, List, refl, sym, ◌∙◌}
+-- The command's words ask for one request, and its right answers end alike.
+use Rattle.std.proofs.Common.{◌≡◌, List, sym, ◌∙◌}
 use Rattle.std.specs.Prelude.{codes}
 use Rattle.std.proofs.lemmas.Option.{same_Some}
+use Rattle.mixed_graph.specs.Shown.{graph_of}
 use Rattle.command_words.specs.Form.{Use, value_of}
-use Rattle.diagram.specs.declared.diagram.Diagram.{Diagram}
-use Rattle.replies.specs.Command.{IsLeft}
-use Rattle.replies.proofs.Commands.{IsLawful, lawful_on_two_inputs}
-use Rattle.check_command.specs.Requests.{Request, IsRequest}
-use Rattle.check_command.specs.Command.{check_command, check_left}
 use Rattle.experiment_lists.proofs.OneWord.{one_optional}
-use Rattle.check_command.specs.Answers.{AreExperimentsOn}
-use Rattle.check_command.proofs.Outcomes.{check_answered, first_answered}
-use Rattle.check_command.proofs.Exclusive.{check_once, first_alone, first_once}
+use Rattle.replies.specs.Outcomes.{IsAnswered}
+use Rattle.replies.proofs.Commands.{IsLawful}
+use Rattle.told.proofs.ToldOnBoth.{lawful_told_on_both}
+use Rattle.check_command.specs.CertificateFaults.{certificate_refusal}
+use Rattle.check_command.specs.Command.{check_command}
+use Rattle.check_command.specs.Requests.{Request, IsRequest}
+use Rattle.check_command.specs.Right.{AreExperimentsOn, IsForFirst, IsForCertificate}
+use Rattle.check_command.specs.Telling.{check_telling}
+use Rattle.check_command.specs.declared.answer.Answer.{Answer}
+use Rattle.check_command.specs.declared.answer.Answer.TheVariants.{AcceptedFormula, RefusedDerivation, AcceptedHedge, RefusedHedge, MetHedge}
+use Rattle.check_command.proofs.Exclusive.{first_alike, first_alone, second_alike}
 
 -- the uses ask for one request
 one_request : (uses : List Use) (q r : Request) → IsRequest uses q → IsRequest uses r → r ≡ q
@@ -22,20 +26,18 @@ one_request uses q r a b = λ i. record {
   format = (b.format ∙ sym a.format) i;
 }
 
+answered : (a : Answer) → IsAnswered (check_telling.outcome a)
+answered (AcceptedFormula f) = tt
+answered (RefusedDerivation lemmas fault) = tt
+answered (AcceptedHedge s h over) = tt
+answered (RefusedHedge fault) = tt
+answered MetHedge = tt
+
 -- what holds of each command holds of it
 pub check_lawful : IsLawful check_command
-check_lawful = lawful_on_two_inputs one_request
-    (λ q d. first_answered d q.experiments)
-    (λ q d other. check_answered q.format d q.experiments other)
-    (λ q bytes. first_once bytes q.experiments)
-    (λ q bytes other. check_once q.format bytes other q.experiments)
-    (λ q name d e same names o told a n. first_alone d e same q.experiments n.0 o told a n.1)
-
-pub check_is_left : (q : Request) (d : Diagram) (zs : List ℕ) → AreExperimentsOn d.read.names d.observed.names q.experiments zs
-    → IsLeft check_command q d (check_left q.format d zs q.certificate)
-check_is_left q d zs are = record {
-  named = refl;
-  continues = (zs, are);
-  known = (q.experiments, are);
-  answers = λ other o told a. record { sets = zs; are = are; answer = a };
-}
+check_lawful = lawful_told_on_both check_telling certificate_refusal one_request answered (λ fault. tt)
+    (λ q d. IsForFirst d q.experiments) (λ q d. AreExperimentsOn d.read.names d.observed.names q.experiments)
+    (λ q d. IsForCertificate (graph_of d.observed.graph) d.observed.names)
+    (λ q d e same back. first_alike d e q.experiments)
+    (λ q d e same back zs ws n m. second_alike d e same q.experiments zs ws n m)
+    (λ q name d e same named a zs. first_alone d e same q.experiments a zs)

@@ -1,6 +1,11 @@
-pub mod Answers
+pub mod Requests
 pub mod Lines
 pub mod Objects
+pub mod Refusals
+pub mod CertificateFaults
+pub mod Telling
+pub mod Right
 pub mod Replies
-pub mod Requests
+pub mod Firsts
 pub mod Command
+pub mod Answers

@@ -1,5 +1,5 @@
 -- The lines of a check.
-use Rattle.std.specs.Prelude.{ℕ, nat_lt, ◌==◌, List, [], ◌∷◌, ◌++◌, length, Option, Some, None, if◌then◌else◌, codes}
+use Rattle.std.specs.Prelude.{ℕ, nat_lt, ◌==◌, Bool, true, false, List, [], ◌++◌, length, Option, Some, None, if◌then◌else◌, codes}
 use Rattle.std.specs.Fmt.{decimal}
 use Rattle.mixed_graph.specs.Names.{name_of}
 use Rattle.answer_text.specs.Printing.{printed}
@@ -89,10 +89,10 @@ at_vertex names (hedges.Root v) = codes " at " ++ name_or_dash names v
 abbrev pub hedge_text : List (List ℕ) → HedgeFault → List ℕ
 hedge_text names fault = codes "refused: hedge fault " ++ (hedge_digit fault ++ (at_vertex names fault ++ codes "\n"))
 
--- where there are experiments, the first line speaks of them
-abbrev pub heading_over : List (List ℕ) → List ℕ → (x y : ℕ) → Hedge → List ℕ
-heading_over names [] x y h = heading_text names x y h
-heading_over names (z ∷ zs) x y h = unidentifiable_with_line names x y ++ sets_line names h
+-- the heading of a hedge: where there are experiments, its first line speaks of them
+abbrev pub heading : (over_experiments : Bool) → List (List ℕ) → (x y : ℕ) → Hedge → List ℕ
+heading false names x y h = heading_text names x y h
+heading true names x y h = unidentifiable_with_line names x y ++ sets_line names h
 
 -- a hedge that an experiment meets
 abbrev pub met_text : List ℕ

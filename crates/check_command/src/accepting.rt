@@ -2,7 +2,7 @@
 
 ghost use Rattle.std.specs.Prelude.{IfOk};
 ghost use Rattle.experiment_lists.specs.Views.{lists_in};
-ghost use Rattle.check_command.specs.Replies.{IsAcceptance};
+ghost use Rattle.check_command.specs.Firsts.{IsAcceptance};
 
 use diagram::Diagram;
 use experiment_lists::experiment_sets;
@@ -19,7 +19,7 @@ pub enum Acceptance {
     Accepted(Vec<VSet>),
 }
 
-/// The sets of observed vertices that the lists of experiments name; else the line of the first name at fault.
+/// The sets of observed vertices that the lists of experiments name; else what is told of the first name at fault.
 pub fn accept_experiments(
     alloc: Global,
     diagram: &Diagram,

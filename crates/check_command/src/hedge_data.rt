@@ -1,43 +1,38 @@
 //! The answer for a hedge.
 
-ghost use Rattle.std.specs.Prelude.{◌≡◌, true, IfOk, length};
+ghost use Rattle.std.specs.Prelude.{◌≡◌, true, length};
 ghost use Rattle.std.specs.List.{list_all};
 ghost use Rattle.mixed_graph.specs.Shown.{graph_of};
 ghost use Rattle.prob_expr.specs.Listed.{masks_of};
 ghost use Rattle.prob_expr.specs.View.{target_view};
 ghost use Rattle.hedge.specs.Entries.{HasEntries};
 ghost use Rattle.hedge.specs.Hedges.{IsHedge};
-ghost use Rattle.check_command.specs.Replies.{IsSoundTarget, AnswersHedge, is_harmless};
+ghost use Rattle.check_command.specs.Replies.{IsSoundTarget, is_harmless};
+ghost use Rattle.check_command.specs.Right.{DecidesHedge};
 
-use crate::formats::{accepted_hedge, met_hedge, refused_hedge};
+use crate::answer::Answer;
 use counter_models::laws;
 use dag_reader::ReadGraph;
 use hedge::{Hedge, holds};
 use mixed_graph::VSet;
 use prob_expr::Target;
-use replies::{Format, Outcome, Reply};
-use std::alloc::{AllocError, Global};
+use targets::EffectSets;
 
 /// The answer for a hedge.
-pub fn check_hedge(
-    alloc: Global,
+pub fn decide_hedge(
     seen: &ReadGraph,
     experiments: &[VSet],
     target: &Target,
     hedge: &Hedge,
-    format: Format,
-) -> Result<Reply, AllocError>
+) -> Answer
     requires target { IsSoundTarget (length seen.now.names) (target_view target.now) }
-    ensures answer { IfOk result (AnswersHedge format (graph_of seen.now.graph) seen.now.names (masks_of experiments.now) (target_view target.now) hedge.now) }
+    ensures answer { DecidesHedge (graph_of seen.now.graph) (masks_of experiments.now) (target_view target.now) hedge.now result }
     ensures entries { HasEntries hedge.now }
 {
     hedge.has_entries();
     match holds(&seen.graph, target.x, target.y, hedge) {
-        Ok(()) => check_experiments(alloc, seen, experiments, target, hedge, format),
-        Err(fault) => {
-            let text = refused_hedge(alloc, format, &seen.names, fault)?;
-            Ok(Reply::answer(alloc, Outcome::No, text))
-        }
+        Ok(()) => decide_over(seen, experiments, target, hedge),
+        Err(fault) => Answer::RefusedHedge(fault),
     }
 }
 
@@ -61,40 +56,31 @@ fn are_harmless(hedge: &Hedge, experiments: &[VSet]) -> bool
 }
 
 /// The answer for a hedge that holds.
-fn check_experiments(
-    alloc: Global,
-    seen: &ReadGraph,
-    experiments: &[VSet],
-    target: &Target,
-    hedge: &Hedge,
-    format: Format,
-) -> Result<Reply, AllocError>
+fn decide_over(seen: &ReadGraph, experiments: &[VSet], target: &Target, hedge: &Hedge) -> Answer
     requires target { IsSoundTarget (length seen.now.names) (target_view target.now) }
     requires hedge { IsHedge (graph_of seen.now.graph) target.now.x.bits target.now.y.bits hedge.now }
-    ensures { IfOk result (AnswersHedge format (graph_of seen.now.graph) seen.now.names (masks_of experiments.now) (target_view target.now) hedge.now) }
+    ensures { DecidesHedge (graph_of seen.now.graph) (masks_of experiments.now) (target_view target.now) hedge.now result }
 {
     if are_harmless(hedge, experiments) {
-        return accept(alloc, seen, experiments, target, hedge, format);
+        return accepted(seen, experiments, target, hedge);
     }
-    let text = met_hedge(alloc, format)?;
-    Ok(Reply::answer(alloc, Outcome::No, text))
+    Answer::MetHedge
 }
 
 /// The answer for a hedge that holds and that no experiment tells apart: there are two models that show that the effect isn't identifiable.
-fn accept(
-    alloc: Global,
-    seen: &ReadGraph,
-    experiments: &[VSet],
-    target: &Target,
-    hedge: &Hedge,
-    format: Format,
-) -> Result<Reply, AllocError>
+fn accepted(seen: &ReadGraph, experiments: &[VSet], target: &Target, hedge: &Hedge) -> Answer
     requires target { IsSoundTarget (length seen.now.names) (target_view target.now) }
     requires hedge { IsHedge (graph_of seen.now.graph) target.now.x.bits target.now.y.bits hedge.now }
     requires harmless { list_all (is_harmless hedge.now) (masks_of experiments.now) ≡ true }
-    ensures { IfOk result (AnswersHedge format (graph_of seen.now.graph) seen.now.names (masks_of experiments.now) (target_view target.now) hedge.now) }
+    ensures { DecidesHedge (graph_of seen.now.graph) (masks_of experiments.now) (target_view target.now) hedge.now result }
 {
     laws();
-    let text = accepted_hedge(alloc, format, &seen.names, experiments, target, hedge)?;
-    Ok(Reply::answer(alloc, Outcome::Yes, text))
+    Answer::AcceptedHedge {
+        sets: EffectSets {
+            x: target.x,
+            y: target.y,
+        },
+        hedge: *hedge,
+        over_experiments: !experiments.is_empty(),
+    }
 }

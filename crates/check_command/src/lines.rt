@@ -1,27 +1,78 @@
 //! The lines of `check`: what is accepted, and the first fault.
 
 ghost use Rattle.std.specs.Prelude.{◌≡◌, ◌++◌, OnOk, IfOk};
-ghost use Rattle.prob_expr.specs.Listed.{masks_of};
-ghost use Rattle.check_command.specs.Lines.{accepted_text, place_text, fault_digit, path_line, step_text, end_place, derivation_text, name_or_dash, hedge_digit, at_vertex, hedge_text, heading_over};
+ghost use Rattle.prob_expr.specs.View.{formula_view, target_view};
+ghost use Rattle.answer_text.specs.declared.signs.Notation.TheVariants.{Plain};
+ghost use Rattle.identify_text.specs.Answers.{answer_in};
+ghost use Rattle.check_command.specs.Lines.{accepted_text, place_text, fault_digit, path_line, step_text, end_place, derivation_text, name_or_dash, hedge_digit, at_vertex, hedge_text, heading};
 
-use answer_text::push_vertex;
+use answer_text::{Notation, push_vertex};
 use do_derivation::{CheckFault, StepFault, StepPlace};
+use effect_answers::EffectFormula;
 use experiment_lists::unidentifiable_text;
 use hedge::{Hedge, HedgeFault};
-use identify_text::{hedge_heading, push_hedge_sets};
-use mixed_graph::{Names, VSet};
-use prob_expr::Target;
+use identify_text::{answer_in, hedge_heading, push_hedge_sets};
+use mixed_graph::Names;
 use replies::push_open;
 use std::alloc::{AllocError, Global};
+use targets::EffectSets;
+
+// ---- what is accepted
 
 /// The line of an accepted certificate, and its answer.
-pub fn accepted_text(alloc: Global, answer: &[u8]) -> Result<Vec<u8>, AllocError>
+fn accepted_text(alloc: Global, answer: &[u8]) -> Result<Vec<u8>, AllocError>
     ensures { IfOk result (λ v. v.items ≡ accepted_text answer.now) }
 {
     let mut text = Vec::from_slice(alloc, b"accepted\n")?;
     text.extend_from_slice(answer)?;
     Ok(text)
 }
+
+/// The text of an accepted formula.
+pub fn accepted_formula_text(
+    alloc: Global,
+    names: &Names,
+    f: &EffectFormula,
+) -> Result<Vec<u8>, AllocError>
+    ensures { IfOk result (λ v. v.items ≡ accepted_text (answer_in Plain names.now (target_view f.now.target) (formula_view f.now.formula))) }
+{
+    let answer = answer_in(alloc, Notation::Plain, &f.formula, &f.target, names)?;
+    accepted_text(alloc, &answer)
+}
+
+/// The heading of a hedge, which speaks of experiments where there are some.
+fn heading(
+    alloc: Global,
+    names: &Names,
+    sets: EffectSets,
+    hedge: &Hedge,
+    over_experiments: bool,
+) -> Result<Vec<u8>, AllocError>
+    ensures { IfOk result (λ v. v.items ≡ heading over_experiments names.now sets.x.bits sets.y.bits hedge.now) }
+{
+    if !over_experiments {
+        return hedge_heading(alloc, sets.x, sets.y, hedge, names);
+    }
+    let mut text = unidentifiable_text(alloc, names, sets.x, sets.y)?;
+    push_hedge_sets(&mut text, names, hedge)?;
+    Ok(text)
+}
+
+/// The text of an accepted hedge.
+pub fn accepted_hedge_text(
+    alloc: Global,
+    names: &Names,
+    sets: EffectSets,
+    hedge: &Hedge,
+    over_experiments: bool,
+) -> Result<Vec<u8>, AllocError>
+    ensures { IfOk result (λ v. v.items ≡ accepted_text (heading over_experiments names.now sets.x.bits sets.y.bits hedge.now)) }
+{
+    let answer = heading(alloc, names, sets, hedge, over_experiments)?;
+    accepted_text(alloc, &answer)
+}
+
+// ---- what is refused
 
 /// Appends `main` or the lemma of that number.
 fn push_place(alloc: Global, out: &mut Vec<u8>, lemma: Option<u32>) -> Result<(), AllocError>
@@ -165,23 +216,5 @@ pub fn hedge_text(alloc: Global, names: &Names, fault: HedgeFault) -> Result<Vec
     text.extend_from_slice(hedge_digit(fault))?;
     push_at_vertex(&mut text, names, fault)?;
     text.push(b'\n')?;
-    Ok(text)
-}
-
-/// The heading of a hedge, which speaks of the experiments where there are some.
-pub fn heading_over(
-    alloc: Global,
-    names: &Names,
-    experiments: &[VSet],
-    target: &Target,
-    hedge: &Hedge,
-) -> Result<Vec<u8>, AllocError>
-    ensures { IfOk result (λ v. v.items ≡ heading_over names.now (masks_of experiments.now) target.now.x.bits target.now.y.bits hedge.now) }
-{
-    if experiments.is_empty() {
-        return hedge_heading(alloc, target.x, target.y, hedge, names);
-    }
-    let mut text = unidentifiable_text(alloc, names, target.x, target.y)?;
-    push_hedge_sets(&mut text, names, hedge)?;
     Ok(text)
 }

@@ -1,94 +1,48 @@
-//! The objects of accepted certificates.
+//! The members of the objects of accepted certificates.
 
-ghost use Rattle.std.specs.Prelude.{◌≡◌, codes, IfOk, OnOk};
-ghost use Rattle.prob_expr.specs.Tree.{effect_on};
+ghost use Rattle.std.specs.Prelude.{◌≡◌, OnOk};
 ghost use Rattle.prob_expr.specs.View.{formula_view, target_view};
-ghost use Rattle.answer_json.specs.Progress.{nothing, members, with_member, json_line};
-ghost use Rattle.effect_answers.specs.Objects.{effect_json};
-ghost use Rattle.check_command.specs.Objects.{formula_answer, hedge_answer, accepted_formula_json, accepted_hedge_json};
+ghost use Rattle.answer_json.specs.Progress.{with_members};
+ghost use Rattle.check_command.specs.Objects.{formula_answer, hedge_answer};
 
 use answer_json::Object;
-use effect_answers::objects::{push_formula, push_target};
+use effect_answers::objects::{push_effect, push_formula, push_target};
+use effect_answers::{EffectFormula, target_of};
 use hedge::Hedge;
 use hedge_json::push_hedge;
-use identify_text::effect_text;
-use mixed_graph::{Names, VSet};
-use prob_expr::{Formula, Target};
-use std::alloc::{AllocError, Global};
+use mixed_graph::Names;
+use std::alloc::AllocError;
+use targets::EffectSets;
 
-// ---- a formula
-
-/// The object of an accepted formula for a target, up to its trees.
-fn begin_formula(
-    alloc: Global,
+/// The members of an accepted formula.
+pub fn push_accepted_formula(
+    object: &mut Object,
     names: &Names,
-    target: &Target,
-    f: &Formula,
-) -> Result<Object, AllocError>
-    ensures { IfOk result (λ o. o ≡ members nothing (formula_answer names.now (target_view target.now) (formula_view f.now))) }
+    f: &EffectFormula,
+) -> Result<(), AllocError>
+    ensures { OnOk result (object.new ≡ with_members (formula_answer names.now (target_view f.now.target) (formula_view f.now.formula)) object.old) }
 {
-    let mut object = Object::new(alloc)?;
     object.word_at("answer", "accepted")?;
     object.word_at("of", "formula")?;
-    push_target(&mut object, names, target)?;
-    push_formula(&mut object, names, target, f)?;
-    Ok(object)
+    push_target(object, names, &f.target)?;
+    push_formula(object, names, &f.target, &f.formula)
 }
 
-/// The line of an accepted formula.
-pub fn accepted_formula_object(
-    alloc: Global,
+/// The members of an accepted hedge for the effect of x on y.
+pub fn push_accepted_hedge(
+    object: &mut Object,
     names: &Names,
-    target: &Target,
-    formula: &Formula,
-) -> Result<Vec<u8>, AllocError>
-    ensures { IfOk result (λ v. v.items ≡ json_line (accepted_formula_json names.now (target_view target.now) (formula_view formula.now))) }
-{
-    let object = begin_formula(alloc, names, target, formula)?;
-    object.line()
-}
-
-// ---- a hedge
-
-/// The member of the effect of x on y as text.
-fn push_effect(object: &mut Object, names: &Names, x: VSet, y: VSet) -> Result<(), AllocError>
-    ensures { OnOk result (object.new ≡ with_member (codes "effect") (effect_json names.now (effect_on x.bits y.bits)) object.old) }
-{
-    let text = effect_text(object.alloc(), x, y, names)?;
-    object.text_at("effect", text.as_slice())
-}
-
-/// The object of an accepted hedge for the effect of x on y, up to the hedge.
-fn begin_hedge(
-    alloc: Global,
-    names: &Names,
-    x: VSet,
-    y: VSet,
+    sets: EffectSets,
     hedge: &Hedge,
-) -> Result<Object, AllocError>
-    ensures { IfOk result (λ o. o ≡ members nothing (hedge_answer names.now x.bits y.bits hedge.now)) }
+) -> Result<(), AllocError>
+    ensures { OnOk result (object.new ≡ with_members (hedge_answer names.now sets.x.bits sets.y.bits hedge.now) object.old) }
 {
-    let mut object = Object::new(alloc)?;
+    let target = target_of(sets);
     object.word_at("answer", "accepted")?;
     object.word_at("of", "hedge")?;
-    object.set_at("y", names, y)?;
-    object.set_at("x", names, x)?;
-    push_effect(&mut object, names, x, y)?;
+    object.set_at("y", names, sets.y)?;
+    object.set_at("x", names, sets.x)?;
+    push_effect(object, names, &target)?;
     object.key("hedge")?;
-    push_hedge(&mut object, names, hedge)?;
-    Ok(object)
-}
-
-/// The line of an accepted hedge for the effect of x on y.
-pub fn accepted_hedge_object(
-    alloc: Global,
-    names: &Names,
-    x: VSet,
-    y: VSet,
-    hedge: &Hedge,
-) -> Result<Vec<u8>, AllocError>
-    ensures { IfOk result (λ v. v.items ≡ json_line (accepted_hedge_json names.now x.bits y.bits hedge.now)) }
-{
-    let object = begin_hedge(alloc, names, x, y, hedge)?;
-    object.line()
+    push_hedge(object, names, hedge)
 }

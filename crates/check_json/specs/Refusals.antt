@@ -1,4 +1,4 @@
--- The objects of a refused derivation and of a refused hedge.
+-- The members of the objects of a refused derivation and of a refused hedge.
 use Rattle.std.specs.Prelude.{ℕ, nat_lt, ◌==◌, List, [], ◌∷◌, length, Option, Some, None, if◌then◌else◌, codes, decimal}
 use Rattle.json.specs.Json.{Json, null, string, number}
 use Rattle.do_derivation.specs.declared.faults.StepFault.{StepFault}
@@ -7,7 +7,7 @@ use Rattle.do_derivation.specs.declared.faults.CheckFault.{CheckFault}
 use Rattle.do_derivation.specs.declared.faults.CheckFault.TheVariants.{Step, EndDiffers, DoLeft, NoMemory}
 use Rattle.hedge.specs.declared.hedge.HedgeFault.{HedgeFault}
 use Rattle.hedge.specs.declared.hedge.HedgeFault.TheVariants as hedges
-use Rattle.answer_json.specs.Progress.{Progress, nothing, members, at_key, object_of}
+use Rattle.answer_json.specs.Progress.{Progress, with_key, with_members, object_of}
 use Rattle.answer_json.specs.Values.{vertex_json, path_json}
 
 -- ---- derivations
@@ -55,14 +55,14 @@ abbrev pub at_json : (lemma step : Option ℕ) → Json
 at_json lemma step = object_of ((codes "lemma", number_or_null lemma) ∷ (codes "step", number_or_null step) ∷ [])
 
 -- what is refused of a formula: where, by which fault, and what follows
-abbrev pub refused_json : (at : Json) (n : ℕ) (message : List ℕ) → List (List ℕ × Json) → Json
-refused_json at n message rest = object_of (
+abbrev pub refused_members : (at : Json) (n : ℕ) (message : List ℕ) → List (List ℕ × Json) → List (List ℕ × Json)
+refused_members at n message rest =
     (codes "answer", string (codes "refused")) ∷ (codes "of", string (codes "formula")) ∷ (codes "at", at)
-    ∷ (codes "number", number (decimal n)) ∷ (codes "message", string message) ∷ rest)
+    ∷ (codes "number", number (decimal n)) ∷ (codes "message", string message) ∷ rest
 
 -- the same up to the key of the place
-abbrev pub begun_refusal : Progress
-begun_refusal = at_key nothing ((codes "answer", string (codes "refused")) ∷ (codes "of", string (codes "formula")) ∷ []) (codes "at")
+abbrev pub begun_refusal : Progress → Progress
+begun_refusal p = with_key (codes "at") (with_members ((codes "answer", string (codes "refused")) ∷ (codes "of", string (codes "formula")) ∷ []) p)
 
 -- the place of another end: lemma k, or main where k is the number of lemmas
 abbrev pub end_place : (lemmas k : ℕ) → Option ℕ
@@ -77,12 +77,12 @@ unfoldable pub do_message : List ℕ
 do_message = codes "a term still has a do"
 
 -- a derivation of so many lemmas that is refused; want of memory has no object
-abbrev pub derivation_json : List (List ℕ) → (lemmas : ℕ) → CheckFault → Json
-derivation_json names lemmas (Step place fault) =
-    refused_json (at_json place.lemma (Some place.number)) (step_number fault) (step_message fault) (open_members names fault)
-derivation_json names lemmas (EndDiffers k) = refused_json (at_json (end_place lemmas k) None) 9 end_message []
-derivation_json names lemmas DoLeft = refused_json null 10 do_message []
-derivation_json names lemmas NoMemory = null
+abbrev pub derivation_members : List (List ℕ) → (lemmas : ℕ) → CheckFault → List (List ℕ × Json)
+derivation_members names lemmas (Step place fault) =
+    refused_members (at_json place.lemma (Some place.number)) (step_number fault) (step_message fault) (open_members names fault)
+derivation_members names lemmas (EndDiffers k) = refused_members (at_json (end_place lemmas k) None) 9 end_message []
+derivation_members names lemmas DoLeft = refused_members null 10 do_message []
+derivation_members names lemmas NoMemory = []
 
 -- ---- hedges
 
@@ -117,26 +117,20 @@ vertex_members names (hedges.Choice v) = (codes "vertex", name_or_null names v) 
 vertex_members names (hedges.Link v) = (codes "vertex", name_or_null names v) ∷ []
 vertex_members names (hedges.Root v) = (codes "vertex", name_or_null names v) ∷ []
 
--- a hedge that is refused by the fault of that number
-abbrev pub refused_hedge_json : (n : ℕ) (message : List ℕ) → List (List ℕ × Json) → Json
-refused_hedge_json n message rest = object_of (
+-- a hedge that is refused by the fault of that number, and what follows
+abbrev pub refused_hedge_members : (n : ℕ) (message : List ℕ) → List (List ℕ × Json) → List (List ℕ × Json)
+refused_hedge_members n message rest =
     (codes "answer", string (codes "refused")) ∷ (codes "of", string (codes "hedge"))
-    ∷ (codes "number", number (decimal n)) ∷ (codes "message", string message) ∷ rest)
-
--- the same up to the message
-abbrev pub begun_hedge : (n : ℕ) (message : List ℕ) → Progress
-begun_hedge n message = members nothing (
-    (codes "answer", string (codes "refused")) ∷ (codes "of", string (codes "hedge"))
-    ∷ (codes "number", number (decimal n)) ∷ (codes "message", string message) ∷ [])
+    ∷ (codes "number", number (decimal n)) ∷ (codes "message", string message) ∷ rest
 
 -- a hedge that is refused
-abbrev pub hedge_fault_json : List (List ℕ) → HedgeFault → Json
-hedge_fault_json names fault = refused_hedge_json (hedge_number fault) (hedge_message fault) (vertex_members names fault)
+abbrev pub hedge_fault_members : List (List ℕ) → HedgeFault → List (List ℕ × Json)
+hedge_fault_members names fault = refused_hedge_members (hedge_number fault) (hedge_message fault) (vertex_members names fault)
 
 -- the message of an experiment that meets a hedge
 unfoldable pub met_message : List ℕ
 met_message = codes "an experiment sets a member of the larger set and none of the smaller one"
 
 -- a hedge that an experiment meets
-abbrev pub met_json : Json
-met_json = refused_hedge_json 7 met_message []
+abbrev pub met_members : List (List ℕ × Json)
+met_members = refused_hedge_members 7 met_message []

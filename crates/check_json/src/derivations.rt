@@ -1,15 +1,14 @@
 //! A derivation that is refused.
 
-ghost use Rattle.std.specs.Prelude.{◌≡◌, [], IfOk, OnOk, None};
-ghost use Rattle.std.specs.Str.{IsUtf8};
+ghost use Rattle.std.specs.Prelude.{◌≡◌, [], OnOk, None};
 ghost use Rattle.json.specs.Json.{null};
-ghost use Rattle.answer_json.specs.Progress.{with_value, with_member, with_members, json_line};
-ghost use Rattle.check_json.specs.Refusals.{step_number, step_message, open_members, number_or_null, at_json, refused_json, end_place, end_message, do_message, derivation_json, begun_refusal};
+ghost use Rattle.answer_json.specs.Progress.{with_value, with_members};
+ghost use Rattle.check_json.specs.Refusals.{step_number, step_message, open_members, number_or_null, at_json, refused_members, end_place, end_message, do_message, derivation_members, begun_refusal};
 
 use answer_json::Object;
 use do_derivation::{CheckFault, StepFault, StepPlace};
 use mixed_graph::Names;
-use std::alloc::{AllocError, Global};
+use std::alloc::AllocError;
 
 /// The number of a step's fault.
 fn step_number(fault: &StepFault) -> u64
@@ -99,33 +98,29 @@ fn push_open(object: &mut Object, names: &Names, fault: &StepFault) -> Result<()
     }
 }
 
-/// The object of a refusal up to the key of its place.
-fn begin_refusal(alloc: Global) -> Result<Object, AllocError>
-    ensures { IfOk result (λ o. o ≡ begun_refusal) }
+/// Adds the members of a refusal up to the key of its place.
+fn begin_refusal(object: &mut Object) -> Result<(), AllocError>
+    ensures { OnOk result (object.new ≡ begun_refusal object.old) }
 {
-    let mut object = Object::new(alloc)?;
     object.word_at("answer", "refused")?;
     object.word_at("of", "formula")?;
-    object.key("at")?;
-    Ok(object)
+    object.key("at")
 }
 
-/// The line of a refused step.
-fn step_line(
-    alloc: Global,
+/// Adds the members of a refused step.
+fn push_step(
+    object: &mut Object,
     names: &Names,
     place: &StepPlace,
     fault: &StepFault,
-) -> Result<Vec<u8>, AllocError>
-    ensures text { IfOk result (λ v. v.items ≡ json_line (derivation_json names.now 0 (CheckFault.Step place.now fault.now))) }
-    ensures utf8 { IfOk result (λ v. IsUtf8 v.items) }
+) -> Result<(), AllocError>
+    ensures { OnOk result (object.new ≡ with_members (derivation_members names.now 0 (CheckFault.Step place.now fault.now)) object.old) }
 {
-    let mut object = begin_refusal(alloc)?;
-    push_at(&mut object, place.lemma, Some(place.number))?;
+    begin_refusal(object)?;
+    push_at(object, place.lemma, Some(place.number))?;
     object.number_at("number", step_number(fault))?;
     object.word_at("message", step_message(fault))?;
-    push_open(&mut object, names, fault)?;
-    object.line()
+    push_open(object, names, fault)
 }
 
 /// The place of another end: lemma k, or main where k is the number of lemmas.
@@ -135,45 +130,40 @@ fn end_place(lemmas: usize, k: u32) -> Option<u32>
     if k as usize == lemmas { None } else { Some(k) }
 }
 
-/// The line of another end.
-fn end_line(alloc: Global, lemma: Option<u32>) -> Result<Vec<u8>, AllocError>
-    ensures text { IfOk result (λ v. v.items ≡ json_line (refused_json (at_json lemma None) 9 end_message [])) }
-    ensures utf8 { IfOk result (λ v. IsUtf8 v.items) }
+/// Adds the members of another end.
+fn push_end(object: &mut Object, lemma: Option<u32>) -> Result<(), AllocError>
+    ensures { OnOk result (object.new ≡ with_members (refused_members (at_json lemma None) 9 end_message []) object.old) }
 {
-    let mut object = begin_refusal(alloc)?;
-    push_at(&mut object, lemma, None)?;
+    begin_refusal(object)?;
+    push_at(object, lemma, None)?;
     object.number_at("number", 9)?;
-    object.word_at("message", end_message())?;
-    object.line()
+    object.word_at("message", end_message())
 }
 
-/// The line of an intervention that is left.
-fn do_line(alloc: Global) -> Result<Vec<u8>, AllocError>
-    ensures text { IfOk result (λ v. v.items ≡ json_line (refused_json null 10 do_message [])) }
-    ensures utf8 { IfOk result (λ v. IsUtf8 v.items) }
+/// Adds the members of an intervention that is left.
+fn push_do(object: &mut Object) -> Result<(), AllocError>
+    ensures { OnOk result (object.new ≡ with_members (refused_members null 10 do_message []) object.old) }
 {
-    let mut object = begin_refusal(alloc)?;
+    begin_refusal(object)?;
     object.null()?;
     object.number_at("number", 10)?;
-    object.word_at("message", do_message())?;
-    object.line()
+    object.word_at("message", do_message())
 }
 
-/// The line of a derivation of so many lemmas that is refused; want of memory has none.
-pub fn refused_derivation(
-    alloc: Global,
+/// Adds the members of a derivation of so many lemmas that is refused; want of memory has none.
+pub fn push_refused_derivation(
+    object: &mut Object,
     names: &Names,
     lemmas: usize,
     fault: &CheckFault,
-) -> Result<Vec<u8>, AllocError>
-    ensures text { IfOk result (λ v. v.items ≡ json_line (derivation_json names.now lemmas fault.now)) }
-    ensures utf8 { IfOk result (λ v. IsUtf8 v.items) }
+) -> Result<(), AllocError>
+    ensures members { OnOk result (object.new ≡ with_members (derivation_members names.now lemmas fault.now) object.old) }
     ensures memory { OnOk result (fault.now ≡ CheckFault.NoMemory → ⊥) }
 {
     match fault {
-        CheckFault::Step { place, fault } => step_line(alloc, names, place, fault),
-        CheckFault::EndDiffers(k) => end_line(alloc, end_place(lemmas, *k)),
-        CheckFault::DoLeft => do_line(alloc),
+        CheckFault::Step { place, fault } => push_step(object, names, place, fault),
+        CheckFault::EndDiffers(k) => push_end(object, end_place(lemmas, *k)),
+        CheckFault::DoLeft => push_do(object),
         CheckFault::NoMemory => Err(AllocError),
     }
 }

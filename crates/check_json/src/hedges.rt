@@ -1,14 +1,13 @@
 //! A hedge that is refused.
 
-ghost use Rattle.std.specs.Prelude.{◌≡◌, [], IfOk, OnOk};
-ghost use Rattle.std.specs.Str.{IsUtf8};
-ghost use Rattle.answer_json.specs.Progress.{with_value, with_members, json_line};
-ghost use Rattle.check_json.specs.Refusals.{hedge_number, hedge_message, name_or_null, vertex_members, hedge_fault_json, met_message, met_json, begun_hedge};
+ghost use Rattle.std.specs.Prelude.{◌≡◌, [], OnOk};
+ghost use Rattle.answer_json.specs.Progress.{with_value, with_members};
+ghost use Rattle.check_json.specs.Refusals.{hedge_number, hedge_message, name_or_null, vertex_members, refused_hedge_members, hedge_fault_members, met_message, met_members};
 
 use answer_json::Object;
 use hedge::HedgeFault;
 use mixed_graph::Names;
-use std::alloc::{AllocError, Global};
+use std::alloc::AllocError;
 
 /// The number of a hedge's fault.
 fn hedge_number(fault: HedgeFault) -> u64
@@ -73,33 +72,31 @@ fn push_vertex(object: &mut Object, names: &Names, fault: HedgeFault) -> Result<
     }
 }
 
-/// The object of a refusal by the fault of that number.
-fn begin_hedge(alloc: Global, n: u64, message: &str) -> Result<Object, AllocError>
-    ensures { IfOk result (λ o. o ≡ begun_hedge n message.now) }
+/// Adds the members of a refusal by the fault of that number, up to the message.
+fn push_refusal(object: &mut Object, n: u64, message: &str) -> Result<(), AllocError>
+    ensures { OnOk result (object.new ≡ with_members (refused_hedge_members n message.now []) object.old) }
 {
-    let mut object = Object::new(alloc)?;
     object.word_at("answer", "refused")?;
     object.word_at("of", "hedge")?;
     object.number_at("number", n)?;
-    object.word_at("message", message)?;
-    Ok(object)
+    object.word_at("message", message)
 }
 
-/// The line of a hedge that is refused.
-pub fn refused_hedge(alloc: Global, names: &Names, fault: HedgeFault) -> Result<Vec<u8>, AllocError>
-    ensures text { IfOk result (λ v. v.items ≡ json_line (hedge_fault_json names.now fault)) }
-    ensures utf8 { IfOk result (λ v. IsUtf8 v.items) }
+/// Adds the members of a hedge that is refused.
+pub fn push_refused_hedge(
+    object: &mut Object,
+    names: &Names,
+    fault: HedgeFault,
+) -> Result<(), AllocError>
+    ensures { OnOk result (object.new ≡ with_members (hedge_fault_members names.now fault) object.old) }
 {
-    let mut object = begin_hedge(alloc, hedge_number(fault), hedge_message(fault))?;
-    push_vertex(&mut object, names, fault)?;
-    object.line()
+    push_refusal(object, hedge_number(fault), hedge_message(fault))?;
+    push_vertex(object, names, fault)
 }
 
-/// The line of a hedge that an experiment meets.
-pub fn met_hedge(alloc: Global) -> Result<Vec<u8>, AllocError>
-    ensures text { IfOk result (λ v. v.items ≡ json_line met_json) }
-    ensures utf8 { IfOk result (λ v. IsUtf8 v.items) }
+/// Adds the members of a hedge that an experiment meets.
+pub fn push_met_hedge(object: &mut Object) -> Result<(), AllocError>
+    ensures { OnOk result (object.new ≡ with_members met_members object.old) }
 {
-    let object = begin_hedge(alloc, 7, met_message())?;
-    object.line()
+    push_refusal(object, 7, met_message())
 }

@@ -1,6 +1,7 @@
-//! What `check` says of a certificate that isn't read or isn't accepted, as lines of JSON.
+//! What `check` says of a certificate that isn't read or isn't accepted, as JSON.
 //!
-//! `certificate_fault(alloc, &fault)` gives the line of a fault, and `refused_derivation(alloc, &names, lemmas, &fault)` that of a refused step.
+//! `certificate_fault(alloc, &fault)` gives the line of a fault, and `push_refused_derivation(object, &names, lemmas, &fault)` adds the members of a
+//! refused step.
 #![tactic(auto)]
 
 mod certificates;
@@ -8,5 +9,5 @@ mod derivations;
 mod hedges;
 
 pub use certificates::{certificate_fault, certificate_size};
-pub use derivations::refused_derivation;
-pub use hedges::{met_hedge, refused_hedge};
+pub use derivations::push_refused_derivation;
+pub use hedges::{push_met_hedge, push_refused_hedge};

@@ -11,7 +11,8 @@ use Rattle.diagram.specs.declared.diagram.Diagram.{Diagram}
 use Rattle.replies.specs.Told.{Told, answer_of}
 use Rattle.replies.specs.declared.outcome.Outcome.{Outcome}
 use Rattle.replies.specs.declared.outcome.Outcome.TheVariants.{Yes, No, Second}
-use Rattle.check_command.specs.Answers.{HoldsCertificate, IsCertificateRefusal}
+use Rattle.check_command.specs.Answers.{IsCertificateRefusal}
+use Rattle.check_command.specs.Right.{HoldsCertificate}
 use Rattle.explain_call.specs.Parts.{Explains, DerivationStops}
 
 -- yes: the bytes are a certificate of a formula, and each move of its derivation is made; the text has the expressions, one after another, and where

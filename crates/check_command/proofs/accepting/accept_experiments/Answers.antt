@@ -1,4 +1,4 @@
-use Rattle.std.proofs.Common.{◌≡◌, None, map, subst}
+use Rattle.std.proofs.Common.{◌≡◌, None, Err, map, subst}
 use Rattle.prob_expr.specs.Listed.{masks_of}
 use Rattle.command_words.specs.ListViews.{names_in}
 use Rattle.targets.specs.Targets.{IsNameFault}
@@ -19,11 +19,12 @@ returns-in_ok-refuse-in-Err c =
     let all = c.args.diagram.now.read.names in
     let seen = c.args.diagram.now.observed.names in
     let reply = c.in_ok-refuse-in-Err in
-    rw reply.ensures.outcome (record {
-      fault = c.in-Err.fault;
-      is_fault = record {
+    λ form. record {
+      answer = Err c.in-Err.fault;
+      right = record {
         named = subst (λ l. IsNameFault (experiments_fault all seen (map names_in l)) c.in-Err.fault) c.as_slice.ensures.value c.in-Err.ensures.fault;
         known = reply.ensures.fault;
       };
+      ends = reply.ensures.outcome;
       prints = reply.ensures.told;
-    })
+    }

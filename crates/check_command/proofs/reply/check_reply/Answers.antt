@@ -2,11 +2,22 @@ use Rattle.std.proofs.Common.{IfOk, subst}
 use Rattle.mixed_graph.specs.Shown.{graph_of}
 use Rattle.prob_expr.specs.Listed.{masks_of}
 use Rattle.replies.specs.Told.{told_of}
-use Rattle.check_command.specs.Answers.{AnswerOver}
+use Rattle.told.specs.declared.form.Form.{Form}
+use Rattle.told.specs.Telling.{Tells}
+use Rattle.check_command.specs.CertificateFaults.{certificate_refusal}
+use Rattle.check_command.specs.Right.{IsForCertificate}
+use Rattle.check_command.specs.Telling.{check_telling}
+use Rattle.check_command.proofs.Replied.{replied}
 use Rattle.check_command.proofs.reply.check_reply.Goals as goal
 
 pub returns : goal.returns
 returns c =
     let seen = c.args.diagram.now.observed in
-    subst (λ l. IfOk c.check_over.result (λ r. AnswerOver c.args.format (graph_of seen.graph) seen.names (masks_of l) c.args.certificate.now r.outcome (told_of r)))
-    c.as_slice.ensures.value c.check_over.ensures
+    let zs = masks_of c.args.experiments.now.items in
+    let bytes = c.args.certificate.now in
+    let e = c.check_answer-answer.ensures in
+    subst (λ (form : Form). IfOk c.reply.result (λ r. Tells check_telling certificate_refusal (IsForCertificate (graph_of seen.graph) seen.names zs bytes) form
+    seen.names r.outcome (told_of r)))
+    c.plain.ensures
+    (replied (graph_of seen.graph) seen.names zs bytes c.plain.result c.check_answer-answer.result e.answer e.fault c.reply.result
+    c.reply.ensures.outcome c.reply.ensures.told c.reply.ensures.memory)

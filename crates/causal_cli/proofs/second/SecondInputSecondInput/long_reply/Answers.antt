@@ -7,6 +7,10 @@ use Rattle.mixed_graph.specs.Graphs.{MixedGraph}
 use Rattle.mixed_graph.specs.Shown.{graph_of}
 use Rattle.replies.specs.declared.format.Format.{Format}
 use Rattle.replies.specs.Told.{told_of}
+use Rattle.prob_expr.specs.Listed.{masks_of}
+use Rattle.check_command.specs.CertificateFaults.{certificate_refusal}
+use Rattle.check_command.specs.Right.{IsForCertificate}
+use Rattle.check_command.specs.Telling.{check_telling}
 use Rattle.bound_values.specs.declared.questions.Question.{Question}
 use Rattle.bounds_command.specs.Right.{CountsAnswer}
 use Rattle.told.specs.declared.form.Form.{Form}
@@ -22,6 +26,20 @@ use Rattle.implications_command.specs.Telling.{implications_telling}
 use Rattle.causal_cli.specs.Commands.{left_of}
 use Rattle.causal_cli.specs.declared.second.SecondInput.{SecondInput}
 use Rattle.causal_cli.proofs.second.SecondInputSecondInput.long_reply.Goals as goal
+
+pub returns-in-Check : goal.returns-in-Check
+returns-in-Check c =
+    let d = c.args.diagram.now in
+    let g = graph_of d.observed.graph in
+    let zs = masks_of c.in-Check.experiments.items in
+    subst (λ (it : SecondInput). IfOk c.long_certificate.result (λ r. (other : List ℕ) → (left_of d it).limit < length other
+    → (left_of d it).answer other r.outcome (told_of r))) (sym c.in-Check.is)
+    (IfOk-weaker c.long_certificate.result
+    (λ r. (form : Form) (q : MixedGraph) (names : List (List ℕ)) (zs bytes : List ℕ) → 67108864 < length bytes
+    → Tells check_telling certificate_refusal (IsForCertificate q names zs bytes) form names r.outcome (told_of r))
+    (λ r. (other : List ℕ) → 67108864 < length other → Tells check_telling certificate_refusal (IsForCertificate g d.observed.names zs other)
+    (plain_form c.in-Check.format) d.observed.names r.outcome (told_of r))
+    (λ r h other long. h (plain_form c.in-Check.format) g d.observed.names zs other long) c.long_certificate.ensures)
 
 pub returns-in-Equivalent : goal.returns-in-Equivalent
 returns-in-Equivalent c =
