@@ -41,7 +41,7 @@ use Rattle.implications_command.specs.declared.answer.Answer.{Answer}
 use Rattle.implications_command.specs.declared.answer.Answer.TheVariants.{NoPairs, Pairs, Differences}
 use Rattle.implications_command.specs.declared.fault.CountsFault.{CountsFault}
 use Rattle.experiment_lists.specs.Words.{Lists as Experiments}
-use Rattle.check_command.specs.Refusals.{certificate_refusal}
+use Rattle.check_command.specs.CertificateFaults.{certificate_refusal}
 use Rattle.check_command.specs.Requests as check_requests
 use Rattle.check_command.specs.Right.{AreExperimentsOn, IsForFirst, IsForCertificate}
 use Rattle.check_command.specs.Telling.{check_telling}

@@ -7,4 +7,3 @@ mod Replied
 mod OneHedge
 pub mod Exclusive
 pub mod Lawful
-pub mod CheckTold

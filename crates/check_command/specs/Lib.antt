@@ -8,4 +8,3 @@ pub mod Right
 pub mod Replies
 pub mod Firsts
 pub mod Command
-pub mod Answers

@@ -16,17 +16,9 @@ accepted_members kind = (codes "answer", string (codes "accepted")) ∷ (codes "
 abbrev pub formula_answer : List (List ℕ) → PlainTarget → PlainFormula → List (List ℕ × Json)
 formula_answer names t f = accepted_members (codes "formula") ++ (target_members names t ++ formula_members names t f)
 
--- that object
-unfoldable pub accepted_formula_json : List (List ℕ) → PlainTarget → PlainFormula → Json
-accepted_formula_json names t f = object_of (formula_answer names t f)
-
 -- the members of the object of an accepted hedge for the effect of x on y
 abbrev pub hedge_answer : List (List ℕ) → (x y : ℕ) → Hedge → List (List ℕ × Json)
 hedge_answer names x y h = accepted_members (codes "hedge") ++ (
     (codes "y", set_json names y) ∷ (codes "x", set_json names x)
     ∷ (codes "effect", effect_json names (effect_on x y))
     ∷ (codes "hedge", hedge_json names h) ∷ [])
-
--- that object
-unfoldable pub accepted_hedge_json : List (List ℕ) → (x y : ℕ) → Hedge → Json
-accepted_hedge_json names x y h = object_of (hedge_answer names x y h)

@@ -9,7 +9,7 @@ use Rattle.certificate.specs.Faults.{Fails}
 use Rattle.certificate.specs.Reading.{certificate_in}
 use Rattle.certificate.specs.declared.fault.CertFault.{CertFault}
 use Rattle.certificate.specs.declared.fault.CertFault.TheVariants as certificates
-use Rattle.check_command.specs.Answers as refusals
+use Rattle.explain_call.specs.Steps as refusals
 use Rattle.check_command.specs.Refusals.{cert_fault_told}
 use Rattle.check_command.proofs.Using.{unread}
 use Rattle.dag_reader.specs.Reads.{Reads}

@@ -1,19 +1,28 @@
 -- What the steps of a certificate's derivation are answered.
-use Rattle.std.specs.Prelude.{ℕ, ◌≡◌, ◌⊎◌, Bool, List, codes}
+use Rattle.std.specs.Prelude.{ℕ, ◌≡◌, ◌<◌, ◌≤◌, ◌⊎◌, Bool, List, length, Err, codes}
 use Rattle.mixed_graph.specs.Graphs.{MixedGraph}
 use Rattle.prob_expr.specs.Tree.{PlainFormula, PlainTarget}
 use Rattle.do_derivation.specs.Plans.{PlainDerivation}
 use Rattle.do_derivation.specs.declared.faults.ApplyFault.TheVariants.{Step}
 use Rattle.do_derivation.specs.declared.faults.StepFault.{StepFault}
 use Rattle.certificate.specs.Plain.{PlainHedge, formula, hedge}
+use Rattle.certificate.specs.Reading.{certificate_in}
+use Rattle.certificate.specs.declared.fault.CertFault.{CertFault}
+use Rattle.certificate.specs.declared.fault.CertFault.TheVariants.{NoMemory}
 use Rattle.mixed_graph.specs.Shown.{graph_of}
 use Rattle.diagram.specs.declared.diagram.Diagram.{Diagram}
 use Rattle.replies.specs.Told.{Told, answer_of}
 use Rattle.replies.specs.declared.outcome.Outcome.{Outcome}
 use Rattle.replies.specs.declared.outcome.Outcome.TheVariants.{Yes, No, Second}
-use Rattle.check_command.specs.Answers.{IsCertificateRefusal}
+use Rattle.check_command.specs.Refusals.{cert_size_told, cert_fault_told}
 use Rattle.check_command.specs.Right.{HoldsCertificate}
 use Rattle.explain_call.specs.Parts.{Explains, DerivationStops}
+
+-- the bytes are too many for a certificate, or their text has a fault: the line and the object say so
+pub data IsCertificateRefusal (names : List (List ℕ)) (bytes : List ℕ) (told : Told) : Type 0 where
+  too_long : 67108864 < length bytes → told ≡ cert_size_told → IsCertificateRefusal names bytes told
+  faulty : (fault : CertFault) → length bytes ≤ 67108864 → (fault ≡ NoMemory → ⊥) → certificate_in names bytes ≡ Err fault → told ≡ cert_fault_told fault
+      → IsCertificateRefusal names bytes told
 
 -- yes: the bytes are a certificate of a formula, and each move of its derivation is made; the text has the expressions, one after another, and where
 -- graphs are wanted what
