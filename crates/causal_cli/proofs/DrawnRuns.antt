@@ -44,10 +44,11 @@ use Rattle.surrogate_command.specs.Answers.{SurrogateAnswer}
 use Rattle.surrogate_command.specs.Requests.{Request as SurrogateRequest}
 use Rattle.surrogate_command.specs.Sets.{surrogate_lists}
 use Rattle.surrogate_command.proofs.SurrogateTold.{surrogate_as_told}
-use Rattle.evaluate_command.specs.Answers.{EvaluateFirst}
+use Rattle.evaluate_command.specs.Answers.{EvaluateFirst, EvaluateAnswer}
 use Rattle.evaluate_command.specs.Effects.{target_of, IsFoundBy}
 use Rattle.evaluate_command.specs.Ways.{Way, by_procedure, by_adjusting, by_condition}
 use Rattle.evaluate_command.specs.Requests.{Request as EvaluateRequest}
+use Rattle.evaluate_command.proofs.EvaluateTold.{unmet_as_told, evaluate_as_told}
 use Rattle.separation_commands.specs.SeparateAnswers.{SeparateAnswer}
 use Rattle.separation_commands.proofs.SeparateTold.{separate_as_told}
 use Rattle.separation_commands.proofs.RuleTold.{rule_as_told}
@@ -229,9 +230,9 @@ surrogated r uses text = written_for r Surrogate uses Yes text (λ q. q.file) Is
 
 -- ---- evaluate
 
-evaluated_on : (q : EvaluateRequest) (bytes other : List ℕ) (text : Told) → DefinedWith commands (of Evaluate q) bytes other Yes text
-    → IsEvaluationAsDrawn q bytes other text
-evaluated_on q bytes other text (d, holds, needs, (e, identifies, (t, read, shows))) =
+evaluated_on : (q : EvaluateRequest) (bytes other : List ℕ) (text : Told) (d : Diagram) → HoldsDiagram bytes d
+    → EvaluateAnswer q.format q.exact q.zero q.way d q.x q.y q.count other Yes text → IsEvaluationAsDrawn q bytes other text
+evaluated_on q bytes other text d holds (e, identifies, (t, read, shows)) =
     let part = part_of d in
     let observed = subst (IsObservedGraph d.read) (sym identifies.graph) part.graph in
     record {
@@ -263,7 +264,8 @@ evaluated r uses text whole (on_file q is file names h) = record {
   asks = is;
   right = under_name r.held q.file file (λ bytes. HoldsAnswer commands (of Evaluate q) bytes Yes text)
       (λ bytes. IfSome (r.held_second q.counts) (λ other. IsEvaluationAsDrawn q bytes other text))
-      (λ bytes a. absurd (no_yes_alone q.format q.way a.diagram q.x q.y text a.answer)) names h;
+      (λ bytes a. absurd (no_yes_alone q.format q.way a.diagram q.x q.y text
+      (unmet_as_told q.format q.way a.diagram q.x q.y Yes text a.answer))) names h;
   whole = whole;
 }
 evaluated r uses text whole (on_both q is file second names names_second h) = record {
@@ -272,7 +274,8 @@ evaluated r uses text whole (on_both q is file second names names_second h) = re
   asks = is;
   right = under_names r.held r.held_second q.file file q.counts second (λ bytes other. DefinedWith commands (of Evaluate q) bytes other Yes text)
       (λ bytes other. IsEvaluationAsDrawn q bytes other text)
-      (λ bytes other d. evaluated_on q bytes other text d) names names_second h;
+      (λ bytes other d. evaluated_on q bytes other text d.0 d.1
+      (evaluate_as_told q.format q.exact q.zero q.way d.0 q.x q.y q.count other Yes text d.3)) names names_second h;
   whole = whole;
 }
 

@@ -55,6 +55,7 @@ use Rattle.surrogate_command.specs.Sets.{surrogate_lists}
 use Rattle.surrogate_command.proofs.SurrogateTold.{surrogate_as_told}
 use Rattle.evaluate_command.specs.Answers.{ProcedureFirst, EvaluateFirst}
 use Rattle.evaluate_command.specs.Ways.{Way, by_procedure, by_adjusting, by_condition, criterion_query}
+use Rattle.evaluate_command.proofs.EvaluateTold.{unmet_as_told, evaluate_as_told}
 use Rattle.separation_commands.specs.SeparateAnswers.{SeparateAnswer}
 use Rattle.separation_commands.proofs.SeparateTold.{separate_as_told}
 use Rattle.separation_commands.proofs.RuleTold.{rule_as_told}
@@ -251,7 +252,8 @@ evaluated r uses text whole (on_file q is file names h) = record {
   right = under_name r.held q.file file (λ bytes. HoldsAnswer commands (of Evaluate q) bytes No text)
       (λ bytes. IfSome (r.held_second q.counts) (λ other. IsUnevaluatedAsDrawn q.format q.way bytes q.x q.y text))
       (λ bytes a. if_told (r.held_second q.counts) (IsUnevaluatedAsDrawn q.format q.way bytes q.x q.y text)
-      (evaluated_on q.format q.way bytes q.x q.y text a.diagram a.holds a.answer)) names h;
+      (evaluated_on q.format q.way bytes q.x q.y text a.diagram a.holds
+      (unmet_as_told q.format q.way a.diagram q.x q.y No text a.answer))) names h;
   whole = whole;
 }
 evaluated r uses text whole (on_both q is file second names names_second h) = record {
@@ -259,7 +261,8 @@ evaluated r uses text whole (on_both q is file second names names_second h) = re
   told = text;
   asks = is;
   right = under_names r.held r.held_second q.file file q.counts second (λ bytes other. DefinedWith commands (of Evaluate q) bytes other No text)
-      (λ bytes other. IsUnevaluatedAsDrawn q.format q.way bytes q.x q.y text) (λ bytes other d. absurd d.3.2) names names_second h;
+      (λ bytes other. IsUnevaluatedAsDrawn q.format q.way bytes q.x q.y text) (λ bytes other d. absurd
+      (evaluate_as_told q.format q.exact q.zero q.way d.0 q.x q.y q.count other No text d.3).2) names names_second h;
   whole = whole;
 }
 

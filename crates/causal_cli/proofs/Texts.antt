@@ -61,8 +61,10 @@ use Rattle.implications_command.specs.Answers.{FirstAnswer, DifferencesAnswer}
 use Rattle.implications_command.specs.Command.{implications_command}
 use Rattle.implications_command.proofs.ImplicationsTold.{first_as_told, differences_as_told}
 use Rattle.implications_command.proofs.OneText.{first_text, differences_text}
-use Rattle.evaluate_command.specs.Answers.{ProcedureFirst, EvaluateFirst, EvaluateAnswer}
+use Rattle.evaluate_command.specs.Answers.{ProcedureFirst, EvaluateFirst}
+use Rattle.evaluate_command.specs.Command.{evaluate_command}
 use Rattle.evaluate_command.specs.Ways.{Way, by_procedure, by_adjusting, by_condition}
+use Rattle.evaluate_command.proofs.EvaluateTold.{unmet_as_told, evaluate_as_told}
 use Rattle.evaluate_command.proofs.OneText.{evaluate_text}
 use Rattle.causal_cli.specs.Texts.{IsOneText, adjusts, TextsAreOne}
 use Rattle.causal_cli.proofs.OneFault.{one_effect_refusal, one_list_refusal, one_target_refusal, one_rule_refusal, one_surrogate_refusal}
@@ -280,7 +282,11 @@ texts_are_one = record {
       for_diagrams (λ d. d.observed.names) (λ p names. DifferencesAnswer q.format p names q.count other o) (λ d e s. s.observed.names)
       (differences_text q.format q.count other o) d e s text line
       (differences_as_told q.format d.observed q.count other o text a) (differences_as_told q.format e.observed q.count other o line b));
-  evaluate_before_counts = λ q other o bytes. on_bytes bytes (λ d. EvaluateFirst q.format q.way d q.x q.y) o (alone_once q.format q.way other o q.x q.y);
-  evaluate_over_counts = λ q fixed o bytes other. on_bytes bytes (λ d. EvaluateAnswer q.format q.exact q.zero q.way d q.x q.y q.count other) o
-      (evaluate_text q.format q.exact q.zero q.way fixed q.x q.y q.count other o);
+  evaluate_before_counts = λ q other o bytes. on_bytes bytes (λ d. evaluate_command.by_diagram q d) o (λ d e s text line a b.
+      alone_once q.format q.way other o q.x q.y d e s text line
+      (unmet_as_told q.format q.way d q.x q.y o text a) (unmet_as_told q.format q.way e q.x q.y o line b));
+  evaluate_over_counts = λ q fixed o bytes other. on_bytes bytes (λ d. evaluate_command.by_both q d other) o (λ d e s text line a b.
+      evaluate_text q.format q.exact q.zero q.way fixed q.x q.y q.count other o d e s text line
+      (evaluate_as_told q.format q.exact q.zero q.way d q.x q.y q.count other o text a)
+      (evaluate_as_told q.format q.exact q.zero q.way e q.x q.y q.count other o line b));
 }
