@@ -5,7 +5,6 @@ mod DrawnCounts
 mod ToldAnswers
 pub mod DrawnRuns
 pub mod Headlines
-pub mod LongInputs
 mod OneFault
 mod Readable
 mod Texts

@@ -24,7 +24,7 @@ use command_words::typed::RequestFault;
 use command_words::values::Values;
 use diagram::Diagram;
 use equivalent_command::accept_first;
-use evaluate_command::identify_first;
+use evaluate_command::{first_reply, identify_first};
 use identify_command::identify_reply;
 use implications_command::{counted_pairs, pairs_reply};
 use replies::{Format, Reply};
@@ -214,9 +214,11 @@ fn evaluate_over<'a>(
 ) -> Result<AfterFile<SecondInput<'a>>, AllocError>
     ensures { IfOk result (GivesOn (left_of diagram.now) commands (request_of (Request.Evaluate asked.entry)) diagram.now) }
 {
-    match identify_first(alloc, diagram, &asked)? {
-        evaluate_command::EffectOrReply::Replied(reply) => Ok(AfterFile::Replied(reply)),
-        evaluate_command::EffectOrReply::Identified(found) => Ok(AfterFile::Continues(
+    match identify_first(alloc, diagram, &asked) {
+        evaluate_command::First::Answered(answer) => {
+            replied(first_reply(alloc, diagram, &answer, asked.format))
+        }
+        evaluate_command::First::Found(found) => Ok(AfterFile::Continues(
             SecondInput::Evaluate {
                 found,
                 counts: asked.counts,

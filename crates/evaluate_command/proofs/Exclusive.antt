@@ -1,273 +1,279 @@
--- An effect without a formula, refused lists, values, a cell without one and refused counts exclude each other.
-use Rattle.std.proofs.Common.{◌≡◌, ◌≢◌, ℕ, Bool, true, false, List, Option, Some, Result, Ok, Err, length, map, inl, inr, refl, sym, ap, ◌∙◌, subst}
-use mathlib.Core.Path.{fun_ext}
-use Rattle.fractions.specs.Fractions.{Fraction}
-use Rattle.mixed_graph.specs.Graphs.{MixedGraph, IsMixedGraph}
+-- Right answers end alike: an effect without a formula, refused lists, values, a cell without one and refused counts exclude each other.
+use Rattle.std.proofs.Common.{◌≡◌, ◌<◌, ℕ, Bool, true, false, List, Option, Some, Result, Ok, Err, length, inl, inr, refl, sym, ◌∙◌, subst, arith}
+use Rattle.std.proofs.lemmas.Option.{none-some}
+use Rattle.std.specs.Borrow.{Bor}
+use Rattle.mixed_graph.specs.Graphs.{MixedGraph}
+use Rattle.mixed_graph.specs.Masks.{one}
 use Rattle.mixed_graph.specs.Shown.{graph_of}
-use Rattle.dag_reader.specs.declared.graph.ReadGraph.{ReadGraph}
-use Rattle.targets.specs.Targets.{EffectLists, Lists, AreEffectSets, AreSets}
+use Rattle.targets.specs.declared.fault.TargetFault.{TargetFault}
+use Rattle.targets.specs.declared.fault.TargetFault.TheVariants.{EmptyX, NotOneX}
+use Rattle.targets.specs.Targets.{EffectLists, IsEffectFault, Lists, AreSets, fault_in, IsFaultOfTarget, IsListFault}
 use Rattle.prob_expr.specs.Tree.{PlainTarget}
-use Rattle.prob_expr.specs.Values.{Weights}
-use Rattle.identification_theory.specs.Derivations.{IsDerived}
-use Rattle.identification_theory.specs.Procedure.{IsIdentified}
-use Rattle.identification_theory.proofs.Answered.{one_formula, derived_is_identified}
-use Rattle.conditional_id.specs.Conditionals.{IsConditional, IsConditionalBySteps}
+use Rattle.prob_expr.specs.View.{target_view}
+use Rattle.prob_expr.specs.declared.expr.Target.{Target}
+use Rattle.identify.specs.Answers.{IsRightFormula, IsRightHedge}
 use Rattle.conditional_id.specs.TurnLaws.{IsRightGiven}
-use Rattle.conditional_id.proofs.Answered.{one_conditional, derived_is_conditional}
-use Rattle.quantity.specs.Kinds.{Pair}
-use Rattle.count_eval.specs.Rules.{Rule}
-use Rattle.count_rows.specs.Records.{Field, records_of, rows_of}
-use Rattle.count_rows.specs.Rows.{Table, counted, rows_in}
-use Rattle.count_table.specs.Cells.{cells_of}
-use Rattle.count_table.specs.Tables.{levels_in}
-use Rattle.count_table.specs.Reading.{IsTableOf, layout_in}
-use Rattle.count_eval.specs.Evaluated.{formula_value}
-use Rattle.count_eval.specs.Programs.{cell_of}
+use Rattle.quantity.specs.Exacts.{exact}
+use Rattle.quantity.specs.Intervals.{bounds}
+use Rattle.count_rows.specs.Records.{Field}
+use Rattle.count_rows.specs.Rows.{Table}
+use Rattle.count_rows.specs.declared.fault.CountFault.{CountFault}
+use Rattle.count_eval.specs.Rules.{Rule, rule}
 use Rattle.count_eval.specs.Stops.{Stop}
-use Rattle.count_json.proofs.Refused.{read_or_refused}
-use Rattle.adjustment.specs.Formulas.{adjustment_formula}
-use Rattle.short_formulas.specs.Short.{IsOrShorter}
-use Rattle.short_formulas.proofs.Usable.{some_first}
-use Rattle.replies.specs.declared.format.Format.{Format}
-use Rattle.replies.specs.declared.outcome.Outcome.{Outcome}
-use Rattle.replies.specs.declared.outcome.Outcome.TheVariants.{Yes, No, Graph, Second, Evaluation}
+use Rattle.count_eval.specs.declared.failure.EvalFault.{EvalFault}
+use Rattle.count_answers.specs.Reads.{HoldsCounts}
 use Rattle.diagram.specs.Sets.{Names, effect_lists, query_lists}
 use Rattle.diagram.specs.declared.diagram.Diagram.{Diagram}
 use Rattle.diagram.proofs.OneDiagram.{AreSameDiagrams, same_drawing, same_effect_lists, same_query_lists}
-use Rattle.replies.specs.Told.{Told, answer_of}
-use Rattle.replies.specs.OneOutcome.{OneOutcome, IsAnswerOn}
-use Rattle.replies.proofs.OneOutcome.{IsOneOf, one_of_three, one_on_diagram, one_for_diagrams}
-use Rattle.replies.proofs.OneTarget.{one_set}
-use Rattle.effect_answers.specs.Hedges.{ShowsHedge}
-use Rattle.effect_answers.proofs.Exclusive.{formula_or_hedge, effect_refused}
-use Rattle.adjust_command.specs.Answers.{texts_of, adjust_lists, AdjustAnswer}
-use Rattle.adjust_command.proofs.Exclusive as adjusting
-use Rattle.adjust_command.proofs.Verdicts.{shown}
+use Rattle.replies.specs.declared.format.Format.TheVariants.{Text}
+use Rattle.replies.specs.declared.outcome.Outcome.TheVariants.{Yes, No}
+use Rattle.replies.specs.Told.{answer_of}
+use Rattle.replies.proofs.OneTarget.{one_set, same_two, no_fault_of, no_effect_fault, some_list, is_some_list}
+use Rattle.told.specs.Refusals.{target_refusal}
+use Rattle.told.specs.Telling.{outcome_in}
+use Rattle.effect_answers.specs.declared.hedges.EffectHedge.{EffectHedge}
+use Rattle.adjust_command.specs.Answers.{texts_of, adjust_lists}
+use Rattle.adjust_command.specs.Right.{IsNotDecided, IsAdjustFault}
 use Rattle.adjust_command.specs.Verdicts.{IsVerdict}
-use Rattle.adjust_command.specs.declared.criteria.Verdict.TheVariants.{Meets}
-use Rattle.told.specs.declared.form.Writing.TheVariants.{Plain}
-use Rattle.identify_command.specs.declared.form.Form.{Form}
-use Rattle.identify_command.specs.Forms.{plain_form}
-use Rattle.identify_command.specs.Answers.{formula_shown}
-use Rattle.identify_command.specs.Conditions.{AreTargetSets, ConditionalAnswer}
-use Rattle.identify_command.specs.Conditions as identify
-use Rattle.identify_command.proofs.Exclusive as identifying
-use Rattle.evaluate_command.specs.Answers.{ProcedureFirst, EvaluateFirst, TableAnswer, AnswersTable, CountsAnswer, EvaluateAnswer}
-use Rattle.evaluate_command.specs.Cells.{CellValue, with_levels, first_cell, varied, printed_cells, value_in, values_at}
-use Rattle.evaluate_command.specs.Effects.{PlainEffect, target_of, effect_for, IsByProcedure, IsFoundBy, Identifies, used_in}
-use Rattle.evaluate_command.specs.Ways.{Way, by_procedure, by_adjusting, by_condition, FixesFormula, criterion_query}
+use Rattle.adjust_command.specs.declared.criteria.Verdict.TheVariants.{Meets, Breaks}
+use Rattle.adjust_command.proofs.Exclusive as adjusting
+use Rattle.adjust_command.proofs.Verdicts.{shown, broken}
+use Rattle.adjustment.specs.declared.criteria.AdjFault.{AdjFault}
+use Rattle.targets.specs.declared.query.Sets.{Sets}
+use Rattle.identify_command.specs.Right.{IsJointHedge}
+use Rattle.identify_command.proofs.Lists.{one_target}
+use Rattle.evaluate_command.specs.Cells.{CellValue, printed_cells, value_in, values_at}
+use Rattle.evaluate_command.specs.Effects.{PlainEffect, target_of, Identifies, used_in}
+use Rattle.evaluate_command.specs.Telling.{evaluate_telling}
+use Rattle.evaluate_command.specs.First.{HasHedge, HasJointHedge, BreaksCriterion, IsUnmet, IsFirstFault, IsForDiagram}
+use Rattle.evaluate_command.specs.Right.{IsOverTable, HasNoValue, HasValues, LackValues, AreNoCounts, IsCountsFault, IsForCounts}
+use Rattle.evaluate_command.specs.ValuesFaults.{values_refusal}
+use Rattle.evaluate_command.specs.Ways.{Way, by_procedure, by_adjusting, by_condition, criterion_query}
+use Rattle.evaluate_command.specs.declared.answer.Answer.{Answer}
+use Rattle.evaluate_command.specs.declared.answer.Answer.TheVariants as answers
+use Rattle.evaluate_command.specs.declared.answer.Values.{Values}
+use Rattle.evaluate_command.specs.declared.answer.Values.TheVariants.{Exact, Bounds}
+use Rattle.evaluate_command.specs.declared.faults.ValuesFault.{ValuesFault}
+use Rattle.evaluate_command.specs.declared.faults.ValuesFault.TheVariants.{TooLong, Counts, NoValue, NoMemory}
+use Rattle.evaluate_command.proofs.OneEffect.{same_identified, same_values}
 use Rattle.evaluate_command.proofs.Unmet.{criterion_answer}
+
+-- ---- lists that name sets have no fault
+
+list_fault_of : (l : Lists) (f : TargetFault) → IsListFault l f → IsFaultOfTarget (fault_in l) l.y some_list f
+list_fault_of l EmptyX h = absurd h
+list_fault_of l f h = h
+
+-- the exposures are one vertex where they are judged by the back-door criterion
+abbrev HasExposure : (back_door : Bool) → ℕ → Type 0
+HasExposure true x = (v : ℕ) × (x ≡ one v)
+HasExposure false x = Unit {0}
+
+breaks_exposure : (back_door : Bool) (q : MixedGraph) (x y z : ℕ) (fault : AdjFault) → IsVerdict back_door q x y z (Breaks fault) → HasExposure back_door x
+breaks_exposure true q x y z fault h = (h.0, h.1)
+breaks_exposure false q x y z fault h = tt
+
+meets_exposure : (back_door : Bool) (q : MixedGraph) (x y z : ℕ) → IsVerdict back_door q x y z Meets → HasExposure back_door x
+meets_exposure true q x y z h = (h.0, h.1)
+meets_exposure false q x y z h = tt
+
+one_exposure : (back_door : Bool) (set : List (List ℕ)) (s : Sets) (f : TargetFault) → HasExposure back_door s.x.bits
+    → IsNotDecided (criterion_query back_door set) s f → ⊥
+one_exposure true set s NotOneX (v, e) n = n v e
+one_exposure true set s f (v, e) n = n
+one_exposure false set s f h n = n
+
+adjusting_fault : (back_door : Bool) (set : List (List ℕ)) (l : Lists) (x y z : ℕ) (f : TargetFault) → AreSets l x y z → HasExposure back_door x
+    → IsAdjustFault (criterion_query back_door set) l f → ⊥
+adjusting_fault back_door set l x y z f s h (inl is) = no_fault_of (fault_in l) l.y l.x f s.no_fault s.some_y s.some_x is
+adjusting_fault back_door set l x y z f s h (inr n) = one_exposure back_door set n.sets f
+    (subst (HasExposure back_door) (one_set l.observed l.x n.sets.x.bits x n.named.set_x s.set_x) h) n.refused
 
 -- ---- before the counts
 
-module _ (format : Format) (q : MixedGraph) (l : EffectLists) where
-  first_among : (o : Outcome) (told : Told) → ProcedureFirst format q l o told → IsOneOf No Graph Yes o
-  first_among No told h = inl refl
-  first_among Graph told h = inr (inl refl)
-  first_among o told h = absurd h
+module _ (d : Diagram) (x y : Names) where
+  no_fault : (way : Way) (a : Answer) (f : TargetFault) → IsUnmet way d x y a → IsFirstFault way d x y f → ⊥
+  no_fault (by_procedure short) (answers.Hedge h) f r is =
+      no_effect_fault (effect_lists d.read d.observed.names x y) h.sets.x.bits h.sets.y.bits f r.0 is
+  no_fault (by_procedure short) a f r is = r
+  no_fault (by_adjusting back_door set) (answers.NotAdmissible s fault) f r is =
+      adjusting_fault back_door set (query_lists d.read d.observed.names x y (Some set)) s.x.bits s.y.bits s.given.bits f r.0
+      (breaks_exposure back_door (graph_of d.observed.graph) s.x.bits s.y.bits s.given.bits fault r.1) is
+  no_fault (by_adjusting back_door set) a f r is = r
+  no_fault (by_condition short given) (answers.Joint t settled h) f r is =
+      let l = query_lists d.read d.observed.names x y (Some given) in
+      no_fault_of (fault_in l) l.y some_list f r.0.no_fault r.0.some_y is_some_list (list_fault_of l f is)
+  no_fault (by_condition short given) a f r is = r
 
-  procedure_once : OneOutcome (ProcedureFirst format q l)
-  procedure_once = one_of_three No Graph Yes (ProcedureFirst format q l) first_among (λ told other a b. effect_refused l a.x a.y other a.sets b)
-      (λ told other a b. b) (λ told other a b. b)
+  -- an answer for which no counts are read is a no
+  is_no : (way : Way) (a : Answer) → IsUnmet way d x y a → evaluate_telling.outcome a ≡ No
+  is_no way (answers.Hedge h) r = refl
+  is_no way (answers.Joint t settled h) r = refl
+  is_no way (answers.NotAdmissible s fault) r = refl
+  is_no (by_procedure short) (answers.Values a) r = absurd r
+  is_no (by_adjusting back_door set) (answers.Values a) r = absurd r
+  is_no (by_condition short given) (answers.Values a) r = absurd r
 
-pub first_once : (format : Format) (bytes : List ℕ) (way : Way) (x y : Names) → OneOutcome (IsAnswerOn bytes (λ d. EvaluateFirst format way d x y))
-first_once format bytes (by_procedure short) x y = one_for_diagrams bytes (λ d. effect_lists d.read d.observed.names x y) (ProcedureFirst format) (same_effect_lists x y)
-    (λ d. procedure_once format (graph_of d.observed.graph) (effect_lists d.read d.observed.names x y))
-first_once format bytes (by_adjusting back_door set) x y = λ o p told other a b.
-    adjusting.adjust_once format bytes x y (criterion_query back_door set) o p told other (record { diagram = a.diagram; holds = a.holds; given = a.given.1 })
-    (record { diagram = b.diagram; holds = b.holds; given = b.given.1 })
-first_once format bytes (by_condition short given) x y = λ o p told other a b.
-    identifying.conditional_once bytes x y given o p told other (record { diagram = a.diagram; holds = a.holds; given = (plain_form format, a.given.1) })
-    (record { diagram = b.diagram; holds = b.holds; given = (plain_form format, b.given.1) })
+  alike_on : (way : Way) (a b : Result Answer TargetFault) → IsForDiagram way d x y a → IsForDiagram way d x y b
+      → outcome_in evaluate_telling target_refusal a ≡ outcome_in evaluate_telling target_refusal b
+  alike_on way (Ok a) (Ok b) f g = is_no way a f ∙ sym (is_no way b g)
+  alike_on way (Ok a) (Err fault) f g = absurd (no_fault way a fault f g)
+  alike_on way (Err fault) (Ok a) f g = absurd (no_fault way a fault g f)
+  alike_on way (Err fault) (Err other) f g = refl
 
--- an effect that is identified on a diagram is so on one that is the same
-module _ (d d' : Diagram) (s : AreSameDiagrams d d') (x y : Names) (e : PlainEffect) where
-  same_found : (way : Way) → IsFoundBy way d'.read d'.observed.names x y e → IsFoundBy way d.read d.observed.names x y e
-  same_found (by_procedure short) h = (subst (λ (l : EffectLists). AreEffectSets l e.x e.y) (same_effect_lists x y d d' s) h.0, h.1)
-  same_found (by_adjusting back_door set) h = (
-    h.0,
-    subst (λ (l : Lists). AreSets l e.x e.y h.0) (same_query_lists x y (Some set) d d' s) h.1,
-    h.2,
-  )
-  same_found (by_condition short given) h =
-      (subst (λ (l : Lists). AreTargetSets l (target_of e)) (same_query_lists x y (Some given) d d' s) h.0, h.1)
+-- on diagrams that are the same
+module _ (d e : Diagram) (s : AreSameDiagrams d e) (x y : Names) where
+  same_first : (way : Way) (a : Result Answer TargetFault) → IsForDiagram way e x y a → IsForDiagram way d x y a
+  same_first (by_procedure short) (Ok a) h = subst (λ (l : EffectLists). HasHedge (graph_of d.observed.graph) l a) (same_effect_lists x y d e s)
+      (subst (λ (q : MixedGraph). HasHedge q (effect_lists e.read e.observed.names x y) a) (sym (same_drawing d e s)) h)
+  same_first (by_procedure short) (Err f) h = subst (λ (l : EffectLists). IsEffectFault l f) (same_effect_lists x y d e s) h
+  same_first (by_adjusting back_door set) (Ok a) h =
+      subst (λ (l : Lists). BreaksCriterion back_door (graph_of d.observed.graph) l a) (same_query_lists x y (Some set) d e s)
+      (subst (λ (q : MixedGraph). BreaksCriterion back_door q (query_lists e.read e.observed.names x y (Some set)) a) (sym (same_drawing d e s)) h)
+  same_first (by_adjusting back_door set) (Err f) h =
+      subst (λ (l : Lists). IsAdjustFault (criterion_query back_door set) l f) (same_query_lists x y (Some set) d e s) h
+  same_first (by_condition short given) (Ok a) h =
+      subst (λ (l : Lists). HasJointHedge (graph_of d.observed.graph) l a) (same_query_lists x y (Some given) d e s)
+      (subst (λ (q : MixedGraph). HasJointHedge q (query_lists e.read e.observed.names x y (Some given)) a) (sym (same_drawing d e s)) h)
+  same_first (by_condition short given) (Err f) h = subst (λ (l : Lists). IsListFault l f) (same_query_lists x y (Some given) d e s) h
 
-  same_identified : (way : Way) → Identifies way d' x y e → Identifies way d x y e
-  same_identified way i = record {
-    names = i.names ∙ s.observed.names;
-    graph = i.graph ∙ sym (same_drawing d d' s);
-    identified = i.identified;
-    found = same_found way i.found;
-  }
+  pub first_alike : (way : Way) (a b : Result Answer TargetFault) → IsForDiagram way d x y a → IsForDiagram way e x y b
+      → outcome_in evaluate_telling target_refusal a ≡ outcome_in evaluate_telling target_refusal b
+  first_alike way a b f g = alike_on d x y way a b f (same_first way b g)
 
 -- where the file alone is answered, no effect is identified
-module _ (format : Format) (d : Diagram) (x y : Names) (o : Outcome) (told : Told) (e : PlainEffect) where
-  adjusted_alone : (back_door : Bool) (set : List (List ℕ)) → o ≢ Yes → AdjustAnswer format d x y (criterion_query back_door set) o told
-      → Identifies (by_adjusting back_door set) d x y e → ⊥
-  adjusted_alone back_door set unlike a i =
+module _ (d : Diagram) (x y : Names) (e : PlainEffect) where
+  hedge_or_formula : (short : Bool) (h : EffectHedge) → IsUnmet (by_procedure short) d x y (answers.Hedge h) → Identifies (by_procedure short) d x y e → ⊥
+  hedge_or_formula short h r i =
+      let q = graph_of d.observed.graph in
+      let by = i.found.1 in
+      let right = subst (λ (g : MixedGraph). IsRightFormula g e.x e.y e.formula by.derivation) i.graph by.right in
+      (same_two (λ u v. IsRightHedge q u v h.hedge h.pair) (effect_lists d.read d.observed.names x y) e.x e.y h.sets.x.bits h.sets.y.bits i.found.0 r.0
+      r.1.found.right).no_formula e.formula right.do_free right.effect
+
+  joint_or_formula : (short : Bool) (given : List (List ℕ)) (t : Target) (settled : Bool) (h : EffectHedge)
+      → IsUnmet (by_condition short given) d x y (answers.Joint t settled h) → Identifies (by_condition short given) d x y e → ⊥
+  joint_or_formula short given t settled h r i =
+      let q = graph_of d.observed.graph in
+      let by = i.found.1 in
+      let right = subst (λ (g : MixedGraph). IsRightGiven g (target_of e) e.formula by.derivation) i.graph by.right in
+      (subst (λ (u : PlainTarget). IsJointHedge q u settled h)
+      (one_target (query_lists d.read d.observed.names x y (Some given)) (target_of e) (target_view t) i.found.0 r.0) r.1).no_formula
+      e.formula right.do_free right.effect
+
+  broken_or_met : (back_door : Bool) (set : List (List ℕ)) (s : Sets) (fault : AdjFault)
+      → IsUnmet (by_adjusting back_door set) d x y (answers.NotAdmissible s fault) → Identifies (by_adjusting back_door set) d x y e → ⊥
+  broken_or_met back_door set s fault r i =
       let query = criterion_query back_door set in
       let q = graph_of d.observed.graph in
       let by = i.found in
-      let texts = texts_of format d.observed.names in
+      let texts = texts_of Text d.observed.names in
       let yes = answer_of (texts.meets e.x e.y by.0) in
+      let no = answer_of (texts.breaks s.x.bits s.y.bits s.given.bits fault) in
       let meets = subst (λ (g : MixedGraph). IsVerdict back_door g e.x e.y by.0 Meets) i.graph by.2.meets in
-      unlike (adjusting.lists_once format query q (adjust_lists d.read d.observed.names x y query) d.observed.sized o Yes told yes a
-      (criterion_answer format d x y set Yes yes back_door (record {
+      let clash = adjusting.lists_once Text query q (adjust_lists d.read d.observed.names x y query) d.observed.sized No Yes no yes
+      (criterion_answer Text d x y set No no back_door (record {
+        x = s.x.bits;
+        y = s.y.bits;
+        z = s.given.bits;
+        sets = r.0;
+        answer = broken back_door q texts s.x.bits s.y.bits s.given.bits fault no r.1 refl;
+      }))
+      (criterion_answer Text d x y set Yes yes back_door (record {
         x = e.x;
         y = e.y;
         z = by.0;
         sets = by.1;
         answer = shown back_door q texts e.x e.y by.0 yes meets refl;
-      })))
+      })) in
+      cc clash
 
-  conditional_alone : (short : Bool) (given : List (List ℕ)) → o ≢ Yes → ConditionalAnswer (plain_form format) d x y given o told
-      → Identifies (by_condition short given) d x y e → ⊥
-  conditional_alone short given unlike a i =
-      let form : Form = record { writing = Plain; short = short; format = format } in
-      let q = graph_of d.observed.graph in
+  alone_on : (way : Way) (a : Result Answer TargetFault) → IsForDiagram way d x y a → Identifies way d x y e → ⊥
+  alone_on (by_procedure short) (Ok (answers.Hedge h)) r i = hedge_or_formula short h r i
+  alone_on (by_procedure short) (Ok a) r i = r
+  alone_on (by_procedure short) (Err f) r i = no_effect_fault (effect_lists d.read d.observed.names x y) e.x e.y f i.found.0 r
+  alone_on (by_adjusting back_door set) (Ok (answers.NotAdmissible s fault)) r i = broken_or_met back_door set s fault r i
+  alone_on (by_adjusting back_door set) (Ok a) r i = r
+  alone_on (by_adjusting back_door set) (Err f) r i =
+      adjusting_fault back_door set (query_lists d.read d.observed.names x y (Some set)) e.x e.y i.found.0 f i.found.1
+      (meets_exposure back_door e.graph e.x e.y i.found.0 i.found.2.meets) r
+  alone_on (by_condition short given) (Ok (answers.Joint t settled h)) r i = joint_or_formula short given t settled h r i
+  alone_on (by_condition short given) (Ok a) r i = r
+  alone_on (by_condition short given) (Err f) r i =
       let l = query_lists d.read d.observed.names x y (Some given) in
-      let t = target_of e in
-      let by = i.found.1 in
-      let formula = answer_of (formula_shown form d.observed.names t e.formula by.derivation) in
-      let yes : identify.ListsAnswer form q l Yes formula = record {
-        target = t;
-        sets = i.found.0;
-        answer = record {
-          formula = e.formula;
-          derivation = by.derivation;
-          right = subst (λ (g : MixedGraph). IsRightGiven g t e.formula by.derivation) i.graph by.right;
-          derived = subst (λ (g : MixedGraph). IsOrShorter short (IsConditionalBySteps g t) e.formula by.derivation) i.graph by.derived;
-          prints = refl;
-          reads_back = λ text c. absurd (cc c);
-        };
-      } in
-      unlike (identifying.target_once q d.observed.graph.valid l d.observed.sized o Yes told formula (plain_form format, a) (form, yes))
+      no_fault_of (fault_in l) l.y some_list f i.found.0.no_fault i.found.0.some_y is_some_list (list_fault_of l f r)
 
-procedure_alone : (format : Format) (q : MixedGraph) (l : EffectLists) (o : Outcome) (told : Told) (e : PlainEffect) (short : Bool) → length l.observed ≡ q.vertices
-    → e.graph ≡ q → IsMixedGraph e.graph → AreEffectSets l e.x e.y → IsByProcedure short e → ProcedureFirst format q l o told → ⊥
-procedure_alone format q l No told e short named same valid sets by a =
-    let first = some_first short (IsDerived e.graph e.x e.y) e.formula by.derivation by.derived in
-    let hedge = subst (λ (g : MixedGraph). ShowsHedge format g l.observed a.x a.y told) (sym same) a.answer in
-    formula_or_hedge e.graph valid l (named ∙ sym (ap (λ (g : MixedGraph). g.vertices) same)) e.x e.y a.x a.y sets a.sets
-    first.0 first.1 first.2 hedge.hedge hedge.pair hedge.found
-procedure_alone format q l Graph told e short named same valid sets by a = effect_refused l e.x e.y told sets a
-procedure_alone format q l o told e short named same valid sets by a = a
-
-alone_on : (format : Format) (way : Way) (d : Diagram) (x y : Names) (o : Outcome) (told : Told) (e : PlainEffect) → EvaluateFirst format way d x y o told
-    → Identifies way d x y e → ⊥
-alone_on format (by_procedure short) d x y o told e a i = procedure_alone format (graph_of d.observed.graph) (effect_lists d.read d.observed.names x y) o told e short
-    d.observed.sized i.graph i.identified.graph i.found.0 i.found.1 a
-alone_on format (by_adjusting back_door set) d x y o told e a i = adjusted_alone format d x y o told e back_door set a.0 a.1 i
-alone_on format (by_condition short given) d x y o told e a i = conditional_alone format d x y o told e short given a.0 a.1 i
-
-pub first_alone : (format : Format) (way : Way) (d d' : Diagram) → AreSameDiagrams d d' → (x y : Names) (o : Outcome) (told : Told) (e : PlainEffect)
-    → EvaluateFirst format way d x y o told → Identifies way d' x y e → ⊥
-first_alone format way d d' s x y o told e a i = alone_on format way d x y o told e a (same_identified d d' s x y e way i)
+pub first_alone : (way : Way) (d e : Diagram) → AreSameDiagrams d e → (x y : Names) (a : Result Answer TargetFault) (f : PlainEffect)
+    → IsForDiagram way d x y a → Identifies way e x y f → ⊥
+first_alone way d e s x y a f r i = alone_on d x y f way a r (same_identified d e s x y f way i)
 
 -- ---- over the bytes of counts
 
--- the values at the printed cells, from the parts of a table that they hang on
-values_of : (rule : Rule) (e : PlainEffect) (vertices : List ℕ) (levels : List (List Field)) (weight : (ℕ → Bool) → (ℕ → ℕ) → ℕ) → Result (List CellValue) Stop
-values_of rule e vertices levels weight =
-    let w : Weights = record { vertices = e.graph.vertices; size = λ v. length (levels_in vertices levels v); weight = λ b a s. weight a s } in
-    values_at (λ cell. formula_value rule w e.formula (cell_of cell))
-    (map (with_levels (first_cell e.graph.vertices) (varied e.x e.given e.y))
-    (cells_of (map (λ v. length (levels_in vertices levels v)) (varied e.x e.given e.y))))
+-- the rule in exact fractions, or else in bounds
+abbrev rule_in : (is_exact zero : Bool) → Rule
+rule_in true zero = rule exact zero
+rule_in false zero = rule bounds zero
 
-of_table : (rule : Rule) (e : PlainEffect) (t : Table) → values_at (value_in rule e t) (printed_cells e t)
-    ≡ values_of rule e t.vertices t.levels (counted t.vertices t.rows)
-unfolding values_of
-of_table rule e t = refl
+evaluated : (is_exact zero : Bool) (e : PlainEffect) (t : Table) (values : Values) → IsOverTable is_exact zero e t values
+    → (list : List CellValue) × (values_at (value_in (rule_in is_exact zero) e t) (printed_cells e t) ≡ Ok list)
+evaluated true zero e t (Exact values) h = (h.values.values, h.values.evaluated)
+evaluated false zero e t (Bounds values) h = (h.values.values, h.values.evaluated)
+evaluated true zero e t (Bounds values) h = absurd h
+evaluated false zero e t (Exact values) h = absurd h
 
--- bytes are the text of one table, as far as values hang on it
-pub same_values : (rule : Rule) (e : PlainEffect) (bytes : List ℕ) (count : Option Field) (t u : Table) → IsTableOf bytes e.names (used_in e) count t
-    → IsTableOf bytes e.names (used_in e) count u
-    → values_at (value_in rule e u) (printed_cells e u) ≡ values_at (value_in rule e t) (printed_cells e t)
-same_values rule e bytes count t u a b =
-    let vs : u.vertices ≡ t.vertices = b.vertices ∙ sym a.vertices in
-    let ls : u.levels ≡ t.levels = b.levels ∙ sym a.levels in
-    let all = rows_in (layout_in (records_of bytes) e.names (used_in e) count) (rows_of (records_of bytes)) in
-    let ws : counted u.vertices u.rows ≡ counted t.vertices t.rows =
-    fun_ext (λ k. fun_ext (λ s. b.rows k s ∙ ap (λ (v : List ℕ). counted v all k s) vs ∙ sym (a.rows k s))) in
-    of_table rule e u
-    ∙ ap (λ (v : List ℕ). values_of rule e v u.levels (counted u.vertices u.rows)) vs
-    ∙ ap (λ (l : List (List Field)). values_of rule e t.vertices l (counted u.vertices u.rows)) ls
-    ∙ ap (λ (w : (ℕ → Bool) → (ℕ → ℕ) → ℕ). values_of rule e t.vertices t.levels w) ws
-    ∙ sym (of_table rule e t)
+stopped : (is_exact zero : Bool) (e : PlainEffect) (t : Table) (fault : EvalFault) → HasNoValue is_exact zero e t fault
+    → (s : Stop) × (values_at (value_in (rule_in is_exact zero) e t) (printed_cells e t) ≡ Err s)
+stopped true zero e t fault h = (h.0, h.1)
+stopped false zero e t fault h = (h.0, h.1)
 
-module _ (format : Format) (e : PlainEffect) (bytes : List ℕ) (count : Option Field) where
-  all_or_stop : (rule : Rule) (covers : Pair → Fraction → Type 0) (is_exact : Bool) (t u : Table) (told other : Told)
-      → IsTableOf bytes e.names (used_in e) count t → IsTableOf bytes e.names (used_in e) count u
-      → TableAnswer format rule covers is_exact e t Yes told → TableAnswer format rule covers is_exact e u Evaluation other → ⊥
-  all_or_stop rule covers is_exact t u told other at bu a b =
-      let clash : ◌≡◌ {A = Result (List CellValue) Stop} (Ok a.values.values) (Err b.stop) = sym a.values.evaluated
-      ∙ sym (same_values rule e bytes count t u at bu) ∙ b.stops in cc clash
+module _ (is_exact zero : Bool) (e : PlainEffect) (count : Option Field) (bytes : List ℕ) where
+  is_yes : (a : Answer) → HasValues is_exact zero e count bytes a → evaluate_telling.outcome a ≡ Yes
+  is_yes (answers.Values a) h = refl
+  is_yes (answers.Hedge k) h = absurd h.answer
+  is_yes (answers.Joint t settled k) h = absurd h.answer
+  is_yes (answers.NotAdmissible s fault) h = absurd h.answer
 
-  yes_stop : (is_exact zero : Bool) (told other : Told) → AnswersTable format is_exact zero e count bytes Yes told
-      → AnswersTable format is_exact zero e count bytes Evaluation other → ⊥
-  yes_stop true zero told other a b = all_or_stop _ _ _ a.0 b.0 told other a.1.reads b.1.reads a.2 b.2
-  yes_stop false zero told other a b = all_or_stop _ _ _ a.0 b.0 told other a.1.reads b.1.reads a.2 b.2
+  all_or_stop : (a : Answer) (names : Bor (List (List ℕ))) (u : Table) (fault : EvalFault) → HasValues is_exact zero e count bytes a
+      → LackValues is_exact zero e count bytes (NoValue names u fault) → ⊥
+  all_or_stop (answers.Values a) names u fault h k =
+      let x = evaluated is_exact zero e h.table a.values h.answer.values in
+      let y = stopped is_exact zero e k.table fault k.over.value in
+      let clash : ◌≡◌ {A = Result (List CellValue) Stop} (Ok x.0) (Err y.0) =
+      sym x.1 ∙ sym (same_values (rule_in is_exact zero) e bytes count h.table k.table h.holds.reads k.holds.reads) ∙ y.1 in cc clash
+  all_or_stop (answers.Hedge k) names u fault h l = h.answer
+  all_or_stop (answers.Joint t settled k) names u fault h l = h.answer
+  all_or_stop (answers.NotAdmissible s broken) names u fault h l = h.answer
 
-  counts_among : (is_exact zero : Bool) (o : Outcome) (told : Told) → CountsAnswer format is_exact zero e count bytes o told → IsOneOf Yes Second Evaluation o
-  counts_among is_exact zero Yes told h = inl refl
-  counts_among is_exact zero Second told h = inr (inl refl)
-  counts_among is_exact zero Evaluation told h = inr (inr refl)
-  counts_among is_exact zero o told h = absurd h
+  -- counts that are read are neither too long nor at fault
+  read_or_long : (t : Table) → HoldsCounts e.names (used_in e) count bytes t → 67108864 < length bytes → ⊥
+  read_or_long t h long = let small = h.small in omega (arith, small, long)
 
-  counts_once : (is_exact zero : Bool) → OneOutcome (CountsAnswer format is_exact zero e count bytes)
-  counts_once is_exact zero = one_of_three Yes Second Evaluation (CountsAnswer format is_exact zero e count bytes) (counts_among is_exact zero)
-      (λ told other a b. read_or_refused e.names (used_in e) count bytes a.0 other.text other.object a.1 b) (yes_stop is_exact zero)
-      (λ told other a b. read_or_refused e.names (used_in e) count bytes b.0 told.text told.object b.1 a)
+  read_or_fault : (t : Table) (fault : CountFault) → HoldsCounts e.names (used_in e) count bytes t → AreNoCounts e count bytes fault → ⊥
+  read_or_fault t fault h f = none-some fault (sym h.fits ∙ f.found)
 
-abbrev target : (x y given : ℕ) → PlainTarget
-target x y given = record { x = x; y = y; given = given }
+  values_or_fault : (a : Answer) (fault : ValuesFault) → HasValues is_exact zero e count bytes a → IsCountsFault is_exact zero e count bytes fault → ⊥
+  values_or_fault a TooLong h f = read_or_long h.table h.holds f
+  values_or_fault a (Counts fault) h f = read_or_fault h.table fault h.holds f
+  values_or_fault a (NoValue names t fault) h f = all_or_stop a names t fault h f
+  values_or_fault a NoMemory h f = f
 
--- lists name one effect, and it has one formula of each kind
-module _ (g : ReadGraph) (observed : List (List ℕ)) (x y : Names) (e f : PlainEffect) (qs : f.graph ≡ e.graph) where
-  same_targets : f.x ≡ e.x → f.y ≡ e.y → f.given ≡ e.given → target_of f ≡ target_of e
-  same_targets p q r = λ i. target (p i) (q i) (r i)
+  faults_alike : (f g : ValuesFault) → IsCountsFault is_exact zero e count bytes f → IsCountsFault is_exact zero e count bytes g
+      → values_refusal.outcome f ≡ values_refusal.outcome g
+  faults_alike TooLong TooLong x y = refl
+  faults_alike TooLong (Counts fault) x y = refl
+  faults_alike TooLong (NoValue names t fault) x y = absurd (read_or_long y.table y.holds x)
+  faults_alike (Counts fault) TooLong x y = refl
+  faults_alike (Counts fault) (Counts other) x y = refl
+  faults_alike (Counts fault) (NoValue names t other) x y = absurd (read_or_fault y.table fault y.holds x)
+  faults_alike (NoValue names t fault) TooLong x y = absurd (read_or_long x.table x.holds y)
+  faults_alike (NoValue names t fault) (Counts other) x y = absurd (read_or_fault x.table other x.holds y)
+  faults_alike (NoValue names t fault) (NoValue others u other) x y = refl
+  faults_alike NoMemory g x y = absurd x
+  faults_alike f NoMemory x y = absurd y
 
-  one_found : (way : Way) → FixesFormula way → IsFoundBy way g observed x y e → IsFoundBy way g observed x y f
-      → (target_of f ≡ target_of e) × (f.formula ≡ e.formula)
-  one_found (by_procedure true) fixed a b = absurd (cc fixed)
-  one_found (by_procedure false) fixed a b =
-      let l = effect_lists g observed x y in
-      let xs : f.x ≡ e.x = one_set l.observed l.x e.x f.x a.0.set_x b.0.set_x in
-      let ys : f.y ≡ e.y = one_set l.observed l.y e.y f.y a.0.set_y b.0.set_y in
-      let found : IsIdentified e.graph e.x e.y f.formula =
-      subst (λ (k : ℕ). IsIdentified e.graph e.x k f.formula) ys (subst (λ (k : ℕ). IsIdentified e.graph k f.y f.formula) xs
-      (subst (λ (q : MixedGraph). IsIdentified q f.x f.y f.formula) qs
-      (derived_is_identified f.graph f.x f.y f.formula b.1.derivation b.1.derived))) in (
-        same_targets xs ys (b.1.bare ∙ sym a.1.bare),
-        one_formula e.graph e.x e.y f.formula e.formula found (derived_is_identified e.graph e.x e.y e.formula a.1.derivation a.1.derived),
-      )
-  one_found (by_adjusting back_door set) fixed a b =
-      let l = query_lists g observed x y (Some set) in
-      let xs : f.x ≡ e.x = one_set l.observed l.x e.x f.x a.1.set_x b.1.set_x in
-      let ys : f.y ≡ e.y = one_set l.observed l.y e.y f.y a.1.set_y b.1.set_y in
-      let zs : b.0 ≡ a.0 = one_set l.observed l.given a.0 b.0 a.1.set_given b.1.set_given in
-      let formulas : adjustment_formula f.x f.y b.0 ≡ adjustment_formula e.x e.y a.0 = λ i. adjustment_formula (xs i) (ys i) (zs i) in
-      (same_targets xs ys (b.2.bare ∙ sym a.2.bare), b.2.formula ∙ formulas ∙ sym a.2.formula)
-  one_found (by_condition true given) fixed a b = absurd (cc fixed)
-  one_found (by_condition false given) fixed a b =
-      let ts : target_of f ≡ target_of e = identifying.one_target (query_lists g observed x y (Some given)) (target_of e) (target_of f) a.0 b.0 in
-      let found : IsConditional e.graph (target_of e) f.formula =
-      subst (λ (t : PlainTarget). IsConditional e.graph t f.formula) ts (subst (λ (q : MixedGraph). IsConditional q (target_of f) f.formula) qs
-      (derived_is_conditional f.graph (target_of f) f.formula b.1.derivation b.1.derived)) in
-      (ts, one_conditional e.graph (target_of e) f.formula e.formula found (derived_is_conditional e.graph (target_of e) e.formula a.1.derivation a.1.derived))
-
-pub same_effect : (way : Way) → FixesFormula way → (d d' : Diagram) → AreSameDiagrams d d' → (x y : Names) (e f : PlainEffect) → Identifies way d x y e
-    → Identifies way d' x y f → f ≡ e
-same_effect way fixed d d' s x y e f a i =
-    let b = same_identified d d' s x y f way i in
-    let ns : f.names ≡ e.names = b.names ∙ sym a.names in
-    let qs : f.graph ≡ e.graph = b.graph ∙ sym a.graph in
-    let same = one_found d.read d.observed.names x y e f qs way fixed a.found b.found in
-    λ i. effect_for (ns i) (qs i) (same.0 i) (same.1 i)
-
-pub evaluate_once : (format : Format) (bytes other : List ℕ) (is_exact zero : Bool) (way : Way) → FixesFormula way → (x y : Names) (count : Option Field)
-    → OneOutcome (IsAnswerOn bytes (λ d. EvaluateAnswer format is_exact zero way d x y count other))
-evaluate_once format bytes other is_exact zero way fixed x y count = one_on_diagram bytes (λ d. EvaluateAnswer format is_exact zero way d x y count other)
-    (λ d d' s o p told line a b.
-    counts_once format a.0 other count is_exact zero o p told line a.2 (subst (λ (e : PlainEffect). CountsAnswer format is_exact zero e count other p line)
-    (same_effect way fixed d d' s x y a.0 b.0 a.1 b.1) b.2))
+  pub counts_alike : (a b : Result Answer ValuesFault) → IsForCounts is_exact zero e count bytes a → IsForCounts is_exact zero e count bytes b
+      → outcome_in evaluate_telling values_refusal a ≡ outcome_in evaluate_telling values_refusal b
+  counts_alike (Ok a) (Ok b) f g = is_yes a f ∙ sym (is_yes b g)
+  counts_alike (Ok a) (Err fault) f g = absurd (values_or_fault a fault f g)
+  counts_alike (Err fault) (Ok b) f g = absurd (values_or_fault b fault g f)
+  counts_alike (Err fault) (Err other) f g = faults_alike fault other f g

@@ -3,17 +3,17 @@ pub mod Columns
 pub mod Tables
 pub mod CellLists
 mod Members
-pub mod Pages
 pub mod Printed
-mod Telling
 pub mod Stops
 pub mod Evaluable
-pub mod Outcomes
 mod NoWays
 mod RightFormulas
+mod Counted
 pub mod Unmet
-pub mod FirstAnswers
 pub mod Adjusted
+pub mod OneEffect
 pub mod Exclusive
 pub mod Lawful
+pub mod EvaluateTold
+mod Replied
 pub mod OneText

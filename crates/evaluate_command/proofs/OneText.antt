@@ -24,12 +24,12 @@ use Rattle.replies.specs.Told.{Told, refusal_of}
 use Rattle.replies.specs.declared.outcome.Outcome.{Outcome}
 use Rattle.replies.specs.declared.outcome.Outcome.TheVariants.{Yes, Second, Evaluation}
 use Rattle.diagram.specs.Sets.{Names}
-use Rattle.evaluate_command.specs.Answers.{values_told, stop_told, ShowsValues, ShowsStop, AnswersTable, CountsAnswer, EvaluateAnswer}
+use Rattle.evaluate_command.specs.Answers.{why_digit, support_text, values_told, stop_told, ShowsValues, ShowsStop, AnswersTable, CountsAnswer, EvaluateAnswer}
 use Rattle.evaluate_command.specs.Cells.{CellValue, printed_cells, value_in, values_at}
 use Rattle.evaluate_command.specs.Effects.{PlainEffect, used_in}
-use Rattle.evaluate_command.specs.Lines.{why_digit, place_text, support_text}
+use Rattle.evaluate_command.specs.Stopped.{place_text}
 use Rattle.evaluate_command.specs.Ways.{Way, FixesFormula}
-use Rattle.evaluate_command.proofs.Exclusive.{same_values, same_effect}
+use Rattle.evaluate_command.proofs.OneEffect.{same_values, same_effect}
 
 -- a table with these rows, of which no text speaks
 abbrev with_levels : List Row → List ℕ → List (List Field) → Table

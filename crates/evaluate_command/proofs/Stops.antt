@@ -2,30 +2,34 @@
 use Rattle.std.proofs.Common.{◌≡◌, ℕ, Bool, cond, List, ◌++◌, codes, sym, ap, ◌∙◌, append-nil}
 use Rattle.mixed_graph.specs.Names.{name_of}
 use Rattle.answer_text.specs.Printing.{printed}
-use Rattle.mixed_graph.specs.Bits.{has, members_below}
+use Rattle.mixed_graph.specs.Bits.{members_below}
 use Rattle.prob_expr.specs.declared.expr.Place.{Place}
 use Rattle.quantity.specs.declared.fault.QuantityFault.TheVariants.{ZeroBelow, TooWide, TooFine}
 use Rattle.count_rows.specs.Rows.{Table}
 use Rattle.count_table.specs.Tables.{AreCounts}
-use Rattle.count_eval.specs.Answers.{IsPlaceOf, IsCellOf}
+use Rattle.count_eval.specs.Answers.{IsPlaceOf, IsCellOf, IsEvaluationFault}
 use Rattle.count_eval.specs.Programs.{is_used, cell_of}
 use Rattle.count_eval.specs.Stops.{Stop}
+use Rattle.count_eval.specs.declared.failure.EvalFault.{EvalFault}
+use Rattle.count_eval.specs.declared.failure.EvalFault.TheVariants.{NoSupport, NoMemory}
+use Rattle.count_eval.specs.declared.failure.EvalFault.TheVariants as failure
 use Rattle.count_answers.specs.Lines.{with_commas, assignment, assignments, level_text}
 use Rattle.count_answers.proofs.Texts.{same_texts}
-use Rattle.evaluate_command.specs.Lines.{place_text, why_digit, support_text, stop_text}
+use Rattle.evaluate_command.specs.Answers.{why_digit, support_text, stop_text}
+use Rattle.evaluate_command.specs.Stopped.{place_text, stop_words}
 use Rattle.evaluate_command.proofs.Tables.{member_used}
 
 -- the place in a fault is that of the stop
 same_place : (place : Place) (s : Stop) → IsPlaceOf place s → place_text place.def place.node ≡ place_text s.def s.node
 same_place place s is = ap (λ d. place_text d place.node) is.def ∙ ap (place_text s.def) is.node
 
-pub wide_text : (names : List (List ℕ)) (t : Table) (s : Stop) (place : Place) → s.why ≡ TooWide → IsPlaceOf place s
+wide_text : (names : List (List ℕ)) (t : Table) (s : Stop) (place : Place) → s.why ≡ TooWide → IsPlaceOf place s
     → codes "evaluation fault 2: " ++ place_text place.def place.node ≡ stop_text names t s
 wide_text names t s place why is =
     ap (λ p. codes "evaluation fault 2: " ++ p) (same_place place s is ∙ sym (append-nil (place_text s.def s.node)))
     ∙ ap (λ w. codes "evaluation fault " ++ (why_digit w ++ (codes ": " ++ (place_text s.def s.node ++ support_text w names t s.cell)))) (sym why)
 
-pub fine_text : (names : List (List ℕ)) (t : Table) (s : Stop) (place : Place) → s.why ≡ TooFine → IsPlaceOf place s
+fine_text : (names : List (List ℕ)) (t : Table) (s : Stop) (place : Place) → s.why ≡ TooFine → IsPlaceOf place s
     → codes "evaluation fault 3: " ++ place_text place.def place.node ≡ stop_text names t s
 fine_text names t s place why is =
     ap (λ p. codes "evaluation fault 3: " ++ p) (same_place place s is ∙ sym (append-nil (place_text s.def s.node)))
@@ -41,7 +45,7 @@ same_levels names t s cell used table is at =
     (at v lt ∙ ap (λ (b : Bool). cond b (s.cell v) 0) (member_used t used is table v lt h))))
     ∙ ap (λ (vs : List ℕ). assignments names t s.cell vs) (sym is)
 
-pub support_text_is : (names : List (List ℕ)) (t : Table) (s : Stop) (place : Place) (cell : List ℕ) (used : ℕ → Bool) → s.why ≡ ZeroBelow → IsPlaceOf place s
+support_text_is : (names : List (List ℕ)) (t : Table) (s : Stop) (place : Place) (cell : List ℕ) (used : ℕ → Bool) → s.why ≡ ZeroBelow → IsPlaceOf place s
     → IsCellOf (is_used t) cell s
     → AreCounts t → t.vertices ≡ members_below used 64
     → codes "evaluation fault 1: " ++ (place_text place.def place.node ++ (codes " at " ++ assignments names t (cell_of cell) (members_below used 64)))
@@ -50,3 +54,13 @@ support_text_is names t s place cell used why is at table vertices =
     ap (λ p. codes "evaluation fault 1: " ++ (p ++ (codes " at " ++ assignments names t (cell_of cell) (members_below used 64)))) (same_place place s is)
     ∙ ap (λ a. codes "evaluation fault 1: " ++ (place_text s.def s.node ++ (codes " at " ++ a))) (same_levels names t s cell used table vertices at)
     ∙ ap (λ w. codes "evaluation fault " ++ (why_digit w ++ (codes ": " ++ (place_text s.def s.node ++ support_text w names t s.cell)))) (sym why)
+
+-- the words of a fault are those of its stop, where the used vertices of the table are these
+pub words_of_stop : (names : List (List ℕ)) (t : Table) (s : Stop) (used : ℕ → Bool) (fault : EvalFault) → AreCounts t → t.vertices ≡ members_below used 64
+    → IsEvaluationFault (is_used t) fault s → stop_words names t fault ≡ stop_text names t s
+words_of_stop names t s used (NoSupport cell place) table vertices h =
+    ap (λ (vs : List ℕ). codes "evaluation fault 1: " ++ (place_text place.def place.node ++ (codes " at " ++ assignments names t (cell_of cell) vs))) vertices
+    ∙ support_text_is names t s place cell used h.0 h.1 h.2 table vertices
+words_of_stop names t s used (failure.TooWide place) table vertices h = wide_text names t s place h.0 h.1
+words_of_stop names t s used (failure.TooFine place) table vertices h = fine_text names t s place h.0 h.1
+words_of_stop names t s used NoMemory table vertices h = absurd h

@@ -1,24 +1,23 @@
--- The answer of `evaluate`: the effect of x on y at each level of x and y, and of what is given, from counts of observations.
-use Rattle.std.specs.Prelude.{ℕ, ◌≡◌, ◌≢◌, List, All, Bool, true, false, Option, Ok, Err}
+-- What is told by `evaluate`: the effect of x on y at each level of x and y, and of what is given, from counts of observations.
+use Rattle.std.specs.Prelude.{ℕ, ◌≡◌, ◌≢◌, List, [], ◌∷◌, ◌++◌, All, map, codes, Bool, true, false, Option, Ok, Err}
+use Rattle.std.specs.List.{flat_map}
+use Rattle.json.specs.Json.{Json}
 use Rattle.fractions.specs.Fractions.{Fraction}
 use Rattle.mixed_graph.specs.Graphs.{MixedGraph}
 use Rattle.mixed_graph.specs.Shown.{graph_of}
 use Rattle.finite_models.specs.Models.{FiniteModel, Fits, IsPositiveModel}
-use Rattle.targets.specs.Targets.{EffectLists}
 use Rattle.prob_expr.specs.Values.{effect}
-use Rattle.identify_command.specs.Forms.{plain_form}
-use Rattle.identify_command.specs.Conditions.{ConditionalAnswer}
-use Rattle.adjust_command.specs.Answers.{AdjustAnswer}
 use Rattle.answer_text.specs.Lines.{line_of}
 use Rattle.replies.specs.declared.format.Format.{Format}
 use Rattle.replies.specs.declared.outcome.Outcome.{Outcome}
 use Rattle.replies.specs.declared.outcome.Outcome.TheVariants.{Yes, No, Graph, Second, Evaluation}
 use Rattle.replies.specs.Told.{Told, text_in, answer_of, refusal_of}
-use Rattle.answer_json.specs.Progress.{json_line}
+use Rattle.answer_json.specs.Progress.{array_of, object_of, json_line}
 use Rattle.diagram.specs.Sets.{Names, effect_lists}
 use Rattle.diagram.specs.declared.diagram.Diagram.{Diagram}
-use Rattle.effect_answers.specs.Effects.{IsOfSets, IsEffectRefusal}
-use Rattle.effect_answers.specs.Hedges.{ShowsHedge}
+use Rattle.identify_text.specs.Answers.{free_beside}
+use Rattle.quantity.specs.declared.fault.QuantityFault.{QuantityFault}
+use Rattle.quantity.specs.declared.fault.QuantityFault.TheVariants.{ZeroBelow, TooWide, TooFine}
 use Rattle.quantity.specs.Kinds.{Pair, Kind}
 use Rattle.count_eval.specs.Rules.{Rule, rule as rule_of}
 use Rattle.quantity.specs.Exacts.{exact, Equals}
@@ -30,29 +29,16 @@ use Rattle.count_eval.specs.Answers.{CoversCounts}
 use Rattle.count_eval.specs.Laws.{IsMatched}
 use Rattle.count_eval.specs.Programs.{weights_in, is_used, cell_of}
 use Rattle.count_eval.specs.Stops.{Stop}
+use Rattle.count_answers.specs.Lines.{assignments}
 use Rattle.count_answers.specs.Reads.{HoldsCounts}
 use Rattle.count_json.specs.Refusals.{AreRefusedCounts}
 use Rattle.count_json.specs.Stops.{stop_json}
 use Rattle.evaluate_command.specs.Effects.{PlainEffect, target_of, Identifies, used_in}
 use Rattle.evaluate_command.specs.Ways.{Way, by_procedure, by_adjusting, by_condition, criterion_query}
 use Rattle.evaluate_command.specs.Cells.{CellValue, value_in, values_at, printed_cells}
-use Rattle.evaluate_command.specs.Lines.{values_text, stop_text}
-use Rattle.evaluate_command.specs.Objects.{values_json}
-
--- ---- before the counts
-
--- where the procedure is asked, in the observed graph q: a hedge with its two models, as `identify` shows it, or a listed name that is at fault
-abbrev pub ProcedureFirst : Format → MixedGraph → EffectLists → Outcome → Told → Type 0
-ProcedureFirst format q l No told = IsOfSets l (λ x y. ShowsHedge format q l.observed x y told)
-ProcedureFirst format q l Graph told = IsEffectRefusal l told
-ProcedureFirst format q l o told = ⊥
-
--- the answer for which the counts aren't read: that one; or what `adjust` answers for the set, or `identify` under the condition, where that isn't yes
-abbrev pub EvaluateFirst : Format → Way → Diagram → (x y : Names) → Outcome → Told → Type 0
-EvaluateFirst format (by_procedure short) d x y o told =
-    ProcedureFirst format (graph_of d.observed.graph) (effect_lists d.read d.observed.names x y) o told
-EvaluateFirst format (by_adjusting back_door set) d x y o told = (o ≢ Yes) × AdjustAnswer format d x y (criterion_query back_door set) o told
-EvaluateFirst format (by_condition short given) d x y o told = (o ≢ Yes) × ConditionalAnswer (plain_form format) d x y given o told
+use Rattle.evaluate_command.specs.Lines.{sign_of, value_line, pinned_lines}
+use Rattle.evaluate_command.specs.Objects.{value_json, effect_members}
+use Rattle.evaluate_command.specs.Stopped.{place_text}
 
 -- ---- over a table of counts
 
@@ -70,6 +56,16 @@ pub record AreValues (rule : Rule) (covers : Pair → Fraction → Type 0) (e : 
   pub counts : rule.zero ≡ false → All (λ v. CoversCounts covers e.graph.vertices t e.formula (cell_of v.cell) v.quantity) values
   pub effects : All (CoversEffect covers e t) values
 
+-- the lines of what is pinned, and those of the cells
+abbrev pub values_text : Kind → (is_exact : Bool) → PlainEffect → Table → List CellValue → List ℕ
+values_text kind is_exact e t values = pinned_lines e.names t (free_beside (target_of e) e.formula)
+    ++ flat_map (value_line kind (sign_of is_exact) e.names (target_of e) t) values
+
+-- their object
+abbrev pub values_json : (is_exact : Bool) → PlainEffect → Table → List CellValue → Json
+values_json is_exact e t values = object_of (effect_members is_exact e.names (target_of e) t (free_beside (target_of e) e.formula)
+    ++ (codes "cells", array_of (map (value_json is_exact e.names (target_of e) t) values)) ∷ [])
+
 -- what is told of values: the lines of what is pinned and of the cells, or one object
 abbrev pub values_told : Format → Kind → (is_exact : Bool) → PlainEffect → Table → List CellValue → Told
 values_told format kind is_exact e t values =
@@ -80,6 +76,22 @@ pub record ShowsValues (format : Format) (rule : Rule) (covers : Pair → Fracti
     : Type 0 where
   pub values : AreValues rule covers e t (printed_cells e t)
   pub prints : told ≡ values_told format rule.kind is_exact e t values.values
+
+-- the digit of why there is no value
+abbrev pub why_digit : QuantityFault → List ℕ
+why_digit ZeroBelow = codes "1"
+why_digit TooWide = codes "2"
+why_digit TooFine = codes "3"
+
+-- the levels of all used vertices at a node where a denominator is 0
+abbrev pub support_text : QuantityFault → List (List ℕ) → Table → (ℕ → ℕ) → List ℕ
+support_text ZeroBelow names t cell = codes " at " ++ assignments names t cell t.vertices
+support_text TooWide names t cell = []
+support_text TooFine names t cell = []
+
+-- why there is no value, and at which node
+abbrev pub stop_text : List (List ℕ) → Table → Stop → List ℕ
+stop_text names t s = codes "evaluation fault " ++ (why_digit s.why ++ (codes ": " ++ (place_text s.def s.node ++ support_text s.why names t s.cell)))
 
 -- what is told of a stop: its line and its object
 abbrev pub stop_told : List (List ℕ) → Table → Stop → Told

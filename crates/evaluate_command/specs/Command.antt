@@ -3,15 +3,24 @@ use Rattle.std.specs.Prelude.{Bool, Option, Some}
 use Rattle.command_words.specs.Form.{Text}
 use Rattle.replies.specs.declared.format.Format.{Format}
 use Rattle.replies.specs.Command.{CommandForm, on_two_inputs_where, Remainder}
-use Rattle.evaluate_command.specs.Answers.{EvaluateFirst, CountsAnswer, EvaluateAnswer}
+use Rattle.told.specs.Forms.{plain_form}
+use Rattle.told.specs.Refusals.{target_refusal}
+use Rattle.told.specs.Telling.{Tells}
 use Rattle.evaluate_command.specs.Effects.{PlainEffect, IsIdentified, Identifies}
+use Rattle.evaluate_command.specs.Telling.{evaluate_telling}
+use Rattle.evaluate_command.specs.First.{IsForDiagram}
 use Rattle.evaluate_command.specs.Requests.{Request, IsRequest}
+use Rattle.evaluate_command.specs.Right.{IsForCounts}
+use Rattle.evaluate_command.specs.ValuesFaults.{values_refusal}
 use Rattle.evaluate_command.specs.Ways.{FixesFormula}
 
 -- its request and its answers, which have one outcome where one formula is found in the way that is asked for
 abbrev pub evaluate_command : CommandForm
-evaluate_command = on_two_inputs_where Request IsRequest (λ q. q.format) (λ q. q.file) (λ q. Some q.counts) (λ q d. EvaluateFirst q.format q.way d q.x q.y)
-    (λ q d. (e : PlainEffect) × Identifies q.way d q.x q.y e) (λ q d other. EvaluateAnswer q.format q.exact q.zero q.way d q.x q.y q.count other)
+evaluate_command = on_two_inputs_where Request IsRequest (λ q. q.format) (λ q. q.file) (λ q. Some q.counts)
+    (λ q d. Tells evaluate_telling target_refusal (IsForDiagram q.way d q.x q.y) (plain_form q.format) d.observed.names)
+    (λ q d. (e : PlainEffect) × Identifies q.way d q.x q.y e)
+    (λ q d other o told. (e : PlainEffect) × Identifies q.way d q.x q.y e
+    × Tells evaluate_telling values_refusal (IsForCounts q.exact q.zero e q.count other) (plain_form q.format) e.names o told)
     (λ q. FixesFormula q.way)
 
 -- what is left once the effect has a formula: its values over the counts, whose column may have a name, in exact fractions or in bounds, by one of
@@ -21,5 +30,5 @@ evaluate_left format e counts count exact zero = record {
   second = counts;
   limit = 67108864;
   known = IsIdentified e;
-  answer = λ other. CountsAnswer format exact zero e count other;
+  answer = λ other. Tells evaluate_telling values_refusal (IsForCounts exact zero e count other) (plain_form format) e.names;
 }

@@ -23,11 +23,10 @@ use Rattle.conditional_id.specs.TurnLaws.{IsRightGiven}
 use Rattle.adjustment.specs.Formulas.{adjustment_formula}
 use Rattle.adjust_command.specs.Verdicts.{IsVerdict}
 use Rattle.adjust_command.specs.declared.criteria.Verdict.TheVariants.{Meets}
-use Rattle.identify_command.specs.Conditions.{AreTargetSets}
+use Rattle.identify_command.specs.Right.{AreTargetSets}
 use Rattle.prob_expr.specs.Mentioned.{mentioned}
 use Rattle.evaluate_command.specs.Ways.{Way, by_procedure, by_adjusting, by_condition}
 use Rattle.evaluate_command.specs.declared.identified.Identified.{Identified}
-use Rattle.evaluate_command.specs.declared.identified.Effect.{Effect}
 
 -- the effect of x on y under a condition, which may be empty, in a graph whose vertices have these names, and a formula for it
 pub record PlainEffect : Type 0 where
@@ -50,13 +49,13 @@ effect_for names graph t formula = record { names = names; graph = graph; x = t.
 abbrev pub effect_in : ReadGraph → Identified → PlainEffect
 effect_in g i = effect_for g.names (graph_of g.graph) (target_view i.target) (formula_view i.formula)
 
--- the same where its parts are lent
-abbrev pub effect_view : Effect → PlainEffect
-effect_view e = effect_for e.seen.now.names (graph_of e.seen.now.graph) (target_view e.target) (formula_view e.formula.now)
+-- the vertices whose levels are read for a target: those that its formula names, with x, y and what is given
+abbrev pub read_for : PlainTarget → PlainFormula → ℕ
+read_for t f = union (mentioned f) (union t.x (union t.y t.given))
 
--- the vertices whose levels are read: those that the formula names, with x, y and what is given
+-- those that are read for an effect
 abbrev pub used_in : PlainEffect → ℕ
-used_in e = union (mentioned e.formula) (union e.x (union e.y e.given))
+used_in e = read_for (target_of e) e.formula
 
 -- x, y and what is given are vertices of the graph, x and y lie apart, and y has a member. The formula is accepted by the check of formulas, has no
 -- intervention, names vertices of the graph alone, and equals

@@ -6,22 +6,22 @@ ghost use Rattle.mixed_graph.specs.Names.{texts};
 ghost use Rattle.do_rules.specs.Rules.{AreThreeSets};
 ghost use Rattle.targets.specs.Targets.{AreSets};
 ghost use Rattle.diagram.specs.Sets.{Names, lent, query_lists};
-ghost use Rattle.evaluate_command.specs.Firsts.{IsEffectOrReply};
+ghost use Rattle.evaluate_command.specs.Firsts.{IsFirst};
 ghost use Rattle.evaluate_command.specs.Ways.{by_adjusting as way_by_adjusting};
 
-use crate::first::EffectOrReply;
+use crate::answer::Answer;
+use crate::first::{First, or_memory};
 use crate::identified::Identified;
-use adjust_command::{Verdict, judge, not_admissible};
+use adjust_command::{Verdict, judge};
 use adjustment::formula_for;
 use diagram::{Diagram, asked_query};
 use mixed_graph::VSet;
 use prob_expr::Target;
-use replies::{Format, Outcome, Reply, refuse};
 use std::alloc::{AllocError, Global};
 use targets::{Sets, TargetFault};
 
 /// The adjustment formula of a set for the effect of x on y, where the set meets the criterion in the observed graph; or else what
-/// `adjust` answers.
+/// breaks it.
 pub fn by_adjusting(
     alloc: Global,
     diagram: &Diagram,
@@ -29,33 +29,30 @@ pub fn by_adjusting(
     y: Option<&[Vec<u8>]>,
     set: &[Vec<u8>],
     by_back_door: bool,
-    format: Format,
-) -> Result<EffectOrReply, AllocError>
-    ensures { IfOk result (IsEffectOrReply format (way_by_adjusting by_back_door (texts set.now)) diagram.now (lent x.entry) (lent y.entry)) }
+) -> First
+    ensures { IsFirst (way_by_adjusting by_back_door (texts set.now)) diagram.now (lent x.entry) (lent y.entry) result }
 {
     match asked_query(alloc, diagram, x, y, Some(set)) {
-        Ok(sets) => find_adjusted(alloc, diagram, sets, by_back_door, format),
-        Err(fault) => Ok(EffectOrReply::Replied(refuse(alloc, &fault)?)),
+        Ok(sets) => or_memory(find_adjusted(alloc, diagram, sets, by_back_door)),
+        Err(fault) => First::Answered(Err(fault)),
     }
 }
 
-/// The adjustment formula of a set that meets the criterion, or what `adjust` answers.
+/// The adjustment formula of a set that meets the criterion, or what breaks it.
 fn find_adjusted(
     alloc: Global,
     diagram: &Diagram,
     sets: Sets,
     by_back_door: bool,
-    format: Format,
-) -> Result<EffectOrReply, AllocError>
+) -> Result<First, AllocError>
     requires sets { AreThreeSets diagram.now.observed.graph.n (has sets.x.bits) (has sets.y.bits) (has sets.given.bits) }
     requires some_x { 0 < sets.x.bits }
     requires some_y { 0 < sets.y.bits }
     ensures { (x y : Names) (set : List (List ℕ)) → AreSets (query_lists diagram.now.read diagram.now.observed.names x y (Some set)) sets.x.bits sets.y.bits sets.given.bits
-        → IfOk result (IsEffectOrReply format (way_by_adjusting by_back_door set) diagram.now x y) }
+        → IfOk result (IsFirst (way_by_adjusting by_back_door set) diagram.now x y) }
 {
-    let seen = &diagram.observed;
-    match judge(&seen.graph, sets, by_back_door) {
-        Verdict::Meets => Ok(EffectOrReply::Identified(Identified {
+    match judge(&diagram.observed.graph, sets, by_back_door) {
+        Verdict::Meets => Ok(First::Found(Identified {
             target: Target {
                 x: sets.x,
                 y: sets.y,
@@ -63,10 +60,7 @@ fn find_adjusted(
             },
             formula: formula_for(alloc, sets.x, sets.y, sets.given)?,
         })),
-        Verdict::Breaks(fault) => {
-            let text = not_admissible(alloc, format, &seen.names, sets, &fault)?;
-            Ok(EffectOrReply::Replied(Reply::answer(alloc, Outcome::No, text)))
-        }
-        Verdict::NotOne => Ok(EffectOrReply::Replied(refuse(alloc, &TargetFault::NotOneX)?)),
+        Verdict::Breaks(fault) => Ok(First::Answered(Ok(Answer::NotAdmissible(sets, fault)))),
+        Verdict::NotOne => Ok(First::Answered(Err(TargetFault::NotOneX))),
     }
 }

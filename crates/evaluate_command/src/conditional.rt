@@ -6,21 +6,21 @@ ghost use Rattle.mixed_graph.specs.Names.{texts};
 ghost use Rattle.do_rules.specs.Rules.{AreThreeSets};
 ghost use Rattle.targets.specs.Targets.{AreListedSets};
 ghost use Rattle.diagram.specs.Sets.{Names, lent, query_lists};
-ghost use Rattle.evaluate_command.specs.Firsts.{IsEffectOrReply};
+ghost use Rattle.evaluate_command.specs.Firsts.{IsFirst};
 ghost use Rattle.evaluate_command.specs.Ways.{by_condition as way_by_condition};
 
-use crate::first::EffectOrReply;
+use crate::answer::Answer;
+use crate::first::{First, or_memory};
 use crate::identified::Identified;
 use conditional_id::{Conditional, identify_given};
 use diagram::{Diagram, asked_condition};
-use effect_answers::{has_arrays, joint_in};
+use effect_answers::{EffectHedge, has_arrays};
 use prob_expr::Target;
-use replies::{Format, Outcome, Reply, refuse};
 use short_formulas::{Candidate, shortened_if};
 use std::alloc::{AllocError, Global};
 use targets::EffectSets;
 
-/// Identifies the effect of x on y under a condition in the observed graph: a formula for it, or else what `identify` answers.
+/// Identifies the effect of x on y under a condition in the observed graph: a formula for it, or else the answer.
 pub fn by_condition(
     alloc: Global,
     diagram: &Diagram,
@@ -28,9 +28,8 @@ pub fn by_condition(
     y: Option<&[Vec<u8>]>,
     given: &[Vec<u8>],
     short: bool,
-    format: Format,
-) -> Result<EffectOrReply, AllocError>
-    ensures { IfOk result (IsEffectOrReply format (way_by_condition short (texts given.now)) diagram.now (lent x.entry) (lent y.entry)) }
+) -> First
+    ensures { IsFirst (way_by_condition short (texts given.now)) diagram.now (lent x.entry) (lent y.entry) result }
 {
     match asked_condition(alloc, diagram, x, y, Some(given)) {
         Ok(sets) => {
@@ -39,34 +38,33 @@ pub fn by_condition(
                 y: sets.y,
                 given: sets.given,
             };
-            find_given(alloc, diagram, target, short, format)
+            or_memory(find_given(alloc, diagram, target, short))
         }
-        Err(fault) => Ok(EffectOrReply::Replied(refuse(alloc, &fault)?)),
+        Err(fault) => First::Answered(Err(fault)),
     }
 }
 
-/// A formula for a target of the observed graph, or the answer with the joint effect that has none.
+/// A formula for a target of the observed graph, or a hedge for the joint effect into which it turns.
 fn find_given(
     alloc: Global,
     diagram: &Diagram,
     target: Target,
     short: bool,
-    format: Format,
-) -> Result<EffectOrReply, AllocError>
+) -> Result<First, AllocError>
     requires sets { AreThreeSets diagram.now.observed.graph.n (has target.x.bits) (has target.y.bits) (has target.given.bits) }
     requires some { 0 < target.y.bits }
     ensures { (x y : Names) (given : List (List ℕ)) → AreListedSets (query_lists diagram.now.read diagram.now.observed.names x y (Some given)) target.x.bits target.y.bits target.given.bits
-        → IfOk result (IsEffectOrReply format (way_by_condition short given) diagram.now x y) }
+        → IfOk result (IsFirst (way_by_condition short given) diagram.now x y) }
 {
-    let seen = &diagram.observed;
-    match identify_given(alloc, &seen.graph, &target)? {
+    let g = &diagram.observed.graph;
+    match identify_given(alloc, g, &target)? {
         Conditional::Formula(formula, derivation) => {
             let found = Candidate {
                 formula,
                 derivation,
             };
-            let shown = shortened_if(alloc, &seen.graph, &target, short, found)?;
-            Ok(EffectOrReply::Identified(Identified {
+            let shown = shortened_if(alloc, g, &target, short, found)?;
+            Ok(First::Found(Identified {
                 target,
                 formula: shown.formula,
             }))
@@ -74,14 +72,17 @@ fn find_given(
         Conditional::Joint {
             x,
             y,
+            settled,
             hedge,
             pair,
-            ..
         } => {
             has_arrays(&hedge);
             let sets = EffectSets { x, y };
-            let text = joint_in(alloc, format, &seen.names, &target, sets, &hedge, &pair)?;
-            Ok(EffectOrReply::Replied(Reply::answer(alloc, Outcome::No, text)))
+            Ok(First::Answered(Ok(Answer::Joint {
+                target,
+                settled,
+                hedge: EffectHedge { sets, hedge, pair },
+            })))
         }
     }
 }

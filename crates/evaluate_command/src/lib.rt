@@ -1,9 +1,15 @@
 //! The command `evaluate`: the effect of x on y at each level of x and y, and of what is given, from counts of observations.
+//!
+//! `identify_first(alloc, &diagram, &asked)` finds a formula for the effect, or the answer for which no counts are read, which
+//! `first_reply` tells. `evaluate_reply` tells the values of the formula over counts.
 #![tactic(auto)]
 
 mod adjusting;
+mod answer;
+mod cells;
 mod conditional;
-mod fault_lines;
+mod evaluating;
+mod faults;
 mod first;
 mod identified;
 mod lines;
@@ -12,13 +18,13 @@ mod objects;
 mod procedure;
 mod reply;
 mod request;
-mod sheet;
 mod shown;
-mod values;
 mod way;
 
-pub use first::{EffectOrReply, identify_first};
+pub use answer::{Answer, EffectValues, Valued, Values};
+pub use faults::ValuesFault;
+pub use first::{First, first_reply, identify_first};
 pub use identified::Identified;
-pub use reply::{evaluate_reply, long_counts};
+pub use reply::{evaluate_answer, evaluate_reply, long_counts};
 pub use request::{ROW, Request};
 pub use way::Way;

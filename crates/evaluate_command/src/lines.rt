@@ -1,35 +1,38 @@
 //! The lines of an answer.
 
 ghost use Rattle.std.specs.Prelude.{◌≡◌, ◌++◌, ◌∷◌, [], codes, map, if◌then◌else◌, OnOk, IfOk};
-ghost use Rattle.mixed_graph.specs.Bits.{has};
+ghost use Rattle.std.specs.List.{flat_map};
+ghost use Rattle.mixed_graph.specs.Bits.{has, members_below};
 ghost use Rattle.mixed_graph.specs.Masks.{is_empty};
+ghost use Rattle.prob_expr.specs.View.{target_view};
 ghost use Rattle.count_eval.specs.Programs.{cell_of};
-ghost use Rattle.evaluate_command.specs.Effects.{effect_view, target_of};
-ghost use Rattle.identify_text.specs.Answers.{free_beside};
-ghost use Rattle.evaluate_command.specs.Lines.{doing_text, given_text, effect_text, sign_of, value_line, pinned_line, pinned_lines};
+ghost use Rattle.evaluate_command.specs.Lines.{doing_text, given_text, effect_text, sign_of, value_line, cells_text, pinned_line, pinned_lines};
+ghost use Rattle.evaluate_command.specs.Listed.{plain_of};
+ghost use Rattle.evaluate_command.specs.Listings.{cells_lines, values_lines};
 
-use crate::identified::Effect;
+use crate::answer::{EffectValues, Valued, Values};
 use crate::shown::Shown;
 use count_answers::{push_assignment, push_assignments};
 use count_table::Counts;
-use identify_text::free_beside;
 use mixed_graph::{Names, VSet};
+use prob_expr::Target;
 use std::alloc::{AllocError, Global};
 
 /// Appends what is done: nothing where x is empty.
 fn push_doing(
     out: &mut Vec<u8>,
-    effect: &Effect<'_, '_>,
+    names: &Names,
+    target: &Target,
     counts: &Counts,
     cell: &[u32],
 ) -> Result<(), AllocError>
-    ensures { OnOk result (out.new.items ≡ out.old.items ++ doing_text (effect_view effect.now) counts.now (cell_of cell.now)) }
+    ensures { OnOk result (out.new.items ≡ out.old.items ++ doing_text names.now (target_view target.now) counts.now (cell_of cell.now)) }
 {
-    if effect.target.x.is_empty() {
+    if target.x.is_empty() {
         return Ok(());
     }
     out.extend_from_slice(b"|do(")?;
-    push_assignments(out, &effect.seen.names, counts, effect.target.x, cell)?;
+    push_assignments(out, names, counts, target.x, cell)?;
     out.push(b')')?;
     Ok(())
 }
@@ -37,17 +40,18 @@ fn push_doing(
 /// Appends what is given, behind a bar or a comma: nothing where nothing is given.
 fn push_given(
     out: &mut Vec<u8>,
-    effect: &Effect<'_, '_>,
+    names: &Names,
+    target: &Target,
     counts: &Counts,
     cell: &[u32],
 ) -> Result<(), AllocError>
-    ensures { OnOk result (out.new.items ≡ out.old.items ++ given_text (effect_view effect.now) counts.now (cell_of cell.now)) }
+    ensures { OnOk result (out.new.items ≡ out.old.items ++ given_text names.now (target_view target.now) counts.now (cell_of cell.now)) }
 {
-    if effect.target.given.is_empty() {
+    if target.given.is_empty() {
         return Ok(());
     }
-    out.push(given_sign(effect.target.x))?;
-    push_assignments(out, &effect.seen.names, counts, effect.target.given, cell)?;
+    out.push(given_sign(target.x))?;
+    push_assignments(out, names, counts, target.given, cell)?;
     Ok(())
 }
 
@@ -61,16 +65,17 @@ fn given_sign(x: VSet) -> u8
 /// Appends the effect at a cell, as `P(Y=level|do(X=level),Z=level)`.
 fn push_effect(
     out: &mut Vec<u8>,
-    effect: &Effect<'_, '_>,
+    names: &Names,
+    target: &Target,
     counts: &Counts,
     cell: &[u32],
 ) -> Result<(), AllocError>
-    ensures { OnOk result (out.new.items ≡ out.old.items ++ effect_text (effect_view effect.now) counts.now (cell_of cell.now)) }
+    ensures { OnOk result (out.new.items ≡ out.old.items ++ effect_text names.now (target_view target.now) counts.now (cell_of cell.now)) }
 {
     out.extend_from_slice(b"P(")?;
-    push_assignments(out, &effect.seen.names, counts, effect.target.y, cell)?;
-    push_doing(out, effect, counts, cell)?;
-    push_given(out, effect, counts, cell)?;
+    push_assignments(out, names, counts, target.y, cell)?;
+    push_doing(out, names, target, counts, cell)?;
+    push_given(out, names, target, counts, cell)?;
     out.push(b')')?;
     Ok(())
 }
@@ -83,20 +88,37 @@ fn sign_of(exact: bool) -> &'static [u8]
 }
 
 /// Appends the line of a cell with its quantity.
-pub fn push_line<Q: Shown>(
+fn push_line<Q: Shown>(
     alloc: Global,
     out: &mut Vec<u8>,
-    effect: &Effect<'_, '_>,
+    names: &Names,
+    target: &Target,
     counts: &Counts,
-    cell: &[u32],
-    quantity: &Q,
+    valued: &Valued<Q>,
 ) -> Result<(), AllocError>
-    ensures { OnOk result (out.new.items ≡ out.old.items ++ value_line Q.kind (sign_of Q.IS_EXACT) (effect_view effect.now) counts.now (record { cell = cell.now; quantity = Q.numbers quantity.now })) }
+    ensures { OnOk result (out.new.items ≡ out.old.items ++ value_line Q.kind (sign_of Q.IS_EXACT) names.now (target_view target.now) counts.now (plain_of Q.numbers valued.now)) }
 {
-    push_effect(out, effect, counts, cell)?;
+    push_effect(out, names, target, counts, valued.cell.as_slice())?;
     out.extend_from_slice(sign_of(Q::IS_EXACT))?;
-    quantity.print(alloc, out)?;
+    valued.quantity.print(alloc, out)?;
     out.push(b'\n')?;
+    Ok(())
+}
+
+/// Appends the lines of cells with their quantities.
+fn push_lines<Q: Shown>(
+    alloc: Global,
+    out: &mut Vec<u8>,
+    names: &Names,
+    target: &Target,
+    counts: &Counts,
+    values: &[Valued<Q>],
+) -> Result<(), AllocError>
+    ensures { OnOk result (out.new.items ≡ out.old.items ++ cells_text Q.numbers Q.kind Q.IS_EXACT names.now (target_view target.now) counts.now values.now) }
+{
+    for valued in values {
+        push_line(alloc, out, names, target, counts, valued)?;
+    }
     Ok(())
 }
 
@@ -119,25 +141,51 @@ fn push_pinned(
     Ok(())
 }
 
-/// The free variables of the formula outside x, y and what is given.
-pub fn pinned_set(alloc: Global, effect: &Effect<'_, '_>) -> Result<VSet, AllocError>
-    ensures { IfOk result (λ s. s.bits ≡ free_beside (target_of (effect_view effect.now)) (effect_view effect.now).formula) }
-{
-    free_beside(alloc, effect.formula, &effect.target)
-}
-
-/// The lines of the free variables outside x, y and what is given, at their first levels.
-pub fn pinned_lines(
+/// The lines of vertices at their first levels.
+fn pinned_lines(
     alloc: Global,
-    effect: &Effect<'_, '_>,
+    names: &Names,
     counts: &Counts,
+    pinned: VSet,
 ) -> Result<Vec<u8>, AllocError>
-    ensures { IfOk result (λ v. v.items ≡ pinned_lines (effect_view effect.now) counts.now) }
+    ensures { IfOk result (λ v. v.items ≡ pinned_lines names.now counts.now pinned.bits) }
 {
-    let pinned = pinned_set(alloc, effect)?;
     let mut text = Vec::new(alloc);
     for v in 0..64u8 {
-        push_pinned(&mut text, &effect.seen.names, counts, pinned, v)?;
+        push_pinned(&mut text, names, counts, pinned, v)?;
     }
+    Ok(text)
+}
+
+/// Appends the lines of the cells.
+fn push_values(
+    alloc: Global,
+    out: &mut Vec<u8>,
+    names: &Names,
+    answer: &EffectValues,
+) -> Result<(), AllocError>
+    ensures { OnOk result (out.new.items ≡ out.old.items ++ cells_lines names.now answer.now answer.now.values) }
+{
+    let (target, counts) = (&answer.target, &answer.counts);
+    match &answer.values {
+        Values::Exact(values) => {
+            push_lines(alloc, out, names, target, counts, values.as_slice())
+        }
+        Values::Bounds(values) => {
+            push_lines(alloc, out, names, target, counts, values.as_slice())
+        }
+    }
+}
+
+/// The lines of what is pinned, and those of the cells.
+pub fn values_text(
+    alloc: Global,
+    names: &Names,
+    answer: &EffectValues,
+) -> Result<Vec<u8>, AllocError>
+    ensures { IfOk result (λ v. v.items ≡ values_lines names.now answer.now) }
+{
+    let mut text = pinned_lines(alloc, names, &answer.counts, answer.pinned)?;
+    push_values(alloc, &mut text, names, answer)?;
     Ok(text)
 }

@@ -1,16 +1,17 @@
 //! The vertices whose levels are read.
 
 ghost use Rattle.std.specs.Prelude.{◌≡◌};
-ghost use Rattle.evaluate_command.specs.Effects.{effect_view, used_in};
+ghost use Rattle.prob_expr.specs.View.{formula_view, target_view};
+ghost use Rattle.evaluate_command.specs.Effects.{read_for};
 
-use crate::identified::Effect;
+use crate::identified::Identified;
 use mixed_graph::VSet;
 use prob_expr::mentioned;
 
 /// The vertices whose levels are read: those that the formula names, with x, y and what is given.
-pub fn used_in(effect: &Effect<'_, '_>) -> VSet
-    ensures { result.bits ≡ used_in (effect_view effect.now) }
+pub fn used_in(found: &Identified) -> VSet
+    ensures { result.bits ≡ read_for (target_view found.now.target) (formula_view found.now.formula) }
 {
-    let target = effect.target;
-    mentioned(effect.formula).union(target.x.union(target.y.union(target.given)))
+    let target = found.target;
+    mentioned(&found.formula).union(target.x.union(target.y.union(target.given)))
 }

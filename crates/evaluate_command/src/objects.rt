@@ -1,87 +1,138 @@
-//! The object of the values of an effect.
+//! The members of the object of an effect's values.
 
-ghost use Rattle.std.specs.Prelude.{◌≡◌, IfOk, OnOk};
-ghost use Rattle.answer_json.specs.Progress.{with_value, with_members};
-ghost use Rattle.evaluate_command.specs.Effects.{effect_view};
-ghost use Rattle.evaluate_command.specs.Objects.{cell_members, pinned_json, value_json, values_begun};
+ghost use Rattle.std.specs.Prelude.{◌≡◌, ◌++◌, map, OnOk, codes};
+ghost use Rattle.prob_expr.specs.View.{target_view};
+ghost use Rattle.answer_json.specs.Progress.{with_value, with_values, with_member, with_members, array_of};
+ghost use Rattle.evaluate_command.specs.Objects.{cell_members, value_json, cells_json, effect_members, values_members};
+ghost use Rattle.evaluate_command.specs.Listed.{plain_of};
+ghost use Rattle.evaluate_command.specs.Listings.{effect_object};
 
-use crate::identified::Effect;
-use crate::lines::pinned_set;
+use crate::answer::{EffectValues, Valued, Values};
 use crate::shown::Shown;
 use answer_json::Object;
 use count_json::push_cell;
 use count_table::Counts;
-use std::alloc::{AllocError, Global};
+use mixed_graph::{Names, VSet};
+use prob_expr::Target;
+use std::alloc::AllocError;
 
 /// The levels of y, of x and of what is given in a cell.
 fn push_levels(
     object: &mut Object,
-    effect: &Effect<'_, '_>,
+    names: &Names,
+    target: &Target,
     counts: &Counts,
     cell: &[u32],
 ) -> Result<(), AllocError>
-    ensures { OnOk result (object.new ≡ with_members (cell_members (effect_view effect.now) counts.now cell.now) object.old) }
+    ensures { OnOk result (object.new ≡ with_members (cell_members names.now (target_view target.now) counts.now cell.now) object.old) }
 {
-    let names = &effect.seen.names;
     object.key("y")?;
-    push_cell(object, names, counts, effect.target.y, cell)?;
+    push_cell(object, names, counts, target.y, cell)?;
     object.key("x")?;
-    push_cell(object, names, counts, effect.target.x, cell)?;
+    push_cell(object, names, counts, target.x, cell)?;
     object.key("given")?;
-    push_cell(object, names, counts, effect.target.given, cell)?;
+    push_cell(object, names, counts, target.given, cell)?;
     Ok(())
 }
 
 /// A cell with its quantity.
-pub fn push_value<Q: Shown>(
+fn push_value<Q: Shown>(
     object: &mut Object,
-    effect: &Effect<'_, '_>,
+    names: &Names,
+    target: &Target,
     counts: &Counts,
-    cell: &[u32],
-    quantity: &Q,
+    valued: &Valued<Q>,
 ) -> Result<(), AllocError>
-    ensures { OnOk result (object.new ≡ with_value (value_json Q.IS_EXACT (effect_view effect.now) counts.now (record { cell = cell.now; quantity = Q.numbers quantity.now })) object.old) }
+    ensures { OnOk result (object.new ≡ with_value (value_json Q.IS_EXACT names.now (target_view target.now) counts.now (plain_of Q.numbers valued.now)) object.old) }
 {
     object.begin_object()?;
-    push_levels(object, effect, counts, cell)?;
-    quantity.push_members(object)?;
+    push_levels(object, names, target, counts, valued.cell.as_slice())?;
+    valued.quantity.push_members(object)?;
     object.end_object()?;
     Ok(())
 }
 
-/// The first levels of the free variables outside the effect's sets.
-fn push_pinned(
+/// Cells with their quantities, in their order.
+fn push_all<Q: Shown>(
     object: &mut Object,
-    effect: &Effect<'_, '_>,
+    names: &Names,
+    target: &Target,
     counts: &Counts,
+    values: &[Valued<Q>],
 ) -> Result<(), AllocError>
-    ensures { OnOk result (object.new ≡ with_value (pinned_json (effect_view effect.now) counts.now) object.old) }
+    ensures { OnOk result (object.new ≡ with_values (cells_json Q.numbers Q.IS_EXACT names.now (target_view target.now) counts.now values.now) object.old) }
 {
-    let first = vec![in object.alloc(); 0; effect.seen.graph.n as usize]?;
-    let pinned = pinned_set(object.alloc(), effect)?;
-    push_cell(object, &effect.seen.names, counts, pinned, first.as_slice())
+    for valued in values {
+        push_value(object, names, target, counts, valued)?;
+    }
+    Ok(())
 }
 
-/// The object of the values up to its cells.
-pub fn begin_values(
-    alloc: Global,
-    effect: &Effect<'_, '_>,
+/// The member of the cells.
+#[tactic(auto, using(answer_json::proofs::Arrays::array_written))]
+fn cells_at<Q: Shown>(
+    object: &mut Object,
+    names: &Names,
+    target: &Target,
     counts: &Counts,
-    exact: bool,
-) -> Result<Object, AllocError>
-    ensures { IfOk result (λ o. o ≡ values_begun exact (effect_view effect.now) counts.now) }
+    values: &[Valued<Q>],
+) -> Result<(), AllocError>
+    ensures { OnOk result (object.new ≡ with_member (codes "cells") (array_of (cells_json Q.numbers Q.IS_EXACT names.now (target_view target.now) counts.now values.now)) object.old) }
 {
-    let names = &effect.seen.names;
-    let mut object = Object::new(alloc)?;
+    object.key("cells")?;
+    object.begin_array()?;
+    push_all(object, names, target, counts, values)?;
+    object.end_array()?;
+    Ok(())
+}
+
+/// What stands before the cells: whether the values are exact, the effect, and what is pinned.
+fn begin_values(
+    object: &mut Object,
+    names: &Names,
+    target: &Target,
+    counts: &Counts,
+    pinned: VSet,
+    exact: bool,
+) -> Result<(), AllocError>
+    ensures { OnOk result (object.new ≡ with_members (effect_members exact names.now (target_view target.now) counts.now pinned.bits) object.old) }
+{
     object.word_at("answer", "values")?;
     object.key("exact")?;
     object.boolean(exact)?;
-    object.set_at("y", names, effect.target.y)?;
-    object.set_at("x", names, effect.target.x)?;
-    object.set_at("given", names, effect.target.given)?;
+    object.set_at("y", names, target.y)?;
+    object.set_at("x", names, target.x)?;
+    object.set_at("given", names, target.given)?;
     object.key("pinned")?;
-    push_pinned(&mut object, effect, counts)?;
-    object.key("cells")?;
-    object.begin_array()?;
-    Ok(object)
+    push_cell(object, names, counts, pinned, &[])?;
+    Ok(())
+}
+
+/// The members of the values in a kind of quantity.
+fn push_values<Q: Shown>(
+    object: &mut Object,
+    names: &Names,
+    answer: &EffectValues,
+    values: &[Valued<Q>],
+) -> Result<(), AllocError>
+    ensures { OnOk result (object.new ≡ with_members (values_members Q.numbers Q.IS_EXACT names.now (target_view answer.now.target) answer.now.counts answer.now.pinned.bits values.now) object.old) }
+{
+    let (target, counts) = (&answer.target, &answer.counts);
+    begin_values(object, names, target, counts, answer.pinned, Q::IS_EXACT)?;
+    cells_at(object, names, target, counts, values)?;
+    Ok(())
+}
+
+/// The members of the values.
+pub fn push_effect_values(
+    object: &mut Object,
+    names: &Names,
+    answer: &EffectValues,
+) -> Result<(), AllocError>
+    ensures { OnOk result (object.new ≡ with_members (effect_object names.now answer.now answer.now.values) object.old) }
+{
+    match &answer.values {
+        Values::Exact(values) => push_values(object, names, answer, values.as_slice()),
+        Values::Bounds(values) => push_values(object, names, answer, values.as_slice()),
+    }
 }

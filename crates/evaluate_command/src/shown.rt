@@ -1,4 +1,4 @@
-//! Quantities as values of an object.
+//! Quantities as members of an object.
 
 ghost use Rattle.std.specs.Prelude.{◌≡◌, Bool, true, false, IfOk, OnOk, string_bytes};
 ghost use Rattle.json.specs.Json.{string};

@@ -1,8 +1,10 @@
+use Rattle.std.proofs.Common.{Some}
 use Rattle.mixed_graph.specs.Names.{texts}
 use Rattle.targets.proofs.Effects.{query_exposure, query_outcome}
-use Rattle.diagram.specs.Sets.{lent}
+use Rattle.diagram.specs.Sets.{lent, query_lists}
 use Rattle.adjust_command.proofs.Lists.{three_sets}
-use Rattle.evaluate_command.proofs.FirstAnswers.{set_refused}
+use Rattle.evaluate_command.specs.Ways.{by_adjusting, criterion_query}
+use Rattle.evaluate_command.proofs.Unmet.{listed_fault}
 use Rattle.evaluate_command.proofs.adjusting.by_adjusting.Goals as goal
 
 pub find_adjusted-requires-clause-sets : goal.find_adjusted-requires-clause-sets
@@ -16,10 +18,12 @@ pub find_adjusted-requires-clause-some_y : goal.find_adjusted-requires-clause-so
 find_adjusted-requires-clause-some_y c = query_outcome _ c.in-Ok.sets.x.bits c.in-Ok.sets.y.bits c.in-Ok.sets.given.bits c.in-Ok.ensures.sets
 
 pub returns-in-Ok : goal.returns-in-Ok
-returns-in-Ok c = c.find_adjusted.ensures (lent c.args.x) (lent c.args.y) (texts c.args.set.now) c.in-Ok.ensures.sets
+returns-in-Ok c =
+    let x = lent c.args.x in let y = lent c.args.y in let set = texts c.args.set.now in
+    c.or_memory.ensures (by_adjusting c.args.by_back_door set) c.args.diagram.now x y (c.find_adjusted.ensures x y set c.in-Ok.ensures.sets)
 
-pub returns-in_ok-refuse-in-Err : goal.returns-in_ok-refuse-in-Err
-returns-in_ok-refuse-in-Err c =
-    let r = c.in_ok-refuse-in-Err in
-    set_refused c.args.format c.args.diagram.now (lent c.args.x) (lent c.args.y) c.in-Err.fault r.field-0 r.ensures.outcome r.ensures.told r.ensures.fault
-    c.args.by_back_door (texts c.args.set.now) c.in-Err.ensures.fault
+pub returns-in-Err : goal.returns-in-Err
+returns-in-Err c =
+    let d = c.args.diagram.now in let set = texts c.args.set.now in
+    listed_fault (criterion_query c.args.by_back_door set) (query_lists d.read d.observed.names (lent c.args.x) (lent c.args.y) (Some set)) c.in-Err.fault
+    c.in-Err.ensures.fault

@@ -1,15 +1,14 @@
-use Rattle.std.proofs.Common.{◌≤◌, length, refl, sym, subst, ap, ◌∙◌}
+use Rattle.std.proofs.Common.{◌≤◌, length, refl, subst}
 use Rattle.mixed_graph.specs.Shown.{graph_of}
 use Rattle.prob_expr.specs.View.{formula_view, target_view}
 use Rattle.do_derivation.specs.View.{derivation_view}
 use Rattle.conditional_id.specs.Conditionals.{IsConditionalBySteps}
 use Rattle.conditional_id.specs.TurnLaws.{IsShallowGiven}
 use Rattle.short_formulas.proofs.Usable.{usable_given, or_shorter}
-use Rattle.conditional_id.specs.Answers.{IsRight, IsJointShown, IfFormula, IfJoint}
-use Rattle.replies.specs.declared.outcome.Outcome.{Outcome}
-use Rattle.replies.specs.Told.{answer_of, told_of}
-use Rattle.evaluate_command.specs.Answers.{EvaluateFirst}
-use Rattle.evaluate_command.specs.Ways.{by_condition}
+use Rattle.conditional_id.specs.Answers.{IsRight, IsJointEffect, IsJointShown, IfFormula, IfJoint}
+use Rattle.effect_answers.proofs.ReadBack.{hedge_back}
+use Rattle.effect_answers.proofs.Writing.{bare_target}
+use Rattle.identify_command.proofs.Lists.{with_member}
 use Rattle.evaluate_command.proofs.RightFormulas.{found_by_condition}
 use Rattle.evaluate_command.proofs.conditional.find_given.Goals as goal
 
@@ -34,34 +33,28 @@ returns-in_ok-shown-in-Formula c = λ x y given asked.
     c.in_ok-shown-in-Formula.ensures.first (subst (λ a. IfFormula a (IsConditionalBySteps g t)) c.in-Formula.is c.in_ok-formula.ensures.derived)) in
     record { names = refl; graph = refl; identified = found.0; found = (asked, found.1) }
 
-pub returns-in_ok-text-in-Joint : goal.returns-in_ok-text-in-Joint
-returns-in_ok-text-in-Joint c = λ x y given asked.
-    let d = c.args.diagram.now in
-    let g = graph_of d.observed.graph in
+pub returns-in-Joint : goal.returns-in-Joint
+returns-in-Joint c = λ x y given asked.
+    let g = graph_of c.args.diagram.now.observed.graph in
     let t = target_view c.args.target in
-    let r = c.answer.result in
     let shown = subst (λ a. IfJoint a (IsJointShown g t)) c.in-Joint.is c.in_ok-formula.ensures.shown in
     let right = subst (IsRight g t) c.in-Joint.is c.in_ok-formula.ensures.right in
-    subst (λ (o : Outcome). EvaluateFirst c.args.format (by_condition c.args.short given) d x y o (told_of r)) (sym c.answer.ensures.outcome) (
-      λ yes. absurd (cc yes),
+    let effect = subst (λ a. IfJoint a (λ x y b h pair. IsJointEffect g t x.bits y.bits)) c.in-Joint.is c.in_ok-formula.ensures.joint in
+    let sets = effect.target.sets in
+    let on = c.in-Joint.x.bits in
+    let of = c.in-Joint.y.bits in
+    let bare = bare_target g.vertices on of sets.x_within sets.y_within sets.x_y (with_member of effect.target.some.0 effect.target.some.1) in (
+      asked,
       record {
-        target = t;
-        sets = asked;
-        answer = record {
-          x = c.in-Joint.x.bits;
-          y = c.in-Joint.y.bits;
-          settled = c.in-Joint.settled;
-          hedge = c.in-Joint.hedge;
-          pair = c.in-Joint.pair;
-          joint = right.effect;
-          not_fixed = right.not_fixed;
-          no_formula = right.no_formula;
-          settled_is = right.settled_is;
-          differs = right.target;
+        joint = right.effect;
+        not_fixed = right.not_fixed;
+        no_formula = right.no_formula;
+        settled_is = right.settled_is;
+        differs = right.target;
+        hedge = record {
           found = record { right = right.hedge; evidence = shown.hedge; stop = shown.stop; built = shown.built; models = shown.models };
           arrays = c.has_arrays.ensures;
-          prints = c.answer.ensures.told ∙ ap answer_of c.in_ok-text-in-Joint.ensures;
-          reads_back = λ text certificate. absurd (cc certificate);
+          reads_back = hedge_back g on of c.in-Joint.hedge bare c.has_arrays.ensures shown.hedge;
         };
       },
     )

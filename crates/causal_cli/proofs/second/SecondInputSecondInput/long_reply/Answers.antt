@@ -16,6 +16,10 @@ use Rattle.bounds_command.specs.Right.{CountsAnswer}
 use Rattle.told.specs.declared.form.Form.{Form}
 use Rattle.told.specs.Forms.{plain_form}
 use Rattle.told.specs.Telling.{Tells}
+use Rattle.evaluate_command.specs.Effects.{PlainEffect, effect_in}
+use Rattle.evaluate_command.specs.Telling.{evaluate_telling}
+use Rattle.evaluate_command.specs.Right as evaluations
+use Rattle.evaluate_command.specs.ValuesFaults.{values_refusal}
 use Rattle.equivalent_command.specs.Right.{IsForSecond}
 use Rattle.equivalent_command.specs.SecondFaults.{second_refusal}
 use Rattle.equivalent_command.specs.Telling.{equivalent_telling}
@@ -40,6 +44,21 @@ returns-in-Check c =
     (λ r. (other : List ℕ) → 67108864 < length other → Tells check_telling certificate_refusal (IsForCertificate g d.observed.names zs other)
     (plain_form c.in-Check.format) d.observed.names r.outcome (told_of r))
     (λ r h other long. h (plain_form c.in-Check.format) g d.observed.names zs other long) c.long_certificate.ensures)
+
+pub returns-in-Evaluate : goal.returns-in-Evaluate
+returns-in-Evaluate c =
+    let d = c.args.diagram.now in
+    let e = effect_in d.observed c.in-Evaluate.found in
+    let count = option_map (λ s. s.now) c.in-Evaluate.count in
+    subst (λ (it : SecondInput). IfOk c.long_counts.result (λ r. (other : List ℕ) → (left_of d it).limit < length other
+    → (left_of d it).answer other r.outcome (told_of r))) (sym c.in-Evaluate.is)
+    (IfOk-weaker c.long_counts.result
+    (λ r. (form : Form) (exact zero : Bool) (e : PlainEffect) (count : Option Field) (bytes : List ℕ) (names : List (List ℕ)) → 67108864 < length bytes
+    → Tells evaluate_telling values_refusal (evaluations.IsForCounts exact zero e count bytes) form names r.outcome (told_of r))
+    (λ r. (other : List ℕ) → 67108864 < length other
+    → Tells evaluate_telling values_refusal (evaluations.IsForCounts c.in-Evaluate.exact c.in-Evaluate.zero e count other)
+    (plain_form c.in-Evaluate.format) e.names r.outcome (told_of r))
+    (λ r h other long. h (plain_form c.in-Evaluate.format) c.in-Evaluate.exact c.in-Evaluate.zero e count other e.names long) c.long_counts.ensures)
 
 pub returns-in-Equivalent : goal.returns-in-Equivalent
 returns-in-Equivalent c =

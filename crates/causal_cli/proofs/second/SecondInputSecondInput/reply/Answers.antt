@@ -8,6 +8,10 @@ pub returns-in-Check : goal.returns-in-Check
 returns-in-Check c = subst (λ (it : SecondInput). IfOk c.check_reply.result
     (λ r. (left_of c.args.diagram.now it).answer c.args.other.now r.outcome (told_of r))) (sym c.in-Check.is) c.check_reply.ensures
 
+pub returns-in-Evaluate : goal.returns-in-Evaluate
+returns-in-Evaluate c = subst (λ (it : SecondInput). IfOk c.evaluate_reply.result
+    (λ r. (left_of c.args.diagram.now it).answer c.args.other.now r.outcome (told_of r))) (sym c.in-Evaluate.is) c.evaluate_reply.ensures
+
 pub returns-in-Equivalent : goal.returns-in-Equivalent
 returns-in-Equivalent c = subst (λ (it : SecondInput). IfOk c.equivalent_reply.result
     (λ r. (left_of c.args.diagram.now it).answer c.args.other.now r.outcome (told_of r))) (sym c.in-Equivalent.is) c.equivalent_reply.ensures

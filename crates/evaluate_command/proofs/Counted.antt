@@ -1,0 +1,27 @@
+-- From the values over a table, or why there are none, to those over the bytes that hold it.
+use Rattle.std.proofs.Common.{◌≡◌, ℕ, Bool, false, List, Option, Result, Ok, Err, IfOk, IfErr}
+use Rattle.count_rows.specs.Records.{Field}
+use Rattle.count_rows.specs.Rows.{Table}
+use Rattle.count_answers.specs.Reads.{HoldsCounts}
+use Rattle.evaluate_command.specs.Effects.{PlainEffect, used_in}
+use Rattle.evaluate_command.specs.Right.{IsForTable, IsFaultOver, HasValues, IsCountsFault}
+use Rattle.evaluate_command.specs.ValuesFaults.{is_memory}
+use Rattle.evaluate_command.specs.declared.answer.Answer.{Answer}
+use Rattle.evaluate_command.specs.declared.faults.ValuesFault.{ValuesFault}
+use Rattle.evaluate_command.specs.declared.faults.ValuesFault.TheVariants.{TooLong, Counts, NoValue, NoMemory}
+
+module _ (is_exact zero : Bool) (e : PlainEffect) (count : Option Field) (bytes : List ℕ) (t : Table) (holds : HoldsCounts e.names (used_in e) count bytes t) where
+  pub values_of_bytes : (r : Result Answer ValuesFault) → IfOk r (IsForTable is_exact zero e t) → IfOk r (HasValues is_exact zero e count bytes)
+  values_of_bytes (Ok a) h = record { table = t; holds = holds; answer = h }
+  values_of_bytes (Err f) h = tt
+
+  fault_over : (f : ValuesFault) → IsFaultOver is_exact zero e t f → IsCountsFault is_exact zero e count bytes f
+  fault_over TooLong h = absurd h
+  fault_over (Counts fault) h = absurd h
+  fault_over (NoValue names u fault) h = record { table = t; holds = holds; over = h }
+  fault_over NoMemory h = absurd h
+
+  pub fault_of_bytes : (r : Result Answer ValuesFault) → IfErr r (λ f. is_memory f ≡ false → IsFaultOver is_exact zero e t f)
+      → IfErr r (λ f. is_memory f ≡ false → IsCountsFault is_exact zero e count bytes f)
+  fault_of_bytes (Ok a) h = tt
+  fault_of_bytes (Err f) h = λ kept. fault_over f (h kept)

@@ -1,6 +1,0 @@
-use Rattle.std.proofs.Common.{◌≡◌, ◌++◌}
-use Rattle.mixed_graph.specs.Bits.{has, members_below}
-use Rattle.evaluate_command.proofs.values.push_members.Given as goal
-
-abbrev pub invariant-loop-v : goal.invariant-loop-v
-invariant-loop-v l = l.out.items ≡ l.fn.out.items ++ members_below (has l.fn.set.bits) l.v
