@@ -143,7 +143,7 @@ function sayOrigin({ vertices, edges }) {
 function toggleText(isOn = document.body.classList.contains("no-text")) {
   document.body.classList.toggle("no-text", !isOn);
   byId("fold").setAttribute("aria-expanded", String(isOn));
-  requestAnimationFrame(() => diagram.fit());
+  requestAnimationFrame(() => diagram.resized());
 }
 
 /** Opens a file's text. What is far longer than a diagram's text may be isn't read. */
@@ -212,10 +212,10 @@ async function colourPaths(graph) {
   diagram.show({ colours: classes });
   byId("ways-cut").hidden = isAll;
 }
-addEventListener("resize", () => diagram.fit());
-resizePanes(() => diagram.fit());
+addEventListener("resize", () => diagram.resized());
+resizePanes(() => diagram.resized());
 addEventListener("beforeprint", () => diagram.fitToPaper());
-addEventListener("afterprint", () => diagram.fit());
+addEventListener("afterprint", () => diagram.backFromPaper());
 
 // ---- Keys and links
 

@@ -111,6 +111,12 @@ function testKept() {
   other.keep("of another tab");
   kept.keep("of this tab");
   check("what two tabs make of one diagram stays beside", texts().startsWith("of this tab,of another tab"), texts());
+  const third = new Kept(store, memoryStore());
+  third.begin(kept.list()[0]);
+  third.keep("of a third tab");
+  kept.heard();
+  third.heard();
+  check("nor is one lost that isn't changed again", texts().startsWith("of this tab,of a third tab,of another tab"), texts());
   check("a tab knows what it showed", new Kept(store, tab).left().text === "of this tab", new Kept(store, tab).left());
   kept.rename("A name");
   const [entry] = kept.list();

@@ -1,6 +1,6 @@
 import { drag } from "d3-drag";
 import { event as d3event, select } from "d3-selection";
-import { zoom, zoomIdentity } from "d3-zoom";
+import { zoom, zoomIdentity, zoomTransform } from "d3-zoom";
 import { svg } from "../dom.js";
 import { bend, curve, halfWidth, HEIGHT, keyOf, rim, shownName } from "./geometry.js";
 import { describe } from "./describe.js";
@@ -49,6 +49,8 @@ export class Diagram {
   #shown = { vertices: new Map(), edges: new Map(), over: [] };
   #attributes = new WeakMap();
   #zoom;
+  #isFitted = false; // whether the view is as it was fitted, to a drawing as it was then
+  #size = { width: 0, height: 0 }; // of the pane, when the view was chosen
   #frame;
   #ghost = null; // the edge being drawn: {from, both}
 
@@ -71,7 +73,10 @@ export class Diagram {
     const isOurs = (e) => Boolean(on.framed) && (e.shiftKey || this.isFraming) && e.target === element;
     this.#zoom = zoom().scaleExtent([0.15, 4])
       .filter(() => !d3event.ctrlKey && !d3event.button && !(isOurs(d3event) && d3event.type !== "wheel"))
-      .on("zoom", () => view.setAttribute("transform", d3event.transform));
+      .on("zoom", () => {
+        view.setAttribute("transform", d3event.transform);
+        this.#isFitted = false;
+      });
     element.addEventListener("pointerdown", (e) => isOurs(e) && e.button === 0 && this.#frameFrom(e));
     select(element).call(this.#zoom).on("dblclick.zoom", null);
     element.addEventListener("dblclick", (e) => e.target === element && on.empty?.(this.#at(e)));
@@ -210,14 +215,43 @@ export class Diagram {
     this.element.removeAttribute("viewBox");
     const box = this.element.getBoundingClientRect();
     if (!box.width) return;
-    if (!this.target.size) return select(this.element).call(this.#zoom.transform, zoomIdentity);
+    select(this.element).call(this.#zoom.transform, this.#fitting(box));
+    this.#isFitted = true;
+    this.#size = box;
+  }
+
+  #fitting(box) {
+    if (!this.target.size) return zoomIdentity;
     const { left, right, top, bottom } = this.bounds(this.target);
     const room = this.room(), k = Math.min(1.3, room.width / (right - left), room.height / (bottom - top));
     const x = box.width / 2 - (k * (left + right)) / 2, y = this.#covered().top + room.height / 2 - (k * (top + bottom)) / 2;
-    select(this.element).call(this.#zoom.transform, zoomIdentity.translate(x, y).scale(k));
+    return zoomIdentity.translate(x, y).scale(k);
   }
 
-  /** Fits the view to whatever size the paper gives; `fit` is for the screen again. */
+  /** Follows the pane's size: what was fitted, and wasn't changed since, is fitted again; else the middle stays where it is. */
+  resized() {
+    const box = this.element.getBoundingClientRect(), { width, height } = this.#size;
+    if (!box.width) return;
+    if (this.#isFitted) return this.fit();
+    const t = zoomTransform(this.element), moved = [(box.width - width) / 2 + t.x, (box.height - height) / 2 + t.y];
+    if (width) select(this.element).call(this.#zoom.transform, zoomIdentity.translate(...moved).scale(t.k));
+    this.#size = box;
+  }
+
+  /** Says that the drawing is changed by hand, so that the view stays as it is. */
+  stay() {
+    this.#isFitted = false;
+  }
+
+  /** Shows the view again that the screen had before it was fitted to paper. */
+  backFromPaper() {
+    const was = this.#isFitted;
+    this.element.removeAttribute("viewBox");
+    select(this.element).call(this.#zoom.transform, zoomTransform(this.element));
+    this.#isFitted = was;
+  }
+
+  /** Fits the view to whatever size the paper gives; `backFromPaper` is for the screen again. */
   fitToPaper() {
     const { left, right, top, bottom } = this.bounds();
     if (!this.places.size) return;

@@ -107,6 +107,7 @@ export class Acts {
       return addVertex(this.places.write(this.#text), name, this.places.unit(place));
     });
     if (!added) return null;
+    this.diagram.stay();
     this.diagram.reveal(name);
     this.diagram.focus(name);
     return name;
@@ -168,6 +169,7 @@ export class Acts {
 
   /** Writes the places of the drawing into the text. */
   keepPlaces(focus) {
+    this.diagram.stay();
     return this.#propose(() => this.places.write(this.#text), focus);
   }
 
