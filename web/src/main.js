@@ -66,7 +66,7 @@ const editor = new Editor({
 });
 const acts = new Acts(draft, places, diagram);
 drawing.use(acts);
-const answers = new Answers(program, { drawing, acts, places, samples: examples.data, nameOf });
+const answers = new Answers(program, { drawing, acts, places, samples: examples.data, nameOf, kept: () => kept.list(), open: (text) => open(text) });
 
 // ---- The head
 

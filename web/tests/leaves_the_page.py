@@ -50,6 +50,8 @@ def copies_latex(s):
     s.check("names are text", r"P(\text{Injury} \mid \mathrm{do}(\text{Warm-up exercises})) = " in tex, tex)
     s.check("a letter stays one", ", B" in tex and r"\text{B}" not in tex, tex)
     s.check("signs are escaped", r"\text{CD4+ count}" in tex and r"\text{a\textasciicircum{}b}" in tex and r"\text{50\%}" in tex, tex)
+    under = s.run("return document.querySelector('#panel .formula .op-limits').textContent").replace("\u00a0", " ")
+    s.check("all stand under the sum as they are", '"' not in under and "CD4+ count" in under and "a^b" in under, under)
     shown = s.run("return document.querySelector('#panel .formula').textContent")
     s.check("it is what the page shows", "Warm-up exercises" in shown.replace("\u00a0", " ") and "CD4+ count" in shown.replace("\u00a0", " "), shown)
     if can_compile("amsmath.sty"):

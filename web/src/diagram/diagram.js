@@ -26,7 +26,7 @@ import { routed } from "./route.js";
  * @property {(names: string[]) => void} [framed] a frame was drawn round these
  */
 
-const HEADS = ["edge", "open", "hedge", "chosen", "difference", "left", "causal", "biasing"];
+const HEADS = ["edge", "open", "hedge", "chosen", "difference", "left", "causal", "biasing", "both"];
 const MOST_ANIMATED = 30;
 const FRAMES_MS = 260;
 const MANY_EDGES = 300; // beyond it few bends are tried
@@ -380,7 +380,7 @@ export class Diagram {
       });
       this.#set(item.grip, { d: path });
       this.#set(item.second, { d: colour?.includes(" also") ? path : null });
-      const tip = colour ? `url(#${this.id}-${colour.split(" ")[0]})` : end;
+      const tip = colour ? `url(#${this.id}-${colour.includes(" also") ? "both" : colour.split(" ")[0]})` : end;
       this.#set(item.line, { d: path, "marker-end": tip, "marker-start": edge.both ? tip : null });
       if (!item.group.parentNode) layers.edges.append(item.group);
     }
@@ -480,7 +480,7 @@ const box = (half, grow) => ({
 });
 
 function head(id, name) {
-  const size = name === "edge" ? 8 : name === "causal" || name === "biasing" ? 6 : 5;
+  const size = { edge: 8, causal: 6, biasing: 6, both: 3.6 }[name] ?? 5;
   return svg("marker", {
     id: `${id}-${name}`, class: `head ${name}`, viewBox: "0 0 10 10", refX: 8.5, refY: 5,
     markerWidth: size, markerHeight: size, orient: "auto-start-reverse",
