@@ -6,6 +6,7 @@ from selenium.webdriver.common.by import By
 from selenium.webdriver.common.keys import Keys
 
 import browser
+from browser import wait
 
 PLACES = """return Object.fromEntries([...document.querySelectorAll('#drawing .vertex')].map((v) => {
     const box = v.querySelector('.shape').getBoundingClientRect();
@@ -42,8 +43,11 @@ def at(s, x, y):
 
 
 def twice(s, x, y):
-    """A double click on the ground."""
-    ActionChains(s.driver).move_to_element_with_offset(s.one("#drawing"), *at(s, x, y)).double_click().perform()
+    """A double click on the ground. On a busy machine its two clicks may come too late after each other; then it is done again."""
+    for _ in range(4):
+        ActionChains(s.driver).move_to_element_with_offset(s.one("#drawing"), *at(s, x, y)).double_click().perform()
+        if wait(lambda: s.all("#menu input"), 5):
+            break
     s.soon("a new variable asks for its name", lambda: s.all("#menu input"))
 
 

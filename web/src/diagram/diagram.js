@@ -2,7 +2,7 @@ import { drag } from "d3-drag";
 import { event as d3event, select } from "d3-selection";
 import { zoom, zoomIdentity, zoomTransform } from "d3-zoom";
 import { svg } from "../dom.js";
-import { bend, curve, halfWidth, HEIGHT, keyOf, rim, shownName } from "./geometry.js";
+import { bend, curve, halfHeight, halfWidth, keyOf, linesOf, LINES_AT, rim, shownName } from "./geometry.js";
 import { describe } from "./describe.js";
 import { routed } from "./route.js";
 
@@ -43,7 +43,8 @@ export class Diagram {
   /** @type {Set<string>} those that one vertex leads to */ descendants = new Set();
   /** @type {Map<string, string>} classes of edges, by their keys */ colours = new Map();
   /** Whether dragging the ground draws a frame. */ isFraming = false;
-  #halves = new Map();
+  #halves = new Map(); // of the shapes' widths
+  #talls = new Map(); // and of their heights
   #bends = new Map(); // by an edge's key, the control point of its curve
   #arranged = ""; // the places and widths for which the bends were chosen
   #shown = { vertices: new Map(), edges: new Map(), over: [] };
@@ -161,6 +162,7 @@ export class Diagram {
     this.graph = graph;
     this.target = places;
     this.#halves = new Map(graph.vertices.map((v) => [v.name, halfWidth(v)]));
+    this.#talls = new Map(graph.vertices.map((v) => [v.name, halfHeight(v)]));
     cancelAnimationFrame(this.#frame);
     const isFar = ([name, p]) => from.has(name) && Math.hypot(from.get(name).x - p.x, from.get(name).y - p.y) > 1;
     if (isStill() || graph.vertices.length > MOST_ANIMATED || ![...places].some(isFar)) return this.#place(places);
@@ -303,7 +305,7 @@ export class Diagram {
     const p = this.target.get(name), { left, right, top, bottom } = this.seen(), half = this.#halves.get(name) ?? 0;
     if (!p) return;
     const by = (low, high, least, most) => (low < least ? least - low : high > most ? most - high : 0);
-    const x = by(p.x - half, p.x + half, left, right), y = by(p.y - HEIGHT / 2, p.y + HEIGHT / 2, top, bottom);
+    const x = by(p.x - half, p.x + half, left, right), tall = this.#talls.get(name) ?? 0, y = by(p.y - tall, p.y + tall, top, bottom);
     if (x || y) this.panBy(x, y);
   }
 
@@ -319,7 +321,7 @@ export class Diagram {
   }
 
   #drawGhost(at) {
-    const { from, both } = this.#ghost, p = this.places.get(from), q = rim(p, this.#halves.get(from), at, 2);
+    const { from, both } = this.#ghost, p = this.places.get(from), q = rim(p, this.#halves.get(from), at, 2, this.#talls.get(from));
     const end = `url(#${this.id}-edge)`;
     this.#set(this.ghostLine, {
       class: both ? "ghost both" : "ghost", "marker-end": end, "marker-start": both ? end : null,
@@ -330,7 +332,7 @@ export class Diagram {
   /** Chooses the bends of the edges that have none. */
   #bendMissing() {
     const { graph, places } = this, arcs = [];
-    const round = [...places].map(([name, p]) => ({ name, ...p, half: this.#halves.get(name) ?? 0 }));
+    const round = [...places].map(([name, p]) => ({ name, ...p, half: this.#halves.get(name) ?? 0, tall: this.#talls.get(name) }));
     for (const e of graph.edges) {
       const key = keyOf(e), p = places.get(e.a), q = places.get(e.b);
       if (!p || !q) continue;
@@ -346,8 +348,8 @@ export class Diagram {
   #path(e) {
     const p = this.places.get(e.a), q = this.places.get(e.b), halo = (n) => (this.marks.vertices?.has(n) ? 6 : 0);
     const c = this.#bends.get(keyOf(e)) ?? bend(p, q, e.both, [], []);
-    const s = rim(p, this.#halves.get(e.a), c, halo(e.a) + (e.both ? 3 : 1));
-    const t = rim(q, this.#halves.get(e.b), c, halo(e.b) + 3);
+    const s = rim(p, this.#halves.get(e.a), c, halo(e.a) + (e.both ? 3 : 1), this.#talls.get(e.a));
+    const t = rim(q, this.#halves.get(e.b), c, halo(e.b) + 3, this.#talls.get(e.b));
     const at = ({ x, y }) => `${x.toFixed(1)},${y.toFixed(1)}`;
     return `M${at(s)}Q${at(c)} ${at(t)}`;
   }
@@ -411,7 +413,7 @@ export class Diagram {
     const { graph, marks, places, layers } = this, seen = new Set(graph.vertices.map((v) => v.name));
     const kept = marks.graph && new Set(marks.graph.vertices.map((v) => v.name));
     for (const vertex of graph.vertices) {
-      const { name, role } = vertex, p = places.get(name), half = this.#halves.get(name);
+      const { name, role } = vertex, p = places.get(name), half = this.#halves.get(name), tall = this.#talls.get(name);
       if (!p) continue;
       const item = getOrMake(this.#shown.vertices, name, () => this.#newVertex(name));
       const lead = role === "exposure" || role === "outcome";
@@ -423,10 +425,10 @@ export class Diagram {
         transform: `translate(${p.x.toFixed(1)},${p.y.toFixed(1)})`,
         "aria-label": describe(vertex, graph, marks.vertices?.get(name), this.selected.has(name)),
       });
-      this.#set(item.halo, box(half, 5));
-      this.#set(item.shape, box(half, 0));
-      this.#set(item.rim, box(half, 1));
-      this.#set(item.text, { x: lead ? 9 : 0 });
+      this.#set(item.halo, box(half, tall, 5));
+      this.#set(item.shape, box(half, tall, 0));
+      this.#set(item.rim, box(half, tall, 1));
+      for (const line of item.lines) this.#set(line, { x: lead ? 9 : 0 });
       this.#set(item.mark, { transform: `translate(${13 - half},0)`, d: MARKS[role] ?? "" });
     }
     dropOthers(this.#shown.vertices, seen);
@@ -434,10 +436,10 @@ export class Diagram {
   }
 
   #newVertex(name) {
-    const acts = Boolean(this.on.vertex);
+    const acts = Boolean(this.on.vertex), [text, lines] = written(name);
     const item = {
-      halo: svg("rect", { class: "halo" }), shape: svg("rect", { class: "shape" }),
-      rim: svg("rect", { class: "rim" }), mark: svg("path", { class: "mark" }), text: svg("text", { dy: "0.35em" }, shownName(name)),
+      halo: svg("rect", { class: "halo" }), shape: svg("rect", { class: "shape" }), rim: svg("rect", { class: "rim" }), mark: svg("path", { class: "mark" }),
+      text, lines,
     };
     item.group = svg("g", acts ? { tabindex: 0, role: "button", "aria-haspopup": "menu" } : {},
       [item.halo, item.shape, this.on.joined && item.rim, item.mark, item.text, shownName(name) !== name && svg("title", {}, name)].filter(Boolean));
@@ -475,9 +477,20 @@ function undrawn(graph, edges) {
 
 const MARKS = { exposure: "M0,-5.5L9,0L0,5.5z", outcome: "M1,-5.5h2.6v11h-2.6z" };
 
-const box = (half, grow) => ({
-  x: -half - grow, y: -HEIGHT / 2 - grow, width: 2 * (half + grow), height: HEIGHT + 2 * grow, rx: HEIGHT / 2 + grow,
+const box = (half, tall, grow) => ({
+  x: -half - grow, y: -tall - grow, width: 2 * (half + grow), height: 2 * (tall + grow), rx: tall + grow,
 });
+
+/** The text of a name, and its lines. A blank between two is in the text, and takes no room. */
+function written(name) {
+  const lines = linesOf(name), dy = "0.35em";
+  if (lines.length < 2) {
+    const text = svg("text", { dy }, lines[0]);
+    return [text, [text]];
+  }
+  const shown = lines.map((line, i) => svg("tspan", { y: LINES_AT[i], dy }, line.trimEnd())), blank = lines[0].slice(lines[0].trimEnd().length);
+  return [svg("text", {}, shown[0], blank && svg("tspan", { "font-size": 0 }, blank), shown[1]), shown];
+}
 
 function head(id, name) {
   const size = { edge: 8, causal: 6, biasing: 6, both: 3.6 }[name] ?? 5;
