@@ -4,6 +4,7 @@
 bindings/python has to be on the path of modules. STUDIES is 300 unless given. Each scenario draws as many studies from a model, asks for
 the risk difference with its interval, and prints in how many the interval holds the truth, with the standard error of that share.
 """
+import functools
 import random
 import sys
 import warnings
@@ -49,12 +50,33 @@ def front_door(source, size):
     return data, 0.18
 
 
-def smooth(source, size, is_bent=False):
-    """Two confounders with four levels each, a logistic truth; with `is_bent` the outcome has a square that main effects lack."""
+def through_a_number(source, size):
+    """A hidden cause of X and Y, and a number M between them; the truth is drawn once."""
+    data = {"X": [], "M": [], "Y": []}
+    for _ in range(size):
+        u = source.random()
+        x = chance(source, 0.3 + 0.4 * u)
+        m = source.gauss(x, 1)
+        for name, value in zip("XMY", (x, m, chance(source, logistic(m + 0.5 * u - 1)))):
+            data[name].append(value)
+    return data, number_truth()
+
+
+@functools.lru_cache(maxsize=None)
+def number_truth(draws=400_000):
+    """The risk difference of `through_a_number`."""
+    source = random.Random(0)
+    drawn = [(source.random(), source.gauss(0, 1)) for _ in range(draws)]
+    return sum(logistic(1 + e + 0.5 * u - 1) - logistic(e + 0.5 * u - 1) for u, e in drawn) / draws
+
+
+def smooth(source, size, is_bent=False, is_bent_arm=False):
+    """Two confounders with four levels each, a logistic truth; with `is_bent` the outcome has a square that main effects lack, and with
+    `is_bent_arm` the arm has one."""
     data = {"A": [], "B": [], "X": [], "Y": []}
     for _ in range(size):
         a, b = (sum(chance(source, 0.35) for _ in range(3)) for _ in range(2))
-        x = chance(source, logistic(-0.8 + 0.4 * a + 0.4 * b))
+        x = chance(source, logistic(-0.8 + 0.4 * a + 0.4 * b + (0.8 * (a - 1) ** 2 - 0.5 if is_bent_arm else 0.0)))
         y = chance(source, outcome(a, b, x, is_bent))
         for name, value in zip("ABXY", (a, b, x, y)):
             data[name].append(value)
@@ -88,6 +110,12 @@ SCENARIOS = {
     "logistic-1000": lambda source: (smooth, 1000, lambda data: modelled(TWO, data)),
     "ipw-1000": lambda source: (smooth, 1000, lambda data: modelled(TWO, data, method="ipw")),
     "aipw-300": lambda source: (smooth, 300, lambda data: modelled(TWO, data, method="aipw")),
+    "aipw-wrong-arm-1000": lambda source: (
+        lambda source, size: smooth(source, size, is_bent_arm=True), 1000, lambda data: modelled(TWO, data, method="aipw")
+    ),
+    "front-door-number-500": lambda source: (
+        through_a_number, 500, lambda data: modelled(FRONT_DOOR, data, resamples=200)
+    ),
     "aipw-wrong-outcome-1000": lambda source: (
         lambda source, size: smooth(source, size, is_bent=True), 1000, lambda data: modelled(TWO, data, method="aipw")
     ),

@@ -24,7 +24,7 @@ export class Answers {
 
   /**
    * @param {import("./program.js").Program} program
-   * @param {Pick<Context, "drawing" | "acts" | "places" | "samples">} around
+   * @param {Pick<Context, "drawing" | "acts" | "places" | "samples" | "nameOf" | "kept" | "open">} around
    */
   constructor(program, around) {
     this.program = program;

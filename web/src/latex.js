@@ -45,6 +45,11 @@ const isName = (piece) => !/^(, | \\mid |\\mathrm\{do\}\(|\))$/.test(piece);
 
 const PARTS = /\\left\( |\\right\)|\\sum_\{((?:\\.|[^\\}])*)\} |q_\{\d+\}|P\(|\\frac\{|\}\{|\}|[^]/g;
 
+// Signs that the program writes with braces stand as single letters while a formula is walked through.
+const SIGNS = [["\\^{}", "\ue000", "\\textasciicircum"], ["\\~{}", "\ue001", "\\textasciitilde"], ["\\textbackslash{}", "\ue002", "\\textbackslash"]];
+const hideSigns = (tex) => SIGNS.reduce((text, [sign, letter]) => text.replaceAll(sign, letter), tex);
+const showSigns = (tex) => SIGNS.reduce((text, [, letter, shown]) => text.replaceAll(letter, `{${shown}}`), tex);
+
 /** Walks through LaTeX of the program. A sum reaches as far right as its parenthesis or its part of a quotient. */
 class Annotator {
   /** Between these a line may break, where the manner allows that. @type {string[]} */ pieces = [""];
@@ -134,7 +139,7 @@ function closing(tex, at) {
 }
 
 /** The LaTeX for one line. */
-export const annotate = (tex) => new Annotator(tex, WHOLE).pieces.join("");
+export const annotate = (tex) => showSigns(new Annotator(hideSigns(tex), WHOLE).pieces.join(""));
 
 /** The same in pieces, for a formula that is too wide. @returns {string[]} */
-export const annotatePieces = (tex) => new Annotator(tex, BROKEN).pieces.map((piece) => `\\displaystyle ${piece}`);
+export const annotatePieces = (tex) => new Annotator(hideSigns(tex), BROKEN).pieces.map((piece) => `\\displaystyle ${showSigns(piece)}`);

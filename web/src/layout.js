@@ -15,9 +15,9 @@ const MOST_ROUNDS = 8;
  * @param {{vertices: {name: string, width: number, height: number}[], edges: [string, string][], room?: Size}} outline
  * @returns {[string, Point][]}
  */
-export function arrange(outline) {
+export function arrange(outline, quickMs = QUICK_MS) {
   const began = performance.now(), sideways = arrangeBy("LR", outline), { room } = outline;
-  if (!room || performance.now() - began > QUICK_MS) return listed(sideways);
+  if (!room || performance.now() - began > quickMs) return listed(sideways);
   const down = arrangeBy("TB", outline), isDown = scaleIn(room, down) > SIDEWAYS_FIRST * scaleIn(room, sideways);
   const chosen = isDown ? down : sideways;
   stretch(chosen, room);
@@ -29,7 +29,7 @@ export function arrange(outline) {
 function widen(placed, edges) {
   const by = new Map(placed.map((p) => [p.name, p]));
   const meets = ([a, b]) => {
-    const others = placed.filter(({ name }) => name !== a && name !== b).map((p) => ({ ...p, half: p.width / 2 })), [p, q] = [by.get(a), by.get(b)];
+    const others = placed.filter(({ name }) => name !== a && name !== b).map((p) => ({ ...p, half: p.width / 2, tall: p.height / 2 })), [p, q] = [by.get(a), by.get(b)];
     return runsBehind(p, bend(p, q, false, others, []), q, others);
   };
   for (let round = 0; round < MOST_ROUNDS && edges.length <= MOST_EDGES && edges.some(meets); round++) {
@@ -47,7 +47,7 @@ function arrangeBy(rankdir, { vertices, edges }) {
   for (const [a, b] of edges) graph.setEdge(a, b, {});
   dagre.layout(graph);
   const placed = vertices.map(({ name, width, height }) => ({ name, width, height, ...pointOf(graph.node(name)) }));
-  if (rankdir === "LR") press(placed, (vertices[0]?.height ?? 0) + 24);
+  if (rankdir === "LR") press(placed, Math.max(0, ...vertices.map((v) => v.height)) + 24);
   return placed;
 }
 

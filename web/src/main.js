@@ -66,7 +66,7 @@ const editor = new Editor({
 });
 const acts = new Acts(draft, places, diagram);
 drawing.use(acts);
-const answers = new Answers(program, { drawing, acts, places, samples: examples.data, nameOf });
+const answers = new Answers(program, { drawing, acts, places, samples: examples.data, nameOf, kept: () => kept.list(), open: (text) => open(text) });
 
 // ---- The head
 
@@ -143,7 +143,7 @@ function sayOrigin({ vertices, edges }) {
 function toggleText(isOn = document.body.classList.contains("no-text")) {
   document.body.classList.toggle("no-text", !isOn);
   byId("fold").setAttribute("aria-expanded", String(isOn));
-  requestAnimationFrame(() => diagram.fit());
+  requestAnimationFrame(() => diagram.resized());
 }
 
 /** Opens a file's text. What is far longer than a diagram's text may be isn't read. */
@@ -212,10 +212,10 @@ async function colourPaths(graph) {
   diagram.show({ colours: classes });
   byId("ways-cut").hidden = isAll;
 }
-addEventListener("resize", () => diagram.fit());
-resizePanes(() => diagram.fit());
+addEventListener("resize", () => diagram.resized());
+resizePanes(() => diagram.resized());
 addEventListener("beforeprint", () => diagram.fitToPaper());
-addEventListener("afterprint", () => diagram.fit());
+addEventListener("afterprint", () => diagram.backFromPaper());
 
 // ---- Keys and links
 

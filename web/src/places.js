@@ -1,11 +1,12 @@
 import { apart, circle, scaleFor } from "./diagram/fitting.js";
-import { halfWidth, HEIGHT, outline, placeNear } from "./diagram/geometry.js";
+import { halfHeight, halfWidth, outline, placeNear } from "./diagram/geometry.js";
 import { change, positions } from "./text/edit.js";
 
 /** @typedef {import("./text/printed.js").Graph} Graph  @typedef {{x: number, y: number}} Point */
 
 const WAIT_MS = 25; // how long the drawing waits for a layout before it shows the new graph at its old places
 const PATIENCE_MS = 1000; // a layout that takes longer is given up for a circle
+const ASKED_MS = 8000; // the same for one that was asked for by Arrange
 const STALE_MS = 300; // a layout of an older text that has taken as long is given up for a newer one
 const NEAR = 2; // pixels
 const USUAL_SCALE = 100; // pixels to a unit of `pos`
@@ -19,6 +20,7 @@ export class Places {
   #shown = new Map(); // by a text, its drawing: {scale, places}
   #isAnew = false; // whether the next drawing is computed, whatever was shown of its text
   #arranged = { key: "", places: new Map() };
+  #patience = PATIENCE_MS;
   #turn = 0;
 
   /** @param {import("./runner.js").Runner} arranger @param {import("./diagram/diagram.js").Diagram} diagram */
@@ -38,6 +40,7 @@ export class Places {
   /** Lets a layout be computed anew, for the window as it is. */
   forget() {
     this.#arranged.key = "";
+    this.#patience = ASKED_MS;
     this.#isAnew = true;
   }
 
@@ -46,7 +49,9 @@ export class Places {
     const wanted = outline(graph), key = JSON.stringify([wanted.vertices.map((v) => v.name), wanted.edges]);
     if (this.#arranged.key !== key) {
       this.arranger.giveUpAfter(STALE_MS);
-      const found = await this.arranger.arrange({ ...wanted, room: this.diagram.room() }, PATIENCE_MS);
+      const patience = this.#patience;
+      this.#patience = PATIENCE_MS;
+      const found = await this.arranger.arrange({ ...wanted, room: this.diagram.room() }, patience);
       const places = found ?? circle(graph.vertices.map((v) => v.name), halvesOf(graph));
       this.#arranged = { key, places };
     }
@@ -125,12 +130,12 @@ export class Places {
 
   /** Another text's places at a scale of their own, at which names don't overlap. */
   #fitted(graph, given) {
-    const halves = halvesOf(graph), isChosen = this.#isChosen;
+    const halves = halvesOf(graph), height = heightOf(graph), isChosen = this.#isChosen;
     this.#isChosen = false;
-    if (!isChosen) this.#scale = scaleFor(given, halves, HEIGHT, USUAL_SCALE);
+    if (!isChosen) this.#scale = scaleFor(given, halves, height, USUAL_SCALE, this.diagram.room());
     const { target } = this.diagram, of = (name) => (given.has(name) ? this.#point(given.get(name)) : target.get(name));
     const places = this.#completed(graph, new Map(graph.vertices.map(({ name }) => [name, of(name)]).filter(([, p]) => p)));
-    return isChosen ? places : apart(places, halves, HEIGHT);
+    return isChosen ? places : apart(places, halves, height);
   }
 
   /** Whether a text has other places than the one that was drawn last. */
@@ -171,5 +176,7 @@ export class Places {
 const isAt = (p, q) => q !== undefined && p.x === q.x && p.y === q.y;
 
 const copied = (places) => new Map([...places].map(([name, p]) => [name, { ...p }]));
+
+const heightOf = ({ vertices }) => 2 * Math.max(0, ...vertices.map(halfHeight));
 
 const halvesOf = ({ vertices }) => new Map(vertices.map((v) => [v.name, halfWidth(v)]));

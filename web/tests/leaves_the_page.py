@@ -5,6 +5,8 @@ import subprocess
 import tempfile
 import time
 
+from selenium.webdriver.common.keys import Keys
+
 import in_the_drawing
 import over_tables
 from browser import wait
@@ -50,6 +52,8 @@ def copies_latex(s):
     s.check("names are text", r"P(\text{Injury} \mid \mathrm{do}(\text{Warm-up exercises})) = " in tex, tex)
     s.check("a letter stays one", ", B" in tex and r"\text{B}" not in tex, tex)
     s.check("signs are escaped", r"\text{CD4+ count}" in tex and r"\text{a\textasciicircum{}b}" in tex and r"\text{50\%}" in tex, tex)
+    under = s.run("return document.querySelector('#panel .formula .op-limits').textContent").replace("\u00a0", " ")
+    s.check("all stand under the sum as they are", '"' not in under and "CD4+ count" in under and "a^b" in under, under)
     shown = s.run("return document.querySelector('#panel .formula').textContent")
     s.check("it is what the page shows", "Warm-up exercises" in shown.replace("\u00a0", " ") and "CD4+ count" in shown.replace("\u00a0", " "), shown)
     if can_compile("amsmath.sty"):
@@ -109,4 +113,80 @@ def reports_bounds(s):
     s.tab("effect")
 
 
-PARTS = [copies_latex, saves_a_report, reports_bounds]
+PLACES = {
+    "Coach": (300, 150), "Genetics": (520, 150), "Team motivation": (150, 250), "Fitness level": (420, 240), "Contact sport": (70, 350),
+    "Pre-game proprioception": (330, 340), "Neuromuscular fatigue": (480, 350), "Connective tissue disorder": (600, 260), "Previous injury": (90, 470),
+    "Warm-up exercises": (230, 440), "Tissue weakness": (600, 460), "Intra-game proprioception": (380, 520), "Injury": (520, 600),
+}
+ARROWS = [
+    ("Coach", "Team motivation"), ("Coach", "Fitness level"), ("Team motivation", "Warm-up exercises"), ("Team motivation", "Previous injury"),
+    ("Contact sport", "Previous injury"), ("Fitness level", "Pre-game proprioception"), ("Fitness level", "Neuromuscular fatigue"),
+    ("Pre-game proprioception", "Warm-up exercises"), ("Genetics", "Fitness level"), ("Genetics", "Neuromuscular fatigue"),
+    ("Genetics", "Connective tissue disorder"), ("Connective tissue disorder", "Neuromuscular fatigue"), ("Connective tissue disorder", "Tissue weakness"),
+    ("Neuromuscular fatigue", "Intra-game proprioception"), ("Neuromuscular fatigue", "Injury"), ("Warm-up exercises", "Intra-game proprioception"),
+    ("Intra-game proprioception", "Injury"), ("Tissue weakness", "Injury"),
+]
+
+
+def study_table(rows=1500):
+    """Records of the thirteen variables, each more often yes where its causes are, some with missing values."""
+    lines, state = [",".join(PLACES)], 11
+    for _ in range(rows):
+        values = {}
+        for name in PLACES:
+            state = (state * 6364136223846793005 + 1442695040888963407) % 2**64
+            causes = [values.get(a, False) for a, b in ARROWS if b == name]
+            values[name] = (state >> 33) % 100 < (30 + 40 * sum(causes) // len(causes) if causes else 50)
+        cells = ["yes" if yes else "no" for yes in values.values()]
+        if (state >> 40) % 25 == 0:
+            cells[(state >> 20) % len(cells)] = ("NA", "", ".")[(state >> 50) % 3]
+        lines.append(",".join(cells))
+    return "\n".join(lines) + "\n"
+
+
+def studies_in_one_sitting(s):
+    """A study from an empty page to its report: thirteen variables drawn by mouse, sets, data with missing values, an effect with its interval."""
+    in_the_drawing.empty(s)
+    for name, (x, y) in PLACES.items():
+        in_the_drawing.twice(s, x, y)
+        s.keys(name, Keys.ENTER)
+        s.soon(f"{name} is drawn", lambda name=name: name in s.names(), s.names)
+    pane = s.run("const b = document.getElementById('drawing').getBoundingClientRect(); return [b.x, b.y]")
+    seen = in_the_drawing.places(s)
+    far = {name: seen[name] for name, (x, y) in PLACES.items() if abs(seen[name][0] - pane[0] - x) > 2 or abs(seen[name][1] - pane[1] - y) > 2}
+    s.check("each stands where it was placed", not far, far)
+    s.one("#arrow").click()
+    for a, b in ARROWS:
+        s.click(a)
+        s.click(b)
+    s.keys(Keys.ESCAPE)
+    s.soon("all arrows in two clicks each", lambda: s.text().count("->") == len(ARROWS), s.text)
+    for name, role in (("Warm-up exercises", "Exposure"), ("Injury", "Outcome")):
+        s.click(name)
+        s.item(role)
+        s.soon(f"{name} is marked", lambda role=role: f"[{role.lower()}" in s.text(), s.text)
+    s.tab("adjustment")
+    s.soon("seven minimal sets", lambda: "7 minimal sets" in s.panel(), s.panel)
+    s.tab("data")
+    over_tables.drop(s, "study.csv", study_table())
+    s.soon("missing values are told in one line", lambda: s.one("#read-notes").text.count("Missing values in ") == 1, s.panel)
+    over_tables.press(s, "missing")
+    s.soon("and left out", lambda: "rows are left out" in s.one("#read-notes").text, s.panel)
+    s.soon("an effect", lambda: s.all(".contrasts"), s.panel)
+    if s.all("#draw"):
+        s.one("#draw").click()
+    s.soon("with its interval", lambda: over_tables.has_intervals(s), s.panel)
+    s.one("#diagrams").click()
+    s.one("#diagram-name").send_keys("Study", Keys.TAB, Keys.ESCAPE)
+    s.one("#export").click()
+    s.item("Report, to print")
+    file = s.downloads / "Study.report.html"
+    s.check("a report, called by the diagram's name", wait(file.exists, 60), list(s.downloads.iterdir()))
+    time.sleep(0.5)
+    html = file.read_text()
+    for part in ("<svg", "Coach, Fitness level", "<math", "tested independences", "risk difference", "rows with missing values left out", "95% interval"):
+        s.check(f"it has {part}", part in html, html[:300])
+    s.tab("effect")
+
+
+PARTS = [copies_latex, saves_a_report, reports_bounds, studies_in_one_sitting]

@@ -44,6 +44,9 @@ function testFitting() {
     check(`a circle has none: ${n}`, !overlaps(circle(names, halves), halves).length, n);
   }
   const halves = new Map([["A", 22], ["B", 22]]);
+  const row = new Map([["A", { x: 0, y: 0 }], ["B", { x: 5, y: 0 }]]), narrow = { width: 500, height: 400 };
+  check("a wide drawing gets less, so that names are seen larger", Math.abs(scaleFor(row, halves, HEIGHT, 100, narrow) - 456 / 5) < 0.1, scaleFor(row, halves, HEIGHT, 100, narrow));
+  check("but not so little that they meet", scaleFor(new Map([["A", { x: 0, y: 0 }], ["B", { x: 1, y: 0 }], ["C", { x: 9, y: 0 }]]), halves, HEIGHT, 100, { width: 300, height: 400 }) > 68, "");
   check("a scale that will do is kept", scaleFor(new Map([["A", { x: 0, y: 0 }], ["B", { x: 1, y: 0 }]]), halves, HEIGHT, 100) === 100);
 }
 
@@ -53,14 +56,9 @@ function testLayout() {
     edges: Array.from({ length: n - 1 }, (_, i) => [`v${i}`, `v${i + 1}`]),
   });
   const span = (places, k) => Math.max(...places.map(([, p]) => p[k])) - Math.min(...places.map(([, p]) => p[k]));
-  // (one that takes long isn't computed the other way, as on a busy machine)
-  const some = (test) => [1, 2, 3, 4, 5].some(test);
-  const isHigh = () => {
-    const high = arrange({ ...chain(12), room: { width: 400, height: 700 } });
-    return span(high, "y") > span(high, "x");
-  };
-  check("a long chain uses the height", some(isHigh), "");
-  const wide = arrange({ ...chain(12), room: { width: 900, height: 400 } });
+  const high = arrange({ ...chain(12), room: { width: 400, height: 700 } }, Infinity);
+  check("a long chain uses the height", span(high, "y") > span(high, "x"), high);
+  const wide = arrange({ ...chain(12), room: { width: 900, height: 400 } }, Infinity);
   check("where there is width it lies", span(wide, "x") > span(wide, "y"), wide);
   check("without a room it lies", span(arrange(chain(3)), "x") > 0, "");
 }
@@ -111,6 +109,12 @@ function testKept() {
   other.keep("of another tab");
   kept.keep("of this tab");
   check("what two tabs make of one diagram stays beside", texts().startsWith("of this tab,of another tab"), texts());
+  const third = new Kept(store, memoryStore());
+  third.begin(kept.list()[0]);
+  third.keep("of a third tab");
+  kept.heard();
+  third.heard();
+  check("nor is one lost that isn't changed again", texts().startsWith("of this tab,of a third tab,of another tab"), texts());
   check("a tab knows what it showed", new Kept(store, tab).left().text === "of this tab", new Kept(store, tab).left());
   kept.rename("A name");
   const [entry] = kept.list();

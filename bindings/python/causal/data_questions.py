@@ -459,7 +459,7 @@ class DataQuestions:
 
     def estimate(
         self,
-        data: Data,
+        data: Optional[Data],
         x: Optional[Names] = None,
         y: Optional[Names] = None,
         *,
@@ -473,6 +473,8 @@ class DataQuestions:
         set: Optional[Names] = None,
         back_door: bool = False,
         given: Optional[Mapping[str, Level]] = None,
+        observed: Any = None,
+        trials: Optional[Mapping[Any, Data]] = None,
         at: Optional[Mapping[str, Level]] = None,
         short: bool = True,
         count: Optional[str] = None,
@@ -493,11 +495,17 @@ class DataQuestions:
         of the data. `model` is "logistic" (multinomial where there are more than two levels), "table" (the shares, with `smoothing` further
         records at each condition), or an object with `fit` and `predict_proba`, as those of scikit-learn; a mapping gives one for each
         variable that is modelled, as in `model={"Y": "table"}`. Without `outcome` the mean of a numeric outcome is estimated, by least
-        squares. Numbers enter as they are, those of `factors` as categories; so do exposures with up to 10 levels.
+        squares. Numbers enter as they are, those of `factors` as categories; so do exposures with up to 10 levels. A number over which the
+        formula sums, and that has many levels, is modelled by its mean with the errors of the records, and summed over in classes.
 
         `method="ipw"` weights the records by the chance of their arm given a set to adjust for, and `"aipw"` is the doubly robust estimator,
         right where the model of the arm or that of the outcome is. The set is `set`, or the first minimal one; in any case one that the
         program calls admissible.
+
+        With `observed` the effect is that among those for whom this level of the exposure was observed, by the formula of `treated`, as
+        `observed=1` for the treated. With `trials` it is that from trials on other variables, by the formula of `surrogate`: the records
+        of each trial, by what was set in it, as in `trials={"Z": frame}`; `data` may then be None where no term is observed. Terms are
+        read from the records that they are of, and each source is drawn anew by itself.
 
         Intervals are by influence functions, with what the models' fits add, or with `interval="percentile"` by the bootstrap, where the
         models are fitted anew `resamples` times; those are taken where the models are the user's own, or the formula isn't that of a set.
@@ -523,6 +531,7 @@ class DataQuestions:
 
         words: Dict[str, Any] = {"treated": treated, "control": control, "outcome": outcome, "method": method, "model": model}
         words.update(smoothing=smoothing, factors=factors, set=set, back_door=back_door, given=given, at=at, short=short, count=count)
+        words.update(observed=observed, trials=trials)
         words.update(missing=missing, interval=interval, resamples=resamples, level=level, seed=seed, progress=progress)
         return estimated_by(self._diagram, data, x, y, design=Design(weights, clusters, strata), **words)
 

@@ -5,26 +5,28 @@ What is proved stays what it is: the formula. What is estimated is computed by m
 from __future__ import annotations
 
 import math
-from dataclasses import dataclass, field
+from dataclasses import dataclass, field, replace
 from statistics import NormalDist
-from typing import TYPE_CHECKING, Any, Callable, Dict, List, Mapping, Optional, Sequence, Tuple
+from typing import TYPE_CHECKING, Any, Callable, Dict, FrozenSet, List, Mapping, Optional, Sequence, Tuple, Union
 
 from causal.columns import Data
 from causal.contrasts import IN_COLUMNS, MEASURES, arm_level
 from causal.display import html_table
 from causal.draws import seed_of
 from causal.effects import Level, check_arms, levels_at, levels_text, typed_order
-from causal.errors import DataWarning, RequestError
-from causal.estimators import Asked, ByTree, DoublyRobust, Estimator, Standardized, Weighted, pattern_of
-from causal.evaluation import adjusted, identified
+from causal.errors import DataWarning, NotIdentifiable, RequestError
+from causal.estimators import Asked, DoublyRobust, Estimator, Standardized, Weighted, pattern_of
+from causal.evaluation import adjusted, check_pins, identified
 from causal.formula import Formula
 from causal.framed import Framed
 from causal.intervals import Interval, check_level, interval_of
 from causal.models import Fit
 from causal.names import Names, names_of, printed_set
-from causal.rows import Rows, rows_of
+from causal.objects import Told
+from causal.rows import Rows, alias, is_number, rows_of, unified
 from causal.samples import Design
 from causal.sensitivity import EValue, e_value
+from causal.trees import ByTree, Joined
 from causal.vocabulary import check_progress, check_whole, meant, needed, warn
 from causal.weighting import Weighting, weighting_of
 
@@ -83,6 +85,10 @@ class Estimates(Framed):
     seed: Optional[int] = None
     design: str = ""
     weighting: Optional[Weighting] = None
+    # The variables that enter the models as numbers.
+    as_numbers: Tuple[str, ...] = ()
+    # The levels of the exposures that were observed, where the effect is that among the treated.
+    observed: Dict[str, Level] = field(default_factory=dict)
 
     @property
     def treated(self) -> Estimate:
@@ -122,7 +128,8 @@ class Estimates(Framed):
         """What is estimated, in words."""
         arms = f"treated: {levels_text(self.arms[0])}; control: {levels_text(self.arms[1])}"
         outcome = f"; outcome: {levels_text(self.outcome)}" if self.outcome else f"; mean of {self.formula.target.y[0]}"
-        return arms + outcome + (f"; among: {levels_text(self.given)}" if self.given else "")
+        among = f"; among those for whom {levels_text(self.observed)} was observed" if self.observed else ""
+        return arms + outcome + (f"; among: {levels_text(self.given)}" if self.given else "") + among
 
     @property
     def notes(self) -> Tuple[str, ...]:
@@ -131,6 +138,7 @@ class Estimates(Framed):
         if self.interval_kind == "percentile":
             kind += f" of {self.resamples} resamples, of which {self.without_value} had no value; seed {self.seed}"
         found = [f"computed: by {METHODS[self.method]}, with these models", *map(str, self.fits)]
+        found += [f"as numbers: {', '.join(self.as_numbers)}"] if self.as_numbers else []
         found += [f"{kind}; {self.records} records" + (f"; {self.design}" if self.design else "")]
         found += [f"pinned {levels_text(self.pinned)}"] if self.pinned else []
         found += [f"{self.dropped} records left out that lack a value"] if self.dropped else []
@@ -175,7 +183,7 @@ class Estimates(Framed):
 
 def estimated_by(
     diagram: "Diagram",
-    data: Data,
+    data: Optional[Data],
     x: Optional[Names],
     y: Optional[Names],
     *,
@@ -189,6 +197,8 @@ def estimated_by(
     set: Optional[Names],
     back_door: bool,
     given: Optional[Mapping[str, Level]],
+    observed: Any,
+    trials: Optional[Mapping[Any, Data]],
     at: Optional[Mapping[str, Level]],
     short: bool,
     count: Optional[str],
@@ -202,46 +212,36 @@ def estimated_by(
 ) -> Estimates:
     """The estimates of two arms: see `Diagram.estimate`."""
     numpy = needed("numpy", "an estimate by models")
-    if method not in METHODS:
-        raise RequestError(f"method is {', '.join(map(repr, METHODS))}, and not {method!r}")
-    if interval not in (None, *INTERVALS):
-        raise RequestError(f"interval is {', '.join(map(repr, INTERVALS))} or None, and not {interval!r}")
-    check_level(level)
-    check_progress(progress)
-    if not isinstance(smoothing, (int, float)) or not 0 <= smoothing < math.inf:
-        raise RequestError(f"smoothing is a number of records from 0 on, and not {smoothing!r}")
+    check_words(method, interval, level, smoothing, at, progress)
     for role, listed in (("factors", names_of(factors)), ("model", tuple(model) if isinstance(model, Mapping) else ())):
         check_named(role, listed, diagram.vertices)
-    formula, members = formula_of(diagram, x, y, method, set, back_door, given, short)
+    formula, members = formula_of(diagram, x, y, method, set, back_door, given, short, observed, trials)
     target = formula.target
     if len(target.y) != 1:
         raise RequestError("an estimate by models is of one outcome")
-    names = [name for name in diagram.vertices if name in formula.variables]
-    design.check(names, count)
-    rows = rows_of(numpy, data, names, target.x, names_of(factors), count, missing, design, target.y)
     arms = levels_at(target.x, treated, typed_order(x)), levels_at(target.x, control, typed_order(x))
     check_arms(*arms)
+    primes = primed(diagram, formula)
+    had = levels_at(target.x, observed, typed_order(x)) if primes else {}
+    reading = Reading(diagram, formula, names_of(factors), count, missing, design, primes)
+    rows = reading.rows(numpy, data, trials)
     pinned = pins_of(rows, formula, at)
-    codes = [{name: code_of(rows, name, own) for name, own in arm.items()} for arm in arms]
-    fixed = {name: code_of(rows, name, own) for name, own in {**(given or {}), **pinned}.items()}
     told = None if outcome is None else levels_at(target.y, outcome, typed_order(y))
-    if told is None and rows.variables[target.y[0]].numbers is None:
-        raise RequestError(f"{target.y[0]} isn't a number: give the level whose risk is estimated, as outcome")
-    code = None if told is None else code_of(rows, target.y[0], told[target.y[0]])
-    asked = Asked(target.y[0], code, (codes[0], codes[1]), fixed, model, smoothing)
-    estimator = estimator_of(rows, asked, formula, names, method, members)
+    asked = asked_of(rows, formula, arms, {**(given or {}), **pinned, **{prime: had[name] for prime, name in primes.items()}}, told, model, smoothing)
+    estimator = estimator_of(rows, asked, formula, reading.names, method, members, primes)
     estimator.fit(rows.weights)
-    for it in estimator.models:
-        it.examine(rows.codes, rows.weights)
+    estimator.examine()
     kind = interval or ("influence" if estimator.has_moves else "percentile")
     if kind == "influence" and not estimator.has_moves:
         raise RequestError("influence functions are known of the package's own models over a set; interval='percentile' draws records anew")
     numbers = estimator.numbers(rows.weights)
-    fits = tuple(model.told(rows.records) for model in estimator.models)
+    if not all(map(math.isfinite, numbers)):
+        raise RequestError("by these models the formula has no value at these levels: a divisor is 0; give smoothing, or another model")
+    fits = tuple(it.told(rows.records) for it in estimator.models)
     weighting = weighting_of(estimator, members) if isinstance(estimator, Weighted) else None
     first, drawn = seed_of(seed), []  # type: int, List[Optional[Tuple[float, float]]]
     if kind == "influence":
-        intervals = by_influence(rows, estimator, numbers, level, told is None)
+        intervals = by_influence(estimator.rows, estimator, numbers, level, told is None)
     else:
         drawn = by_draws(rows, estimator, resamples, first, progress)
         intervals = of_draws(drawn, level, told is None)
@@ -253,10 +253,103 @@ def estimated_by(
         **kept,  # type: ignore[arg-type]
         design=str(design),
         weighting=weighting,
+        as_numbers=reading.as_numbers,
+        observed=had,
     )
     for doubt in found.doubts:
         warn(doubt, DataWarning)
     return found
+
+
+def check_words(method: str, interval: Optional[str], level: float, smoothing: float, at: Any, progress: Any) -> None:
+    """Refuses words that there aren't."""
+    if method not in METHODS:
+        raise RequestError(f"method is {', '.join(map(repr, METHODS))}, and not {method!r}")
+    if interval not in (None, *INTERVALS):
+        raise RequestError(f"interval is {', '.join(map(repr, INTERVALS))} or None, and not {interval!r}")
+    check_level(level)
+    check_progress(progress)
+    check_pins(at)
+    if not isinstance(smoothing, (int, float)) or not 0 <= smoothing < math.inf:
+        raise RequestError(f"smoothing is a number of records from 0 on, and not {smoothing!r}")
+
+
+def primed(diagram: "Diagram", formula: Formula) -> Dict[str, str]:
+    """The names of observed values, as `X'`, of an effect among the treated, each with its exposure.
+
+    >>> from causal import Diagram
+    >>> from causal.estimates import primed
+    >>> diagram = Diagram("dag { S -> T -> R <- S }")
+    >>> primed(diagram, diagram.treated("T", "R")), primed(diagram, diagram.identify("T", "R"))
+    ({"T'": 'T'}, {})
+    """
+    names = [name for name in formula.target.given if name not in diagram.vertices]
+    return {name: name.rstrip("'") if name.rstrip("'") in formula.target.x else exposure for name, exposure in zip(names, formula.target.x)}
+
+
+class Reading:
+    """How the rows of a formula are read: from the data that were observed, and from trials."""
+
+    def __init__(
+        self, diagram: "Diagram", formula: Formula, factors: Names, count: Optional[str], missing: str, design: Design, primes: Mapping[str, str]
+    ) -> None:
+        self.formula, self.factors, self.count, self.missing, self.design, self.primes = formula, factors, count, missing, design, primes
+        self.vertices = diagram.vertices
+        self.names = [*(name for name in diagram.vertices if name in formula.variables), *primes]
+        design.check(self.names, count)
+        self.as_numbers: Tuple[str, ...] = ()
+
+    def rows(self, numpy: Any, data: Optional[Data], trials: Optional[Mapping[Any, Data]]) -> Union[Rows, Joined]:
+        """The rows of each source that the formula reads."""
+        sources: Dict[Any, Rows] = {}
+        done_in = {frozenset(names_of(names)): own for names, own in (trials or {}).items()}
+        for done in dict.fromkeys(frozenset(node["do"]) for node in self.formula._nodes() if "term" in node):
+            own = done_in[done] if done else data
+            if own is None:
+                raise RequestError("the formula reads observed terms: data has their records")
+            sources[done] = self.source(numpy, own, done)
+        parts = unified(numpy, list(sources.values())) if len(sources) > 1 else list(sources.values())
+        for part in parts:
+            for prime, name in self.primes.items():
+                alias(part, prime, name)
+        self.done = tuple(sources)
+        held = {name: variable for part in parts for name, variable in part.variables.items()}
+        numbers = {name for name, variable in held.items() if variable.numbers is not None and len(variable.levels) > 2}
+        self.as_numbers = tuple(name for name in self.names if name in numbers and name not in (*self.formula.target.y, *self.primes))
+        return parts[0] if self.done == (frozenset(),) else Joined(tuple(parts), self.done)
+
+    def source(self, numpy: Any, data: Data, done: FrozenSet[str]) -> Rows:
+        """The rows of one source."""
+        target = self.formula.target
+        if not done and not any(node.get("do") for node in self.formula._nodes()):
+            names = [name for name in self.names if name not in self.primes]
+        else:
+            inside = {name for node in self.formula._nodes() if frozenset(node.get("do", ())) == done for name in self.read(node)}
+            names = [name for name in self.vertices if name in inside]
+        design = Design() if done else self.design
+        return rows_of(numpy, data, names, target.x, names_of(self.factors), self.count, self.missing, design, target.y)
+
+    def read(self, node: Told) -> List[str]:
+        """The names of a term."""
+        return [name for kind in ("term", "do", "given") for name in node.get(kind, ())] if "term" in node else []
+
+
+def asked_of(
+    rows: Union[Rows, Joined],
+    formula: Formula,
+    arms: Sequence[Mapping[str, Level]],
+    fixed: Mapping[str, Level],
+    told: Optional[Mapping[str, Level]],
+    model: Any,
+    smoothing: float,
+) -> Asked:
+    """What is estimated, by the numbers of the levels."""
+    y = formula.target.y[0]
+    if told is None and rows.variables[y].numbers is None:
+        raise RequestError(f"{y} isn't a number: give the level whose risk is estimated, as outcome")
+    codes = [{name: code_of(rows, name, own, may_be_new=True) for name, own in arm.items()} for arm in arms]
+    held = {name: code_of(rows, name, own) for name, own in fixed.items()}
+    return Asked(y, None if told is None else code_of(rows, y, told[y]), (codes[0], codes[1]), held, model, smoothing)
 
 
 def check_named(role: str, names: Sequence[str], vertices: Sequence[str]) -> None:
@@ -282,11 +375,17 @@ def formula_of(
     back_door: bool,
     given: Optional[Mapping[str, Level]],
     short: bool,
+    observed: Any,
+    trials: Optional[Mapping[Any, Data]],
 ) -> Tuple[Formula, Tuple[str, ...]]:
     """The formula, and the set where it is that of one. Weights are over a set that the program calls admissible."""
+    if given is not None and not isinstance(given, Mapping):
+        raise RequestError("an estimate is at levels of what is given, as in given={'sex': 'f'}")
+    if observed is not None or trials is not None:
+        if method != "formula" or set is not None or (trials is not None and (given or observed is not None)):
+            raise RequestError("an effect among the treated, or from trials, is estimated by its formula alone: method='formula', without set")
+        return special(diagram, x, y, given, trials), ()
     if set is None and method == "formula":
-        if given is not None and not isinstance(given, Mapping):
-            raise RequestError("an estimate is at levels of what is given, as in given={'sex': 'f'}")
         return identified(diagram, x, y, list(given) if given else None, short), ()
     if given:
         raise RequestError("an effect is estimated by a set to adjust for, or under a condition, and not both")
@@ -298,16 +397,40 @@ def formula_of(
     return adjusted(diagram, x, y, set, back_door)
 
 
-def code_of(rows: Rows, name: str, level: Level) -> int:
-    """The number of a level."""
-    levels = list(rows.variables[name].levels)
-    if level not in levels:
-        shown = ", ".join(map(repr, levels[:12])) + (" .." if len(levels) > 12 else "")
-        raise RequestError(f"{name} has no level {level!r} in the data, but {shown}{meant(str(level), map(str, levels)) if len(levels) < 13 else ''}")
-    return levels.index(level)
+def special(
+    diagram: "Diagram", x: Optional[Names], y: Optional[Names], given: Optional[Mapping[str, Level]], trials: Optional[Mapping[Any, Data]]
+) -> Formula:
+    """The formula of an effect among the treated, or from trials."""
+    if trials is None:
+        among = diagram.treated(x, y, list(given) if given else None)
+        if not isinstance(among, Formula):
+            raise NotIdentifiable(str(among).partition("\n")[0], place=among)
+        return among
+    if not isinstance(trials, Mapping):
+        raise RequestError("trials has the records of each trial by what was set in it, as in trials={'Z': frame, ('A', 'B'): other}")
+    answer = diagram.surrogate(x, y, experiments=[names_of(names) for names in trials])
+    if not isinstance(answer, Formula):
+        raise NotIdentifiable(str(answer).partition("\n")[0], place=answer)
+    return answer
 
 
-def pins_of(rows: Rows, formula: Formula, at: Optional[Mapping[str, Level]]) -> Dict[str, Level]:
+def code_of(rows: Union[Rows, Joined], name: str, level: Level, may_be_new: bool = False) -> int:
+    """The number of a level. A number between the others may be new, where the model takes it as a number."""
+    variable = rows.variables[name]
+    levels = list(variable.levels)
+    if level in levels:
+        return levels.index(level)
+    if may_be_new and variable.numbers is not None and is_number(level):
+        numbers = variable.numbers[: len(levels)]
+        if not numbers.min() <= level <= numbers.max():
+            raise RequestError(f"{name} lies between {numbers.min():g} and {numbers.max():g} in the data, and {level} beyond it")
+        rows.replaced(name, replace(variable, numbers=rows.numpy.append(variable.numbers, float(level))))  # type: ignore[arg-type]
+        return len(variable.numbers)
+    shown = ", ".join(map(repr, levels[:12])) + (" .." if len(levels) > 12 else "")
+    raise RequestError(f"{name} has no level {level!r} in the data, but {shown}{meant(str(level), map(str, levels)) if len(levels) < 13 else ''}")
+
+
+def pins_of(rows: Union[Rows, Joined], formula: Formula, at: Optional[Mapping[str, Level]]) -> Dict[str, Level]:
     """The levels at which the formula's further variables are pinned."""
     wrong = [name for name in at or {} if name not in formula.free]
     if wrong:
@@ -315,14 +438,24 @@ def pins_of(rows: Rows, formula: Formula, at: Optional[Mapping[str, Level]]) -> 
     return {name: (at or {}).get(name, rows.variables[name].levels[0]) for name in formula.free}
 
 
-def estimator_of(rows: Rows, asked: Asked, formula: Formula, names: Sequence[str], method: str, members: Sequence[str]) -> Estimator:
+def estimator_of(
+    rows: Union[Rows, Joined],
+    asked: Asked,
+    formula: Formula,
+    names: Sequence[str],
+    method: str,
+    members: Sequence[str],
+    primes: Mapping[str, str],
+) -> Estimator:
     """The estimator."""
+    if isinstance(rows, Joined):
+        return ByTree(dict(zip(rows.done, rows.parts)), asked, formula, names)
     if method == "ipw":
         return Weighted(rows, asked, formula.target.x, members)
     if method == "aipw":
         return DoublyRobust(rows, asked, formula.target.x, members)
     given = pattern_of(formula)
-    return ByTree(rows, asked, formula, names) if given is None else Standardized(rows, asked, given)
+    return ByTree({frozenset(): rows}, asked, formula, names, tuple(primes)) if given is None else Standardized(rows, asked, given)
 
 
 def values_of(numbers: Tuple[float, float], is_mean: bool) -> List[Optional[float]]:
@@ -371,7 +504,7 @@ def logit(value: float) -> float:
     return math.log(value / (1 - value))
 
 
-def by_draws(rows: Rows, estimator: Estimator, resamples: int, seed: int, progress: Optional[Progress]) -> List[Optional[Tuple[float, float]]]:
+def by_draws(rows: Union[Rows, Joined], estimator: Estimator, resamples: int, seed: int, progress: Optional[Progress]) -> List[Optional[Tuple[float, float]]]:
     """The numbers of both arms over records that are drawn anew, with the models fitted to each draw."""
     check_whole("resamples", resamples)
     source, members = rows.numpy.random.RandomState(seed % 2**32), rows.members

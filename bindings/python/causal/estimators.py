@@ -5,13 +5,10 @@ from dataclasses import dataclass
 from typing import Any, Dict, List, Mapping, Optional, Sequence, Tuple
 
 from causal.errors import RequestError
-from causal.formula import Formula, nodes_of
+from causal.formula import Formula
 from causal.models import Linear, Model, chosen, model_of
-from causal.objects import Told
 from causal.rows import Rows
 
-# The most numbers of a table over which a formula is summed.
-MOST_CELLS = 1 << 22
 STEP = 1e-5
 Arm = Mapping[str, int]
 
@@ -28,11 +25,11 @@ class Asked:
     models: Any
     smoothing: float
 
-    def model(self, rows: Rows, name: str, given: Sequence[str]) -> Model:
-        """The model of a variable given others."""
+    def model(self, rows: Rows, name: str, given: Sequence[str], edges: Optional[Any] = None) -> Model:
+        """The model of a variable given others; where it is summed over in classes, `edges` are the borders between these."""
         variables = [rows.variables[it] for it in given]
         is_mean = name == self.outcome and self.level is None
-        return model_of(rows.numpy, chosen(self.models, name), rows.variables[name], variables, self.smoothing, is_mean)
+        return model_of(rows.numpy, chosen(self.models, name), rows.variables[name], variables, self.smoothing, is_mean, edges)
 
 
 class Estimator:
@@ -48,6 +45,11 @@ class Estimator:
         """Fits the models."""
         for model in self.models:
             model.fit(self.rows.codes, weights)
+
+    def examine(self) -> None:
+        """Notes what is wrong with the fits."""
+        for model in self.models:
+            model.examine(self.rows.codes, self.rows.weights)
 
     def parts(self, models: Sequence[Model]) -> Optional[List[Tuple[Any, Any]]]:
         """For each arm two numbers of each row, whose weighted sums' ratio is the number of the arm; None where it is none."""
@@ -113,6 +115,11 @@ class Standardized(Estimator):
         super().__init__(rows, asked)
         self.models = [asked.model(rows, asked.outcome, given)]
 
+    def examine(self) -> None:
+        """Notes what is wrong with the fits."""
+        for model in self.models:
+            model.examine(self.rows.codes, self.rows.weights)
+
     def parts(self, models: Sequence[Model]) -> Optional[List[Tuple[Any, Any]]]:
         ones = self.numpy.ones(self.size)
         return [(self.outcome_of(models[0], self.codes_at(arm)), ones) for arm in self.asked.arms]
@@ -124,6 +131,10 @@ class Weighted(Estimator):
     def __init__(self, rows: Rows, asked: Asked, exposures: Sequence[str], members: Sequence[str]) -> None:
         super().__init__(rows, asked)
         self.exposures = tuple(exposures)
+        for name in exposures:
+            if rows.variables[name].numbers is not None:
+                number = len(rows.variables[name].levels)
+                raise RequestError(f"weights need few levels of the exposure: {name} has {number}; cut it into classes")
         # several exposures one after the other
         self.models = [asked.model(rows, name, [*members, *exposures[:k]]) for k, name in enumerate(exposures)]
 
@@ -145,6 +156,11 @@ class Weighted(Estimator):
         """What each row of an arm weighs."""
         return self.in_arm(arm) / self.numpy.maximum(self.chance(models, arm), 1e-12)
 
+    def examine(self) -> None:
+        """Notes what is wrong with the fits."""
+        for model in self.models:
+            model.examine(self.rows.codes, self.rows.weights)
+
     def parts(self, models: Sequence[Model]) -> Optional[List[Tuple[Any, Any]]]:
         weights = [self.row_weights(models, arm) for arm in self.asked.arms]
         return [(own * self.outcomes, own) for own in weights]
@@ -157,136 +173,16 @@ class DoublyRobust(Weighted):
         super().__init__(rows, asked, exposures, members)
         self.models.append(asked.model(rows, asked.outcome, [*exposures, *members]))
 
+    def examine(self) -> None:
+        """Notes what is wrong with the fits."""
+        for model in self.models:
+            model.examine(self.rows.codes, self.rows.weights)
+
     def parts(self, models: Sequence[Model]) -> Optional[List[Tuple[Any, Any]]]:
         found, ones = [], self.numpy.ones(self.size)
         for arm in self.asked.arms:
             expected = self.outcome_of(models[-1], self.codes_at(arm))
             found.append((expected + self.row_weights(models[:-1], arm) * (self.outcomes - expected), ones))
-        return found
-
-
-class ByTree(Estimator):
-    """The formula's tree, summed over all levels: each term by its models, one without a condition by its shares."""
-
-    def __init__(self, rows: Rows, asked: Asked, formula: Formula, names: Sequence[str]) -> None:
-        super().__init__(rows, asked)
-        self.trees = formula._known()
-        self.axes = {name: place for place, name in enumerate(names)}
-        self.sizes = {name: len(rows.variables[name].levels) for name in names}
-        if asked.level is None:
-            self._check_mean()
-            self.sizes[asked.outcome] = 1
-        self.chains: Dict[Tuple[Tuple[str, ...], Tuple[str, ...]], List[Model]] = {}
-        for node in (it for tree in self.trees for it in nodes_of(tree) if "term" in it):
-            key = tuple(node["term"]), tuple(node["given"])
-            self._check_size([*key[0], *key[1]])
-            if key not in self.chains and (key[1] or self.is_mean_of(key[0])):
-                self.chains[key] = [asked.model(rows, name, [*key[1], *self.before(key[0], name)]) for name in self.in_chain(key[0])]
-        self.models = [model for chain in self.chains.values() for model in chain]
-        self.weights: Any = None
-
-    def in_chain(self, names: Sequence[str]) -> List[str]:
-        """The names of a term one after the other, the outcome last."""
-        return sorted(names, key=lambda name: name == self.asked.outcome)
-
-    def before(self, names: Sequence[str], name: str) -> List[str]:
-        """The names of a term before this one."""
-        order = self.in_chain(names)
-        return order[: order.index(name)]
-
-    def is_mean_of(self, names: Sequence[str]) -> bool:
-        """Whether a term is of an outcome whose mean is wanted."""
-        return self.asked.level is None and self.asked.outcome in names
-
-    def _check_mean(self) -> None:
-        """Refuses the mean where the formula isn't a sum of products with one term of the outcome each."""
-        for node in (it for tree in self.trees for it in nodes_of(tree)):
-            if "quotient" in node or self.asked.outcome in (*node.get("given", ()), *node.get("sum", ())):
-                raise RequestError(
-                    f"the mean of {self.asked.outcome} can't be had by this formula; cut it into classes, and give one as outcome"
-                )
-
-    def _check_size(self, names: Sequence[str]) -> None:
-        size = 1
-        for name in names:
-            size *= self.sizes[name]
-        if size > MOST_CELLS:
-            told = ", ".join(f"{name} {self.sizes[name]}" for name in names)
-            raise RequestError(
-                f"the term P({','.join(names)}) has {size} combinations of levels ({told}); cut them into classes, or give a set to adjust for"
-            )
-
-    @property
-    def has_moves(self) -> bool:
-        return False
-
-    def fit(self, weights: Any) -> None:
-        super().fit(weights)
-        self.weights = weights
-
-    def numbers(self, weights: Any) -> Tuple[float, float]:
-        self.definitions: List[Any] = []
-        self.found: Dict[Any, Any] = {}
-        for tree in self.trees[:-1]:
-            self.definitions.append(self._value(tree))
-        whole = self._value(self.trees[-1])
-        first, second = (self._at(whole, arm) for arm in self.asked.arms)
-        return first, second
-
-    def _at(self, whole: Any, arm: Arm) -> float:
-        at = {**self.asked.fixed, **arm, self.asked.outcome: self.asked.level or 0}
-        return float(whole[tuple(min(at.get(name, 0), size - 1) for name, size in zip(self.axes, whole.shape))])
-
-    def _value(self, tree: Told) -> Any:
-        if "definition" in tree:
-            return self.definitions[tree["definition"]]
-        if "term" in tree:
-            return self._share(tuple(tree["term"]), tuple(tree["given"]))
-        if "sum" in tree:
-            found = self._value(tree["of"])
-            for name in tree["sum"]:
-                axis = self.axes[name]
-                factor = self.sizes[name] if found.shape[axis] == 1 else 1
-                found = found.sum(axis=axis, keepdims=True) * factor
-            return found
-        if "quotient" in tree:
-            above, below = map(self._value, tree["quotient"])
-            return above / below
-        found = 1.0
-        for part in tree["product"]:
-            found = found * self._value(part)
-            if self.numpy.size(found) > MOST_CELLS:
-                raise RequestError("the formula sums over too many combinations of levels; cut numbers into classes, or give a set to adjust for")
-        return found
-
-    def _share(self, term: Tuple[str, ...], given: Tuple[str, ...]) -> Any:
-        """The values of a term over its own levels."""
-        if (term, given) not in self.found:
-            chain = self.chains.get((term, given))
-            self.found[term, given] = self._counted(term) if chain is None else self._chained(chain, term, given)
-        return self.found[term, given]
-
-    def _shaped(self, values: Any, names: Sequence[str]) -> Any:
-        """Values over the levels of these names, in the order of the names' axes."""
-        order = sorted(names, key=lambda name: self.axes[name])
-        values = values.reshape([self.sizes[name] for name in names]).transpose([list(names).index(name) for name in order])
-        return values.reshape([self.sizes[name] if name in names else 1 for name in self.axes])
-
-    def _counted(self, term: Tuple[str, ...]) -> Any:
-        numpy, place, size = self.numpy, 0, 1
-        for name in term:
-            place, size = place * self.sizes[name] + self.rows.codes[name], size * self.sizes[name]
-        return self._shaped(numpy.bincount(place, self.weights, size) / self.weights.sum(), term)
-
-    def _chained(self, chain: Sequence[Model], term: Tuple[str, ...], given: Tuple[str, ...]) -> Any:
-        numpy, found = self.numpy, 1.0
-        for model in chain:
-            name, conditions = model.target.name, [variable.name for variable in model.given]
-            sizes = [self.sizes[it] for it in conditions]
-            grid = numpy.indices(sizes).reshape(len(sizes), -1) if sizes else numpy.zeros((0, 1), dtype=int)
-            codes, rows = dict(zip(conditions, grid)), grid.shape[1]
-            values = model.means(codes, rows) if isinstance(model, Linear) else model.chances(codes, rows)
-            found = found * self._shaped(values, [*conditions, name])
         return found
 
 

@@ -202,8 +202,7 @@ class Evaluation:
 
     def pinned(self, table: Table, at: Pins) -> Table:
         """The table in which the level comes first that each free variable is pinned at: the first in order unless it is given."""
-        if at is not None and not isinstance(at, Mapping):
-            raise WrongType(f"at names levels, as in at={{'Z': 1}}, and is no {type(at).__name__}")
+        check_pins(at)
         pins = {name: order[0] for name, order in zip(table.names, table.ranked) if name in self.formula.free and order}
         for name, level in (at or {}).items():
             pins[name] = self.place_of(table, name, level)
@@ -344,6 +343,19 @@ class Evaluation:
         except CausalError:
             return False
         return True
+
+
+def check_pins(at: Any) -> None:
+    """Refuses what names no levels.
+
+    >>> from causal.evaluation import check_pins
+    >>> check_pins(3)
+    Traceback (most recent call last):
+        ...
+    causal.errors.WrongType: at names levels, as in at={'Z': 1}, and is no int
+    """
+    if at is not None and not isinstance(at, Mapping):
+        raise WrongType(f"at names levels, as in at={{'Z': 1}}, and is no {type(at).__name__}")
 
 
 def in_order_of_levels(effects: Effects) -> Effects:

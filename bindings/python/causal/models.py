@@ -22,14 +22,15 @@ class Fit:
     term: str
     model: str
     records: float
-    parameters: int
+    parameters: Optional[int]
     converged: bool
     log_likelihood: Optional[float] = None
     notes: Tuple[str, ...] = ()
 
     def __str__(self) -> str:
         likelihood = "" if self.log_likelihood is None else f", log-likelihood {self.log_likelihood:.6g}"
-        text = f"{self.term}: {self.model}, {self.parameters} parameters{likelihood}"
+        parameters = "" if self.parameters is None else f", {self.parameters} parameters"
+        text = f"{self.term}: {self.model}{parameters}{likelihood}"
         return "; ".join([text, *self.notes])
 
 
@@ -63,6 +64,7 @@ class Model:
     """A model of a variable (`target`) given others, fitted to weighted rows."""
 
     kind = ""
+    letter = "P"
     has_scores = False
 
     def __init__(self, numpy: Any, target: Variable, given: Sequence[Variable]) -> None:
@@ -70,15 +72,19 @@ class Model:
         self.notes: List[str] = []
         self.converged = True
         self.likelihood: Optional[float] = None
+        # The variables that were done, where it is of a trial.
+        self.done: Tuple[str, ...] = ()
 
     @property
     def term(self) -> str:
         """The probability or the mean that it is of."""
-        return f"P({self.target.name}|{','.join(variable.name for variable in self.given)})"
+        done = [f"do({','.join(self.done)})"] if self.done else []
+        given = [variable.name for variable in self.given if variable.name not in self.done]
+        return f"{self.letter}({self.target.name}|{','.join([*done, *given])})"
 
     @property
-    def parameters(self) -> int:
-        """How many parameters it has."""
+    def parameters(self) -> Optional[int]:
+        """How many parameters it has; None where that isn't known."""
         raise NotImplementedError
 
     def fit(self, codes: Mapping[str, Any], weights: Any) -> "Model":
@@ -198,12 +204,9 @@ class Linear(Model):
     """The mean of a number by least squares."""
 
     kind = "linear"
+    letter = "E"
     has_scores = True
     coefficients: Any = None
-
-    @property
-    def term(self) -> str:
-        return f"E({self.target.name}|{','.join(variable.name for variable in self.given)})"
 
     @property
     def parameters(self) -> int:
@@ -240,6 +243,35 @@ class Linear(Model):
         other = copy.copy(self)
         other.coefficients = values
         return other
+
+
+class Shifted(Linear):
+    """A number that is summed over: its mean by least squares, and about it the errors of the records, as they are.
+
+    `edges` are the borders between the classes whose chances are wanted.
+    """
+
+    kind = "linear, with the errors of the records"
+    letter = "P"
+    has_scores = False
+
+    def __init__(self, numpy: Any, target: Variable, given: Sequence[Variable], edges: Any) -> None:
+        super().__init__(numpy, target, given)
+        self.edges = edges
+
+    def fit(self, codes: Mapping[str, Any], weights: Any) -> "Shifted":
+        super().fit(codes, weights)
+        numpy = self.numpy
+        errors = self._wanted(codes) - self.means(codes, len(weights))
+        order = numpy.argsort(errors)
+        self.errors, self.shares = errors[order], numpy.concatenate([[0.0], numpy.cumsum(weights[order])]) / weights.sum()
+        return self
+
+    def chances(self, codes: Mapping[str, Any], rows: int) -> Any:
+        """The chance of each class in each row."""
+        numpy = self.numpy
+        below = self.shares[numpy.searchsorted(self.errors, self.edges[None, :] - self.means(codes, rows)[:, None], side="right")]
+        return numpy.diff(below, axis=1, prepend=0.0, append=1.0)
 
 
 class Shares(Model):
@@ -288,8 +320,8 @@ class Own(Model):
         self.kind = type(learner).__name__
 
     @property
-    def parameters(self) -> int:
-        return 0
+    def parameters(self) -> None:
+        return None
 
     def _design(self, codes: Mapping[str, Any], rows: int) -> Any:
         return matrix(self.numpy, self.given, codes, rows)[:, 1:]
@@ -322,8 +354,23 @@ def copied(learner: Any) -> Any:
     return copy.deepcopy(learner)
 
 
-def model_of(numpy: Any, asked: Any, target: Variable, given: Sequence[Variable], smoothing: float, is_mean: bool) -> Model:
-    """The model that was asked for."""
+def model_of(
+    numpy: Any,
+    asked: Any,
+    target: Variable,
+    given: Sequence[Variable],
+    smoothing: float,
+    is_mean: bool,
+    edges: Optional[Any] = None,
+) -> Model:
+    """The model that was asked for; with `edges`, the target is summed over in classes with these borders."""
+    uncut = [variable.name for variable in (target, *given) if variable.numbers is not None and len(variable.numbers) > len(variable.levels)]
+    if uncut and asked == "table":
+        raise RequestError(f"a table can't have a row for each number that {uncut[0]} may be: cut it into classes, or give another model")
+    if edges is not None:
+        if not isinstance(asked, str):
+            raise RequestError(f"the model {type(asked).__name__} can't give a chance to each number that {target.name} may be: cut it into classes")
+        return Shifted(numpy, target, given, edges)
     if is_mean:
         if asked not in ("linear", "logistic", "multinomial"):
             raise RequestError(f"the mean of {target.name} is modelled by 'linear'; for another model cut it into classes, and give outcome")

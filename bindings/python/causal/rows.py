@@ -2,10 +2,10 @@
 from __future__ import annotations
 
 import numbers
-from dataclasses import dataclass
+from dataclasses import dataclass, replace
 from typing import Any, Dict, List, Optional, Sequence, Tuple
 
-from causal.columns import _NUMBER, Column, Data, columns_of
+from causal.columns import _NUMBER, Column, Data, columns_of, in_order
 from causal.databases import database_of
 from causal.errors import CountsError
 from causal.frames import frame_of
@@ -37,6 +37,10 @@ class Rows:
     def records(self) -> int:
         """How many records there are."""
         return int(self.weights.sum()) if self.units is None else len(self.weights)
+
+    def replaced(self, name: str, variable: Variable) -> None:
+        """Puts another variable in the place of one."""
+        self.variables[name] = variable
 
     def drawn(self, source: Any, members: Sequence[Any]) -> Any:
         """The weights of records that are drawn anew."""
@@ -124,6 +128,34 @@ def rows_of(
     weights = numpy.array(record_counts(columns[count].values, kept) if count is not None else [1] * len(kept), dtype=float)
     codes, weights = merged(numpy, variables, codes, weights)
     return Rows(numpy, variables, codes, weights, dropped=dropped)
+
+
+def unified(numpy: Any, sources: Sequence[Rows]) -> List[Rows]:
+    """Rows of several sources, with one list of levels for each variable.
+
+    >>> import numpy
+    >>> from causal.rows import rows_of, unified
+    >>> from causal.samples import Design
+    >>> rows = [rows_of(numpy, {"X": held}, ["X"], [], ["X"], None, "error", Design()) for held in (["a", "c"], ["b", "c"])]
+    >>> [it.codes["X"].tolist() for it in unified(numpy, rows)], rows[0].variables["X"].levels
+    ([[0, 2], [1, 2]], ['a', 'c'])
+    """
+    found = [Rows(numpy, dict(it.variables), dict(it.codes), it.weights, it.units, it.strata, it.dropped) for it in sources]
+    for name in dict.fromkeys(name for it in sources for name in it.variables):
+        having = [it for it in found if name in it.variables]
+        levels: List[Any] = in_order(list(dict.fromkeys(level for it in having for level in it.variables[name].levels)))
+        are_numbers = all(it.variables[name].numbers is not None for it in having)
+        variable = Variable(name, levels, numpy.array([float(level) for level in levels]) if are_numbers else None)
+        places = {level: place for place, level in enumerate(levels)}
+        for it in having:
+            moved = numpy.array([places[level] for level in it.variables[name].levels], dtype=numpy.int64)
+            it.codes[name], it.variables[name] = moved[it.codes[name]], variable
+    return found
+
+
+def alias(rows: Rows, name: str, of: str) -> None:
+    """Lets a variable have another name as well."""
+    rows.variables[name], rows.codes[name] = replace(rows.variables[of], name=name), rows.codes[of]
 
 
 def merged(numpy: Any, variables: Dict[str, Variable], codes: Dict[str, Any], weights: Any) -> Tuple[Dict[str, Any], Any]:

@@ -109,6 +109,104 @@ class AgainstOthers(unittest.TestCase):
         self.assertAlmostEqual(float(found.difference), float(among.contrast(data, "X", "Y", **ARMS, given={"Z": 1}, resamples=0).difference))
 
 
+class Fixed:
+    """A model that says the same of each row."""
+
+    def fit(self, rows, wanted, sample_weight=None):
+        self.classes_ = numpy.unique(wanted)
+        return self
+
+    def predict_proba(self, rows):
+        return numpy.full((len(rows), len(self.classes_)), 1 / len(self.classes_))
+
+
+def drawn_numbers(size, seed=5):
+    """A hidden cause of X and Y, a number M between them, and a number C before all; with the risks under both levels of X."""
+    source = numpy.random.RandomState(seed)
+    hidden, c = source.uniform(size=size), source.normal(size=size)
+    x = source.uniform(size=size) < 1 / (1 + numpy.exp(-(c + 2 * hidden - 1)))
+    m = source.normal(x + 0.5 * c)
+
+    def risk(m):
+        return 1 / (1 + numpy.exp(-(m + hidden - 1 + 0.5 * c)))
+
+    y = source.uniform(size=size) < risk(m)
+    data = {"X": x.astype(int), "M": m, "C": c, "Y": y.astype(int)}
+    return data, [float(risk(level + 0.5 * c + m - x - 0.5 * c).mean()) for level in (1, 0)]
+
+
+class OtherFormulas(unittest.TestCase):
+    """Numbers that are summed over, effects among the treated, and trials."""
+
+    DOOR = Diagram("dag { X [exposure] Y [outcome] X -> M -> Y X <-> Y C -> X C -> M C -> Y }")
+
+    def test_numbers_are_summed_over(self):
+        data, truth = drawn_numbers(3000)
+        found = self.DOOR.estimate(data, **ARMS, resamples=2)
+        self.assertAlmostEqual(float(found.treated), truth[0], delta=0.05)
+        self.assertAlmostEqual(float(found.control), truth[1], delta=0.05)
+        self.assertIn("P(M|X,C): linear, with the errors of the records, 3 parameters", str(found))
+        self.assertIn("as numbers: M, C", str(found))
+        mean = self.DOOR.estimate({**data, "Y": data["Y"] + data["M"]}, treated=1, control=0, resamples=2)
+        self.assertAlmostEqual(float(mean.difference), truth[0] - truth[1] + 1, delta=0.1)
+
+    def test_classes_agree_with_levels(self):
+        data, _ = drawn_numbers(1500)
+        few = {**data, "C": numpy.round(data["C"]), "M": numpy.round(data["M"], 1)}
+        levels = self.DOOR.estimate({**few, "M": numpy.clip(few["M"], -2.9, 3.3)}, **ARMS, resamples=2)
+        classes = self.DOOR.estimate(few, **ARMS, resamples=2)
+        self.assertIn("linear, with the errors of the records", str(levels.fits[0]))
+        self.assertAlmostEqual(float(levels.difference), float(classes.difference), delta=0.03)
+
+    @needs_statsmodels
+    def test_the_treated(self):
+        data = study(400)
+        frame = pandas.DataFrame(data)
+        model = statsmodels.formula.api.glm("death ~ drug + age + sex", frame, family=statsmodels.api.families.Binomial()).fit(tol=1e-14)
+        for observed in (1, 0):
+            found = STUDY.estimate(data, **ARMS, observed=observed, resamples=2)
+            own = frame[frame["drug"] == observed]
+            for level, estimate in ((1, found.treated), (0, found.control)):
+                self.assertAlmostEqual(float(estimate), model.predict(own.assign(drug=level)).mean(), delta=1e-10)
+        self.assertIn("among those for whom drug=0 was observed", str(found))
+        bow = Diagram(read_example("bow.dag"))
+        with self.assertRaises(causal.NotIdentifiable):
+            bow.estimate(bow.simulate(50), **ARMS, observed=1)
+
+    def test_the_treated_by_tables(self):
+        kidney = Diagram(read_example("kidney_stones.dag"))
+        data = {"S": ["s"] * 4 + ["l"] * 4, "T": ["A", "A", "B", "B"] * 2, "R": [1, 0] * 4, "n": [81, 6, 234, 36, 192, 71, 55, 25]}
+        found = kidney.estimate(data, treated="A", control="B", outcome=1, count="n", observed="B", model="table", smoothing=0, resamples=2)
+        self.assertAlmostEqual(float(found.treated), 270 / 350 * 81 / 87 + 80 / 350 * 192 / 263, places=12)
+        self.assertAlmostEqual(float(found.control), 289 / 350, places=12)
+
+    def test_a_trial(self):
+        trial = Diagram(read_example("trial.dag"))
+        held = {"Z": [0, 0, 0, 0, 1, 1, 1, 1] * 5, "X": [0, 0, 1, 1] * 10, "Y": [0, 1, 1, 1] * 10}
+        asked = {**ARMS, "trials": {"Z": held}, "model": "table", "smoothing": 0, "resamples": 5}
+        found = trial.estimate(None, **asked, at={"Z": 1})
+        self.assertAlmostEqual(float(found.difference), 0.5, places=12)
+        self.assertIn("P(Y|do(Z),X): table", str(found))
+        self.assertEqual(found.pinned, {"Z": 1})
+        with self.assertRaisesRegex(causal.NotIdentifiable, "no formula found from these experiments"):
+            Diagram(read_example("bow.dag")).estimate(None, **{**asked, "trials": {"Y": held}})
+        with self.assertRaisesRegex(causal.RequestError, "without set"):
+            trial.estimate(None, **asked, set=[])
+
+    def test_observations_and_a_trial(self):
+        diagram = Diagram("dag { X [exposure] Y [outcome] X -> W -> Y X <-> W V -> Y V -> X }")
+        observed = {"V": ["a", "a", "b", "b"] * 8, "W": [0, 1] * 16, "Y": [0, 1, 1, 1] * 4 + [1, 1, 0, 1] * 4}
+        done = {"X": [0] * 10 + [1] * 10, "W": [0] * 8 + [1] * 2 + [0] * 4 + [1] * 6}
+        asked = {**ARMS, "trials": {"X": done}, "model": "table", "smoothing": 0, "resamples": 5}
+        found = diagram.estimate(observed, **asked)
+        # P(Y=1|W=0) = 1/2 and P(Y=1|W=1) = 1 at each level of V
+        self.assertAlmostEqual(float(found.treated), 0.4 * 0.5 + 0.6, places=12)
+        self.assertAlmostEqual(float(found.control), 0.8 * 0.5 + 0.2, places=12)
+        self.assertEqual(found.records, 52)
+        with self.assertRaisesRegex(causal.RequestError, "data has their records"):
+            diagram.estimate(None, **asked)
+
+
 class Intervals(unittest.TestCase):
     """Intervals by influence functions and by draws."""
 
@@ -203,6 +301,7 @@ class Told(unittest.TestCase):
             ({"model": "table", "smoothing": -1}, "smoothing is a number of records from 0 on"),
             ({"level": 95}, "level lies between 0 and 1"),
             ({"control": 1}, "treated and control are one arm"),
+            ({"at": 3}, "at names levels"),
         ):
             with self.subTest(more), self.assertRaisesRegex(causal.RequestError, told):
                 STUDY.estimate(data, **{**ARMS, **more})
@@ -219,10 +318,24 @@ class Told(unittest.TestCase):
     def test_many_levels(self):
         chain = Diagram("dag { X -> M -> Y X <-> Y }")
         source = random.Random(2)
-        data = {"X": [source.randrange(2) for _ in range(3000)], "M": [source.random() for _ in range(3000)]}
-        data["Y"] = [source.random() for _ in range(3000)]
-        with self.assertRaisesRegex(causal.RequestError, "combinations of levels"):
+        data = {"X": [source.randrange(2) for _ in range(200)], "M": [source.random() for _ in range(200)]}
+        data["Y"] = [source.random() for _ in range(200)]
+        with self.assertRaisesRegex(causal.RequestError, "Y has 200 levels: leave outcome out for its mean"):
             chain.estimate(data, "X", "Y", treated=1, control=0, outcome=data["Y"][0])
+        for model, told in (("table", "a table can't have a row for each number that M may be"), (Fixed(), "the model Fixed can't give a chance")):
+            with self.assertRaisesRegex(causal.RequestError, told):
+                chain.estimate({**data, "Y": data["X"]}, "X", "Y", **ARMS, model={"M": model}, resamples=2)
+
+    def test_an_exposure_of_many_numbers(self):
+        data = study(200)
+        dose = Diagram("dag { age [exposure] death [outcome] sex -> age -> death sex -> death }")
+        found = dose.estimate(data, treated=6.0, control=5.0, outcome=1)
+        self.assertEqual(found.arms, ({"age": 6.0}, {"age": 5.0}))
+        self.assertIn("as numbers: age", str(found))
+        with self.assertRaisesRegex(causal.RequestError, "age lies between .* and 50 beyond it"):
+            dose.estimate(data, treated=50, control=5.0, outcome=1)
+        with self.assertRaisesRegex(causal.RequestError, "weights need few levels of the exposure: age has 200"):
+            dose.estimate(data, treated=6.0, control=5.0, outcome=1, method="ipw")
 
 
 class Reports(unittest.TestCase):

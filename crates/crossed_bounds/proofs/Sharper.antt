@@ -1,5 +1,5 @@
 -- A stratum's sharper bound in every model that has the weights.
-use Rattle.std.proofs.Common.{ℕ, zero, suc, ◌*◌, ◌≡◌, ◌<◌, ◌≤◌, Bool, true, false, cond, eqb, ◌||◌, refl, sym, ap, ap₂, ◌∙◌, subst, inl, inr, arith}
+use Rattle.std.proofs.Common.{ℕ, zero, suc, ◌*◌, ◌≡◌, ◌≤◌, Bool, true, false, cond, eqb, ◌||◌, refl, sym, ap, ap₂, ◌∙◌, subst, inl, inr, arith}
 use Rattle.std.proofs.lemmas.Bool.{or_right}
 use Rattle.mixed_graph.specs.Graphs.{MixedGraph, IsMixedGraph}
 use Rattle.finite_models.specs.Models.{FiniteModel, Fits, IsAssignment, weight_of, probability, total}
@@ -13,11 +13,10 @@ use Rattle.natural_bounds.specs.Orders.{Bounds, trivial, tighter, tightest_over,
 use Rattle.natural_bounds.specs.Bounds.{Asked, fixed, level, said, bound_at, stratum_bound, IsAskedOf}
 use Rattle.natural_bounds.proofs.Effects.{positive_left}
 use Rattle.natural_bounds.proofs.Natural.{unmoved_weight, wider}
-use Rattle.natural_bounds.proofs.Orders.{times-le, positive-times, cancelled, bounds_trans, trivial_bottom, tighter_one, tighter_first, tighter_second, tightest_bottom}
+use Rattle.natural_bounds.proofs.Orders.{positive-times, bounds_trans, trivial_bottom, tighter_one, tighter_first, tighter_second, tightest_bottom}
 use Rattle.natural_bounds.proofs.Orders.{tightest_is_tightest, tightest_is_one}
-use Rattle.natural_bounds.proofs.Strata.{Holds, some, counted, stratum_bottom, stratum_holds, level_within, same_here, same_done, cell_within}
-use Rattle.crossed_bounds.specs.Crossed.{IsTwoValued, two_levels, levels_bound, crossed_bound, sharper_bound, AreSharperCrossed, TwoLevelsBound, SharperIsTight}
-use Rattle.crossed_bounds.specs.Crossed.{SharperCrossedHaveNoModel}
+use Rattle.natural_bounds.proofs.Strata.{Holds, some, counted, stratum_bottom, stratum_holds, level_within, same_here, same_done}
+use Rattle.crossed_bounds.specs.Crossed.{IsTwoValued, two_levels, levels_bound, crossed_bound, paired_bound, TwoLevelsBound}
 use Rattle.crossed_bounds.proofs.Counted.{levels_hold}
 
 -- ---- bottoms
@@ -36,37 +35,24 @@ crossed_bottom : (end : End) (n : Weights) (q : Asked) (s : ℕ → ℕ) → 1 �
 crossed_bottom end n q s = tightest_bottom end q.z n.size n.vertices (λ r. tightest_over end q.z n.size n.vertices (levels_bound end n q r) s) s
     (λ r. tightest_bottom end q.z n.size n.vertices (levels_bound end n q r) s (λ t. levels_bottom end n q r t))
 
-pub sharper_bottom : (end : End) (n : Weights) (q : Asked) (s : ℕ → ℕ) → 1 ≤ (sharper_bound end n q s).bottom
-sharper_bottom end n q s = tighter_one end (stratum_bound end n q s) (crossed_bound end n q s) (λ f. 1 ≤ f.bottom) (stratum_bottom end n q s)
+pub paired_bottom : (end : End) (n : Weights) (q : Asked) (s : ℕ → ℕ) → 1 ≤ (paired_bound end n q s).bottom
+paired_bottom end n q s = tighter_one end (stratum_bound end n q s) (crossed_bound end n q s) (λ f. 1 ≤ f.bottom) (stratum_bottom end n q s)
     (crossed_bottom end n q s)
 
-pub sharper_is_tight : SharperIsTight
-sharper_is_tight end n q s = (
-  tighter_first end (stratum_bound end n q s) (crossed_bound end n q s) (stratum_bottom end n q s) (crossed_bottom end n q s),
-  λ r t r_in t_in. bounds_trans end (levels_bound end n q r t) (crossed_bound end n q s) (sharper_bound end n q s)
-      (bounds_trans end (levels_bound end n q r t) (tightest_over end q.z n.size n.vertices (levels_bound end n q r) s) (crossed_bound end n q s)
-      (tightest_is_tightest end q.z n.size n.vertices (levels_bound end n q r) s t (λ t. levels_bottom end n q r t) t_in)
-      (tightest_is_tightest end q.z n.size n.vertices (λ r. tightest_over end q.z n.size n.vertices (levels_bound end n q r) s) s r
-      (λ r. tightest_bottom end q.z n.size n.vertices (levels_bound end n q r) s (λ t. levels_bottom end n q r t)) r_in))
-      (tighter_second end (stratum_bound end n q s) (crossed_bound end n q s) (stratum_bottom end n q s) (crossed_bottom end n q s)),
-)
+pub paired_is_natural : (end : End) (n : Weights) (q : Asked) (s : ℕ → ℕ) → Bounds end (stratum_bound end n q s) (paired_bound end n q s)
+paired_is_natural end n q s = tighter_first end (stratum_bound end n q s) (crossed_bound end n q s) (stratum_bottom end n q s) (crossed_bottom end n q s)
 
--- bounds of one number don't cross, where there is weight
-crossed_numbers : (lt lb ut ub w x : ℕ) → 1 ≤ w → lt * w ≤ x * lb → x * ub ≤ ut * w → lt * ub ≤ ut * lb
-crossed_numbers lt lb ut ub w x pos h k =
-    cancelled (lt * ub) (ut * lb) w pos
-    (let a = times-le (lt * w) (x * lb) ub h in let b = times-le (x * ub) (ut * w) lb k in
-    let one : (lt * ub) * w ≡ (lt * w) * ub = omega arith in
-    let two : (x * lb) * ub ≡ (x * ub) * lb = omega arith in
-    let three : (ut * w) * lb ≡ (ut * lb) * w = omega arith in
-    omega (arith, a, b, one, two, three))
+pub paired_is_levels : (end : End) (n : Weights) (q : Asked) (s r t : ℕ → ℕ) → IsIn q.z n.size n.vertices s r → IsIn q.z n.size n.vertices s t
+    → Bounds end (levels_bound end n q r t) (paired_bound end n q s)
+paired_is_levels end n q s r t r_in t_in = bounds_trans end (levels_bound end n q r t) (crossed_bound end n q s) (paired_bound end n q s)
+    (bounds_trans end (levels_bound end n q r t) (tightest_over end q.z n.size n.vertices (levels_bound end n q r) s) (crossed_bound end n q s)
+    (tightest_is_tightest end q.z n.size n.vertices (levels_bound end n q r) s t (λ t. levels_bottom end n q r t) t_in)
+    (tightest_is_tightest end q.z n.size n.vertices (λ r. tightest_over end q.z n.size n.vertices (levels_bound end n q r) s) s r
+    (λ r. tightest_bottom end q.z n.size n.vertices (levels_bound end n q r) s (λ t. levels_bottom end n q r t)) r_in))
+    (tighter_second end (stratum_bound end n q s) (crossed_bound end n q s) (stratum_bottom end n q s) (crossed_bottom end n q s))
 
 times_none : (a b : ℕ) → a ≡ 0 → a * b ≡ 0
 times_none a b e = subst (λ i. i * b ≡ 0) (sym e) (omega arith)
-
--- two trivial bounds don't cross
-apart_trivial : (trivial AtMost).top * (trivial AtLeast).bottom < (trivial AtLeast).top * (trivial AtMost).bottom → ⊥
-apart_trivial lt = absurd (omega (arith, lt))
 
 module _ (g : MixedGraph) (ok : IsMixedGraph g) (used : ℕ → Bool) (q : Asked) (asked : IsAskedOf g used q) (m : FiniteModel) (fit : Fits g m) (n : Weights)
     (all : ℕ) (match : AreProportional used n all (weights_of m) (total m)) (b : IsTwoValued n q.x) where
@@ -76,7 +62,7 @@ module _ (g : MixedGraph) (ok : IsMixedGraph g) (used : ℕ → Bool) (q : Asked
   abbrev done_at : (ℕ → ℕ) → ℕ
   done_at s = weight_of m q.x (λ v. q.y v || fixed q v) s
 
-  trivial_holds : (end : End) (s : ℕ → ℕ) → IsAssignment m.vertices m.size s → Holds end (trivial end) (here_at s) (done_at s)
+  pub trivial_holds : (end : End) (s : ℕ → ℕ) → IsAssignment m.vertices m.size s → Holds end (trivial end) (here_at s) (done_at s)
   trivial_holds AtLeast s within = omega arith
   trivial_holds AtMost s within =
       let a = wider m q.x (λ v. q.y v || fixed q v) (fixed q) s (λ v i. or_right (q.y v) (fixed q v) i) in
@@ -113,8 +99,8 @@ module _ (g : MixedGraph) (ok : IsMixedGraph g) (used : ℕ → Bool) (q : Asked
               ])
         ]
 
-    pub sharper_holds : (end : End) → Holds end (sharper_bound end n q s) (here_at s) (done_at s)
-    sharper_holds end = tighter_one end (stratum_bound end n q s) (crossed_bound end n q s) (λ f. Holds end f (here_at s) (done_at s))
+    pub paired_holds : (end : End) → Holds end (paired_bound end n q s) (here_at s) (done_at s)
+    paired_holds end = tighter_one end (stratum_bound end n q s) (crossed_bound end n q s) (λ f. Holds end f (here_at s) (done_at s))
         (stratum_holds g ok used q asked m fit n all match end s within) (crossed_holds end)
 
     -- ---- where the stratum has no weight
@@ -150,24 +136,12 @@ module _ (g : MixedGraph) (ok : IsMixedGraph g) (used : ℕ → Bool) (q : Asked
           ]
         ]
 
-    sharper_trivial : (end : End) → here_at s ≡ 0 → sharper_bound end n q s ≡ trivial end
-    sharper_trivial end none = ap₂ (λ f h. tighter end f h) (natural_trivial end none) (crossed_trivial end none) ∙ go end
+    pub paired_trivial : (end : End) → here_at s ≡ 0 → paired_bound end n q s ≡ trivial end
+    paired_trivial end none = ap₂ (λ f h. tighter end f h) (natural_trivial end none) (crossed_trivial end none) ∙ go end
       where
         go : (end : End) → tighter end (trivial end) (trivial end) ≡ trivial end
         go AtLeast = refl
         go AtMost = refl
-
-    -- so bounds don't cross
-    pub not_sharper_crossed : AreSharperCrossed n q s → ⊥
-    not_sharper_crossed crossed = go (here_at s) refl
-      where
-        go : (k : ℕ) → here_at s ≡ k → ⊥
-        go zero e = apart_trivial (subst (λ f. (trivial AtMost).top * f.bottom < f.top * (trivial AtMost).bottom) (sharper_trivial AtLeast e)
-            (subst (λ f. f.top * (sharper_bound AtLeast n q s).bottom < (sharper_bound AtLeast n q s).top * f.bottom) (sharper_trivial AtMost e) crossed))
-        go (suc k) e =
-            let le = crossed_numbers (sharper_bound AtLeast n q s).top (sharper_bound AtLeast n q s).bottom (sharper_bound AtMost n q s).top
-            (sharper_bound AtMost n q s).bottom (here_at s) (done_at s) (omega (arith, e)) (sharper_holds AtLeast) (sharper_holds AtMost) in
-            absurd (omega (arith, le, crossed))
 
   -- ---- the effect in a stratum
   levels_probability : (end : End) (s : ℕ → ℕ) → IsAssignment m.vertices m.size s → (r t : ℕ → ℕ) → IsIn q.z n.size n.vertices s r
@@ -209,7 +183,3 @@ module _ (g : MixedGraph) (ok : IsMixedGraph g) (used : ℕ → Bool) (q : Asked
 pub two_levels_bound : TwoLevelsBound
 two_levels_bound end g ok used q asked n b all s r t r_in t_in r_some t_some m fit match within =
     levels_probability g ok used q asked m fit n all match b end s within r t r_in t_in r_some t_some
-
-pub sharper_crossed_have_no_model : SharperCrossedHaveNoModel
-sharper_crossed_have_no_model g ok used q asked n b all s cell crossed m fit match =
-    not_sharper_crossed g ok used q asked m fit n all match b s (cell_within g used m fit n all match s cell) crossed

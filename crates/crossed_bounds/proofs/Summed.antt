@@ -28,7 +28,7 @@ use Rattle.natural_bounds.proofs.Natural.{unmoved_weight}
 use Rattle.natural_bounds.proofs.Orders.{positive-times, bounds_equal, add_over_bounds}
 use Rattle.natural_bounds.proofs.Strata.{term_lower, term_upper, some, counted, counted_stratum}
 use Rattle.crossed_bounds.specs.Crossed.{IsTwoValued, sharper_bound, sharper_effect, SharperBoundsHold}
-use Rattle.crossed_bounds.proofs.Sharper.{sharper_bottom, sharper_holds}
+use Rattle.crossed_bounds.proofs.Others.{sharper_bottom, sharper_holds}
 
 or_assoc : (p q r : Bool) → (p || (q || r)) ≡ ((p || q) || r)
 or_assoc true q r = refl

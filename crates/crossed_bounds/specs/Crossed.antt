@@ -4,11 +4,12 @@ use Rattle.std.specs.Prelude.{ℕ, ◌+◌, ◌-◌, ◌*◌, ◌≡◌, ◌<◌
 use Rattle.mixed_graph.specs.Graphs.{MixedGraph, IsMixedGraph}
 use Rattle.fractions.specs.Fractions.{Fraction, over, mul}
 use Rattle.finite_models.specs.Sums.{sum_over}
+use Rattle.finite_models.specs.Models.{agree}
 use Rattle.prob_expr.specs.Values.{Weights, add_over}
 use Rattle.natural_bounds.specs.declared.ends.End.{End}
 use Rattle.natural_bounds.specs.declared.ends.End.TheVariants.{AtLeast, AtMost}
 use Rattle.natural_bounds.specs.Orders.{Bounds, trivial, tighter, tightest_over, IsIn}
-use Rattle.natural_bounds.specs.Bounds.{Asked, fixed, joint, level, share, condition, stratum_bound, BoundsEffect, HasNoModel, IsAskedOf, IsCellOf}
+use Rattle.natural_bounds.specs.Bounds.{Asked, fixed, joint, level, stratum, share, condition, stratum_bound, BoundsEffect, HasNoModel, IsAskedOf, IsCellOf}
 
 -- x is one vertex, and has two values
 pub record IsTwoValued (n : Weights) (x : ℕ → Bool) : Type 0 where
@@ -52,9 +53,26 @@ levels_bound end n q r t = if level n q r * level n q t == 0 then trivial end el
 abbrev pub crossed_bound : End → Weights → Asked → (ℕ → ℕ) → Fraction
 crossed_bound end n q s = tightest_over end q.z n.size n.vertices (λ r. tightest_over end q.z n.size n.vertices (levels_bound end n q r) s) s
 
--- the sharper bound of a stratum: the tighter of this and of the natural one
+-- the tighter of this and of the natural bound
+abbrev pub paired_bound : End → Weights → Asked → (ℕ → ℕ) → Fraction
+paired_bound end n q s = tighter end (stratum_bound end n q s) (crossed_bound end n q s)
+
+-- what the other values of y are at least, summed
+abbrev pub others_least : Weights → Asked → (ℕ → ℕ) → Fraction
+others_least n q s = add_over q.y n.size n.vertices (λ c. if agree n.vertices q.y c s then over 0 1 else paired_bound AtLeast n q c) s
+
+-- 1 - f
+abbrev pub rest_of : Fraction → Fraction
+rest_of f = over (f.bottom - f.top) f.bottom
+
+-- what they leave: P(y | do(x), w) is at most 1 less what the other values of y are at least; a stratum without weight says nothing
+abbrev pub others_bound : Weights → Asked → (ℕ → ℕ) → Fraction
+others_bound n q s = if stratum n q s == 0 then trivial AtMost else rest_of (others_least n q s)
+
+-- the sharper bound of a stratum
 abbrev pub sharper_bound : End → Weights → Asked → (ℕ → ℕ) → Fraction
-sharper_bound end n q s = tighter end (stratum_bound end n q s) (crossed_bound end n q s)
+sharper_bound AtLeast n q s = paired_bound AtLeast n q s
+sharper_bound AtMost n q s = tighter AtMost (paired_bound AtMost n q s) (others_bound n q s)
 
 -- the sharper bound of P(y | do(x), c): each stratum's share times its bound, summed over the strata
 abbrev pub sharper_effect : End → Weights → Asked → (ℕ → ℕ) → Fraction
@@ -78,10 +96,12 @@ abbrev pub SharperBoundsHold : Type 0
 SharperBoundsHold = (end : End) (g : MixedGraph) → IsMixedGraph g → (used : ℕ → Bool) (q : Asked) → IsAskedOf g used q → (n : Weights) → IsTwoValued n q.x
     → (all : ℕ) (s : ℕ → ℕ) → 1 ≤ condition n q s → BoundsEffect end g q.x q.y q.c used n all s (sharper_effect end n q s)
 
--- a stratum's sharper bound is as tight as the natural one, and as what each pair of levels says
+-- a stratum's sharper bound is as tight as the natural one, as what each pair of levels says, and as what the other values of y leave
 abbrev pub SharperIsTight : Type 0
-SharperIsTight = (end : End) (n : Weights) (q : Asked) (s : ℕ → ℕ) → Bounds end (stratum_bound end n q s) (sharper_bound end n q s)
-    × ((r t : ℕ → ℕ) → IsIn q.z n.size n.vertices s r → IsIn q.z n.size n.vertices s t → Bounds end (levels_bound end n q r t) (sharper_bound end n q s))
+SharperIsTight = (n : Weights) (q : Asked) (s : ℕ → ℕ) → ((end : End) → Bounds end (stratum_bound end n q s) (sharper_bound end n q s))
+    × ((end : End) (r t : ℕ → ℕ) → IsIn q.z n.size n.vertices s r → IsIn q.z n.size n.vertices s t
+    → Bounds end (levels_bound end n q r t) (sharper_bound end n q s))
+    × Bounds AtMost (others_bound n q s) (sharper_bound AtMost n q s)
 
 -- where the sharper bounds of a stratum cross, no model of the graph has the weights
 abbrev pub SharperCrossedHaveNoModel : Type 0

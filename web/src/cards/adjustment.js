@@ -66,7 +66,8 @@ function setsVerdict({ sets, hasMore }) {
   }
   const title = sets.length === 1 ? "One minimal set" : `${sets.length}${hasMore ? " or more" : ""} minimal sets`;
   return verdict("yes", title, !sets[0].length ? "The empty set meets the criterion: nothing has to be adjusted for."
-    : "Adjust for one of them: each suffices, and nothing can be left out of it. The smallest come first.");
+    : sets.length === 1 ? "Adjust for it: it suffices, and nothing can be left out of it."
+      : "Adjust for one of them: each suffices, and nothing can be left out of it. The smallest come first.");
 }
 
 const MOST_ROWS = 40;
@@ -92,6 +93,7 @@ const isWanted = (wish = {}) => (set) => Object.entries(wish).every(([name, how]
 
 function chips({ ctx, sets }) {
   const { memory } = ctx;
+  if (!sets.length) return null;
   const choose = (set) => {
     memory.set = set;
     memory.shows = "set";

@@ -6,7 +6,8 @@ import { boundsOf, levelsIn, valuesOf } from "../objects.js";
 import { digitsAbove, digitsBelow, fractionOf, minus, nearly } from "../statistics/fraction.js";
 import { listWord, pathText } from "../text/printed.js";
 import { chosenContrast, contrastChoices } from "./contrast.js";
-import { listed, pathMarks, sourceOf, verdict, withRole } from "./parts.js";
+import { instrumentsPart } from "./instruments.js";
+import { fold, listed, pathMarks, sourceOf, verdict, withRole } from "./parts.js";
 import { chosenSet } from "./sets.js";
 import { countWords, tableName } from "./table.js";
 
@@ -41,7 +42,7 @@ function chosenSets(ctx, given) {
   return {
     instrument: instrument.names, strata: has ? strata.names : [],
     pickers: () => free.length > 0 && h("div", { class: "stack" }, h("div", { class: "pickers" }, instrument.row(), has && rest.length > 0 && strata.row()),
-      !has && h("p", { class: "small-print" }, ABOUT_INSTRUMENTS)),
+      !has && h("p", { class: "small-print" }, ABOUT_INSTRUMENTS), !has && fold(ctx, "instruments", "Which variables are instruments", () => instrumentsPart(ctx))),
   };
 }
 

@@ -3,15 +3,17 @@ import { Diagram } from "../diagram/diagram.js";
 import { summary } from "../diagram/describe.js";
 import { DIAGRAM, SECOND } from "../names.js";
 import { graphOf } from "../objects.js";
+import { titleOf } from "../page/kept.js";
 import { listed, sourceOf, verdict } from "./parts.js";
 
 const WORDS = ["equivalent", DIAGRAM, SECOND];
 const PAUSE_MS = 150;
+const CONFOUNDED = 7; // of the faults of a question: a diagram has common hidden causes
 
 /** @param {import("./parts.js").Context} ctx */
 async function answer(ctx) {
   const { memory } = ctx;
-  memory.second ??= ctx.text;
+  if (!memory.isSecondChosen) memory.second = ctx.text;
   if (memory.secondGiven !== memory.second) ctx.put(SECOND, (memory.secondGiven = memory.second));
   const [said, read] = await Promise.all([ctx.read(WORDS), ctx.read(["graph", SECOND])]);
   const second = read.fault ? null : graphOf(read.object), { difference } = said.object;
@@ -19,7 +21,7 @@ async function answer(ctx) {
   const places = second && (await placesFor(ctx, second));
   return {
     dot: "", marks: own,
-    view: () => h("div", {}, judged(said), secondHead(ctx), secondText(ctx),
+    view: () => h("div", {}, judged(said), secondHead(ctx, Boolean(second)), secondText(ctx),
       second && picture(second, places, other), sourceOf(ctx, WORDS, said)),
   };
 }
@@ -55,24 +57,38 @@ function judged({ status, object, fault }) {
       listed(x), " and ", listed(y), given.length ? [" given ", listed(given)] : "",
       ` are separated in the ${separatedIn} alone.`);
   }
+  if (fault.number === CONFOUNDED) {
+    return verdict("ask", "Compare takes diagrams without hidden causes alone", ...listed(fault.names), " have one in the ",
+      fault.stage.startsWith("second") ? "second" : "first", ": two arrows out of what is unmeasured, or a ↔. Equivalence isn't decided with them.");
+  }
   return verdict("ask", `${fault.stage?.startsWith("second") ? "Second diagram: " : ""}${fault.sentence}`,
     ...(fault.line ? [`At line ${fault.line}, column ${fault.column}.`] : []));
 }
 
-function secondHead(ctx) {
-  const take = () => {
-    ctx.memory.second = ctx.text;
+/** Where the second diagram comes from: the first, one of the user's, or the drawing, by a swap of the two. */
+function secondHead(ctx, canSwap) {
+  const { memory } = ctx, mine = ctx.kept().filter(({ text }) => text !== ctx.text);
+  const choose = (text) => {
+    Object.assign(memory, { second: text, isSecondChosen: true });
     ctx.refresh();
   };
-  return h("div", { class: "row" }, h("b", {}, "The second diagram"),
-    button("Copy from the first", take, { data: { key: "copy first" } }));
+  const swap = () => {
+    const { second } = memory;
+    Object.assign(memory, { second: ctx.text, isSecondChosen: true });
+    ctx.open(second);
+  };
+  const list = h("select", { "aria-label": "Take one of your diagrams", data: { key: "take mine" }, onchange: (e) => choose(mine[e.target.value].text) },
+    h("option", { value: "" }, "Yours …"), mine.map(({ name, text }, i) => h("option", { value: i }, name || titleOf(text))));
+  return h("div", { class: "stack" }, h("b", {}, "The second diagram"), h("div", { class: "row" },
+    button("Copy from the first", () => choose(ctx.text), { data: { key: "copy first" } }), mine.length > 0 && list,
+    canSwap && button("Swap the two", swap, { title: "Draw in the second; the first stands here then", data: { key: "swap" } })));
 }
 
 /** Made after the answers came, with what was typed meanwhile. */
 function secondText(ctx) {
   let timer;
   const typed = (e) => {
-    ctx.memory.second = e.target.value;
+    Object.assign(ctx.memory, { second: e.target.value, isSecondChosen: true });
     clearTimeout(timer);
     timer = setTimeout(ctx.refresh, PAUSE_MS);
   };

@@ -100,13 +100,16 @@ function noValue(found) {
   return h("div", {}, choices(found), fine.length
     ? verdict("no", `Group ${fine.map(({ name }) => name).join(" and ")} first`, `${many}, so most combinations have no row. `
       + "Cut them above. ", without)
-    : lacksMark(fault) ? verdict("ask", fault.sentence) : verdict("no", "No value", without ?? fault.sentence),
+    : lacksMark(fault) ? verdict("ask", fault.sentence) : verdict("no", "No value", without ?? fault.sentence, without && hasLoose(ctx) && " The buttons above leave out rows or join levels."),
   zeroPart(ctx, without),
   other ? h("p", {}, "The formula of adjusting for ", other.set.length ? listed(other.set) : "nothing", " has a value over this table. ",
     button("Use it", use(other.by), { id: "use" })) : null,
   without && h("p", {}, "Bounds need no such records: ", button("At least and at most", use(BOUNDS), { id: "use-bounds" })),
   sourceOf(ctx, words, bounds));
 }
+
+/** Whether rows have missing values, or levels differ in spelling, that count as they are. */
+const hasLoose = ({ memory: { csv, table: { reading } } }) => (csv.incomplete > 0 && !reading.leavesOut) || (!reading.joins && csv.notes.some(({ spellings }) => spellings.length > 0));
 
 // ---- The effect
 

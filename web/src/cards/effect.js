@@ -7,6 +7,7 @@ import { derivation } from "./derivation.js";
 import { askedAhead, chosenForm } from "./forms.js";
 import { hedge } from "./hedge.js";
 import { certificateRow, fold, formulaBox, listed, refused, source, verdict, withRole } from "./parts.js";
+import { instrumentsPart } from "./instruments.js";
 import { ALL_KINDS, chosenKind } from "./kind.js";
 import { chosenSet, howToChoose } from "./sets.js";
 import { notesOn } from "./signs.js";
@@ -18,7 +19,7 @@ const IDENTIFY = ["identify", DIAGRAM];
 async function answer(ctx) {
   const given = chosenSet(ctx, "condition", "Given", []), { names } = given, kind = await chosenKind(ctx, ALL_KINDS), { isDirect } = kind;
   const asked = [...IDENTIFY, ...kind.words, ...(names.length ? ["--given", listWord(names)] : [])];
-  const more = () => [condition(ctx, given, kind)];
+  const more = () => [condition(ctx, given, kind), ...(hasBoth(ctx) ? [fold(ctx, "instruments", "Instruments", () => instrumentsPart(ctx))] : [])];
   if (kind.id === "treated") return amongTheTreated(ctx, kind, names, more);
   const form = await chosenForm(ctx, asked), { words, said } = form;
   if (said.fault) return refused(ctx, words, said, () => (names.length || kind.id === "direct" ? h("div", { class: "stack" }, kind.row(), more()) : null));
@@ -33,10 +34,12 @@ async function answer(ctx) {
 /** Whether setting the exposure leaves the outcome as it is: the third rule with nothing seen, which the program decides. */
 async function leavesUnchanged(ctx) {
   const xs = withRole(ctx, "exposure"), ys = withRole(ctx, "outcome");
-  if (!xs.length || !ys.length) return false;
+  if (!hasBoth(ctx)) return false;
   const sets = ["--y", listWord(ys), "--z", listWord(xs), "--do", "{}", "--given", "{}"];
   return (await ctx.ask(["rule", DIAGRAM, "--rule", "3", ...sets])).status === 0;
 }
+
+const hasBoth = (ctx) => ["exposure", "outcome"].every((role) => withRole(ctx, role).length);
 
 /** The choice of a condition: the effect among those with the same values of some variables. */
 function condition(ctx, given, { id }) {

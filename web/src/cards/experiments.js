@@ -31,7 +31,7 @@ function choice(ctx, sets, chosen) {
     ctx.refresh();
   };
   const canAdd = chosen === sets.length && sets.length < MOST;
-  return h("div", {}, h("div", { class: "pickers" }, sets.map((set) => set.row())),
+  return h("div", { class: "stack" }, h("div", { class: "pickers" }, sets.map((set) => set.row())),
     canAdd ? h("p", {}, button("Another trial", add, { data: { key: "another trial" } })) : null, howToChoose());
 }
 

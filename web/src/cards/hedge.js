@@ -38,7 +38,7 @@ function view(ctx, words, object, kind, { row }, more) {
     isAsked ? [" Nor does any formula equal ", h("code", {}, object.effect), DIFFER[kind] ?? "", "."] : ""),
     fold(ctx, "next", "What would help", () => whatNext(ctx, words)),
     ...hedgeParts(object),
-    source(words, ctx.print(words)),
+    source(words, () => ctx.print(words)),
     certificateRow(ctx, words), ...more);
 }
 

@@ -80,7 +80,7 @@ function view(found) {
     pairs.length ? dataPart(found) : null);
 }
 
-function head({ pairs, tests, untested, rejected }) {
+function head({ ctx, pairs, tests, untested, rejected }) {
   if (!pairs.length) {
     return verdict("no", "No independence to test", "No two variables are separated by any set, so the diagram demands no "
       + "independence of what is observed.");
@@ -90,7 +90,8 @@ function head({ pairs, tests, untested, rejected }) {
     return verdict("yes", many, "If the diagram is right, each pair is independent given the set beside it. No other pair is separated by any set. "
       + "A table can test this.");
   }
-  const done = [...tests.values()].filter(({ p }) => p !== null).length, left = untested ? ` ${untested} more name a variable without a column.` : "";
+  const { csv, table: { reading } } = ctx.memory, done = [...tests.values()].filter(({ p }) => p !== null).length;
+  const left = (csv.incomplete && !reading.leavesOut ? " Missing values are counted as a level." : "") + (untested ? ` ${untested} more name a variable without a column.` : "");
   return rejected.length
     ? verdict("no", `${rejected.length} of ${done} tested independences ${rejected.length === 1 ? "is" : "are"} rejected`,
       `At the level ${LEVEL}, after Holm's correction: lines in the drawing join these pairs. So some assumption of the diagram doesn't fit the table.${left}`)
@@ -125,7 +126,7 @@ function row(ctx, pair, hasTests, hasDifference) {
   h("td", {}, given.join(", ") || "–", " ", furtherButton(ctx, a, b)),
   hasTests ? h("td", { class: "number", title: statistic }, test ? part(test.p) : "no column", test && h("small", {}, `Holm ${part(test.adjusted)}`)) : null,
   hasDifference ? h("td", { title: `${difference} in counts, as the program prints it` },
-    h("span", { class: "number" }, share === null ? difference : share.toFixed(4)), h("small", { class: "cell" }, `at ${at}`)) : null);
+    h("span", { class: "number" }, share === null ? difference : share.toFixed(4)), h("small", { class: "cell" }, at && ["at ", at.split(",").map((level, i) => [i ? [",", h("wbr")] : "", level])])) : null);
 }
 
 /** Shows the pair under Separate, with all sets that separate it. */

@@ -36,6 +36,8 @@ import { formulaTex } from "../paper.js";
  * @property {(id: string) => void} show shows another card
  * @property {(marks?: Marks) => void} mark shows something else in the drawing; nothing gives the card's own again
  * @property {(file: File) => void} take takes a table of counts
+ * @property {() => import("../page/kept.js").Entry[]} kept the diagrams that the browser keeps
+ * @property {(text: string) => void} open shows another diagram
  * @property {import("../page/drawing.js").Drawing} drawing
  * @property {import("../page/acts.js").Acts} acts
  * @property {import("../places.js").Places} places
@@ -47,17 +49,24 @@ const shellWord = (word) => (/^[\w./,=-]+$/.test(word) ? word : `'${word.replace
 /** The words as a command line. */
 export const commandOf = (words) => ["causal", ...words].map(shellWord).join(" ");
 
-/** The command line that gives an answer, and the text that is printed for it, or that will come; empty where there is none. */
-export function source(words, /** @type {string | Promise<string>} */ printed) {
-  const line = commandOf(words), box = h("div", { class: "printed" });
-  const shown = line.split(" ").map((word, i) => [i ? " " : "", h("span", { class: "word" }, word)]);
-  const isThere = typeof printed === "string";
-  fillPrinted(box, isThere ? printed : "");
-  if (!isThere) printed.then((text) => fillPrinted(box, text));
-  return h("div", { class: "source" },
-    h("div", { class: "command" },
-      h("code", {}, h("span", { class: "prompt", "aria-hidden": "true" }, "$ "), shown), copyButton(line, "command")),
-    printed && box);
+let showsPrinted = false; // when one such text is opened, those of later answers are
+
+/** The command line that gives an answer; behind it, folded, the text that is printed for it, or that is asked for; empty where there is none. */
+export function source(words, /** @type {string | (() => Promise<string>)} */ printed) {
+  const line = commandOf(words), shown = line.split(" ").map((word, i) => [i ? " " : "", h("span", { class: "word" }, word)]);
+  const code = h("code", {}, h("span", { class: "prompt", "aria-hidden": "true" }, "$ "), shown);
+  return h("div", { class: "source" }, printed ? foldedText(code, printed) : h("div", { class: "command" }, code), copyButton(line, "command"));
+}
+
+function foldedText(code, printed) {
+  const box = h("div", { class: "printed" });
+  const fill = async () => fillPrinted(box, typeof printed === "string" ? printed : await printed());
+  const details = h("details", { open: showsPrinted, ontoggle: () => {
+    showsPrinted = details.open;
+    if (details.open && !box.childNodes.length) fill();
+  } }, h("summary", { class: "command", title: "What the program prints" }, code), box);
+  if (details.open) fill();
+  return details;
 }
 
 function fillPrinted(box, text) {
@@ -66,7 +75,7 @@ function fillPrinted(box, text) {
 }
 
 /** The same for an answer: what is printed is asked for when it is shown. A fault is told in a sentence. @param {Said} said */
-export const sourceOf = (ctx, words, { fault }) => source(words, fault ? lineOf(fault) : ctx.print(words));
+export const sourceOf = (ctx, words, { fault }) => source(words, fault ? lineOf(fault) : () => ctx.print(words));
 
 const lineOf = ({ number, told }) => (number ? "" : told);
 

@@ -10,7 +10,7 @@ async function answer(ctx) {
   const y = chosenSet(ctx, "y", "To", withRole(ctx, "outcome"));
   const w = chosenSet(ctx, "given", "Given", withRole(ctx, "adjusted"));
   const words = ["separate", DIAGRAM, "--x", listWord(x.names), "--y", listWord(y.names), "--given", listWord(w.names)];
-  const said = await ctx.read(words), { open: path } = said.object, sets = await separatingSets(ctx, x.names, y.names);
+  const said = await ctx.read(words), { open: path } = said.object, sets = await separatingSets(ctx.read, x.names, y.names);
   const classes = [[x, "from"], [y, "to"], [w, "chosen"]];
   return {
     dot: "",
@@ -28,13 +28,13 @@ const MOST_SETS = 100;
 /**
  * The minimal sets that separate x from y. They are those of the adjustment criterion for an exposure from which no directed way leads
  * to the outcome, so one of the two orders gives them; the program's own test confirms each.
- * @returns {Promise<{list: string[][], hasMore: boolean, words: string[]}>}
+ * @param {(words: string[]) => Promise<import("../objects.js").Said>} read asks of a diagram @returns {Promise<{list: string[][], hasMore: boolean, words: string[]}>}
  */
-async function separatingSets(ctx, x, y) {
+export async function separatingSets(read, x, y) {
   for (const [from, to] of x.length && y.length ? [[x, y], [y, x]] : []) {
     const words = ["adjust", DIAGRAM, "--x", listWord(from), "--y", listWord(to), "--most", String(MOST_SETS)];
-    const { sets: list = [], more } = (await ctx.read(words)).object;
-    const test = (set) => ctx.read(["separate", DIAGRAM, "--x", listWord(x), "--y", listWord(y), "--given", listWord(set)]);
+    const { sets: list = [], more } = (await read(words)).object;
+    const test = (set) => read(["separate", DIAGRAM, "--x", listWord(x), "--y", listWord(y), "--given", listWord(set)]);
     const held = await Promise.all(list.map(test));
     if (list.length && held.every((said) => said.status === 0)) return { list, hasMore: more, words };
   }

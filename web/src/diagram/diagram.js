@@ -1,8 +1,8 @@
 import { drag } from "d3-drag";
 import { event as d3event, select } from "d3-selection";
-import { zoom, zoomIdentity } from "d3-zoom";
+import { zoom, zoomIdentity, zoomTransform } from "d3-zoom";
 import { svg } from "../dom.js";
-import { bend, curve, halfWidth, HEIGHT, keyOf, rim, shownName } from "./geometry.js";
+import { bend, curve, halfHeight, halfWidth, keyOf, linesOf, LINES_AT, rim, shownName } from "./geometry.js";
 import { describe } from "./describe.js";
 import { routed } from "./route.js";
 
@@ -26,7 +26,7 @@ import { routed } from "./route.js";
  * @property {(names: string[]) => void} [framed] a frame was drawn round these
  */
 
-const HEADS = ["edge", "open", "hedge", "chosen", "difference", "left", "causal", "biasing"];
+const HEADS = ["edge", "open", "hedge", "chosen", "difference", "left", "causal", "biasing", "both"];
 const MOST_ANIMATED = 30;
 const FRAMES_MS = 260;
 const MANY_EDGES = 300; // beyond it few bends are tried
@@ -43,12 +43,15 @@ export class Diagram {
   /** @type {Set<string>} those that one vertex leads to */ descendants = new Set();
   /** @type {Map<string, string>} classes of edges, by their keys */ colours = new Map();
   /** Whether dragging the ground draws a frame. */ isFraming = false;
-  #halves = new Map();
+  #halves = new Map(); // of the shapes' widths
+  #talls = new Map(); // and of their heights
   #bends = new Map(); // by an edge's key, the control point of its curve
   #arranged = ""; // the places and widths for which the bends were chosen
   #shown = { vertices: new Map(), edges: new Map(), over: [] };
   #attributes = new WeakMap();
   #zoom;
+  #isFitted = false; // whether the view is as it was fitted, to a drawing as it was then
+  #size = { width: 0, height: 0 }; // of the pane, when the view was chosen
   #frame;
   #ghost = null; // the edge being drawn: {from, both}
 
@@ -71,7 +74,10 @@ export class Diagram {
     const isOurs = (e) => Boolean(on.framed) && (e.shiftKey || this.isFraming) && e.target === element;
     this.#zoom = zoom().scaleExtent([0.15, 4])
       .filter(() => !d3event.ctrlKey && !d3event.button && !(isOurs(d3event) && d3event.type !== "wheel"))
-      .on("zoom", () => view.setAttribute("transform", d3event.transform));
+      .on("zoom", () => {
+        view.setAttribute("transform", d3event.transform);
+        this.#isFitted = false;
+      });
     element.addEventListener("pointerdown", (e) => isOurs(e) && e.button === 0 && this.#frameFrom(e));
     select(element).call(this.#zoom).on("dblclick.zoom", null);
     element.addEventListener("dblclick", (e) => e.target === element && on.empty?.(this.#at(e)));
@@ -156,6 +162,7 @@ export class Diagram {
     this.graph = graph;
     this.target = places;
     this.#halves = new Map(graph.vertices.map((v) => [v.name, halfWidth(v)]));
+    this.#talls = new Map(graph.vertices.map((v) => [v.name, halfHeight(v)]));
     cancelAnimationFrame(this.#frame);
     const isFar = ([name, p]) => from.has(name) && Math.hypot(from.get(name).x - p.x, from.get(name).y - p.y) > 1;
     if (isStill() || graph.vertices.length > MOST_ANIMATED || ![...places].some(isFar)) return this.#place(places);
@@ -210,14 +217,43 @@ export class Diagram {
     this.element.removeAttribute("viewBox");
     const box = this.element.getBoundingClientRect();
     if (!box.width) return;
-    if (!this.target.size) return select(this.element).call(this.#zoom.transform, zoomIdentity);
+    select(this.element).call(this.#zoom.transform, this.#fitting(box));
+    this.#isFitted = true;
+    this.#size = box;
+  }
+
+  #fitting(box) {
+    if (!this.target.size) return zoomIdentity;
     const { left, right, top, bottom } = this.bounds(this.target);
     const room = this.room(), k = Math.min(1.3, room.width / (right - left), room.height / (bottom - top));
     const x = box.width / 2 - (k * (left + right)) / 2, y = this.#covered().top + room.height / 2 - (k * (top + bottom)) / 2;
-    select(this.element).call(this.#zoom.transform, zoomIdentity.translate(x, y).scale(k));
+    return zoomIdentity.translate(x, y).scale(k);
   }
 
-  /** Fits the view to whatever size the paper gives; `fit` is for the screen again. */
+  /** Follows the pane's size: what was fitted, and wasn't changed since, is fitted again; else the middle stays where it is. */
+  resized() {
+    const box = this.element.getBoundingClientRect(), { width, height } = this.#size;
+    if (!box.width) return;
+    if (this.#isFitted) return this.fit();
+    const t = zoomTransform(this.element), moved = [(box.width - width) / 2 + t.x, (box.height - height) / 2 + t.y];
+    if (width) select(this.element).call(this.#zoom.transform, zoomIdentity.translate(...moved).scale(t.k));
+    this.#size = box;
+  }
+
+  /** Says that the drawing is changed by hand, so that the view stays as it is. */
+  stay() {
+    this.#isFitted = false;
+  }
+
+  /** Shows the view again that the screen had before it was fitted to paper. */
+  backFromPaper() {
+    const was = this.#isFitted;
+    this.element.removeAttribute("viewBox");
+    select(this.element).call(this.#zoom.transform, zoomTransform(this.element));
+    this.#isFitted = was;
+  }
+
+  /** Fits the view to whatever size the paper gives; `backFromPaper` is for the screen again. */
   fitToPaper() {
     const { left, right, top, bottom } = this.bounds();
     if (!this.places.size) return;
@@ -269,7 +305,7 @@ export class Diagram {
     const p = this.target.get(name), { left, right, top, bottom } = this.seen(), half = this.#halves.get(name) ?? 0;
     if (!p) return;
     const by = (low, high, least, most) => (low < least ? least - low : high > most ? most - high : 0);
-    const x = by(p.x - half, p.x + half, left, right), y = by(p.y - HEIGHT / 2, p.y + HEIGHT / 2, top, bottom);
+    const x = by(p.x - half, p.x + half, left, right), tall = this.#talls.get(name) ?? 0, y = by(p.y - tall, p.y + tall, top, bottom);
     if (x || y) this.panBy(x, y);
   }
 
@@ -285,7 +321,7 @@ export class Diagram {
   }
 
   #drawGhost(at) {
-    const { from, both } = this.#ghost, p = this.places.get(from), q = rim(p, this.#halves.get(from), at, 2);
+    const { from, both } = this.#ghost, p = this.places.get(from), q = rim(p, this.#halves.get(from), at, 2, this.#talls.get(from));
     const end = `url(#${this.id}-edge)`;
     this.#set(this.ghostLine, {
       class: both ? "ghost both" : "ghost", "marker-end": end, "marker-start": both ? end : null,
@@ -296,7 +332,7 @@ export class Diagram {
   /** Chooses the bends of the edges that have none. */
   #bendMissing() {
     const { graph, places } = this, arcs = [];
-    const round = [...places].map(([name, p]) => ({ name, ...p, half: this.#halves.get(name) ?? 0 }));
+    const round = [...places].map(([name, p]) => ({ name, ...p, half: this.#halves.get(name) ?? 0, tall: this.#talls.get(name) }));
     for (const e of graph.edges) {
       const key = keyOf(e), p = places.get(e.a), q = places.get(e.b);
       if (!p || !q) continue;
@@ -312,8 +348,8 @@ export class Diagram {
   #path(e) {
     const p = this.places.get(e.a), q = this.places.get(e.b), halo = (n) => (this.marks.vertices?.has(n) ? 6 : 0);
     const c = this.#bends.get(keyOf(e)) ?? bend(p, q, e.both, [], []);
-    const s = rim(p, this.#halves.get(e.a), c, halo(e.a) + (e.both ? 3 : 1));
-    const t = rim(q, this.#halves.get(e.b), c, halo(e.b) + 3);
+    const s = rim(p, this.#halves.get(e.a), c, halo(e.a) + (e.both ? 3 : 1), this.#talls.get(e.a));
+    const t = rim(q, this.#halves.get(e.b), c, halo(e.b) + 3, this.#talls.get(e.b));
     const at = ({ x, y }) => `${x.toFixed(1)},${y.toFixed(1)}`;
     return `M${at(s)}Q${at(c)} ${at(t)}`;
   }
@@ -346,7 +382,7 @@ export class Diagram {
       });
       this.#set(item.grip, { d: path });
       this.#set(item.second, { d: colour?.includes(" also") ? path : null });
-      const tip = colour ? `url(#${this.id}-${colour.split(" ")[0]})` : end;
+      const tip = colour ? `url(#${this.id}-${colour.includes(" also") ? "both" : colour.split(" ")[0]})` : end;
       this.#set(item.line, { d: path, "marker-end": tip, "marker-start": edge.both ? tip : null });
       if (!item.group.parentNode) layers.edges.append(item.group);
     }
@@ -377,7 +413,7 @@ export class Diagram {
     const { graph, marks, places, layers } = this, seen = new Set(graph.vertices.map((v) => v.name));
     const kept = marks.graph && new Set(marks.graph.vertices.map((v) => v.name));
     for (const vertex of graph.vertices) {
-      const { name, role } = vertex, p = places.get(name), half = this.#halves.get(name);
+      const { name, role } = vertex, p = places.get(name), half = this.#halves.get(name), tall = this.#talls.get(name);
       if (!p) continue;
       const item = getOrMake(this.#shown.vertices, name, () => this.#newVertex(name));
       const lead = role === "exposure" || role === "outcome";
@@ -389,10 +425,10 @@ export class Diagram {
         transform: `translate(${p.x.toFixed(1)},${p.y.toFixed(1)})`,
         "aria-label": describe(vertex, graph, marks.vertices?.get(name), this.selected.has(name)),
       });
-      this.#set(item.halo, box(half, 5));
-      this.#set(item.shape, box(half, 0));
-      this.#set(item.rim, box(half, 1));
-      this.#set(item.text, { x: lead ? 9 : 0 });
+      this.#set(item.halo, box(half, tall, 5));
+      this.#set(item.shape, box(half, tall, 0));
+      this.#set(item.rim, box(half, tall, 1));
+      for (const line of item.lines) this.#set(line, { x: lead ? 9 : 0 });
       this.#set(item.mark, { transform: `translate(${13 - half},0)`, d: MARKS[role] ?? "" });
     }
     dropOthers(this.#shown.vertices, seen);
@@ -400,10 +436,10 @@ export class Diagram {
   }
 
   #newVertex(name) {
-    const acts = Boolean(this.on.vertex);
+    const acts = Boolean(this.on.vertex), [text, lines] = written(name);
     const item = {
-      halo: svg("rect", { class: "halo" }), shape: svg("rect", { class: "shape" }),
-      rim: svg("rect", { class: "rim" }), mark: svg("path", { class: "mark" }), text: svg("text", { dy: "0.35em" }, shownName(name)),
+      halo: svg("rect", { class: "halo" }), shape: svg("rect", { class: "shape" }), rim: svg("rect", { class: "rim" }), mark: svg("path", { class: "mark" }),
+      text, lines,
     };
     item.group = svg("g", acts ? { tabindex: 0, role: "button", "aria-haspopup": "menu" } : {},
       [item.halo, item.shape, this.on.joined && item.rim, item.mark, item.text, shownName(name) !== name && svg("title", {}, name)].filter(Boolean));
@@ -441,12 +477,23 @@ function undrawn(graph, edges) {
 
 const MARKS = { exposure: "M0,-5.5L9,0L0,5.5z", outcome: "M1,-5.5h2.6v11h-2.6z" };
 
-const box = (half, grow) => ({
-  x: -half - grow, y: -HEIGHT / 2 - grow, width: 2 * (half + grow), height: HEIGHT + 2 * grow, rx: HEIGHT / 2 + grow,
+const box = (half, tall, grow) => ({
+  x: -half - grow, y: -tall - grow, width: 2 * (half + grow), height: 2 * (tall + grow), rx: tall + grow,
 });
 
+/** The text of a name, and its lines. A blank between two is in the text, and takes no room. */
+function written(name) {
+  const lines = linesOf(name), dy = "0.35em";
+  if (lines.length < 2) {
+    const text = svg("text", { dy }, lines[0]);
+    return [text, [text]];
+  }
+  const shown = lines.map((line, i) => svg("tspan", { y: LINES_AT[i], dy }, line.trimEnd())), blank = lines[0].slice(lines[0].trimEnd().length);
+  return [svg("text", {}, shown[0], blank && svg("tspan", { "font-size": 0 }, blank), shown[1]), shown];
+}
+
 function head(id, name) {
-  const size = name === "edge" ? 8 : name === "causal" || name === "biasing" ? 6 : 5;
+  const size = { edge: 8, causal: 6, biasing: 6, both: 3.6 }[name] ?? 5;
   return svg("marker", {
     id: `${id}-${name}`, class: `head ${name}`, viewBox: "0 0 10 10", refX: 8.5, refY: 5,
     markerWidth: size, markerHeight: size, orient: "auto-start-reverse",

@@ -8,17 +8,25 @@ const FAR = 600;
 const GAP = { x: 24, y: 20 };
 const MOST_ROUNDS = 200;
 
+const LOOSE = 1.3; // how much further apart names stand than they must, where there is no room for more
+
 /**
- * The pixels of a unit at which names don't overlap; `scale` where it will do.
- * @param {Map<string, Point>} given @param {Map<string, number>} halves half of each name's width
+ * The pixels of a unit at which names don't overlap; `scale` where it will do, or less where that shows names larger in their room.
+ * @param {Map<string, Point>} given @param {Map<string, number>} halves half of each name's width @param {{width: number, height: number}} [room]
  */
-export function scaleFor(given, halves, height, scale) {
+export function scaleFor(given, halves, height, scale, room) {
   const points = [...given].map(([name, p]) => ({ ...p, half: halves.get(name) ?? 0 }));
   const typical = median(points.map((p) => Math.min(...points.filter((q) => q !== p).map((q) => distance(p, q)))));
   if (!(typical > 0 && Number.isFinite(typical))) return scale;
   const needed = Math.max(...points.flatMap((p, i) => points.slice(i + 1).map((q) => needs(p, q, height))));
-  if (needed <= scale && typical * scale <= FAR) return scale;
-  return Math.min(Math.max(needed, TYPICAL / typical), (MOST_GROWTH * TYPICAL) / typical);
+  const wished = needed <= scale && typical * scale <= FAR ? scale : Math.min(Math.max(needed, TYPICAL / typical), (MOST_GROWTH * TYPICAL) / typical);
+  return room ? Math.min(wished, Math.max(LOOSE * needed, filling(points, height, room))) : wished;
+}
+
+/** The scale at which the names fill their room. */
+function filling(points, height, room) {
+  const span = (k) => Math.max(...points.map((p) => p[k])) - Math.min(...points.map((p) => p[k])), widest = 2 * Math.max(...points.map((p) => p.half));
+  return Math.max(0, Math.min((room.width - widest) / span("x"), (room.height - height) / span("y")));
 }
 
 const distance = (p, q) => Math.hypot(p.x - q.x, p.y - q.y);

@@ -11,16 +11,31 @@ const MOST_LETTERS = 32;
 /** What a vertex's shape shows of its name; the whole one is in its title. */
 export const shownName = (name) => ([...name].length > MOST_LETTERS ? `${[...name].slice(0, MOST_LETTERS - 2).join("")} …` : name);
 
+const SHORT = 12; // letters that stay in one line
+const LINE = 17; // pixels from a line to the next
+export const LINES_AT = [-LINE / 2, LINE / 2];
+
+/** The lines of a vertex's name: two where it can be parted and is long, about equally long. */
+export function linesOf(name) {
+  const shown = shownName(name), breaks = [...shown.matchAll(/[\s_.\/-]+/g)].map((m) => m.index + m[0].length).filter((at) => at < shown.length);
+  if ([...shown].length <= SHORT || !breaks.length) return [shown];
+  const longest = (at) => Math.max(at, shown.length - at), at = breaks.reduce((best, other) => (longest(other) < longest(best) ? other : best));
+  return longest(at) > 0.75 * shown.length ? [shown] : [shown.slice(0, at), shown.slice(at)];
+}
+
+/** Half the height of a vertex's shape. @param {{name: string}} vertex */
+export const halfHeight = ({ name }) => HEIGHT / 2 + (linesOf(name).length > 1 ? LINE / 2 : 0);
+
 /** Half the width of a vertex's shape. @param {import("../text/printed.js").Vertex} vertex */
 export function halfWidth({ name, role }) {
   ruler.font = "500 15px system-ui, sans-serif";
-  const mark = role === "exposure" || role === "outcome" ? 18 : 0;
-  return Math.max(22, (ruler.measureText(shownName(name)).width + mark) / 2 + 13);
+  const mark = role === "exposure" || role === "outcome" ? 18 : 0, widths = linesOf(name).map((line) => ruler.measureText(line.trimEnd()).width);
+  return Math.max(widths.length > 1 ? 28 : 22, (Math.max(...widths) + mark) / 2 + 13);
 }
 
 /** What a layout has to know of a graph: bidirected edges don't count. */
 export const outline = ({ vertices, edges }) => ({
-  vertices: vertices.map((v) => ({ name: v.name, width: 2 * halfWidth(v), height: HEIGHT })),
+  vertices: vertices.map((v) => ({ name: v.name, width: 2 * halfWidth(v), height: 2 * halfHeight(v) })),
   edges: edges.filter((e) => !e.both).map((e) => [e.a, e.b]),
 });
 
@@ -38,18 +53,21 @@ export function placeNear(name, edges, /** @type {Map<string, Point>} */ places)
   }
 }
 
+/** A vertex's shape: its middle, and half of its width and height. @typedef {{x: number, y: number, half: number, tall?: number}} Shape */
+const tallOf = ({ tall = HEIGHT / 2 }) => tall;
+
 const SPACE = { x: 14, y: 12 }; // pixels between a new shape and others
 const STRIDE = { x: 20, y: 16 };
 
 /**
  * The place nearest to a point where a shape meets no other: within what is seen, where there is one.
- * @param {number} half of its width @param {Point} near @param {{x: number, y: number, half: number}[]} others
- * @param {{left: number, right: number, top: number, bottom: number}} seen
+ * @param {number} half of its width @param {Point} near @param {Shape[]} others
+ * @param {{left: number, right: number, top: number, bottom: number}} seen @param {number} tall half of its height
  */
-export function freePlace(half, near, others, seen) {
-  const meets = (p) => others.some((o) => Math.abs(p.x - o.x) < half + o.half + SPACE.x && Math.abs(p.y - o.y) < HEIGHT + SPACE.y);
+export function freePlace(half, near, others, seen, tall = HEIGHT / 2) {
+  const meets = (p) => others.some((o) => Math.abs(p.x - o.x) < half + o.half + SPACE.x && Math.abs(p.y - o.y) < tall + tallOf(o) + SPACE.y);
   if (!meets(near)) return near;
-  const isSeen = ({ x, y }) => x - half >= seen.left && x + half <= seen.right && y - HEIGHT / 2 >= seen.top && y + HEIGHT / 2 <= seen.bottom;
+  const isSeen = ({ x, y }) => x - half >= seen.left && x + half <= seen.right && y - tall >= seen.top && y + tall <= seen.bottom;
   const free = (steps, test) => {
     const found = [];
     for (let i = -steps; i <= steps; i++) {
@@ -80,10 +98,10 @@ export const curve = (p, c, q, t) => ({
 });
 
 /** Where the ray from a vertex's middle toward a point leaves its shape (a box with round ends), with a gap. */
-export function rim(p, half, toward, gap) {
+export function rim(p, half, toward, gap, tall = HEIGHT / 2) {
   const dx = toward.x - p.x, dy = toward.y - p.y, d = Math.hypot(dx, dy);
   if (d < 1e-6) return p;
-  const r = HEIGHT / 2 + gap, flat = half - HEIGHT / 2;
+  const r = tall + gap, flat = half - tall;
   let t = Math.abs(dy) < 1e-9 ? Infinity : r / Math.abs(dy);
   if (t * Math.abs(dx) > flat) { // it leaves by a round end: |t(dx,dy) - (flat,0)| = r
     const b = Math.abs(dx) * flat, c = flat * flat - r * r;
@@ -102,7 +120,7 @@ const MOST_STEPS = 80;
 /**
  * The control point of an edge's curve: the first of some bends that meets no other vertex and none of the arcs that are there
  * already, or else the one that meets the least.
- * @param {{x: number, y: number, half: number}[]} others @param {Point[]} arcs the middles of arcs
+ * @param {Shape[]} others @param {Point[]} arcs the middles of arcs
  * @param {number} [tries] how many bends are looked at
  */
 export function bend(p, q, both, others, arcs, tries = Infinity) {
@@ -122,12 +140,12 @@ export function bend(p, q, both, others, arcs, tries = Infinity) {
 /** How often a curve meets others; it is left where it meets as many as another does. */
 function meetings(p, c, q, others, arcs, most) {
   const low = { x: Math.min(p.x, c.x, q.x), y: Math.min(p.y, c.y, q.y) }, high = { x: Math.max(p.x, c.x, q.x), y: Math.max(p.y, c.y, q.y) };
-  const near = others.filter((o) => o.x + o.half + 5 > low.x && o.x - o.half - 5 < high.x && o.y + HEIGHT > low.y && o.y - HEIGHT < high.y);
+  const near = others.filter((o) => o.x + o.half + 5 > low.x && o.x - o.half - 5 < high.x && o.y + 2 * tallOf(o) > low.y && o.y - 2 * tallOf(o) < high.y);
   const steps = near.length ? Math.min(MOST_STEPS, Math.ceil((Math.hypot(c.x - p.x, c.y - p.y) + Math.hypot(q.x - c.x, q.y - c.y)) / STEP)) : 10;
   let met = 0;
   for (let i = 1; i < steps && met < most && near.length + arcs.length; i++) {
     const at = curve(p, c, q, i / steps);
-    for (const o of near) if (Math.abs(at.x - o.x) < o.half + 5 && Math.abs(at.y - o.y) < HEIGHT / 2 + 7) met++;
+    for (const o of near) if (Math.abs(at.x - o.x) < o.half + 5 && Math.abs(at.y - o.y) < tallOf(o) + 7) met++;
     for (const arc of arcs) if (Math.hypot(at.x - arc.x, at.y - arc.y) < 9) met += 0.2;
   }
   return met;

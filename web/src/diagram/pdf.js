@@ -107,10 +107,12 @@ class Drawing {
   #text(el, get) {
     const size = Number.parseFloat(get("font-size")), isItalic = get("font-style") === "italic";
     ruler.font = `${isItalic ? "italic " : ""}${size}px Helvetica, Arial, "Liberation Sans", "Nimbus Sans", sans-serif`;
-    const x = Number(get("x")) - ruler.measureText(el.textContent).width / 2;
-    const text = el.textContent.replaceAll("…", "\x85").replace(/[\\()]/g, "\\$&");
-    this.operators.push(`${colourOf(get("fill")) ?? "0 0 0"} rg`,
-      `BT /${isItalic ? "F1" : "F0"} ${number(size)} Tf 1 0 0 -1 ${number(x)} ${number(0.35 * size)} Tm (${text}) Tj ET`);
+    this.operators.push(`${colourOf(get("fill")) ?? "0 0 0"} rg`);
+    for (const line of el.children.length ? [...el.children].filter((part) => part.hasAttribute("y")) : [el]) {
+      const x = Number(line.getAttribute("x")) - ruler.measureText(line.textContent).width / 2, y = Number(line.getAttribute("y"));
+      const text = line.textContent.replaceAll("…", "\x85").replace(/[\\()]/g, "\\$&");
+      this.operators.push(`BT /${isItalic ? "F1" : "F0"} ${number(size)} Tf 1 0 0 -1 ${number(x)} ${number(y + 0.35 * size)} Tm (${text}) Tj ET`);
+    }
   }
 }
 

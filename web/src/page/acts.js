@@ -1,4 +1,4 @@
-import { freePlace, halfWidth } from "../diagram/geometry.js";
+import { freePlace, halfHeight, halfWidth } from "../diagram/geometry.js";
 import { addEdge, addVertex, change, isName, isSame, removeVertex, rename, replaceEdge } from "../text/edit.js";
 import { toast } from "./notices.js";
 
@@ -94,7 +94,7 @@ export class Acts {
   /** The other vertices as they are drawn. */
   #others(name) {
     const { target } = this.diagram;
-    return this.graph.vertices.filter((v) => v.name !== name && target.has(v.name)).map((v) => ({ ...target.get(v.name), half: halfWidth(v) }));
+    return this.graph.vertices.filter((v) => v.name !== name && target.has(v.name)).map((v) => ({ ...target.get(v.name), half: halfWidth(v), tall: halfHeight(v) }));
   }
 
   /** Adds a vertex with a fresh name, at a place or where there is room in view. @returns {Promise<string | null>} its name */
@@ -107,6 +107,7 @@ export class Acts {
       return addVertex(this.places.write(this.#text), name, this.places.unit(place));
     });
     if (!added) return null;
+    this.diagram.stay();
     this.diagram.reveal(name);
     this.diagram.focus(name);
     return name;
@@ -139,7 +140,7 @@ export class Acts {
 
   /** The text in which a vertex stands where its name meets no other. */
   #givingWay(text, name, vertex) {
-    const { target } = this.diagram, half = halfWidth(vertex), at = target.get(name), place = freePlace(half, at, this.#others(name), this.diagram.seen());
+    const { target } = this.diagram, half = halfWidth(vertex), at = target.get(name), place = freePlace(half, at, this.#others(name), this.diagram.seen(), halfHeight(vertex));
     if (place.x === at.x && place.y === at.y) return text;
     return change(text, new Map([[vertex.name, { pos: this.places.unit(place) }]]));
   }
@@ -168,6 +169,7 @@ export class Acts {
 
   /** Writes the places of the drawing into the text. */
   keepPlaces(focus) {
+    this.diagram.stay();
     return this.#propose(() => this.places.write(this.#text), focus);
   }
 

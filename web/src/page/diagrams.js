@@ -17,7 +17,11 @@ export class Diagrams {
       this.#fill();
       this.#box.showModal();
     };
-    addEventListener("storage", () => this.#box.open && this.#fillList());
+    addEventListener("storage", () => {
+      kept.heard();
+      this.tell();
+      if (this.#box.open) this.#fillList();
+    });
   }
 
   /** Shows the name of what is shown, and whether it is kept. */

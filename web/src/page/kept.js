@@ -52,6 +52,15 @@ export class Kept {
     this.#tell();
   }
 
+  /** Another tab wrote the list: where it changed the diagram that is shown here, this one is kept beside it. */
+  heard() {
+    const { shown } = this, there = this.list().find(({ id }) => id === shown.id);
+    if (!there) return;
+    if (there.text !== this.#written) this.#put();
+    else shown.name = there.name;
+    this.#tell();
+  }
+
   /** Gives the diagram that is shown a name, and keeps it. */
   rename(name) {
     this.shown.name = name;

@@ -18,6 +18,7 @@ export function adviceOn({ number, name, names, stage = "graph" }, text, at) {
   if (!stage.endsWith("graph")) return null;
   if (!text.trim()) return { sentence: "The text is empty.", fixed: "dag {\n}\n", label: "Begin a diagram" };
   if (number === 4) return notADag(text);
+  if (number === 5) return arrow(text, at) ?? { sentence: "This edge has no direction. Write -> or <-, or <-> for a common hidden cause." };
   if (number === 7) return { sentence: `${name} is marked selected. Selection isn't handled here: take the mark away only if records weren't selected by ${name}.` };
   if (number === 8) return { sentence: `An edge joins ${name} to itself. Take it away.` };
   if (number === 9) return { sentence: "There are more than 64 variables. Leave out what the question doesn't need." };

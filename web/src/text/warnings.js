@@ -5,6 +5,7 @@ import { isMark, survey, tokens } from "./tokens.js";
 
 /** @typedef {{sentence: string, fixed?: string, label?: string}} Note */
 
+const CIRCLES = /(?:^|[\s"])o-+[>o]|<-+o(?=[\s"]|$)/m;
 const SIGNS = /^[^\p{L}\p{N}]+$/u;
 
 /**
@@ -18,7 +19,7 @@ export function warningsOf(text, { vertices, edges }) {
   return [
     ...dropped.map(({ name, value }) => ({ sentence: `${name} = ${value} says nothing of the diagram and is left out. An edge is written ->, <- or <->.` })),
     ...signs.map(({ name }) => ({ sentence: `${name} is read as a variable, without an edge. An edge is written ->, <- or <->.` })),
-    ...partedNames(text, vertices, joined),
+    ...(CIRCLES.test(text) ? [{ sentence: `Edges with circles, such as o-> and o-o, aren't read: their o is read as a variable. Give each edge a direction.` }] : partedNames(text, vertices, joined)),
   ];
 }
 

@@ -1,5 +1,6 @@
 use Rattle.crossed_bounds.proofs.laws.Goals as goal
-use Rattle.crossed_bounds.proofs.Sharper.{two_levels_bound, sharper_is_tight, sharper_crossed_have_no_model}
+use Rattle.crossed_bounds.proofs.Others.{sharper_is_tight, sharper_crossed_have_no_model}
+use Rattle.crossed_bounds.proofs.Sharper.{two_levels_bound}
 use Rattle.crossed_bounds.proofs.Summed.{sharper_bounds_hold}
 
 pub returns-clause-levels : goal.returns-clause-levels

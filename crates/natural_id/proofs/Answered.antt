@@ -1,0 +1,97 @@
+-- From what was found to the answer.
+use Rattle.std.proofs.Common.{ℕ, ◌*◌, ◌≡◌, ◌≢◌, ◌<◌, ◌^◌, ◌↔◌, Bool, true, false, sym, ap, ◌∙◌, ◌&&◌, subst, List, [], ◌∷◌, arith}
+use mathlib.Core.Path.{fun_ext}
+use Rattle.mixed_graph.specs.Bits.{has}
+use Rattle.mixed_graph.specs.Graphs.{MixedGraph, IsMixedGraph}
+use Rattle.mixed_graph.specs.Masks.{union, minus, all}
+use Rattle.mixed_graph.proofs.Masks.{has-zero, positive_from_has, some_member}
+use Rattle.mixed_graph.proofs.MaskLaws.{has_join}
+use Rattle.finite_models.specs.Data.{meaning}
+use Rattle.finite_models.specs.Models.{weight_of, total}
+use Rattle.finite_models.proofs.Bools.{not_both}
+use Rattle.hedge.specs.Linked.{IsSetOf, IsMaximalJoined, AreDistrictsOf}
+use Rattle.hedge.specs.declared.hedge.Hedge.{Hedge}
+use Rattle.counter_models.specs.Events.{AreCounterModels}
+use Rattle.counter_models.specs.declared.counter_pair.CounterPair.{CounterPair}
+use Rattle.identification_theory.specs.Procedure.{AreAncestorsIn}
+use Rattle.identify.specs.Answers.{IsRightHedge}
+use Rattle.nested_models.specs.Nested.{LeadsPast, LeadsThrough}
+use Rattle.nested_models.specs.NoFormula.{HasNoFormulaNested}
+use Rattle.nested_models.proofs.NoFormula.{effect_excludes_nested}
+use Rattle.natural_id.specs.declared.answers.Split.{Split}
+use Rattle.natural_id.specs.Parts.{PlainPart, IsNaturalTarget, EqualsNatural, AreRightParts, districts_of}
+use Rattle.natural_id.specs.Answers.{IsSplit, IsSplitIn, ArePartsWith}
+use Rattle.natural_id.proofs.Districts.{natural_formula_is_right}
+use Rattle.natural_id.proofs.Leading.{child_past}
+
+-- nothing is in an empty meeting
+pub none_meets : (a b c d e : ℕ) → ((v : ℕ) → has d v ≡ (has a v && has b v)) → ((v : ℕ) → has e v ≡ (has d v && has c v)) → e ≡ 0
+    → (v : ℕ) → has a v ≡ true → has b v ≡ true → has c v ≡ true → ⊥
+none_meets a b c d e is is2 zero v h i j = absurd (bools (has a v) (has b v) (has c v) (has d v) (has e v) (is v) (is2 v) h i j
+    (ap (λ n. has n v) zero ∙ has-zero v))
+  where
+    bools : (a b c d e : Bool) → d ≡ (a && b) → e ≡ (d && c) → a ≡ true → b ≡ true → c ≡ true → e ≡ false → ⊥
+    bools a b c d e h i j k l n = absurd (grind (arith, h, i, j, k, l, n))
+
+-- where y has a member, so has what holds it
+pub some_joint : (y joint : ℕ) → 0 < y → y < 2 ^ 64 → ((v : ℕ) → has y v ≡ true → has joint v ≡ true) → 0 < joint
+some_joint y joint some low in_joint =
+    let v = some_member y (λ e. absurd (omega (arith, some, e))) low in positive_from_has joint v.0 (in_joint v.0 v.1)
+
+module _ (g : MixedGraph) (ok : IsMixedGraph g) (x m y z : ℕ) (target : IsNaturalTarget g x m y z) where
+  -- a hedge excludes each formula
+  pub hedge_right : (joint : ℕ) → joint ≡ union y z → (h : Hedge) (pair : CounterPair) → IsRightHedge g x joint h pair
+      → IsRightHedge g x (union y z) h pair × HasNoFormulaNested g x m y z
+  hedge_right joint same h pair right = let k = subst (λ j. IsRightHedge g x j h pair) same right in (k, excluded k.counter)
+    where
+      excluded : AreCounterModels g x (union y z) pair → HasNoFormulaNested g x m y z
+      excluded models =
+          effect_excludes_nested g ok (meaning g pair.first) (meaning g pair.second) models.first.fits models.second.fits models.first.positive
+          models.second.positive models.observed x m y z target.asked target.x_low models.effects.at models.effects.within
+          (subst (λ (a : ℕ → Bool). weight_of (meaning g pair.first) (has x) a models.effects.at * total (meaning g pair.second)
+          ≢ weight_of (meaning g pair.second) (has x) a models.effects.at * total (meaning g pair.first)) (fun_ext (λ v. has_join y z v))
+          models.effects.unequal)
+
+  module _ (d joint : ℕ) (same : joint ≡ union y z) (are : AreAncestorsIn g (minus (all g.vertices) x) joint d) (past through children : ℕ)
+      (is_past : IsSetOf past (LeadsPast g (has x) (has m) (has y))) (is_through : IsSetOf through (LeadsThrough g (has x) (has m) (has y)))
+      (are_children : (v : ℕ) → (has children v ≡ true) ↔ ((p : ℕ) × (has x p ≡ true) × (g.arrow p v ≡ true))) where
+    ancestors : AreAncestorsIn g (minus (all g.vertices) x) (union y z) d
+    ancestors = subst (λ j. AreAncestorsIn g (minus (all g.vertices) x) j d) same are
+
+    right_parts : (ps : List PlainPart) → ArePartsWith g children through ps → AreRightParts g x through ps
+    right_parts [] h = tt
+    right_parts (p ∷ ps) h = (
+      record { formula = h.0.formula; reads = λ q v a e i. h.0.reads v ((are_children v).1 (q, e, a)) i },
+      right_parts ps h.1,
+    )
+
+    pub formula_right : (summed : ℕ) → summed ≡ minus d joint
+        → ((p c : ℕ) → has x p ≡ true → g.arrow p c ≡ true → has through c ≡ true → has past c ≡ true → ⊥)
+        → (ts : List ℕ) → AreDistrictsOf g d ts → (ps : List PlainPart) → districts_of ps ≡ ts → ArePartsWith g children through ps
+        → EqualsNatural g x m y z summed ps
+    formula_right summed is none ts districts ps listed parts =
+        subst (λ u. EqualsNatural g x m y z u ps) (sym (is ∙ ap (minus d) same))
+        (natural_formula_is_right g ok x m y z d target
+        (λ c k. none k.parent c k.from_x k.arrow (is_through.complete c k.through) (is_past.complete c k.past)) ps (record {
+          ancestors = ancestors;
+          through = through;
+          is_through = is_through;
+          districts = subst (AreDistrictsOf g d) (sym listed) districts;
+          right = right_parts ps parts;
+        }))
+
+    pub split_right : (s : Split) → IsMaximalJoined g d s.district.bits → IsSplitIn children through s → IsSplit g x m y z s
+    split_right s maximal is =
+        let first = (are_children s.first).0 is.first_child in
+        record {
+          d = d;
+          ancestors = ancestors;
+          district = maximal;
+          first_in = is.first_in;
+          first_child = first;
+          past = child_past g ok x m y z d target.asked ancestors first.0 s.first first.1 first.2 (maximal.inside s.first is.first_in)
+              (λ l. not_both (has through s.first) (is_through.complete s.first l) is.first_out);
+          second_in = is.second_in;
+          second_child = (are_children s.second).0 is.second_child;
+          through = is_through.sound s.second is.second_through;
+        }

@@ -1,0 +1,6 @@
+pub mod Values
+pub mod Districts
+pub mod Leading
+pub mod Found
+pub mod Making
+pub mod Answered
