@@ -238,12 +238,12 @@ common_lost g q observed zs x y None right some = absurd (cc some)
 common_lost g q observed zs x y (Some k) right some = effect_lost_over g q observed x y k.pair right.hedge.counter zs right.under
 
 -- the sets of an answer, and whether it shows a common hedge
-sets_of : SurrogateAnswer → SurrogateSets
+abbrev sets_of : SurrogateAnswer → SurrogateSets
 sets_of (surrogated.Formula s f) = s
 sets_of (surrogated.Unfound s district h) = s
 sets_of (surrogated.Blocked s district h) = s
 
-is_blocked : SurrogateAnswer → Bool
+abbrev is_blocked : SurrogateAnswer → Bool
 is_blocked (surrogated.Formula s f) = false
 is_blocked (surrogated.Unfound s district h) = false
 is_blocked (surrogated.Blocked s district h) = true

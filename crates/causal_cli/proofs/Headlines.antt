@@ -177,14 +177,14 @@ module _ (r : Run) (code : ℕ) (uses : List Use) (call : IsCallOf identify_row 
 
   of_request : (o : Outcome) (told : Told) → CallAnswer (call_of r) Identify uses o told → code ≡ code_of o → (code ≡ 0) ⊎ ((code ≡ 1) ⊎ (code ≡ 8))
   of_request o told (on_words q is h) e = absurd h
-  of_request o told (on_file q is file names defined) e =
+  of_request o told (on_file q is input names defined) e =
       let same = identify_lawful.one_request uses a.request q a.asks is in
-      let named = subst (λ (p : Asked). p.file ≡ file) same (same_Some q.file file names) in
-      let there = subst (λ (p : Asked). IfSome (option_or r.kept (r.held file)) (λ bytes. Defined commands (of Identify p) bytes o told)) same defined in
+      let named = subst (λ (p : Asked). p.file ≡ input) same (same_Some q.file input names) in
+      let there = subst (λ (p : Asked). IfSome (option_or r.kept (r.held input)) (λ bytes. Defined commands (of Identify p) bytes o told)) same defined in
       let told_bytes = subst (λ (n : Text). IfSome (option_or r.kept (r.held n)) (λ bytes. Defined commands (of Identify a.request) bytes o told))
       (sym named) there in
       on_bytes o told (subst (λ (m : Option (List ℕ)). IfSome m (λ bytes. Defined commands (of Identify a.request) bytes o told)) a.held told_bytes) e
-  of_request o told (on_both q is file second names names_second h) e = absurd (none-some second names_second)
+  of_request o told (on_both q is input other names names_other h) e = absurd (none-some other names_other)
 
   -- nothing failed where no read of the file did
   file_alone : (name : Text) → (w : Request commands) → command_of commands w ≡ Identify → IsRequestOf commands uses w → ReadsName commands r w name
@@ -195,7 +195,7 @@ module _ (r : Run) (code : ℕ) (uses : List Use) (call : IsCallOf identify_row 
     where
       own : (p : Asked) → IsRequestOf commands uses (of Identify p) → ReadsName commands r (of Identify p) name → name ≡ a.request.file
       own p is (file none names) = same_Some name p.file (sym names) ∙ ap (λ (k : Asked). k.file) (identify_lawful.one_request uses a.request p a.asks is)
-      own p is (second file names named there h) = absurd (none-some name named)
+      own p is (second input names named there h) = absurd (none-some name named)
 
   nothing_failed : (Rose r.out.faults r.out.faults_after → ⊥) → NothingFailed commands r
   nothing_failed writes = record {

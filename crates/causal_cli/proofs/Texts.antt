@@ -387,7 +387,7 @@ texts_are_one = record {
       (λ p l. Tells rule_telling target_refusal (rule_right.IsForNames q.rule p l) (plain_form q.format) l.observed o)
       (same_rule_lists q.y q.x q.z q.given) (ruled_once q.format o told q.rule) d e s text line a b);
   identify = λ q o told bytes. on_bytes bytes (λ d. identify_command.by_diagram q d) o (λ d e s text line a b.
-      of_diagrams (λ d. (asked_of d q.x q.y q.given, d.observed.names))
+      of_diagrams {L = Asked × List (List ℕ)} (λ d. (asked_of d q.x q.y q.given, d.observed.names))
       (λ p l. Tells identify_telling target_refusal (IsForNames q.form.short (is_certified q.form.writing) p l.0) (told_form q.form) l.1 o)
       (λ d e s. λ i. (same_asked q.x q.y q.given d e s i, s.observed.names i))
       (λ d. identified_once q.form o told d (asked_of d q.x q.y q.given)) d e s text line a b);
