@@ -18,7 +18,7 @@ import tempfile
 import time
 
 from plant_list import PLANTS, Plant
-from targets import TOP
+from targets import FOUND, TARGETS, TOP, why_missing
 
 COPIED = ["portable", "include", "examples", "VERSION", ".ci/refused-memory", ".ci/refuse.c"]
 SKIPPED = 77
@@ -34,7 +34,7 @@ class Part:
         return " ".join(self.words).replace("portable/tests/", "")
 
 
-CALLS = Part("portable/tests/calls.py", "gcc", "sanitized", "arm", "s390x")
+CALLS = Part("portable/tests/calls.py", "--first", "gcc", "arm", "s390x", "sanitized")
 REFUSALS = Part("portable/tests/refusals.py")
 DATA = Part("portable/tests/data_programs.py")
 RANDOM = Part("portable/tests/random_programs.py", "24")
@@ -80,6 +80,7 @@ class Base:
 
     def __init__(self, room: str, plants: list[Plant]) -> None:
         self.room, self.kept, self.base = room, f"{room}/kept", f"{room}/base"
+        os.environ[FOUND] = " ".join(name for name in TARGETS if not why_missing(name))
         if any(plant.file not in ("main.c", "causal.c") for plant in plants):
             run([f"{TOP}/portable/tests/operations.py", "--keep", self.kept, "tcc"], TOP)
         if any(plant.file == "main.c" for plant in plants):
