@@ -32,7 +32,7 @@ static const unsigned char behind[24] = "nobody may write here..";
 
 static void *counted_malloc(size_t size) {
   unsigned char *p, *whole;
-  if (is_refused || size > 0x40000000u) return NULL;
+  if (is_refused || size == 0 || size > 0x40000000u) return NULL; /* (for no bytes a C library may give NULL) */
   HOLDS(whole = malloc(size + 40 + sizeof behind));
   p = whole + ((0 - (uintptr_t)whole) & 15);
   if (sizeof(head) == 8 && given++ % 2) p += 8;
