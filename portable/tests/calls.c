@@ -25,25 +25,29 @@ static void counted_free(void *p);
   } while (0)
 
 /* --- malloc, with a count of what is in use. Before each piece stand where it begins and its size, two words; so on platforms of 32
- * bits a piece is an odd multiple of 8, and every second time an even one. */
+ * bits a piece is an odd multiple of 8, and every second time an even one. Behind it stand bytes that nobody may write to. */
 
 typedef struct { void *whole; size_t size; } head;
+static const unsigned char behind[24] = "nobody may write here..";
 
 static void *counted_malloc(size_t size) {
   unsigned char *p, *whole;
-  if (is_refused || size > 0x40000000u) return NULL;
-  HOLDS(whole = malloc(size + 40));
+  if (is_refused || size == 0 || size > 0x40000000u) return NULL; /* (for no bytes a C library may give NULL) */
+  HOLDS(whole = malloc(size + 40 + sizeof behind));
   p = whole + ((0 - (uintptr_t)whole) & 15);
   if (sizeof(head) == 8 && given++ % 2) p += 8;
   ((head *)p)->whole = whole;
   ((head *)p)->size = size;
   in_use++;
-  return (head *)p + 1;
+  p = (unsigned char *)((head *)p + 1);
+  memcpy(p + size, behind, sizeof behind);
+  return p;
 }
 
 static void counted_free(void *p) {
   if (!p) return;
   in_use--;
+  HOLDS(!memcmp((unsigned char *)p + ((head *)p - 1)->size, behind, sizeof behind));
   free(((head *)p - 1)->whole);
 }
 

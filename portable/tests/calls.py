@@ -1,7 +1,8 @@
 #!/usr/bin/env python3
-"""calls.py [TARGET..]: runs calls.c, which tests causal.c by itself, on each target (targets.py) that is here.
+"""calls.py [--first] [TARGET..]: runs calls.c, which tests causal.c by itself, on each target (targets.py) that is here.
 
-Without a target: gcc, tcc, the sanitizers, and machines of 32 bits or with the other order of bytes. Status 77 where none is here.
+Without a target: gcc, tcc, the sanitizers, and machines of 32 bits or with the other order of bytes. With --first it ends at the
+first that fails. Status 77 where none is here.
 """
 from __future__ import annotations
 
@@ -28,7 +29,7 @@ def test(name: str) -> str:
     return "" if (ran.returncode, text) == (0, "calls: all hold\n") else f"status {ran.returncode}: {text[-500:]}"
 
 
-def main(names: list[str]) -> int:
+def main(names: list[str], is_first: bool) -> int:
     tried, wrong = 0, 0
     with tempfile.TemporaryDirectory() as folder:
         os.chdir(folder)
@@ -41,9 +42,11 @@ def main(names: list[str]) -> int:
             fault = test(name)
             print(f"{name}: {fault or 'all calls hold'}", flush=True)
             wrong += bool(fault)
+            if fault and is_first:
+                break
         os.chdir("/")
     return 1 if wrong else 0 if tried else 77
 
 
 if __name__ == "__main__":
-    sys.exit(main(sys.argv[1:]))
+    sys.exit(main([it for it in sys.argv[1:] if it != "--first"], "--first" in sys.argv[1:]))

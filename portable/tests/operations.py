@@ -1,5 +1,5 @@
 #!/usr/bin/env python3
-"""operations.py [--keep FOLDER] [TARGET..]: each instruction that wasm_to_c knows, as the C gives it and as WebAssembly does.
+"""operations.py [--keep FOLDER] [--first] [TARGET..]: each instruction that wasm_to_c knows, as the C gives it and as WebAssembly does.
 
 operation_cases.py has a function for each instruction and for what else the translation has to keep. wabt's wat2wasm makes one
 object of all; wasm_to_c makes C of it, and node runs the same object. Each function is called with edge values and others, and the
@@ -209,6 +209,7 @@ def test(name: str, target: Target, expected: bytes, tested: list[Case], calls: 
 def main() -> int:
     parser = argparse.ArgumentParser(description=__doc__, formatter_class=argparse.RawDescriptionHelpFormatter)
     parser.add_argument("--keep", metavar="FOLDER", help="where to leave what is made; what node gives is taken from there")
+    parser.add_argument("--first", action="store_true", help="end at the first target that fails")
     parser.add_argument("targets", nargs="*", metavar="TARGET", help=", ".join(TARGETS))
     options = parser.parse_args()
     for tool in ("wat2wasm", "node"):
@@ -227,6 +228,8 @@ def main() -> int:
     print(f"{len(tested)} functions, {len(expected) // 8} calls")
     wrong = int(has_warnings())
     for name in options.targets or TARGETS:
+        if wrong and options.first:
+            break
         if why_missing(name):
             print(f"skipped: operations on {name}: {why_missing(name)}")
         else:

@@ -226,7 +226,7 @@ CALLS = of(
     ("nothing is copied", "  memcpy(p, old, (size_t)(kept < size ? kept : size));\n", ""),
     ("memory is always there", "P8(to, (L)(p != NULL));", "P8(to, 1);"),
     ("refused memory leads to NULL", "at(p ? p : nothing)", "at(p)"),
-    ("malloc of 0", "take(size ? size : align)", "take(size)", "a C library may give NULL for no bytes, and those that are tested don't"),
+    ("malloc of 0", "take(size ? size : align)", "take(size)"),
     ("nothing is freed", "static void give(void *p) { free(p); }", "static void give(void *p) { (void)p; }"),
     ("realloc of one byte fewer", "return realloc(old, (size_t)size); }", "return realloc(old, (size_t)size - 1); }"),
     ("malloc of one byte fewer", "static void *take(L size) { return malloc((size_t)size); }", "static void *take(L size) { return malloc((size_t)size - 1); }"),

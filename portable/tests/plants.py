@@ -18,7 +18,7 @@ import tempfile
 import time
 
 from plant_list import PLANTS, Plant
-from targets import TOP
+from targets import FOUND, TARGETS, TOP, why_missing
 
 COPIED = ["portable", "include", "examples", "VERSION", ".ci/refused-memory", ".ci/refuse.c"]
 SKIPPED = 77
@@ -34,14 +34,14 @@ class Part:
         return " ".join(self.words).replace("portable/tests/", "")
 
 
-CALLS = Part("portable/tests/calls.py", "gcc", "sanitized", "arm", "s390x")
+CALLS = Part("portable/tests/calls.py", "--first", "gcc", "arm", "s390x", "sanitized")
 REFUSALS = Part("portable/tests/refusals.py")
 DATA = Part("portable/tests/data_programs.py")
 RANDOM = Part("portable/tests/random_programs.py", "24")
 
 
 def operations(*targets: str) -> Part:
-    return Part("portable/tests/operations.py", "--keep", "KEPT", *targets)
+    return Part("portable/tests/operations.py", "--keep", "KEPT", "--first", *targets)
 
 
 def parts_of(file: str) -> list[Part]:
@@ -49,11 +49,11 @@ def parts_of(file: str) -> list[Part]:
     if file == "causal.c":
         return [CALLS]
     if file == "portable.h":
-        return [CALLS, operations("tcc"), operations("gcc"), operations("gcc-plain"), operations("x87"), RANDOM, operations("s390x")]
+        return [CALLS, operations("tcc", "gcc", "gcc-plain", "x87", "s390x"), RANDOM]
     if file == "main.c":
-        return [Part("portable/tests/unusual.py", "--more", "BASE", "PLANTED"), Part(".ci/refused-memory", "--few", "PLANTED"),
+        return [Part("portable/tests/unusual.py", "--more", "--first", "BASE", "PLANTED"), Part(".ci/refused-memory", "--few", "PLANTED"),
                 Part("portable/tests/beside.py", "--runs", "120", "--words", "BASE", "SANITIZED")]
-    return [REFUSALS, DATA, operations("tcc"), RANDOM, operations("gcc")]
+    return [REFUSALS, DATA, operations("tcc", "gcc"), RANDOM]
 
 
 def run(words: list[str], folder: str) -> subprocess.CompletedProcess[str]:
@@ -80,12 +80,14 @@ class Base:
 
     def __init__(self, room: str, plants: list[Plant]) -> None:
         self.room, self.kept, self.base = room, f"{room}/kept", f"{room}/base"
+        os.environ[FOUND] = " ".join(name for name in TARGETS if not why_missing(name))
         if any(plant.file not in ("main.c", "causal.c") for plant in plants):
             run([f"{TOP}/portable/tests/operations.py", "--keep", self.kept, "tcc"], TOP)
         if any(plant.file == "main.c" for plant in plants):
             for source in "causal", "causal_code":
-                subprocess.run(["tcc", "-w", "-I", "include", "-c", f"portable/{source}.c", "-o", f"{room}/{source}.o"], cwd=TOP, check=True)
-            self.link(TOP, self.base)
+                subprocess.run(["gcc", "-O0", "-I", "include", "-c", f"portable/{source}.c", "-o", f"{room}/{source}.o"], cwd=TOP, check=True)
+            if not self.link(TOP, self.base):
+                sys.exit("plants: gcc doesn't link the program as it is")
 
     def link(self, folder: str, program: str, *options: str) -> bool:
         words = ["gcc", "-O1", *options, "-I", "include", "portable/main.c", f"{self.room}/causal.o", f"{self.room}/causal_code.o", "-o", program]
@@ -105,7 +107,7 @@ def told_by(plant: Plant, base: Base, number: int) -> str:
         file.write(text.replace(plant.old, plant.new))
     if plant.file == "main.c":
         if not base.link(folder, f"{folder}/planted") or not base.link(folder, f"{folder}/sanitized", "-g0", "-fsanitize=address,undefined"):
-            return "the compiler"
+            return "stale: it doesn't compile"
     elif plant.file not in ("causal.c",):
         shutil.copytree(base.kept, f"{folder}/kept")
     names = {"KEPT": f"{folder}/kept", "BASE": base.base, "PLANTED": f"{folder}/planted", "SANITIZED": f"{folder}/sanitized"}

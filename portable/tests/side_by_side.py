@@ -1,18 +1,22 @@
 #!/usr/bin/env python3
-"""side_by_side.py [--code FILE] OBJECT [SEED..]: the object that the C was made of, run by node, and the C, call by call.
+"""side_by_side.py [--code FILE] [--quick] [--turn N [--of M]] OBJECT [SEED..]: the object that the C was made of, run by node,
+and the C, call by call.
 
 Both run the worked cases on the same memory: data, stack and heap lie at the same addresses on both sides. Into a sum goes each call
 of each function, with its arguments and its result; it is compared after each call from outside, with what that gives and a sum of
-the whole memory. The first call from outside in which they differ is told.
+the whole memory. Where they differ, both run again up to that call, and the function in which they first differ is told.
 
 The C is portable/causal_code.c (or FILE) as it stands, but that each function has another one around it that notes its calls, that
-frames lie in the memory, and that the data is copied there. The object's functions get others around them too, and are linked by
-what the compiler wrote at their relocations. Of an object that exports `causal_t` the seeds are the arguments of its calls.
+frames lie in the memory, and that the data is copied there (side_by_side.h, side_by_side.c). The object's functions get others around
+them too, and are linked by what the compiler wrote at their relocations; side_by_side.cjs runs them. With --turn N every tenth (or
+M-th) case is run, from the N-th on. Of an object that exports `causal_t` the seeds are the arguments of its calls.
 Status 77 where node or cc isn't here.
 """
 from __future__ import annotations
 
 import argparse
+import concurrent.futures
+import itertools
 import json
 import os
 import re
@@ -21,6 +25,7 @@ import struct
 import subprocess
 import sys
 import tempfile
+from typing import Any
 
 from targets import PORTABLE, TOP
 
@@ -31,11 +36,18 @@ from program import Program  # noqa: E402
 sys.path.insert(0, f"{TOP}/bindings/c")
 from flatten import inputs_of, needs_devices  # noqa: E402
 
-BASE, STACK, HEAP, END = 0x10000000, 0x10800000, 0x12000000, 0x30000000
-ROOM = 0x11000000  # what callers pass
-MOST_OF_CASE = 1 << 21  # larger inputs have no place between the stack and the heap
+# Where things lie: the data, the stack down to it, what callers pass, the heap, and what functions note.
+BASE, STACK, HEAP, END, LOG_END = 0x10000000, 0x10200000, 0x10600000, 0x30000000, 0x40000000
+ROOM = STACK
+OUT, OUT_ROOM, ERR_ROOM = HEAP - 0x180000, 1 << 20, 1 << 16
+KEPT, NAMES, NAMES_ROOM = HEAP - 0x40000, HEAP - 0x30000, 1 << 16  # a diagram with its names
+SIZES = HEAP - 0x1000
+MOST_OF_CASE = 1 << 21  # larger inputs have no place
 FACTOR = 6364136223846793005
 CODES = {letter: code for code, letter in TYPES.items()}
+# A value as numbers of 64 bits: in WebAssembly what stands behind it, and in C.
+AS_NUMBERS = {"I": [b"\xad"], "L": [b""], "W": [b"\xbd"], "V": [b"\xfd\x1d\x00", b"\xfd\x1d\x01"]}
+AS_NUMBERS_IN_C = {"I": ["(L){}"], "L": ["{}"], "W": ["bits_of({})"], "V": ["get8({},0)", "get8({},1)"]}
 
 
 # --- the object, linked
@@ -127,17 +139,22 @@ class Linked:
         """The sum with one more number, which the code gives."""
         return b"\x23\x01" + text + b"\x85\x42" + signed(FACTOR) + b"\x7e\x24\x01"
 
+    def noted(self, what: int) -> bytes:
+        """The sum behind the beginning or the end of a function, where notes are made: two words at the global 2."""
+        words = b"\x23\x02\x42" + signed(what) + b"\x37\x03\x00" + b"\x23\x02\x23\x01\x37\x03\x08"
+        return b"\x23\x02\x42" + signed(LOG_END) + b"\x54\x04\x40" + words + b"\x23\x02\x42\x10\x7c\x24\x02\x0b"
+
     def wrapped(self, index: int) -> bytes:
         """A function around another one."""
         takes, gives = self.module.signatures[index]
-        as_number = {"I": b"\xad", "L": b"", "W": b"\xbd", "V": b"\xfd\x1d\x00"}
         text = self.mixed(b"\x42" + signed(index))
         for at, letter in enumerate(takes):
-            text += self.mixed(b"\x20" + unsigned(at) + as_number[letter])
-        text += b"".join(b"\x20" + unsigned(at) for at in range(len(takes))) + b"\x10" + unsigned(index)
+            text += b"".join(self.mixed(b"\x20" + unsigned(at) + part) for part in AS_NUMBERS[letter])
+        text += self.noted(2 * index) + b"".join(b"\x20" + unsigned(at) for at in range(len(takes))) + b"\x10" + unsigned(index)
         if gives:
             room = unsigned(len(takes))
-            text += b"\x21" + room + self.mixed(b"\x20" + room + as_number[gives]) + b"\x20" + room
+            text += b"\x21" + room + b"".join(self.mixed(b"\x20" + room + part) for part in AS_NUMBERS[gives])
+        text += self.noted(2 * index + 1) + (b"\x20" + room if gives else b"")
         body = (b"\x01\x01" + bytes([CODES[gives]]) if gives else b"\x00") + text + b"\x0b"
         return unsigned(len(body)) + body
 
@@ -147,147 +164,17 @@ class Linked:
                 for it in types]
         own = [unsigned(types.index(it)) for it in self.module.signatures[self.imports:]]
         imports = [named("env") + named(name) + b"\x00" + unsigned(types.index(it)) for name, it in zip(self.module.imports, self.module.signatures)]
-        imports += [named("env") + named("memory") + b"\x02\x04" + unsigned(END >> 16), named("env") + named("stack") + b"\x03\x7e\x01"]
+        imports += [named("env") + named("memory") + b"\x02\x04" + unsigned(LOG_END >> 16), named("env") + named("stack") + b"\x03\x7e\x01"]
         exports = [named(name) + b"\x00" + unsigned(self.wrapper(index)) for index, name in self.module.exported().items()]
-        exports.append(named("sum") + b"\x03\x01")
+        exports += [named("sum") + b"\x03\x01", named("log") + b"\x03\x02"]
         bodies = [unsigned(end - start) + bytes(self.bytes[start:end]) for start, end in self.module.bodies]
         wrappers = [self.wrapped(index) for index in range(self.imports, self.total)]
         return (b"\0asm\1\0\0\0" + section(1, rows) + section(2, imports) + section(3, own + own)
-                + section(6, [b"\x7e\x01\x42\x00\x0b"]) + section(7, exports) + section(10, bodies + wrappers))
+                + section(6, [b"\x7e\x01\x42\x00\x0b", b"\x7e\x01\x42" + signed(LOG_END) + b"\x0b"]) + section(7, exports) + section(10, bodies + wrappers))
 
 
-SCRIPT = """
-const fs = require("fs");
-const [object, data, calls] = process.argv.slice(2);
-const BASE = %(base)d, STACK = %(stack)dn, HEAP = %(heap)d, END = %(end)d, PAGES = END / 65536;
-function memory64() {
-  try { return new WebAssembly.Memory({ initial: BigInt(PAGES), address: "i64" }); }
-  catch { return new WebAssembly.Memory({ initial: PAGES, index: "i64" }); }
-}
-const memory = memory64(), view = new DataView(memory.buffer), bytes = new Uint8Array(memory.buffer), words = new Uint32Array(memory.buffer);
-const put = (to, x) => view.setBigUint64(Number(to), BigInt.asUintN(64, x), true), mask = (1n << 64n) - 1n;
-const wide = (low, high) => (BigInt.asUintN(64, high) << 64n) | BigInt.asUintN(64, low);
-const put2 = (to, r) => { put(to, r & mask); put(Number(to) + 8, r >> 64n); };
-let top = HEAP;
-const free = Array.from({ length: 64 }, () => []);
-function take(size) {
-  let kind = 4;
-  while (2 ** kind < size) kind++;
-  if (free[kind].length) return free[kind].pop();
-  const p = top + 16;
-  top = p + 2 ** kind;
-  if (top > END) throw new Error("no memory");
-  put(p - 16, BigInt(kind));
-  return p;
-}
-const give = (p) => free[Number(view.getBigUint64(p - 16, true))].push(p);
-const env = { memory, stack: new WebAssembly.Global({ value: "i64", mutable: true }, STACK),
-  __multi3: (to, a, b, c, d) => put2(to, wide(a, b) * wide(c, d)),
-  __lshrti3: (to, a, b, n) => put2(to, wide(a, b) >> BigInt(n & 127)),
-  __ashlti3: (to, a, b, n) => put2(to, (wide(a, b) << BigInt(n & 127)) & ((1n << 128n) - 1n)),
-  rattle_alloc: (to, size, align) => { const p = take(Number(size || align)); put(to, 1n); put(Number(to) + 8, BigInt(p)); },
-  rattle_realloc: (to, old, kept, size, align) => {
-    const p = take(Number(size || align));
-    bytes.copyWithin(p, Number(old), Number(old) + Number(kept < size ? kept : size));
-    give(Number(old));
-    put(to, 1n);
-    put(Number(to) + 8, BigInt(p));
-  },
-  rattle_dealloc: (old) => give(Number(old)) };
-const made = new WebAssembly.Instance(new WebAssembly.Module(fs.readFileSync(object)), { env }).exports;
-bytes.set(fs.readFileSync(data), BASE);
-const sum = () => {
-  let h = 0;
-  for (let i = BASE / 4; i < top / 4; i++) h = (Math.imul(h, 31) + words[i]) | 0;
-  return h >>> 0;
-};
-for (const line of fs.readFileSync(calls, "utf8").trim().split("\\n")) {
-  const [name, pokes, ...row] = line.split(" ");
-  for (const poke of pokes.split(",").filter((it) => it.includes(":"))) {
-    const [at, hex] = poke.split(":");
-    bytes.set(Buffer.from(hex, "hex"), Number(at));
-  }
-  const result = made[name](...row.map(BigInt));
-  console.log(name, BigInt.asUintN(64, BigInt(result)).toString(), BigInt.asUintN(64, made.sum.value).toString(), sum(), top);
-}
-"""
-
-HARNESS = """#include <stdio.h>
-#include <sys/mman.h>
-void trap(void) { abort(); }
-static L top = HEAP_AT, pieces[64][1 << 16];
-static int counts[64];
-static L take(L size) {
-  int kind = 4;
-  while (kind < 63 && ((L)1 << kind) < size) kind++;
-  if (counts[kind]) return pieces[kind][--counts[kind]];
-  L p = top + 16;
-  top = p + ((L)1 << kind);
-  if (top > MEMORY_END) abort();
-  P8(p - 16, (L)kind);
-  return p;
-}
-static void give(L p) {
-  L kind = R8(p - 16);
-  if (counts[kind] == 1 << 16) abort();
-  pieces[kind][counts[kind]++] = p;
-}
-void rattle_alloc(L to, L size, L align) { L p = take(size ? size : align); P8(to, 1); P8(to + 8, p); }
-void rattle_realloc(L to, L old, L kept, L size, L align) {
-  L p = take(size ? size : align);
-  move(p, old, kept < size ? kept : size);
-  give(old);
-  P8(to, 1);
-  P8(to + 8, p);
-}
-void rattle_dealloc(L old) { give(old); }
-static L call(const char *name, const L *a) {
-%(calls)s
-  abort();
-}
-static char line[1 << 24];
-int main(int count, char **word) {
-  if (count != 2) return 3;
-  if (mmap((void *)(uintptr_t)MEMORY_AT, MEMORY_END - MEMORY_AT, PROT_READ | PROT_WRITE, MAP_PRIVATE | MAP_ANONYMOUS | MAP_FIXED, -1, 0) == MAP_FAILED) return 2;
-  for (int i = 0; i < WORDS; i++) {
-    L x = causal_data[i].n, from = (L)(uintptr_t)causal_data;
-    P8(MEMORY_AT + 8 * i, x - from <= 8 * WORDS ? x - from + MEMORY_AT : x);
-  }
-  FILE *file = fopen(word[1], "r");
-  while (file && fgets(line, sizeof line, file)) {
-    L a[16];
-    char *name = strtok(line, " "), *pokes = strtok(NULL, " "), *at = pokes, *next;
-    for (int i = 0; (next = strtok(NULL, " \\n")); i++) a[i] = strtoull(next, NULL, 10);
-    while (*at && *at != '-') {
-      L to = strtoull(at, &at, 10);
-      for (at++; *at && *at != ','; at += 2) {
-        unsigned byte;
-        sscanf(at, "%%2x", &byte);
-        P1(to++, byte);
-      }
-      if (*at) at++;
-    }
-    L result = call(name, a);
-    I h = 0;
-    for (L p = MEMORY_AT; p < top; p += 4) h = h * 31 + R4(p);
-    printf("%%s %%llu %%llu %%u %%llu\\n", name, (unsigned long long)result, (unsigned long long)sum, h, (unsigned long long)top);
-  }
-  return 0;
-}
-"""
-
-TRACED = """#undef FRAME_OF
-#undef FRAME
-#undef D
-#define MEMORY_AT %(base)dull
-#define HEAP_AT %(heap)dull
-#define MEMORY_END %(end)dull
-static L stack = %(stack)dull, sum;
-#define FRAME_OF(n) L frame_at = (stack -= 8 * (n)); (void)frame_at
-#define FRAME frame_at
-#define D(x) (MEMORY_AT + (x))
-static void mix(L x) { sum = (sum ^ x) * %(factor)dull; }
-"""
+def mixes(letter: str, name: str) -> str:
+    return "".join(f"mix({part.format(name)});" for part in AS_NUMBERS_IN_C[letter])
 
 
 def traced(code: str, numbers: dict[str, int], exported: list[str]) -> str:
@@ -298,50 +185,119 @@ def traced(code: str, numbers: dict[str, int], exported: list[str]) -> str:
         gives, name, inside = found[2], found[3], found[4]
         takes = [] if inside == "void" else [it.split(" ") for it in inside.split(",")]
         heads.append(f"static {gives} {name}_real({inside});")
-        as_number = {"I": "(L)({})", "L": "{}", "W": "bits_of({})", "V": "get8({},0)"}
-        text = f"mix({numbers[name]});" + "".join(f"mix({as_number[letter].format(it)});" for letter, it in takes)
+        begin = f"mix({numbers[name]});" + "".join(mixes(*it) for it in takes) + f"note({2 * numbers[name]});"
         made = f"{name}_real({','.join(it for _, it in takes)});"
-        end = f"mix({as_number[gives].format('result')});stack=kept;return result;" if gives != "void" else "stack=kept;"
-        wrappers.append(f"{found[1] or ''}{gives} {name}({inside}){{L kept=stack;{text}{gives + ' result=' if gives != 'void' else ''}{made}{end}}}")
+        end = (mixes(gives, "result") if gives != "void" else "") + f"note({2 * numbers[name] + 1});stack=kept;"
+        body = f"{gives} result={made}{end}return result;" if gives != "void" else made + end
+        wrappers.append(f"{found[1] or ''}{gives} {name}({inside}){{L kept=stack;{begin}{body}}}")
         if name in exported:
             row = ",".join(f"({letter})a[{at}]" for at, (letter, _) in enumerate(takes))
             calls.append(f'  if (!strcmp(name, "{name[:-5]}")) return (L){name}({row});')
         return f"static {gives} {name}_real({inside}){{"
     body = re.sub(r"^(PRIVATE |static )?(I|L|W|V|void) (\w+)\(([^()]*)\)\{", renamed, code, flags=re.M)
-    sizes = {"base": BASE, "heap": HEAP, "end": END, "stack": STACK, "factor": FACTOR}
-    body = body.replace('#include "portable.h"\n', '#include "portable.h"\n' + TRACED % sizes + "\n", 1)
+    body = body.replace('#include "portable.h"\n', '#include "portable.h"\n#include "tests/side_by_side.h"\n', 1)
     at = body.index("DATA_END\n") + len("DATA_END\n")
-    return body[:at] + "\n".join(heads) + "\n" + body[at:] + "\n".join(wrappers) + "\n" + HARNESS % {"calls": "\n".join(calls)}
+    caller = ["L call_code(const char *name, const L *a) {", *calls, "  abort();", "}"]
+    return "\n".join([body[:at], *heads, body[at:], *wrappers, *caller, ""])
 
 
 # --- the calls
 
-def calls_of_cases() -> list[str]:
-    """The worked cases as calls of causal_run: each a name, what is put into memory, and the arguments."""
+def placed(*pieces: bytes) -> tuple[str, list[int]]:
+    """Pieces one behind another in the callers' room, as what is put into memory, and where each begins."""
+    starts, at, rows = [], ROOM, []
+    for piece in pieces:
+        starts.append(at)
+        rows += [f"{at}:{piece.hex()}"] * bool(piece)
+        at += (len(piece) + 31) // 16 * 16
+    return ",".join(rows) or "-", starts
+
+
+def row_of(name: str, written: str, *arguments: int) -> str:
+    return " ".join([name, written, *map(str, arguments)])
+
+
+def calls_of(case: dict[str, Any]) -> list[str]:
+    """A worked case as calls of all functions: each a name, what is put into memory, and the arguments."""
+    text, words, inputs = b"", [], []
+    for word in case["words"]:
+        words += [len(text), len(text) + len(word.encode())]
+        text += word.encode()
+    for name, content in inputs_of(case).items():
+        for it in (name.encode(), content):
+            inputs += [len(text), len(text) + len(it)]
+            text += it
+    spans = [struct.pack(f"<{len(it)}Q", *it) for it in (words, inputs)]
+    written, (at, at_words, at_inputs) = placed(text, *spans)
+    of_words = [at, len(text), at_words, len(words) // 2]
+    asked = [*of_words, at_inputs, len(inputs) // 4, OUT, OUT_ROOM, OUT + OUT_ROOM, ERR_ROOM, SIZES]
+    rows = [row_of(name, written, *asked) for name in ("causal_run", "causal_explain")]
+    rows.append(row_of("causal_inputs", written, *of_words, NAMES, NAMES_ROOM, SIZES))
+    for content in list(inputs_of(case).values())[:1]:
+        kept, (at_text,) = placed(content)
+        rows.append(row_of("causal_keep", kept, at_text, len(content), KEPT, NAMES, NAMES_ROOM, SIZES))
+        rows += [row_of("causal_separated", "-", KEPT, *sets) for sets in ((1, 2, 0), (1, 2, 4), (1, 4, 2), (2, 8, 4))]
+        rows += [row_of("causal_is_identifiable", "-", KEPT, *sets) for sets in ((1, 2), (1, 4), (2, 1))]
+        rows.append(row_of("causal_ask", written, KEPT, NAMES, len(content) % 64, *asked))
+    return rows
+
+
+def cases_of(turn: int, step: int) -> list[dict[str, Any]]:
+    """Each so manieth of the worked cases that have a place."""
     with open(f"{TOP}/crates/worked_cases/data/cases.json", encoding="utf-8") as file:
         cases = json.load(file)
-    rows = []
-    for case in cases:
-        if needs_devices(case) or sum(map(len, inputs_of(case).values())) > MOST_OF_CASE:
-            continue
-        text, words, inputs = b"", [], []
-        for word in case["words"]:
-            words += [len(text), len(text) + len(word.encode())]
-            text += word.encode()
-        for name, content in inputs_of(case).items():
-            for it in (name.encode(), content):
-                inputs += [len(text), len(text) + len(it)]
-                text += it
-        at_words = ROOM + (len(text) + 31) // 16 * 16
-        at_inputs = at_words + 8 * len(words)
-        sizes = at_inputs + 8 * len(inputs) + 64
-        out = sizes + 64
-        pokes = [(ROOM, text), (at_words, struct.pack(f"<{len(words)}Q", *words)), (at_inputs, struct.pack(f"<{len(inputs)}Q", *inputs))]
-        written = ",".join(f"{at}:{content.hex()}" for at, content in pokes if content)
-        arguments = [ROOM, len(text), at_words, len(words) // 2, at_inputs, len(inputs) // 4, out, 1 << 20, out + (1 << 20), 1 << 16, sizes]
-        for name in "causal_run", "causal_explain":
-            rows.append(f"{name} {written} {' '.join(map(str, arguments))}")
-    return rows
+    return [case for case in cases if not needs_devices(case) and sum(map(len, inputs_of(case).values())) <= MOST_OF_CASE][turn % step::step]
+
+
+# --- both sides
+
+class Sides:
+    """What runs the calls, in the current folder."""
+
+    def __init__(self, module: Module, code: str, calls: list[str], compiler: list[str]) -> None:
+        program = Program(module)
+        self.names = {index: program.name(index) for index in program.functions}
+        self.numbers = {"base": BASE, "heap": HEAP, "end": END, "stack": STACK, "log_end": LOG_END}
+        linked = Linked(module, program.where)
+        text = traced(code, {name: index for index, name in self.names.items()}, list(program.exported.values()))
+        for name, content in [("module.wasm", linked.text()), ("data", linked.data), ("traced.c", text.encode()),
+                              ("calls", "".join(call + "\n" for call in calls).encode())]:
+            with open(name, "wb") as file:
+                file.write(content)
+        found = re.search(r"^#define WORDS (\d+)$", code, re.M)
+        macros = {"BASE_AT": BASE, "STACK_AT": STACK, "HEAP_AT": HEAP, "END_AT": END, "LOG_END": LOG_END, "FACTOR": FACTOR}
+        words = ["-w", "-I", PORTABLE, *(f"-D{name}={number}ull" for name, number in macros.items())]
+        subprocess.run([*compiler, *words, "-c", "traced.c", "-o", "traced.o"], check=True)
+        words.append(f"-DWORDS={found[1] if found else 0}")
+        subprocess.run(["cc", "-O2", *words, "-c", f"{PORTABLE}/tests/side_by_side.c", "-o", "side_by_side.o"], check=True)
+        subprocess.run([*compiler, "side_by_side.o", "traced.o", "-o", "traced"], check=True)
+
+    def run(self, *more: str) -> tuple[list[str], list[str]]:
+        """The lines of node and of the C; with the number of a call they write logs, too."""
+        node = ["node", "--experimental-wasm-memory64", f"{PORTABLE}/tests/side_by_side.cjs", "module.wasm", "data", "calls",
+                json.dumps(self.numbers)]
+        with concurrent.futures.ThreadPoolExecutor(2) as pool:
+            logs = [[*more, f"log.{side}"] if more else [] for side in ("node", "c")]
+            of_node, of_c = pool.map(lambda words: run(*words), [[*node, *logs[0]], ["./traced", "calls", *logs[1]]])
+        return of_node, of_c
+
+    def told(self, number: int) -> str:
+        """Where a call first differs."""
+        self.run(str(number))
+        events = []
+        for side in ("node", "c"):
+            if not os.path.exists(f"log.{side}"):
+                return "it isn't so in a second run"
+            with open(f"log.{side}", "rb") as file:
+                events.append(struct.iter_unpack("<QQ", file.read()))
+        for one, other in zip(*events):
+            if one != other:
+                what, of_sum = divmod(one[0], 2)
+                name = self.names.get(what, str(what))
+                if one[0] != other[0]:
+                    return f"where node comes to {name}, the C comes to {self.names.get(other[0] // 2, 'an end')}"
+                return f"first in {'the result' if of_sum else 'an argument'} of {name}"
+        return "in memory alone: all calls, arguments and results are the same"
 
 
 def run(*words: str) -> list[str]:
@@ -349,46 +305,42 @@ def run(*words: str) -> list[str]:
     return [*ran.stdout.splitlines(), *([f"status {ran.returncode} {ran.stderr[:600]}"] if ran.returncode else [])]
 
 
+def differ(sides: Sides, calls: list[str]) -> str:
+    """What differs, or nothing."""
+    of_node, of_c = sides.run()
+    for number, (call, one, other) in enumerate(itertools.zip_longest(calls, of_node, of_c)):
+        if one != other or call is None or one.startswith("status"):
+            return f"call {number}, {(call or 'none').split(' ')[0]}: node has {one}, and the C {other}: {sides.told(number)}"
+    return ""
+
+
 def main() -> int:
     parser = argparse.ArgumentParser(description=__doc__, formatter_class=argparse.RawDescriptionHelpFormatter)
     parser.add_argument("--code", default=f"{PORTABLE}/causal_code.c")
+    parser.add_argument("--quick", action="store_true", help="compile the C with tcc, or without optimization")
+    parser.add_argument("--turn", type=int)
+    parser.add_argument("--of", type=int, default=10)
     parser.add_argument("object", metavar="OBJECT")
     parser.add_argument("seeds", metavar="SEED", nargs="*")
     options = parser.parse_args()
-    compiler = next((it for it in ("tcc", "cc") if shutil.which(it)), "")
-    if not shutil.which("node") or not compiler:
-        print(f"skipped: side by side: no {'cc' if shutil.which('node') else 'node'}")
-        return 77
+    for tool in ("node", "cc"):
+        if not shutil.which(tool):
+            print(f"skipped: side by side: no {tool}")
+            return 77
+    compiler = ["cc", "-O1"] if not options.quick else ["tcc"] if shutil.which("tcc") else ["cc", "-O0"]
     with open(options.object, "rb") as file:
         module = Module(file.read())
     with open(options.code, encoding="ascii") as file:
         code = file.read()
-    program = Program(module)
-    numbers = {program.name(index): index for index in program.functions}
-    calls = [f"causal_t - {seed}" for seed in options.seeds] or calls_of_cases()
+    cases = [] if options.seeds else cases_of(*(0, 1) if options.turn is None else (options.turn, options.of))
+    calls = [f"causal_t - {seed}" for seed in options.seeds] or [call for case in cases for call in calls_of(case)]
     with tempfile.TemporaryDirectory() as folder:
         os.chdir(folder)
-        linked = Linked(module, program.where)
-        sizes = {"base": BASE, "heap": HEAP, "end": END, "stack": STACK}
-        for name, content in ("module.wasm", linked.text()), ("data", linked.data):
-            with open(name, "wb") as out:
-                out.write(content)
-        for name, text in ("run.cjs", SCRIPT % sizes), ("traced.c", traced(code, numbers, list(program.exported.values()))), ("calls", "\n".join(calls) + "\n"):
-            with open(name, "w", encoding="utf-8") as out_text:
-                out_text.write(text)
-        subprocess.run([compiler, "-w", "-I", PORTABLE, "traced.c", "-o", "traced"], check=True)
-        of_node = run("node", "--experimental-wasm-memory64", "run.cjs", "module.wasm", "data", "calls")
-        of_c = run("./traced", "calls")
+        sides = Sides(module, code, calls, compiler)
+        fault = differ(sides, calls)
         os.chdir("/")
-    for number, (call, one, other) in enumerate(zip(calls, of_node, of_c)):
-        if one != other:
-            print(f"call {number}, {call.split(' ')[0]}: node has {one}, and the C {other}")
-            return 1
-    if len(of_node) != len(of_c) or len(of_c) < len(calls):
-        print(f"{len(calls)} calls, of which node made {len(of_node)} and the C {len(of_c)}: {of_node[-1:]}, {of_c[-1:]}")
-        return 1
-    print(f"{len(calls)} calls of {len(numbers)} functions: the same on both sides")
-    return 0
+    print(fault or f"{len(calls)} calls of {len(cases)} worked cases, {len(sides.names)} functions: the same on both sides")
+    return 1 if fault else 0
 
 
 if __name__ == "__main__":

@@ -1,9 +1,9 @@
 #!/usr/bin/env python3
-"""unusual.py [--more] NATIVE PROGRAM..: unusual words, inputs and outputs, of each program beside the native one.
+"""unusual.py [--more] [--first] NATIVE PROGRAM..: unusual words, inputs and outputs, of each program beside the native one.
 
 Each use is a line of bash, with @ for the program, run in a fresh folder with the files of examples/. The programs have to end with
 the same status, and to write the same to standard output, to standard error and into the file `out`. Where this runs as root, all of
-it is run as nobody, whom files without permission stop.
+it is run as nobody, whom files without permission stop. With --first it ends at the first use that differs.
 """
 from __future__ import annotations
 
@@ -18,7 +18,7 @@ import tempfile
 import termios
 import time
 import tty
-from typing import NamedTuple
+from typing import Callable, NamedTuple
 
 from targets import TOP
 
@@ -208,38 +208,36 @@ def cut_off(folder: str, program: str, words: list[str], text: bytes) -> Ending:
     return Ending(running.returncode, out, err, b"")
 
 
-def main(text: str, native: str, programs: list[str]) -> int:
-    uses = [line for line in text.strip().splitlines() if not line.startswith("#")]
-    readings = [(["graph", "-"], b"dag { A -> B }"), (["check", "front_door.dag", "-"], b"{"), (["check", "-", "front_door.dag"], b"dag {")]
+# Words with what their standard input begins with, before it is cut off.
+CUT_OFF = [(["graph", "-"], b"dag { A -> B }"), (["check", "front_door.dag", "-"], b"{"), (["check", "-", "front_door.dag"], b"dag {")]
+
+
+def main(text: str, is_first: bool, native: str, programs: list[str]) -> int:
+    lines = [line for line in text.strip().splitlines() if not line.startswith("#")]
     wrong = 0
     with tempfile.TemporaryDirectory() as room:
         os.chmod(room, 0o755)
-        copies = []
-        for number, program in enumerate([native, *programs]):
-            copies.append(f"{room}/program{number}")
-            shutil.copy(program, copies[-1])
-        wanted = {use: ending(f"{room}/folder", copies[0], use) for use in uses}
-        cut = [cut_off(f"{room}/folder", copies[0], *reading) for reading in readings]
-        for program, copy in zip(programs, copies[1:]):
-            for use in uses:
-                got = ending(f"{room}/folder", copy, use)
-                if got != wanted[use]:
-                    print(f"{program}: {use}\n  {got}\n  and not {wanted[use]}")
+        folder = f"{room}/folder"
+        copies = [shutil.copy(program, f"{room}/program{number}") for number, program in enumerate([native, *programs])]
+        uses: list[tuple[str, Callable[[str], Ending]]] = [(line, lambda copy, line=line: ending(folder, copy, line)) for line in lines]
+        uses += [(f"{words}, cut off", lambda copy, words=words, text=text: cut_off(folder, copy, words, text)) for words, text in CUT_OFF]
+        for use, run in uses:
+            wanted = run(copies[0])
+            for program, copy in zip(programs, copies[1:]):
+                got = run(copy)
+                if got != wanted:
+                    print(f"{program}: {use}\n  {got}\n  and not {wanted}")
                     wrong += 1
-            for reading, expected in zip(readings, cut):
-                got = cut_off(f"{room}/folder", copy, *reading)
-                if got != expected:
-                    print(f"{program}: {reading}, cut off\n  {got}\n  and not {expected}")
-                    wrong += 1
+            if wrong and is_first:
+                break
         subprocess.run(["chmod", "-R", "u+rwX", room])
-    print(f"{len(uses) + len(readings)} unusual uses of {len(programs)} programs beside the native one, {wrong} differ")
+    print(f"{len(uses)} unusual uses of {len(programs)} programs beside the native one, {wrong} differ")
     return 1 if wrong else 0
 
 
 if __name__ == "__main__":
-    has_more = sys.argv[1:2] == ["--more"]
-    if has_more:
-        del sys.argv[1]
-    if len(sys.argv) < 3:
+    flags = [it for it in sys.argv[1:] if it in ("--more", "--first")]
+    named = [os.path.abspath(it) for it in sys.argv[1:] if it not in flags]
+    if len(named) < 2:
         sys.exit(__doc__)
-    sys.exit(main(USES + MORE * has_more, os.path.abspath(sys.argv[1]), [os.path.abspath(it) for it in sys.argv[2:]]))
+    sys.exit(main(USES + MORE * ("--more" in flags), "--first" in flags, named[0], named[1:]))

@@ -44,7 +44,7 @@ def axis_of(numpy: Any, variable: Variable, mass: Any, asked: Sequence[int]) -> 
     >>> from causal.models import Variable
     >>> variable, axis = axis_of(numpy, Variable("age", range(200), numpy.arange(200.0)), numpy.ones(200), [7])
     >>> axis.classes, axis.size, axis.place(7), float(variable.numbers[axis.codes[0]])
-    (64, 65, 64, 1.5)
+    (64, 65, 64, 1.0)
     """
     size = len(variable.levels)
     if variable.numbers is None or size <= CLASSES:

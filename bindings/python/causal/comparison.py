@@ -4,6 +4,7 @@ from __future__ import annotations
 from dataclasses import dataclass
 from typing import TYPE_CHECKING, Any, Dict, List, Mapping, Optional, Sequence, Tuple, Union
 
+from causal.bounds import EffectBounds, EffectDifference
 from causal.columns import Data
 from causal.contrasts import Contrast
 from causal.display import html_table
@@ -11,6 +12,7 @@ from causal.effects import check_arms, levels_at, typed_order
 from causal.errors import CausalError, EvaluationError
 from causal.estimates import Estimates
 from causal.evaluation import identified
+from causal.formula import Term
 from causal.framed import Framed
 from causal.intervals import Interval
 from causal.names import Names, printed_set
@@ -19,6 +21,9 @@ if TYPE_CHECKING:
     import matplotlib.axes
 
     from causal.diagram import Diagram
+
+
+CRUDE = "crude"
 
 
 @dataclass(frozen=True)
@@ -60,15 +65,19 @@ class Way:
         value, interval = self.difference
         risks: List[Any] = [None, None] if self.answer is None else [float(self.answer.treated), float(self.answer.control)]
         ends: List[Any] = [None, None] if interval is None else [interval.lower, interval.upper]
-        return [self.name, self.kind, *risks, value, *ends, "; ".join(self.doubts) or self.reason]
+        told = self.answer.e_value if self.answer is not None and self.name != CRUDE else None
+        return [self.name, self.kind, *risks, value, *ends, None if told is None else told.value, "; ".join(self.doubts) or self.reason]
 
 
 @dataclass(frozen=True)
 class Comparison(Framed):
     """The crude effect beside the adjusted ones. If the diagram is right, the adjusted ones estimate the same: `agree` says whether their
-    intervals have a point in common."""
+    intervals have a point in common. `bounds` has what the difference is at least and at most whatever the diagram leaves open, by the
+    program's natural bounds: they take nothing but that who had an arm shows its outcome. It is None where they can't be asked for.
+    """
 
     ways: Tuple[Way, ...]
+    bounds: Optional[EffectDifference] = None
 
     @property
     def agree(self) -> bool:
@@ -79,19 +88,19 @@ class Comparison(Framed):
     @property
     def notes(self) -> Tuple[str, ...]:
         """What the table says, in words."""
-        found = list(dict.fromkeys(note for way in self.ways for note in way.rests_on))
+        found = told_of([(way.name, way.rests_on) for way in self.ways if way.kind == "counts"])
         found += [f"{way.name}: no value: {way.reason}" for way in self.ways if way.answer is None]
-        doubts: Dict[str, List[str]] = {}
-        for way in self.ways:
-            for doubt in way.doubts:
-                doubts.setdefault(doubt, []).append(way.name)
-        found += [f"{', '.join(names)}: {doubt}" for doubt, names in doubts.items()]
+        found += told_of([(way.name, way.doubts) for way in self.ways])
         if not self.agree:
             found.append("the adjusted effects differ by more than their intervals: the data speaks against the diagram")
+        if self.bounds is not None:
+            found.append(f"natural bounds of the risk difference, whatever is hidden: {self.bounds}")
+        value = self.ways[1].answer.e_value if len(self.ways) > 1 and self.ways[1].answer is not None else None
+        found += [f"{self.ways[1].name}: {value}"] if value is not None else []
         found += ["by models: computed, and nothing but the formula is proved"] if any(way.kind == "models" for way in self.ways) else []
         return tuple(found)
 
-    HEADS = ("way", "by", "risk_treated", "risk_control", "estimate", "conf_low", "conf_high", "note")
+    HEADS = ("way", "by", "risk_treated", "risk_control", "estimate", "conf_low", "conf_high", "e_value", "note")
 
     def _table(self) -> Tuple[Sequence[str], List[List[Any]]]:
         return self.HEADS, [way.row for way in self.ways]
@@ -114,6 +123,20 @@ class Comparison(Framed):
         known = [(way.name, *way.difference) for way in self.ways]
         rows = [(name, value, it.lower, it.upper) for name, value, it in known if value is not None and it is not None]
         return plot_intervals(rows, "risk difference", ax)
+
+
+def told_of(notes: Sequence[Tuple[str, Sequence[str]]]) -> List[str]:
+    """Notes on several ways: one that is of all of them alone, and else with the names of those that it is of.
+
+    >>> from causal.comparison import told_of
+    >>> told_of([("a", ["x", "y"]), ("b", ["x"])])
+    ['x', 'a: y']
+    """
+    names: Dict[str, List[str]] = {}
+    for name, own in notes:
+        for note in own:
+            names.setdefault(note, []).append(name)
+    return [note if len(of) == len(notes) else f"{', '.join(of)}: {note}" for note, of in names.items()]
 
 
 def compared(
@@ -147,5 +170,19 @@ def compared(
 
     crude = type(diagram).from_edges([(a, b) for a in target.x for b in target.y], exposure=target.x, outcome=target.y)
     sets = diagram.adjustment_sets(target.x, target.y, most=most)
-    ways = [way("crude", crude), way("by the formula", diagram)]
-    return Comparison((*ways, *(way(f"adjusted for {printed_set(members)}", diagram, set=members) for members in sets)))
+    ways = [way(CRUDE, crude), way("by the formula", diagram)]
+    ways += [way(f"adjusted for {printed_set(members)}", diagram, set=members) for members in sets]
+    return Comparison(tuple(ways), bounds_beside(diagram, data, target, named, words))
+
+
+def bounds_beside(
+    diagram: "Diagram", data: Data, target: Term, named: Mapping[str, Any], words: Mapping[str, Any]
+) -> Optional[EffectDifference]:
+    """The natural bounds of the risk difference; None where the records have weights, or there are none."""
+    if any(words.get(name) for name in ("weights", "clusters", "strata", "given")):
+        return None
+    try:
+        found = diagram.bounds(data, target.x, target.y, **{name: words[name] for name in ("count", "missing") if name in words})
+        return found.difference(named["outcome"], named["treated"], named["control"]) if isinstance(found, EffectBounds) else None
+    except CausalError:
+        return None

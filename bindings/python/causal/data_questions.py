@@ -551,7 +551,7 @@ class DataQuestions:
         """The crude effect, the one by the formula, and the one by each minimal set that may be adjusted for (`most` of them), in a table.
 
         If the diagram is right, all but the crude one estimate the same; where their intervals have no point in common, the answer says
-        so. Each is by counts where they have a value, as in `contrast`, which takes the same options (`count`, `missing`, `resamples`,
+        so. Beside them stand the E-value, and the natural bounds of the program, which hold whatever is hidden. Each is by counts where they have a value, as in `contrast`, which takes the same options (`count`, `missing`, `resamples`,
         `level`, `seed`, `weights` and so on); else it is by the `model`, as in `estimate`, and says so.
 
         >>> from causal import Diagram
@@ -561,6 +561,8 @@ class DataQuestions:
         by the formula: risk difference 0.103672 [0.0480298, 0.156314]
         adjusted for {S}: risk difference 0.103672 [0.0480298, 0.156314]
         95% percentile intervals of 200 resamples, of which 0 had no value; seed 0
+        natural bounds of the risk difference, whatever is hidden: at least -0.375, at most 0.625
+        by the formula: E-value 8.16772, of the interval 3.3776
         """
         from causal.comparison import compared
 

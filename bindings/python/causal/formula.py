@@ -203,6 +203,19 @@ class Formula(Framed):
         """
         return self._question.certificate if self._question else None
 
+    @property
+    def derivation(self) -> Optional[str]:
+        """The steps that lead to the formula, each with what stands there behind it, where `identify` or `surrogate` gave it, and else None.
+        `check_certificate` accepts them.
+
+        >>> from causal import Diagram
+        >>> print(Diagram("dag{ X -> Y }").identify("X", "Y").derivation)
+        main
+        P(Y|do(X))
+        rule2see: P(Y|X)
+        """
+        return self._question.derivation if self._question else None
+
     def _repr_latex_(self) -> Optional[str]:
         """What notebooks show: the formula and its definitions, without the free variables."""
         return f"$$\n{self.display_latex}\n$$" if self._trees else None

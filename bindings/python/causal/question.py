@@ -36,6 +36,12 @@ class Question:
         return self.diagram._ask(lambda told: text_in(told["certificate"]), self.command, *self.words, "--certificate")
 
     @cached_property
+    def derivation(self) -> Optional[str]:
+        """The steps of the certificate, in words; None where the library doesn't tell them."""
+        reply = explain(["steps", "diagram", "certificate"], {"diagram": self.diagram.source, "certificate": self.certificate.encode("utf-8")})
+        return None if reply is None or reply.status else reply.out.decode("utf-8").rstrip("\n")
+
+    @cached_property
     def settled(self) -> Optional[bool]:
         """Whether the two models of a hedge under a condition differ on the conditional effect; None where the library doesn't tell."""
         reply = explain(["settled", "diagram", *self.words], {"diagram": self.diagram.source})

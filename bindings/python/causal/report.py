@@ -7,13 +7,14 @@ import os
 from dataclasses import dataclass
 from typing import TYPE_CHECKING, Any, List, Mapping, Optional, Sequence, Tuple, Union
 
+from causal.bounds import EffectBounds
 from causal.columns import Data
 from causal.display import shown
 from causal.errors import CausalError, RequestError
 from causal.files import refusals_of
-from causal.formula import Formula
+from causal.formula import Formula, Term
 from causal.names import Names, printed_set
-from causal.tables import table_of
+from causal.tables import lacking_values, table_of
 from causal.typeset import escaped, latex_of
 from causal.version import VERSION
 
@@ -202,6 +203,8 @@ def report_on(
             asked_x, asked_y = (target.x if x is None else x), (target.y if y is None else y)
             found = diagram.compare(data, asked_x, asked_y, **arms, most=most, model=model, **options)
             sections.append(("Crude and adjusted", tuple(comparison_blocks(found))))
+    if data is not None and not isinstance(answer, Formula):
+        sections.append(("What is known without a formula", tuple(bounds_blocks(diagram, data, target, shared))))
     sections.append(("What is proved", (Text(PROVED), Text(f"Made by causal {VERSION}."))))
     return Report(title, tuple(sections))
 
@@ -224,6 +227,8 @@ def effect_blocks(diagram: "Diagram", answer: Any, most: int) -> List[Block]:
         digest = hashlib.sha256(certificate.encode()).hexdigest()
         verdict = "accepts" if accepted else "refuses"
         found += [Text(f"Its derivation is a certificate of {len(certificate)} bytes, which causal check {verdict}. Its SHA-256:"), Code(digest)]
+        if answer.derivation is not None:
+            found += [Text("Its steps, each with what stands there behind it:"), Code(answer.derivation)]
     sets = diagram.adjustment_sets(answer.target.x, answer.target.y, most=most)
     if sets:
         listed = ", ".join(map(printed_set, sets)) + (" and more" if sets.more else "")
@@ -254,7 +259,8 @@ def data_blocks(diagram: "Diagram", data: Data, formula: Formula, shared: Mappin
     records = sum(table.counts.values())
     found: List[Block] = [Text(f"{records} records were read, of the columns {', '.join(used)}.")]
     if table.dropped:
-        found.append(Text(f"{table.dropped} records were left out, since they lack a value in one of these columns."))
+        lack = "; ".join(f"{name} in {number}" for name, number in lacking_values(data, used, shared.get("count")).items())
+        found.append(Text(f"{table.dropped} records were left out, since they lack a value: {lack}."))
     try:
         support = diagram.support(data, formula.target.x, formula.target.y, **shared)
     except RequestError:
@@ -262,6 +268,19 @@ def data_blocks(diagram: "Diagram", data: Data, formula: Formula, shared: Mappin
     heads, rows = support._cells()
     found += [Text(f"Records by arm, in the strata of {printed_set(support.members)}: {'; '.join(support.notes)}."), Rows(heads, rows[:MOST_ROWS])]
     return found
+
+
+def bounds_blocks(diagram: "Diagram", data: Data, target: Term, shared: Mapping[str, Any]) -> List[Block]:
+    """The natural bounds, where the effect has no formula."""
+    try:
+        found = diagram.bounds(data, target.x, target.y, **shared)
+    except CausalError as error:
+        return [Text(f"Bounds weren't computed: {error}")]
+    if not isinstance(found, EffectBounds):
+        return [Text("No model of this diagram has these counts:"), Code(str(found))]
+    heads = (*target.x, *target.y, "at least", "at most")
+    rows = [[*it.x.values(), *it.y.values(), float(it.at_least), float(it.at_most)] for it in found]
+    return [Text("These bounds hold in every model of the diagram that has these counts:"), Rows(heads, rows[:MOST_ROWS])]
 
 
 def comparison_blocks(found: Any) -> List[Block]:

@@ -234,6 +234,28 @@ def kept_records(
     return kept, sum(weights) - sum(weights[k] for k in kept)
 
 
+def lacking_values(data: Data, names: Sequence[str], count: Optional[str] = None) -> Dict[str, int]:
+    """How many records lack a value, for each column in which some do.
+
+    >>> from causal.tables import lacking_values
+    >>> lacking_values({"X": [None, 1], "Y": [2, 2], "n": [30, 1]}, ["X", "Y"], "n")
+    {'X': 30}
+    """
+    source = database_of(data) or frame_of(data)
+    columns: Mapping[str, Column]
+    if source is not None:
+        columns, rows = source.grouped(list(names), count)
+        count = list(columns)[-1]
+    else:
+        columns, rows = columns_of(data, [*names, *([count] if count is not None else [])]), None
+    size = max((len(column.values) for column in columns.values()), default=0)
+    numbers = list(rows) if rows is not None else [1] * size
+    if count is not None:
+        numbers = [number if _whole(value) is None else int(value) for number, value in zip(numbers, columns[count].values)]
+    found = {name: sum(number for number, lacks in zip(numbers, columns[name].missing) if lacks) for name in names}
+    return {name: number for name, number in found.items() if number}
+
+
 def record_counts(values: Sequence[Any], kept: Sequence[int]) -> List[int]:
     counts = []
     for record in kept:

@@ -350,6 +350,11 @@ class Reports(unittest.TestCase):
         self.assertEqual([way.name for way in found.ways], ["crude", "by the formula", "adjusted for {A}", "adjusted for {B}"])
         self.assertTrue(found.agree)
         self.assertIn("crude: risk difference", str(found))
+        self.assertRegex(str(found), "natural bounds of the risk difference, whatever is hidden: at least -0[.][0-9]+, at most 0[.][0-9]+")
+        self.assertLess(float(found.bounds.at_least), found.ways[1].difference[0])
+        self.assertIn("by the formula: E-value", str(found))
+        self.assertIn("e_value", found._table()[0])
+        self.assertIsNone(diagram.compare({**data, "w": [1.5] * 2000}, "X", "Y", **ARMS, resamples=5, weights="w").bounds)
 
     def test_models_where_counts_have_no_value(self):
         source = random.Random(5)
@@ -374,6 +379,17 @@ class Reports(unittest.TestCase):
                 report.save(os.path.join(folder, "a.doc"))
         bow = Diagram(read_example("bow.dag"))
         self.assertIn("isn't identified", bow.report().markdown)
+        without = bow.report(bow.simulate(200, seed=1), **ARMS)
+        for text in (without.html, without.markdown, without.latex):
+            self.assertIn("These bounds hold in every model of the diagram", text)
+            self.assertIn("at least", text)
+
+    def test_a_report_has_the_derivation_and_what_was_left_out(self):
+        kidney = Diagram(read_example("kidney_stones.dag"))
+        data = {"S": ["s", None] * 20, "T": [0, 1, 1, 0] * 10, "R": [0, 1, None, 1, 1] * 8}
+        report = kidney.report(data, **ARMS, missing="drop", resamples=20).markdown
+        self.assertIn("rule2see", report)
+        self.assertIn("24 records were left out, since they lack a value: R in 8; S in 20.", report)
 
     def test_latex_compiles(self):
         import shutil
