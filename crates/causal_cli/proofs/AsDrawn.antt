@@ -277,18 +277,20 @@ unfound_drawn : (wanted : Bool) (d : Diagram) (s u : SurrogateSets) (district : 
     → IsStop wanted (graph_of d.observed.graph) s (surrogated.Unfound u district k) → IsSurrogateAsDrawn d (surrogated.Unfound u district k)
 unfound_drawn wanted d s u district k h =
     subst (λ (v : SurrogateSets). IsSurrogateAsDrawn d (surrogated.Unfound v district k))
-    (sym (ap sets_of h.is ∙ stop_sets wanted s h.district h.hedge h.common))
-    (stop_lost wanted d s (surrogated.Unfound u district k) h,
-      λ together. stop_lost_over wanted d s (surrogated.Unfound u district k) h (h.exact.1 together))
+    (sym (ap sets_of h.is ∙ stop_sets wanted s h.district h.hedge h.common)) (
+      stop_lost wanted d s (surrogated.Unfound u district k) h,
+      λ together. stop_lost_over wanted d s (surrogated.Unfound u district k) h (h.exact.1 together),
+    )
 
 blocked_drawn : (wanted : Bool) (d : Diagram) (s u : SurrogateSets) (district : VSet) (k : EffectHedge)
     → IsStop wanted (graph_of d.observed.graph) s (surrogated.Blocked u district k) → IsSurrogateAsDrawn d (surrogated.Blocked u district k)
 blocked_drawn wanted d s u district k h =
     subst (λ (v : SurrogateSets). IsSurrogateAsDrawn d (surrogated.Blocked v district k))
-    (sym (ap sets_of h.is ∙ stop_sets wanted s h.district h.hedge h.common))
-    (stop_lost wanted d s (surrogated.Blocked u district k) h,
+    (sym (ap sets_of h.is ∙ stop_sets wanted s h.district h.hedge h.common)) (
+      stop_lost wanted d s (surrogated.Blocked u district k) h,
       stop_lost_over wanted d s (surrogated.Blocked u district k) h
-      (blocked_some wanted s h.district h.hedge h.common (sym (ap is_blocked h.is))))
+          (blocked_some wanted s h.district h.hedge h.common (sym (ap is_blocked h.is))),
+    )
 
 surrogates_sets : (wanted : Bool) (d : Diagram) (s : SurrogateSets) (a : SurrogateAnswer) → surrogate_right.Decides wanted (graph_of d.observed.graph) s a
     → IsSurrogateAsDrawn d a
@@ -414,11 +416,12 @@ checks_text q d observed names zs other (checked.AcceptedFormula a) (of_hedge t 
 checks_text q d observed names zs other (checked.AcceptedHedge s k over) (of_formula t f e holds is) = absurd is
 checks_text q d observed names zs other (checked.AcceptedHedge s k over) (of_hedge t h entries holds is) =
     let lost = effect_lost d.read q observed t.x t.y is.4.pair is.4.models in
-    let lost_over = effect_lost_over d.read q observed t.x t.y is.4.pair is.4.models zs is.4.under in
-    (subst (λ (x : ℕ). IsNotIdentifiable d.read (effect_on x s.y.bits)) (sym is.0)
-    (subst (λ (y : ℕ). IsNotIdentifiable d.read (effect_on t.x y)) (sym is.1) lost),
+    let lost_over = effect_lost_over d.read q observed t.x t.y is.4.pair is.4.models zs is.4.under in (
+      subst (λ (x : ℕ). IsNotIdentifiable d.read (effect_on x s.y.bits)) (sym is.0)
+          (subst (λ (y : ℕ). IsNotIdentifiable d.read (effect_on t.x y)) (sym is.1) lost),
       subst (λ (x : ℕ). IsNotIdentifiableOver d.read zs (effect_on x s.y.bits)) (sym is.0)
-      (subst (λ (y : ℕ). IsNotIdentifiableOver d.read zs (effect_on t.x y)) (sym is.1) lost_over))
+          (subst (λ (y : ℕ). IsNotIdentifiableOver d.read zs (effect_on t.x y)) (sym is.1) lost_over),
+    )
 checks_text q d observed names zs other (checked.RefusedDerivation lemmas fault) is = tt
 checks_text q d observed names zs other (checked.RefusedHedge fault) is = tt
 checks_text q d observed names zs other checked.MetHedge is = tt

@@ -218,16 +218,14 @@ fn evaluate_over<'a>(
         evaluate_command::First::Answered(answer) => {
             replied(first_reply(alloc, diagram, &answer, asked.format))
         }
-        evaluate_command::First::Found(found) => Ok(AfterFile::Continues(
-            SecondInput::Evaluate {
-                found,
-                counts: asked.counts,
-                count: asked.count,
-                exact: asked.exact,
-                zero: asked.zero,
-                format: asked.format,
-            },
-        )),
+        evaluate_command::First::Found(found) => Ok(AfterFile::Continues(SecondInput::Evaluate {
+            found,
+            counts: asked.counts,
+            count: asked.count,
+            exact: asked.exact,
+            zero: asked.zero,
+            format: asked.format,
+        })),
     }
 }
 

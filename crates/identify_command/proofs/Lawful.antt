@@ -141,7 +141,7 @@ forms_agree bytes x y given o p told other a b =
     let f = a.given.3 in
     let g = b.given.3 in
     let there = subst (λ (l : Asked). IsForNames b.given.0 b.given.1 (graph_of d.observed.graph) l g.answer) (same_asked x y given d e s)
-        (subst (λ (q : MixedGraph). IsForNames b.given.0 b.given.1 q (asked_of e x y given) g.answer) (sym (same_drawing d e s)) g.right) in
+    (subst (λ (q : MixedGraph). IsForNames b.given.0 b.given.1 q (asked_of e x y given) g.answer) (sym (same_drawing d e s)) g.right) in
     f.ends ∙ alike a.given.0 a.given.1 b.given.0 b.given.1 (graph_of d.observed.graph) (asked_of d x y given) f.answer g.answer f.right there ∙ sym g.ends
 
 -- what holds of each command holds of it

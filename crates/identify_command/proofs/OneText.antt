@@ -69,7 +69,7 @@ module _ (w : Writing) (names : List (List ℕ)) where
   formulas t f g d e at_t of_t fs ds kept other =
       let ts = of_t ∙ sym at_t in
       let certified = λ (c : w ≡ Certificate). one_certificate f g d e ts fs ds
-          (subst (λ (v : Writing). IsKept (is_certified v) f.derivation d) c kept) (subst (λ (v : Writing). IsKept (is_certified v) g.derivation e) c other) in
+      (subst (λ (v : Writing). IsKept (is_certified v) f.derivation d) c kept) (subst (λ (v : Writing). IsKept (is_certified v) g.derivation e) c other) in
       record { text = one_formula_text names f g ts fs w certified; object = one_formula_object names f g ts fs w certified }
 
   -- effects and targets
