@@ -9,7 +9,7 @@ bounds_effect <- function(diagram, data, x = NULL, y = NULL, given = NULL, instr
   outcomes <- if (is.null(y)) diagram$vertices$name[diagram$vertices$role == "outcome"] else enc2utf8(as.character(y))
   table <- count_table(diagram, words, data, count, one_of(missing), "bounds", keeps = outcomes)
   asked <- if (is.null(table)) words else c(words, "--count", count_name(table), flag("exact", exact))
-  told <- ask_counts(diagram, asked, if (is.null(table)) "" else counts_text(table), command = "bounds")
+  told <- if (is.null(table)) ask_counts(diagram, asked, "", command = "bounds") else ask_table(diagram, asked, table, "bounds")
   read <- read_bounds(object_of(told))
   if (read$answer == "bounds") return(bounds_frame(read, table))
   if (read$answer == "no instrument")

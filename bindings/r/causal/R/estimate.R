@@ -66,7 +66,9 @@ model_arms <- function(asked, table, treated, control) {
     refuse("`treated` and `control` have to name the levels of ", paste(asked$x, collapse = ", "), "; ", levels_told(table, asked$x))
   cells <- expand.grid(lapply(table$levels[asked$x], seq_along))
   told <- list(asked = asked, table = table, effects = list(x = lapply(seq_len(nrow(cells)), function(k) unlist(cells[k, , drop = FALSE]))))
-  lapply(list(treated = treated, control = control), function(arm) unlist(cells[which(arm_of(arm, told, asked$x))[1], , drop = FALSE]))
+  arms <- lapply(list(treated = treated, control = control), function(arm) unlist(cells[which(arm_of(arm, told, asked$x))[1], , drop = FALSE]))
+  check_arms(arms)
+  arms
 }
 
 # What is estimated of the outcome: the chance of some of its levels, or the mean of one with more than two numbers.
