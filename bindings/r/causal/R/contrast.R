@@ -220,3 +220,37 @@ shown_measures <- function(x, levels, digits) {
   })
   frame_of(c(lapply(stats::setNames(levels, levels), function(name) x[[name]][first]), found))
 }
+
+# A forest plot: the interval of one measure of each cell.
+plot.causal_contrast <- function(x, measure = "difference", ...) {
+  has <- unique(x[["measure"]])
+  check_word("measure", measure, has)
+  shown <- as.data.frame(x)[x[["measure"]] == measure, ]
+  drawn_forest(shown, forest_labels(shown), measure, switch(measure, difference = 0, ratio = 1, odds_ratio = 1), ...)
+}
+
+# What each line of a forest plot is of.
+forest_labels <- function(shown) {
+  levels <- seq_len(match("treated", names(shown)) - 1)
+  cells <- if (length(levels)) cell_texts(shown, levels) else rep("", nrow(shown))
+  arms <- paste(shown$treated, "against", shown$control)
+  if (length(unique(arms)) > 1 || !all(nzchar(cells)) || anyDuplicated(cells)) paste0(cells, ifelse(nzchar(cells), ": ", ""), arms) else cells
+}
+
+drawn_forest <- function(shown, labels, measure, none, ...) {
+  known <- !is.na(shown$estimate)
+  rows <- rev(seq_len(sum(known)))
+  shown <- shown[known, ]
+  old <- graphics::par(mai = c(0.8, max(0.4, graphics::strwidth(labels, "inches", cex = 0.8)) + 0.3, 0.4, 0.2))
+  on.exit(graphics::par(old))
+  graphics::plot.new()
+  reach <- range(c(shown$estimate, shown$conf_low, shown$conf_high, none), na.rm = TRUE, finite = TRUE)
+  graphics::plot.window(reach, c(0.5, max(length(rows), 1) + 0.5))
+  if (!is.null(none)) graphics::abline(v = none, lty = 2, col = "#888888")
+  graphics::segments(shown$conf_low, rows, shown$conf_high, rows)
+  graphics::points(shown$estimate, rows, pch = 19)
+  graphics::axis(1)
+  if (length(rows)) graphics::axis(2, at = rows, labels = labels[known], las = 1, tick = FALSE, cex.axis = 0.8)
+  graphics::title(xlab = measure, ...)
+  invisible(shown)
+}

@@ -27,6 +27,13 @@ meant <- function(name, among) {
   if (length(found)) paste0("; did you mean ", found[1], "?") else ""
 }
 
+# Whether a word is one of those that are there.
+check_word <- function(argument, word, words) {
+  if (!is.character(word) || length(word) != 1 || !word %in% words)
+    refuse("`", argument, "` is ", paste0('"', words, '"', collapse = ", "), ", and not ", paste0('"', as.character(word), '"', collapse = ", "),
+           if (length(word) == 1) meant(word, words))
+}
+
 check_flag <- function(argument, value) if (!isTRUE(value) && !isFALSE(value)) refuse("`", argument, "` is TRUE or FALSE")
 
 check_whole <- function(argument, value, least, most = Inf) {
@@ -52,8 +59,6 @@ one_of <- function(word) {
   argument <- as.character(substitute(word))
   words <- eval(formals(sys.function(sys.parent()))[[argument]], parent.frame())
   if (identical(word, words)) return(words[1])
-  if (length(word) != 1 || !word %in% words)
-    refuse("`", argument, "` is ", paste0('"', words, '"', collapse = ", "), ", and not ", paste0('"', as.character(word), '"', collapse = ", "),
-           if (length(word) == 1) meant(word, words))
+  check_word(argument, word, words)
   word
 }
