@@ -12,16 +12,19 @@ bounds_effect <- function(diagram, data, x = NULL, y = NULL, given = NULL, instr
   told <- if (is.null(table)) ask_counts(diagram, asked, "", command = "bounds") else ask_table(diagram, asked, table, "bounds")
   read <- read_bounds(object_of(told))
   if (read$answer == "bounds") {
-    found <- bounds_frame(read, table)
-    if (is.null(treated) && is.null(control) && is.null(outcome)) return(found)
-    return(compared_bounds(found, read, table, x, treated, control, outcome))
+    if (is.null(treated) && is.null(control)) return(bounds_frame(read, table, outcome))
+    return(compared_bounds(read, table, x, treated, control, outcome))
   }
   if (read$answer == "no instrument")
     return(new_answer("causal_no_instrument", list(holds = FALSE, moved = read$moved, path = read$path), told, diagram))
   new_answer("causal_no_model", list(holds = FALSE, crossed = bounds_frame(read, table)), told, diagram)
 }
 
-bounds_frame <- function(read, table) {
+bounds_frame <- function(read, table, outcome = NULL) {
+  if (!is.null(outcome)) {
+    kept <- wanted_cells(read, table, list(y = names(read$y[[1]]), given = names(read$given[[1]]), levels = list()), outcome)
+    for (part in c("x", "y", "given", "at_least", "at_most")) read[[part]] <- read[[part]][kept]
+  }
   columns <- c(columns_of(read$x, table), columns_of(read$given, table), columns_of(read$y, table))
   ends <- list(at_least = number_in(read$at_least), at_most = number_in(read$at_most))
   if (read$exact) ends <- c(ends, list(at_least_exact = read$at_least, at_most_exact = read$at_most))
@@ -29,7 +32,8 @@ bounds_frame <- function(read, table) {
 }
 
 # Of both arms and of their difference: it is at least what the ends that are farthest apart leave, and no narrower bounds are claimed.
-compared_bounds <- function(found, read, table, x, treated, control, outcome) {
+compared_bounds <- function(read, table, x, treated, control, outcome) {
+  found <- bounds_frame(read, table)
   asked <- list(x = if (is.null(x)) names(read$x[[1]]) else as.character(x), typed = !is.null(x), y = names(read$y[[1]]), given = names(read$given[[1]]), levels = list())
   effects <- list(x = read$x, y = read$y, given = read$given)
   arms <- arms_of(list(effects = effects, table = table, asked = asked), treated, control, outcome)

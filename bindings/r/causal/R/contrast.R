@@ -238,7 +238,7 @@ forest_labels <- function(shown) {
 }
 
 drawn_forest <- function(shown, labels, measure, none, ...) {
-  known <- !is.na(shown$estimate)
+  known <- !is.na(shown$estimate) | !is.na(shown$conf_low)
   rows <- rev(seq_len(sum(known)))
   shown <- shown[known, ]
   old <- graphics::par(mai = c(0.8, max(0.4, graphics::strwidth(labels, "inches", cex = 0.8)) + 0.3, 0.4, 0.2))

@@ -70,9 +70,14 @@ rows_of_way <- function(found, label) {
 # The bounds of the library that take nothing but counts, beside the estimates; NULL where it has none.
 bounds_row <- function(diagram, data, x, y, treated, control, outcome, ...) {
   shared <- list(...)[intersect(...names(), c("count", "missing"))]
-  found <- tryCatch(do.call(bounds_effect, c(list(diagram, data, x, y, treated = treated, control = control, outcome = if (is.null(outcome)) list() else outcome), shared)),
-                    causal_refusal = function(it) NULL)
-  if (!inherits(found, "causal_bounds") || !"measure" %in% names(found)) return(NULL)
+  if (is.null(treated) && is.null(control) && length(x) == 1) {
+    # those of a contrast without arms
+    levels <- levels_of(if (is.data.frame(data)) data[[x]] else unlist(dimnames(data)[x], use.names = FALSE))
+    if (length(levels) == 2) { treated <- levels[2]; control <- levels[1] }
+  }
+  if (is.null(treated)) return(NULL)
+  found <- tryCatch(do.call(bounds_effect, c(list(diagram, data, x, y, treated = treated, control = control, outcome = outcome), shared)), causal_refusal = function(it) NULL)
+  if (!inherits(found, "causal_bounds")) return(NULL)
   here <- as.data.frame(found)[found$measure == "difference", ]
   frame_of(c(list(set = rep("bounds", nrow(here)), by = rep("bounds", nrow(here))), as.list(here), list(note = rep("", nrow(here)))))
 }
@@ -102,14 +107,13 @@ print.causal_comparison <- function(x, digits = 4, ...) {
   invisible(x)
 }
 
-# Crude, by the formula and by each set: a forest plot; bounds are drawn as thin lines.
+# Crude, by the formula and by each set: a forest plot; bounds have no point.
 plot.causal_comparison <- function(x, ...) {
   shown <- as.data.frame(x)
   is_bound <- shown$by == "bounds"
   if (any(is_bound)) {
     shown$conf_low[is_bound] <- shown$at_least[is_bound]
     shown$conf_high[is_bound] <- shown$at_most[is_bound]
-    shown$estimate[is_bound] <- (shown$at_least[is_bound] + shown$at_most[is_bound]) / 2
   }
   drawn_forest(shown, paste0(shown$set, ifelse(shown$by == "models", " (models)", "")), "difference", 0, ...)
 }

@@ -176,8 +176,34 @@ near(round(found$e_value_interval, 1), c(3.0, 1.0))
 same(e_value(robust)$ratio, robust$estimate[4])
 refused(e_value(-1), "above 0")
 
-# Sets that should agree, beside the crude comparison
+# Sets that should agree, beside the crude comparison, and what is known without any
 sets <- compare(confounded, classes, outcome = 1, resamples = 50)
-same(sets$set, c("crude", "{C}"))
-same(sets$estimate[2], contrast(confounded, classes, outcome = 1, set = "C", resamples = 0)$estimate[3])
+same(sets$set, c("crude", "formula", "{C}", "bounds"))
+same(sets$by, c("counts", "counts", "counts", "bounds"))
+same(sets$estimate[3], contrast(confounded, classes, outcome = 1, set = "C", resamples = 0)$estimate[3])
+same(sets$e_value[2], e_value(contrast(confounded, classes, outcome = 1, resamples = 0))$e_value)
+bounds <- bounds_effect(confounded, classes, treated = 1, control = 0, outcome = 1)
+same(bounds$measure, c("risk_treated", "risk_control", "difference"))
+near(c(sets$at_least[4], sets$at_most[4]), c(bounds$at_least[1] - bounds$at_most[2], bounds$at_most[1] - bounds$at_least[2]))
+stopifnot(sets$at_least[4] < sets$estimate[3], sets$estimate[3] < sets$at_most[4])
 stopifnot(any(grepl("common values", capture.output(print(sets)))))
+pdf(NULL)
+plot(sets)
+plot(contrast(confounded, classes, outcome = 1, resamples = 20), "ratio")
+plot(adjustment_sets(confounded))
+invisible(dev.off())
+# thin counts: the row says that it is by models
+apart_sets <- compare(confounded, thin <- data.frame(C = rep(0:2, c(30, 30, 5)), X = c(rep(0:1, 30), rep(1, 5)), Y = rep(c(0, 1, 1, 0, 1), 13)), outcome = 1, resamples = 20)
+same(apart_sets$by[c(1, 3)], c("counts", "models"))
+stopifnot(any(grepl("^by models: computed", capture.output(print(apart_sets)))))
+
+# A model of the caller's own, categories that are numbers, and a side that names its variable
+mine <- list(fit = function(data, response, weights) glm.fit(cbind(1, as.matrix(data)), as.integer(response) - 1, weights, family = quasibinomial(), control = tight)$coefficients,
+             predict = function(fitted, data) plogis(drop(cbind(1, as.matrix(data)) %*% fitted)))
+near(estimate(confounded, classes, model = mine, resamples = 0)$estimate, estimate(confounded, classes, resamples = 0)$estimate)
+stopifnot(any(grepl("the caller's own: Y by", capture.output(print(estimate(confounded, classes, model = list(Y = mine), resamples = 0))))))
+dose <- transform(data, X = X + (A > 1))
+near(estimate(diagram, dose, treated = 2, control = 0, resamples = 0)$estimate[1], mean(predict(glm(Y ~ factor(X) + A + B, binomial, dose, control = tight), transform(dose, X = 2), "response")))
+near(estimate(diagram, dose, treated = 2, control = 0, model = ~ X + A + B, resamples = 0)$estimate[1],
+     mean(predict(glm(Y ~ X + A + B, binomial, dose, control = tight), transform(dose, X = 2), "response")))
+near(estimate(diagram, data, model = list(Y ~ X * A + B), resamples = 0)$estimate[1:3], by_hand(Y ~ X * A + B, binomial), 1e-10)
