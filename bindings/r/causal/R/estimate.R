@@ -4,15 +4,15 @@
 estimate <- function(diagram, data, x = NULL, y = NULL, treated = NULL, control = NULL, outcome = NULL,
                      method = c("formula", "ipw", "aipw"), model = "logistic", set = NULL, given = NULL, count = NULL, level = 0.95,
                      resamples = NULL, seed = 0, missing = c("error", "drop", "level"), weights = NULL, clusters = NULL, strata = NULL,
-                     smoothing = 1, at = NULL, short = is.null(set), progress = NULL, interval = NULL, factors = character(), among = NULL,
-                     experiments = NULL, trials = NULL, draws = 1000) {
+                     smoothing = 1, at = NULL, short = is.null(set), progress = NULL, interval = NULL, factors = character(), observed = NULL,
+                     trials = NULL, experiments = NULL, draws = 1000) {
   method <- one_of(method)
   missing <- one_of(missing)
   check_numbers(level, if (is.null(resamples)) 0 else resamples)
   if (!is.null(interval)) check_word("interval", interval, c("influence", "percentile"))
   if (!is.numeric(smoothing) || length(smoothing) != 1 || !isTRUE(smoothing >= 0)) refuse("`smoothing` is a number of records from 0")
   check_whole("draws", draws, 1)
-  asked <- asked_for_models(as_causal_diagram(diagram), x, y, set, given, method, short, among, experiments)
+  asked <- asked_for_models(as_causal_diagram(diagram), x, y, set, given, method, short, observed, experiments_of(experiments, trials))
   table <- model_table(asked, data, count, missing, design_of(weights, clusters, strata), trials, at)
   options <- list(models = read_models(model), smoothing = smoothing, factors = factors_of(factors, asked, table), draws = draws)
   arms <- model_arms(asked, table, treated, control)
@@ -21,12 +21,24 @@ estimate <- function(diagram, data, x = NULL, y = NULL, treated = NULL, control 
   estimate_frame(asked, table, arms, targets, estimator, method, level, interval, resamples, seed_or_drawn(seed), progress)
 }
 
+# The sets of variables that trials set: by their names, as in list(Z = ..) or list("A,B" = ..), or as `experiments` has them.
+experiments_of <- function(experiments, trials) {
+  if (is.null(trials)) {
+    if (!is.null(experiments)) refuse("`experiments` says what `trials` set; these have the data")
+    return(NULL)
+  }
+  if (!is.null(experiments)) return(if (is.list(experiments)) experiments else list(experiments))
+  if (is.data.frame(trials) || !is.list(trials) || is.null(names(trials)) || !all(nzchar(names(trials))))
+    refuse("`trials` is a list of data by what was set in each, as list(Z = ..), or \"A,B\" for two variables")
+  lapply(strsplit(names(trials), ",", fixed = TRUE), trimws)
+}
+
 # What is asked for: by a set that the library calls admissible, or by a formula: also that of the effect among the treated, or from
 # experiments. A formula that is a standardisation over a set is taken as that, so that its members may have any number of values.
 asked_for_models <- function(diagram, x, y, set, given, method, short, among, experiments) {
   if (!is.null(among) || !is.null(experiments)) {
     if (method != "formula" || !is.null(set)) refuse("an effect among the treated, or from experiments, goes by its own formula: with method = \"formula\" and no `set`")
-    if (!is.null(among) && !is.null(experiments)) refuse("`among` and `experiments` are two questions: give one")
+    if (!is.null(among) && !is.null(experiments)) refuse("`observed` and `trials` are two questions: give one")
     return(if (is.null(among)) asked_from_experiments(diagram, x, y, given, experiments) else asked_among(diagram, x, y, given, among))
   }
   if (is.null(set) && method != "formula") {
@@ -72,7 +84,6 @@ model_table <- function(asked, data, count, missing, design, trials, at) {
   if (!is.null(asked$experiments)) {
     table <- table_of_trials(asked, data, trials, count, missing, design)
   } else {
-    if (!is.null(trials)) refuse("`trials` are the data of `experiments`, which name what each of them sets")
     of <- if (!is.null(asked$set)) unique(c(asked$x, asked$y, asked$set))
           else if (length(asked$observed)) setdiff(unique(c(asked$x, asked$y, asked$given, unlist(lapply(asked$trees, names_in)))), asked$observed)
     table <- count_table(asked$diagram, asked$words, data, count, missing, keeps = asked$y, design = design, of = of)

@@ -90,7 +90,7 @@ source_of <- function(do, asked) {
 codes_among <- function(asked, table) {
   if (is.null(asked$among)) return(integer())
   told <- if (is.null(names(asked$among))) stats::setNames(as.list(asked$among), order_of_arm(asked$among, asked, asked$x)) else as.list(asked$among)
-  if (!setequal(names(told), asked$x)) refuse("`among` has one level of each of ", paste(asked$x, collapse = ", "))
+  if (!setequal(names(told), asked$x)) refuse("`observed` has one level of each of ", paste(asked$x, collapse = ", "))
   stats::setNames(vapply(asked$x, function(name) known_place(name, told[[name]], table), 1L), unname(asked$observed[asked$x]))
 }
 

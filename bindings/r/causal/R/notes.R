@@ -13,7 +13,7 @@ foot_notes <- function(x) {
   without <- if (inherits(x, "causal_spread")) attr(x, "without_value")
   c(vapply(without, function(levels) paste0("no value at ", level_text(levels)), ""),
     if (inherits(x, "causal_spread") && nrow(x)) paste("at most", format(widest(x), digits = 4), "apart; in the population every level gives the same"),
-    if (inherits(x, c("causal_contrast", "causal_means")) && isTRUE(attr(x, "resamples") > 0)) c(interval_note(x), attr(x, "frequencies")),
+    if (inherits(x, c("causal_contrast", "causal_means")) && isTRUE(attr(x, "resamples") > 0)) paste0(interval_note(x), if (!is.null(attr(x, "frequencies"))) paste0("; ", attr(x, "frequencies"))),
     if ("note" %in% names(x)) row_notes(x))
 }
 

@@ -4,7 +4,7 @@
 \title{One Document of an Analysis}
 \description{
   Writes what an analysis of an effect should tell: the diagram, the formula with its derivation, the sets to adjust for, where records
-  lack, crude and adjusted values with their intervals, E-values, and tests of what the diagram implies.
+  lack, crude and adjusted values with their intervals, the estimate by models, bounds, E-values, and tests of what the diagram implies.
 }
 \usage{
 report(diagram, data, x = NULL, y = NULL, treated = NULL, control = NULL,
@@ -21,7 +21,8 @@ report(diagram, data, x = NULL, y = NULL, treated = NULL, control = NULL,
   \item{permutations}{as in \code{\link{test_implications}}.}
 }
 \details{
-  A part that has no answer says why. HTML needs no script and no other file; Markdown has its formula in LaTeX, for \pkg{knitr} and
+  A part that has no answer says why. Where the effect has no formula, the hedge and the bounds stand in its place. HTML needs no script and no other file, and has the
+  drawing where R can make one as SVG; Markdown has its formula in LaTeX, for \pkg{knitr} and
   pandoc; LaTeX compiles by itself, with \code{amsmath} and \code{geometry}.
 }
 \value{A list of the class \code{causal_report} with the \code{lines} of the document and its \code{parts}, invisibly where a file is written.}
