@@ -64,17 +64,28 @@ count_table <- function(diagram, words, data, count, missing, command = "evaluat
   columns <- lapply(columns, `[`, is_whole)
   levels <- mapply(levels_of, columns, names(columns) %in% keeps, SIMPLIFY = FALSE)
   codes <- mapply(match_levels, columns, levels, SIMPLIFY = FALSE)
-  rows <- do.call(paste, c(codes, list(sep = ",")))
-  first <- !duplicated(rows)
+  key <- row_keys(codes, lengths(levels))
+  first <- !duplicated(key)
   survey <- lapply(survey, `[`, is_whole)
   weights <- if (is.null(survey$weights)) records[is_whole] else whole_weights(survey$weights)
-  counts <- vapply(split(weights, factor(rows, unique(rows))), sum, 0)
-  structure(list(names = used, levels = levels, codes = do.call(cbind, lapply(codes, `[`, first)), rows = rows[first],
-                 counts = as.vector(counts), records = as.vector(vapply(split(records[is_whole], factor(rows, unique(rows))), sum, 0)),
-                 survey = if (length(survey)) c(list(row = match(rows, rows[first])), survey), dropped = sum(records[!is_whole]),
-                 frequencies = named_count),
+  of_rows <- lapply(codes, `[`, first)
+  structure(list(names = used, levels = levels, codes = do.call(cbind, of_rows), rows = do.call(paste, c(of_rows, list(sep = ","))),
+                 counts = sums_of(weights, key), records = sums_of(records[is_whole], key), survey = if (length(survey)) c(list(row = key), survey),
+                 dropped = sum(records[!is_whole]), frequencies = named_count),
             class = "causal_counts")
 }
+
+# Which rows are the same: their numbers, in order of first appearance.
+row_keys <- function(codes, sizes) {
+  key <- rep(1, length(codes[[1]]))
+  for (k in seq_along(codes)) {
+    wide <- key * sizes[[k]] + codes[[k]]
+    key <- match(wide, unique(wide))
+  }
+  key
+}
+
+sums_of <- function(numbers, key) if (length(key)) as.vector(rowsum(numbers, key, reorder = FALSE)) else numeric()
 
 # Frequencies of a table stand in rows that differ. Where most rows are alike in all else, each is likely a record with its weight.
 doubt_weights <- function(data, count, records) {

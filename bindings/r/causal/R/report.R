@@ -3,13 +3,13 @@
 
 report <- function(diagram, data, x = NULL, y = NULL, treated = NULL, control = NULL, outcome = NULL, file = NULL,
                    format = c("html", "markdown", "latex"), title = "Analysis of an effect", set = NULL, count = NULL, level = 0.95, resamples = 1000, seed = 0,
-                   missing = c("error", "drop", "level"), permutations = 1000) {
+                   missing = c("error", "drop", "level"), permutations = 1000, progress = NULL) {
   if (!is.null(file) && identical(format, c("html", "markdown", "latex"))) format <- format_of_file(file)
   format <- one_of(format)
   diagram <- as_causal_diagram(diagram)
   check_exposures(diagram, x)
   missing <- one_of(missing)
-  parts <- report_parts(diagram, data, x, y, treated, control, outcome, set, count, level, resamples, seed, missing, permutations)
+  parts <- report_parts(diagram, data, x, y, treated, control, outcome, set, count, level, resamples, seed, missing, permutations, progress)
   lines <- switch(format, html = report_html(title, parts), markdown = report_markdown(title, parts), latex = report_latex(title, parts))
   if (is.null(file)) return(structure(list(lines = lines, parts = parts, format = format), class = "causal_report"))
   writeLines(enc2utf8(lines), file, useBytes = TRUE)
@@ -26,11 +26,17 @@ print.causal_report <- function(x, ...) {
   invisible(x)
 }
 
+most_parts <- 11
+
 # Each part has a head and what stands below it: a text, lines of the program, a formula or a table. A part that has no answer says why.
-report_parts <- function(diagram, data, x, y, treated, control, outcome, set, count, level, resamples, seed, missing, permutations) {
+report_parts <- function(diagram, data, x, y, treated, control, outcome, set, count, level, resamples, seed, missing, permutations, progress) {
+  tell <- progress_of(progress, most_parts)
+  done <- 0
   quietly <- function(call) withCallingHandlers(call, causal_doubt = function(it) invokeRestart("muffleWarning"))
   part <- function(head, call) {
-    list(head = head, body = tryCatch(quietly(call), causal_refusal = function(it) list(paste("No answer:", conditionMessage(it)))))
+    body <- tryCatch(quietly(call), causal_refusal = function(it) list(paste("No answer:", conditionMessage(it))))
+    tell(done <<- done + 1, most_parts)
+    list(head = head, body = body)
   }
   effect <- identify_effect(diagram, x, y, short = TRUE)
   bounds <- function() bounds_effect(diagram, data, x, y, count = count, missing = missing, treated = treated, control = control, outcome = outcome)

@@ -11,7 +11,7 @@ report(diagram, data, x = NULL, y = NULL, treated = NULL, control = NULL,
        outcome = NULL, file = NULL, format = c("html", "markdown", "latex"),
        title = "Analysis of an effect", set = NULL, count = NULL, level = 0.95,
        resamples = 1000, seed = 0, missing = c("error", "drop", "level"),
-       permutations = 1000)
+       permutations = 1000, progress = NULL)
 }
 \arguments{
   \item{diagram, data, x, y, treated, control, outcome, set, count, level, resamples, seed, missing}{as in \code{\link{contrast}}.}
@@ -19,6 +19,7 @@ report(diagram, data, x = NULL, y = NULL, treated = NULL, control = NULL,
   \item{format}{the form of the document; by the end of the file's name where there is one.}
   \item{title}{its title.}
   \item{permutations}{as in \code{\link{test_implications}}.}
+  \item{progress}{as in \code{\link{contrast}}, of the document's parts.}
 }
 \details{
   A part that has no answer says why. Where the effect has no formula, the hedge and the bounds stand in its place. HTML needs no script and no other file, and has the
