@@ -54,7 +54,9 @@ term_models <- function(scope) {
 
 step_model <- function(step, scope) {
   is_mean <- scope$targets$mean && step$name == scope$asked$y
-  model <- new_model(step$name, step$given, scope$table, scope$options$models, scope$options$smoothing, is_mean, scope$options$factors)
+  plain <- step$by_records && !step$name %in% names(scope$options$models)
+  model <- new_model(step$name, step$given, scope$table, if (plain) list("table") else scope$options$models, if (plain) 0 else scope$options$smoothing, is_mean,
+                     scope$options$factors)
   c(model, list(order = step$given, source = step$source))
 }
 
@@ -69,10 +71,12 @@ steps_of <- function(term, scope) {
   given <- union(term$do, term$given)
   names <- setdiff(c(setdiff(term$of, scope$asked$y), intersect(term$of, scope$asked$y)), given)
   source <- source_of(term$do, scope$asked)
+  # a term without a condition, or of those who had a level, is read off the records
+  by_records <- !length(setdiff(given, scope$asked$observed))
   steps <- list()
   for (name in names) {
-    key <- paste(c(source, name, sort(given)), collapse = "\r")
-    steps <- c(steps, list(list(name = name, given = given, key = key, source = source)))
+    key <- paste(c(source, by_records, name, sort(given)), collapse = "\r")
+    steps <- c(steps, list(list(name = name, given = given, key = key, source = source, by_records = by_records)))
     given <- c(given, name)
   }
   steps

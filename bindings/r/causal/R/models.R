@@ -33,7 +33,7 @@ refuse_model <- function(it = NULL) {
 is_own_model <- function(it) is.list(it) && all(c("fit", "predict") %in% names(it)) && is.function(it$fit) && is.function(it$predict)
 
 # The model that was asked for, of one variable. Each variable that has one of its own has to be modelled.
-model_for <- function(models, name) if (name %in% names(models)) models[[name]] else if ("" %in% names(models)) models[[match("", names(models))]] else "logistic"
+model_for <- function(models, name) if (identical(models, list("table"))) "table" else if (name %in% names(models)) models[[name]] else if ("" %in% names(models)) models[[match("", names(models))]] else "logistic"
 
 check_modelled <- function(models, names) {
   strange <- setdiff(names(models), c(names, ""))

@@ -21,7 +21,7 @@ e_value <- function(ratio, conf_low = NA, conf_high = NA) {
 }
 
 # The crude comparison beside that by the formula and by each listed minimal set: where the diagram is right, all but the crude one estimate
-# one number. Where there is no value over the counts an estimate by models stands, and says so. Last what is known without any: bounds.
+# one number. Where there is no value over the counts an estimate by models stands, and says so.
 compare <- function(diagram, data, x = NULL, y = NULL, treated = NULL, control = NULL, outcome = NULL, most = 10, resamples = 1000,
                     model = "logistic", bounds = TRUE, ...) {
   diagram <- as_causal_diagram(diagram)
@@ -36,13 +36,12 @@ compare <- function(diagram, data, x = NULL, y = NULL, treated = NULL, control =
     rows_of_way(way_to(asked, resamples, model), label)
   }
   rows <- c(list(way(plain, "crude", character())), list(way(diagram, "formula")),
-            lapply(listed$sets, function(set) way(diagram, paste0("{", paste(set, collapse = ","), "}"), set)),
-            if (bounds) list(bounds_row(diagram, data, exposures, outcomes, treated, control, outcome, ...)))
-  rows <- Filter(Negate(is.null), rows)
+            lapply(listed$sets, function(set) way(diagram, paste0("{", paste(set, collapse = ","), "}"), set)))
   columns <- unique(unlist(lapply(rows, names)))
   columns <- c(setdiff(columns, "note"), "note")
   rows <- lapply(rows, function(row) { for (name in setdiff(columns, names(row))) row[[name]] <- rep(NA, nrow(row)); row[columns] })
-  structure(do.call(rbind, rows), class = c("causal_comparison", "data.frame"), more = listed$more)
+  structure(do.call(rbind, rows), class = c("causal_comparison", "causal_rows", "data.frame"), more = listed$more,
+            bounds = if (bounds) difference_bounds(diagram, data, exposures, outcomes, treated, control, outcome, ...))
 }
 
 # A contrast, or where the counts have no value an estimate, or what is said of neither.
@@ -67,8 +66,9 @@ rows_of_way <- function(found, label) {
              list(e_value = e_value(values)$e_value)))
 }
 
-# The bounds of the library that take nothing but counts, beside the estimates; NULL where it has none.
-bounds_row <- function(diagram, data, x, y, treated, control, outcome, ...) {
+# The bounds of the library that take nothing but counts, which stand beside a comparison: they are no intervals of a sample. NULL where it
+# has none.
+difference_bounds <- function(diagram, data, x, y, treated, control, outcome, ...) {
   shared <- list(...)[intersect(...names(), c("count", "missing"))]
   if (is.null(treated) && is.null(control) && length(x) == 1) {
     # those of a contrast without arms
@@ -77,15 +77,13 @@ bounds_row <- function(diagram, data, x, y, treated, control, outcome, ...) {
   }
   if (is.null(treated)) return(NULL)
   found <- tryCatch(do.call(bounds_effect, c(list(diagram, data, x, y, treated = treated, control = control, outcome = outcome), shared)), causal_refusal = function(it) NULL)
-  if (!inherits(found, "causal_bounds")) return(NULL)
-  here <- as.data.frame(found)[found$measure == "difference", ]
-  frame_of(c(list(set = rep("bounds", nrow(here)), by = rep("bounds", nrow(here))), as.list(here), list(note = rep("", nrow(here)))))
+  if (inherits(found, "causal_bounds")) as.data.frame(found)[found$measure == "difference", ]
 }
 
 # The pairs of sets whose intervals have nothing in common.
 apart_sets <- function(x) {
   sets <- as.data.frame(x)[x[["set"]] != "crude" & !is.na(x[["conf_low"]]), ]
-  levels <- setdiff(names(sets), c("set", "by", "treated", "control", "measure", "estimate", "conf_low", "conf_high", "e_value", "at_least", "at_most", "note"))
+  levels <- setdiff(names(sets), c("set", "by", "treated", "control", "measure", "estimate", "conf_low", "conf_high", "e_value", "note"))
   cell <- do.call(paste, c(lapply(levels, function(name) as.character(sets[[name]])), list(rep("", nrow(sets)))))
   pairs <- if (nrow(sets) > 1) utils::combn(nrow(sets), 2) else matrix(0, 2, 0)
   apart <- apply(pairs, 2, function(pair) {
@@ -98,6 +96,10 @@ apart_sets <- function(x) {
 print.causal_comparison <- function(x, digits = 4, ...) {
   if (!all(c("set", "conf_low", "conf_high") %in% names(x))) return(print.data.frame(x, ...))
   print.data.frame(as.data.frame(x)[setdiff(names(x), "note")], digits = digits, ...)
+  bounds <- attr(x, "bounds")
+  cells <- if (NROW(bounds)) cell_texts(bounds, seq_len(match("treated", names(bounds)) - 1))
+  cat(paste0("natural bounds of the risk difference", if (length(cells) > 1) paste0(" of ", cells) else "", ", whatever is hidden: at least ", format(bounds$at_least, digits = digits),
+             ", at most ", format(bounds$at_most, digits = digits), "\n", recycle0 = TRUE), sep = "")
   if (any(x[["by"]] == "models")) cat("by models: computed, and nothing but the formula or the set is proved\n")
   if (isTRUE(attr(x, "more"))) cat("there are more sets\n")
   apart <- apart_sets(x)
@@ -107,14 +109,9 @@ print.causal_comparison <- function(x, digits = 4, ...) {
   invisible(x)
 }
 
-# Crude, by the formula and by each set: a forest plot; bounds have no point.
+# Crude, by the formula and by each set: a forest plot.
 plot.causal_comparison <- function(x, ...) {
   shown <- as.data.frame(x)
-  is_bound <- shown$by == "bounds"
-  if (any(is_bound)) {
-    shown$conf_low[is_bound] <- shown$at_least[is_bound]
-    shown$conf_high[is_bound] <- shown$at_most[is_bound]
-  }
   drawn_forest(shown, paste0(shown$set, ifelse(shown$by == "models", " (models)", "")), "difference", 0, ...)
 }
 

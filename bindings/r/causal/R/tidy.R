@@ -74,7 +74,7 @@ glance_methods <- list(
   },
   causal_support = function(x, ...) frame_of(c(lacking_support(x), list(dropped = dropped_from(x)))),
   causal_bounds = function(x, ...) frame_of(list(cells = nrow(x), widest = max(x$at_most - x$at_least), dropped = dropped_from(x))),
-  causal_comparison = function(x, ...) frame_of(list(ways = sum(x$by != "bounds"), agree = !length(apart_sets(x)), complete = !isTRUE(attr(x, "more"))))
+  causal_comparison = function(x, ...) frame_of(list(ways = nrow(x), agree = !length(apart_sets(x)), complete = !isTRUE(attr(x, "more"))))
 )
 
 # The names that broom gives the columns: the measure is a term.

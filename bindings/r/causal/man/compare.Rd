@@ -18,7 +18,7 @@ compare(diagram, data, x = NULL, y = NULL, treated = NULL, control = NULL,
   \item{diagram, data, x, y, treated, control, outcome, resamples}{as in \code{\link{contrast}}; in the method \code{x} is an answer.}
   \item{most}{how many sets are taken at most.}
   \item{model}{as in \code{\link{estimate}}, where the counts have no value.}
-  \item{bounds}{whether the bounds of \code{\link{bounds_effect}} have a row.}
+  \item{bounds}{whether the bounds of \code{\link{bounds_effect}} stand beside it.}
   \item{...}{other arguments of \code{\link{contrast}}, as \code{count}; of the drawing, those of \code{\link[graphics]{title}}.}
 }
 \details{
@@ -27,9 +27,10 @@ compare(diagram, data, x = NULL, y = NULL, treated = NULL, control = NULL,
   computed. The bounds take nothing but the diagram and the counts, and are proved of these.
 }
 \value{
-  A data frame of the class \code{causal_comparison} with a row for each way (\code{set}: \code{"crude"}, \code{"formula"}, each set,
-  \code{"bounds"}) and level of the outcome: \code{by}, \code{estimate}, \code{conf_low}, \code{conf_high}, the \code{e_value} of the risk
-  ratio, \code{at_least} and \code{at_most} of the bounds, and \code{note}. \code{plot} draws it.
+  A data frame of the class \code{causal_comparison} with a row for each way (\code{set}: \code{"crude"}, \code{"formula"}, each set)
+  and level of the outcome: \code{by}, \code{estimate}, \code{conf_low}, \code{conf_high}, the \code{e_value} of the risk
+  ratio, and \code{note}. The attribute \code{bounds} has \code{at_least} and \code{at_most}, which are no interval of a sample.
+  \code{plot} draws it.
 }
 \examples{
 diagram <- causal_diagram("dag { T [exposure] R [outcome] S -> T S -> R T -> R }")

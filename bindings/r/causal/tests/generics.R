@@ -24,4 +24,4 @@ same(estimate("dag { X [exposure] Y [outcome] X -> Y }", data, resamples = 0)$es
 same(children(diagram, "X"), "Y")
 same(children(data.frame(from = "A", to = "B"), "A"), "B")
 same(children("dag { A -> B }", "A"), "theirs")
-same(as.data.frame(compare(diagram, data, outcome = 1, resamples = 10))$set, c("crude", "{}"))
+same(as.data.frame(compare(diagram, data, outcome = 1, resamples = 10))$set, c("crude", "formula", "{}"))
