@@ -97,7 +97,7 @@ byId("share").onclick = async () => {
   const isFile = location.protocol === "file:";
   await copy(isFile ? partOf(link) : link);
   toast(isFile
-    ? "Copied: what stands behind the address. This page is a file of yours, so put it behind the address of any copy."
+    ? "Copied is the end of the address, from # on. This page is a file of yours: put it behind the address of any other copy."
     : "The link with this diagram in it is copied.");
 };
 byId("about").onclick = () => byId("about-box").showModal();

@@ -58,7 +58,7 @@ function judged({ status, object, fault }) {
       ` are separated in the ${separatedIn} alone.`);
   }
   if (fault.number === CONFOUNDED) {
-    return verdict("ask", "Compare takes diagrams without hidden causes alone", ...listed(fault.names), " have one in the ",
+    return verdict("ask", "Compare takes only diagrams without hidden causes", ...listed(fault.names), " have one in the ",
       fault.stage.startsWith("second") ? "second" : "first", ": two arrows out of what is unmeasured, or a ↔. Equivalence isn't decided with them.");
   }
   return verdict("ask", `${fault.stage?.startsWith("second") ? "Second diagram: " : ""}${fault.sentence}`,

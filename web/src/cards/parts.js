@@ -81,7 +81,7 @@ const lineOf = ({ number, told }) => (number ? "" : told);
 
 /** @param {"yes" | "no" | "ask" | "warn"} kind */
 export const verdict = (kind, title, ...text) =>
-  h("div", { class: `verdict ${kind}` }, h("strong", {}, title), text.length ? h("p", {}, ...text) : null);
+  h("div", { class: `verdict ${kind}` }, h("strong", { role: "heading", "aria-level": 2 }, title), text.length ? h("p", {}, ...text) : null);
 
 /** A part that opens; it stays open over later answers, and is filled only when open. */
 export function fold({ memory }, key, title, fill) {
