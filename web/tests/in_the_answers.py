@@ -87,7 +87,7 @@ def chooses_sets(s):
 
 def saves_a_certificate(s):
     s.example("napkin")
-    s.one("#panel details summary").click()
+    s.one("#panel summary[data-key=derivation]").click()
     asked = """return ['.tick', '.cross', '.asked'].map((css) => document.querySelectorAll(css).length)"""
     s.run("document.querySelector('#panel .steps').scrollIntoView()") if wait(lambda: s.all("#panel .steps")) else None
     for item in s.all("#panel .steps > li"):
