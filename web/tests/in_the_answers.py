@@ -485,6 +485,7 @@ def compares_your_diagrams(s):
     """The second diagram of Compare: it is the first until it is chosen, and can be drawn."""
     s.example("hidden_cause")
     s.tab("compare")
+    over_tables.press(s, "copy first")
     s.soon("hidden causes aren't taken, and that is said first", lambda: "Compare takes only diagrams without hidden causes" in s.panel(), s.panel)
     s.example("chain")
     s.soon("the second is the first", lambda: s.printed() == "equivalent", s.panel)

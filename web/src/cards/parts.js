@@ -37,7 +37,7 @@ import { formulaTex } from "../paper.js";
  * @property {(marks?: Marks) => void} mark shows something else in the drawing; nothing gives the card's own again
  * @property {(file: File) => void} take takes a table of counts
  * @property {() => import("../page/kept.js").Entry[]} kept the diagrams that the browser keeps
- * @property {(text: string) => void} open shows another diagram
+ * @property {(text: string) => Promise<void>} open shows another diagram
  * @property {import("../page/drawing.js").Drawing} drawing
  * @property {import("../page/acts.js").Acts} acts
  * @property {import("../places.js").Places} places
