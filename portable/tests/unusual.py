@@ -126,6 +126,8 @@ mkdir folder; cp fork.dag folder/g; chmod 000 folder; @ graph folder/g; status=$
 @ identify front_door.dag <&- >&- 2>&-
 @ identify front_door.dag 2>&-
 @ survey 1 >/dev/full
+(echo "dag {"; for i in {1..64}; do for j in {1..64}; do [ $i -lt $j ] && echo "n$i -> n$j"; done; done; echo "}") >big; @ graph big >/dev/full
+(echo "dag {"; for i in {1..64}; do for j in {1..64}; do [ $i -lt $j ] && echo "n$i -> n$j"; done; done; echo "}") >big; trap '' XFSZ; ulimit -f 8; @ graph big >out; status=$?; rm out; exit $status
 @ identify front_door.dag | head -c 5; echo ${PIPESTATUS[0]}
 { sleep 0.3; @ survey 1; } | true; echo ${PIPESTATUS[0]}
 { sleep 0.3; @ identify front_door.dag --certificate; } | true; echo ${PIPESTATUS[0]}
