@@ -48,7 +48,7 @@ def operations(*targets: str) -> Part:
 
 
 def parts_of(file: str) -> list[Part]:
-    """The tests that look at a file, the quick ones first."""
+    """The tests that look at a file, those first that are quick, or tell most."""
     if file == "causal.c":
         return [CALLS]
     if file == "portable.h":
@@ -56,7 +56,9 @@ def parts_of(file: str) -> list[Part]:
     if file == "main.c":
         return [Part("portable/tests/unusual.py", "--more", "--first", "BASE", "PLANTED"), Part(".ci/refused-memory", "--few", "PLANTED"),
                 Part("portable/tests/beside.py", "--runs", "120", "--words", "BASE", "SANITIZED")]
-    return [REFUSALS, DATA, operations("tcc", "gcc"), RANDOM]
+    if file in ("wasm_to_c/stack.py", "wasm_to_c/program.py", "wasm_to_c/objects.py"):
+        return [REFUSALS, DATA, operations("tcc", "gcc"), RANDOM]
+    return [operations("tcc", "gcc"), REFUSALS, DATA, RANDOM]
 
 
 def key_of(plant: Plant) -> str:
