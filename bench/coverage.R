@@ -33,12 +33,33 @@ front_study <- function(n) {
   M <- flip(0.2 + 0.6 * X)
   data.frame(X, M, Y = flip(0.1 + 0.4 * M + 0.3 * U))
 }
+# a front door through a number, and pupils of schools that are drawn
+number_study <- function(n) {
+  U <- flip(rep(0.5, n))
+  X <- flip(0.3 + 0.4 * U)
+  M <- stats::rnorm(n, X)
+  data.frame(X, M, Y = flip(stats::plogis(-1 + M + U)))
+}
+number_truth <- local({
+  chance <- function(x) stats::integrate(function(m) stats::dnorm(m, x) * (stats::plogis(-1 + m) + stats::plogis(m)) / 2, -9, 10)$value
+  chance(1) - chance(0)
+})
+school_study <- function(schools) {
+  school <- rep(seq_len(schools), each = 20)
+  C <- flip(0.3 + 0.4 * stats::runif(schools)[school])
+  X <- flip(0.3 + 0.4 * C)
+  data.frame(school, C, X, Y = flip(0.2 + 0.2 * X + 0.2 * C + 0.2 * stats::runif(schools)[school]))
+}
 scenarios <- list(
   confounder_500 = list(0.2, function() difference(contrast(confounded, binary_study(500), outcome = 1, resamples = 300, seed = NULL))),
   confounder_100 = list(0.2, function() difference(contrast(confounded, binary_study(100), outcome = 1, resamples = 300, seed = NULL))),
   front_door_400 = list(0.24, function() difference(contrast(front, front_study(400), outcome = 1, resamples = 300, seed = NULL))),
-  logistic_300 = list(logistic_truth, function() difference(estimate(two, logistic_study(300), resamples = 200, seed = NULL))),
-  logistic_1000 = list(logistic_truth, function() difference(estimate(two, logistic_study(1000), resamples = 200, seed = NULL))),
+  logistic_300 = list(logistic_truth, function() difference(estimate(two, logistic_study(300)))),
+  logistic_1000 = list(logistic_truth, function() difference(estimate(two, logistic_study(1000)))),
+  logistic_resampled_300 = list(logistic_truth, function() difference(estimate(two, logistic_study(300), resamples = 200, seed = NULL))),
+  ipw_1000 = list(logistic_truth, function() difference(estimate(two, logistic_study(1000), method = "ipw"))),
+  front_door_number_500 = list(number_truth, function() difference(estimate(front, number_study(500), resamples = 200, seed = NULL, draws = 300))),
+  schools_40 = list(0.2, function() difference(estimate(confounded, school_study(40), method = "aipw", clusters = "school"))),
   aipw_1000 = list(logistic_truth, function() difference(estimate(two, logistic_study(1000), method = "aipw"))),
   aipw_wrong_outcome = list(logistic_truth, function() difference(estimate(two, logistic_study(1000), method = "aipw", model = list(Y = ~ X, "logistic")))),
   aipw_wrong_arm = list(logistic_truth, function() difference(estimate(two, logistic_study(1000), method = "aipw", model = list(X = ~ 1, "logistic"))))

@@ -262,6 +262,7 @@ PROGRAM = of(
     ("the second input is read though the first failed", "if (status != CAUSAL_NO_INPUT || !is_read || wanted.count == 1) return status;",
      "if (status != CAUSAL_NO_INPUT || wanted.count == 1) return status;"),
     ("flush isn't looked at", "fwrite(text, 1, size, stdout) == size && !fflush(stdout)", "fwrite(text, 1, size, stdout) == size"),
+    ("a short write isn't looked at", "(fwrite(text, 1, size, stdout) == size && !fflush(stdout))", "(fwrite(text, 1, size, stdout), !fflush(stdout))"),
     ("SIGPIPE isn't ignored", "  signal(SIGPIPE, SIG_IGN);\n", ""),
     ("a word that isn't text", "    status = CAUSAL_WORDS;\n", "    status = CAUSAL_NOT_TEXT;\n"),
     ("a line before the answer", "    status = write_out(a.out, a.sizes.out, status);\n    fwrite(a.err, 1, a.sizes.err, stderr);",

@@ -3,8 +3,10 @@
 plants.py --stale: says which edits can't be made, since what they replace doesn't stand there once; that needs no tools.
 
 plant_list.py has them. Each is made in a copy of portable/ and of what its tests read; then the tests run that look at the edited
-file, up to the first that fails. With --turn N every tenth (or M-th) edit is made, from the N-th on. Status 1 where an edit isn't
-told though it changes something, 77 where the tests' tools aren't here.
+file, up to the first that fails. Status 1 where an edit isn't told though it changes something, 77 where the tests' tools aren't here.
+
+With --write what told of an edit is written to plants_told, which has a line for each that was made so far. With --turn N every tenth
+(or M-th) of these is made, from the N-th on, and what told of it before looks first.
 """
 from __future__ import annotations
 
@@ -18,10 +20,11 @@ import tempfile
 import time
 
 from plant_list import PLANTS, Plant
-from targets import FOUND, TARGETS, TOP, why_missing
+from targets import FOUND, HERE, TARGETS, TOP, why_missing
 
 COPIED = ["portable", "include", "examples", "VERSION", ".ci/refused-memory", ".ci/refuse.c"]
 SKIPPED = 77
+TOLD = f"{HERE}/plants_told"
 
 
 class Part:
@@ -45,7 +48,7 @@ def operations(*targets: str) -> Part:
 
 
 def parts_of(file: str) -> list[Part]:
-    """The tests that look at a file, the quick ones first."""
+    """The tests that look at a file, those first that are quick, or tell most."""
     if file == "causal.c":
         return [CALLS]
     if file == "portable.h":
@@ -53,7 +56,27 @@ def parts_of(file: str) -> list[Part]:
     if file == "main.c":
         return [Part("portable/tests/unusual.py", "--more", "--first", "BASE", "PLANTED"), Part(".ci/refused-memory", "--few", "PLANTED"),
                 Part("portable/tests/beside.py", "--runs", "120", "--words", "BASE", "SANITIZED")]
-    return [REFUSALS, DATA, operations("tcc", "gcc"), RANDOM]
+    if file in ("wasm_to_c/stack.py", "wasm_to_c/program.py", "wasm_to_c/objects.py"):
+        return [REFUSALS, DATA, operations("tcc", "gcc"), RANDOM]
+    return [operations("tcc", "gcc"), REFUSALS, DATA, RANDOM]
+
+
+def key_of(plant: Plant) -> str:
+    return f"{plant.file} | {plant.name}"
+
+
+def told_before() -> dict[str, str]:
+    """What told of each edit that was made so far."""
+    with open(TOLD, encoding="utf-8") as file:
+        rows = [line.rstrip("\n").rpartition(" | ") for line in file if line.strip()]
+    return {key: part for key, _, part in rows}
+
+
+def write_told(found: dict[str, str]) -> None:
+    """Writes what told of each edit, in the order of the list."""
+    told = {**told_before(), **found}
+    with open(TOLD, "w", encoding="utf-8") as file:
+        file.writelines(f"{key_of(it)} | {told[key_of(it)]}\n" for it in PLANTS if told.get(key_of(it)))
 
 
 def run(words: list[str], folder: str) -> subprocess.CompletedProcess[str]:
@@ -80,6 +103,7 @@ class Base:
 
     def __init__(self, room: str, plants: list[Plant]) -> None:
         self.room, self.kept, self.base = room, f"{room}/kept", f"{room}/base"
+        self.told = told_before()
         os.environ[FOUND] = " ".join(name for name in TARGETS if not why_missing(name))
         if any(plant.file not in ("main.c", "causal.c") for plant in plants):
             run([f"{TOP}/portable/tests/operations.py", "--keep", self.kept, "tcc"], TOP)
@@ -112,7 +136,8 @@ def told_by(plant: Plant, base: Base, number: int) -> str:
         shutil.copytree(base.kept, f"{folder}/kept")
     names = {"KEPT": f"{folder}/kept", "BASE": base.base, "PLANTED": f"{folder}/planted", "SANITIZED": f"{folder}/sanitized"}
     found = ""
-    for part in parts_of(plant.file):
+    before = base.told.get(key_of(plant))
+    for part in sorted(parts_of(plant.file), key=lambda it: str(it) != before):
         if run([names.get(word, word) for word in part.words], folder).returncode not in (0, SKIPPED):
             found = str(part)
             break
@@ -130,7 +155,8 @@ def tell_stale() -> int:
         if count != 1:
             print(f"{plant.file}: {plant.name}: what it replaces stands {count} times")
             stale += 1
-    print(f"{len(PLANTS)} wrong edits, of which {stale} can't be made")
+    made = sum(key_of(plant) in told_before() or bool(plant.why) for plant in PLANTS)
+    print(f"{len(PLANTS)} wrong edits, of which {stale} can't be made; {made} were tried so far, or change nothing")
     return 1 if stale else 0
 
 
@@ -141,6 +167,7 @@ def main() -> int:
     parser.add_argument("--only", default="", help="those whose file or name has this in it")
     parser.add_argument("--jobs", type=int, default=2)
     parser.add_argument("--stale", action="store_true", help="only say which edits can't be made")
+    parser.add_argument("--write", action="store_true", help="write what told of each to plants_told")
     options = parser.parse_args()
     if options.stale:
         return tell_stale()
@@ -150,7 +177,8 @@ def main() -> int:
             return SKIPPED
     plants = [plant for plant in PLANTS if options.only in f"{plant.file}: {plant.name}"]
     if options.turn is not None:
-        plants = plants[options.turn % options.of::options.of]
+        before = told_before()
+        plants = [plant for plant in plants if key_of(plant) in before][options.turn % options.of::options.of]
     began, passed, equivalent = time.monotonic(), 0, 0
     with tempfile.TemporaryDirectory() as room:
         os.chmod(room, 0o755)
@@ -162,6 +190,8 @@ def main() -> int:
                 print(f"{plant.file}: {plant.name}: {'FAULT: ' if is_fault else ''}{said}", flush=True)
                 passed += is_fault
                 equivalent += not told and bool(plant.why)
+                if options.write and not is_fault:
+                    write_told({key_of(plant): told})
     print(f"{len(plants)} wrong edits of {len(PLANTS)} in {time.monotonic() - began:.0f} s: {passed} not told, {equivalent} change nothing")
     return 1 if passed else 0
 

@@ -80,8 +80,11 @@ static void poke(char *at) {
 static void call(char *line) {
   L arguments[16] = {0};
   char *name = strtok(line, " "), *pokes = strtok(NULL, " "), *next;
-  for (int i = 0; i < 16 && (next = strtok(NULL, " \n")); i++) arguments[i] = strtoull(next, NULL, 10);
   poke(pokes);
+  for (int i = 0; i < 16 && (next = strtok(NULL, " \n")); i++) {
+    arguments[i] = strtoull(next + (*next == '@'), NULL, 10);
+    if (*next == '@') arguments[i] = R8(arguments[i]);
+  }
   L result = call_code(name, arguments);
   printf("%s %llu %llu %u %llu\n", name, (unsigned long long)result, (unsigned long long)sum, sum_of_memory(), (unsigned long long)top);
   fflush(stdout);

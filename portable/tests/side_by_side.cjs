@@ -1,8 +1,8 @@
-// side_by_side.cjs MODULE DATA CALLS NUMBERS [CALL LOG]: runs the calls on the module (side_by_side.py), and prints a line of each.
+// side_by_side.cjs MODULE DATA CALLS PLACES [CALL LOG]: runs the calls on the module (side_by_side.py), and prints a line of each.
 // With CALL it ends behind that one, and writes what the functions noted in it.
 const fs = require("fs");
-const [object, data, calls, numbers, logged, log] = process.argv.slice(2);
-const { base: BASE, stack: STACK, heap: HEAP, end: END, log_end: LOG_END } = JSON.parse(numbers);
+const [object, data, calls, places, logged, log] = process.argv.slice(2);
+const { base: BASE, stack: STACK, heap: HEAP, end: END, log_end: LOG_END } = JSON.parse(places);
 const PAGES = LOG_END / 65536;
 const MASK = (1n << 64n) - 1n;
 
@@ -73,7 +73,8 @@ function call(line) {
     const [at, hex] = poke.split(":");
     bytes.set(Buffer.from(hex, "hex"), Number(at));
   }
-  const result = made[name](...row.map(BigInt));
+  const numbers = row.map((it) => (it.startsWith("@") ? view.getBigUint64(Number(it.slice(1)), true) : BigInt(it)));
+  const result = made[name](...numbers);
   console.log(name, BigInt.asUintN(64, BigInt(result)).toString(), BigInt.asUintN(64, made.sum.value).toString(), sumOfMemory(), top);
 }
 

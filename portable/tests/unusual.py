@@ -18,6 +18,7 @@ import tempfile
 import termios
 import time
 import tty
+from functools import partial
 from typing import Callable, NamedTuple
 
 from targets import TOP
@@ -126,6 +127,8 @@ mkdir folder; cp fork.dag folder/g; chmod 000 folder; @ graph folder/g; status=$
 @ identify front_door.dag <&- >&- 2>&-
 @ identify front_door.dag 2>&-
 @ survey 1 >/dev/full
+(echo "dag {"; for i in {1..64}; do for j in {1..64}; do [ $i -lt $j ] && echo "n$i -> n$j"; done; done; echo "}") >big; @ graph big >/dev/full
+(echo "dag {"; for i in {1..64}; do for j in {1..64}; do [ $i -lt $j ] && echo "n$i -> n$j"; done; done; echo "}") >big; trap '' XFSZ; ulimit -f 8; @ graph big >out; status=$?; rm out; exit $status
 @ identify front_door.dag | head -c 5; echo ${PIPESTATUS[0]}
 { sleep 0.3; @ survey 1; } | true; echo ${PIPESTATUS[0]}
 { sleep 0.3; @ identify front_door.dag --certificate; } | true; echo ${PIPESTATUS[0]}
@@ -219,8 +222,8 @@ def main(text: str, is_first: bool, native: str, programs: list[str]) -> int:
         os.chmod(room, 0o755)
         folder = f"{room}/folder"
         copies = [shutil.copy(program, f"{room}/program{number}") for number, program in enumerate([native, *programs])]
-        uses: list[tuple[str, Callable[[str], Ending]]] = [(line, lambda copy, line=line: ending(folder, copy, line)) for line in lines]
-        uses += [(f"{words}, cut off", lambda copy, words=words, text=text: cut_off(folder, copy, words, text)) for words, text in CUT_OFF]
+        uses: list[tuple[str, Callable[[str], Ending]]] = [(line, partial(ending, folder, use=line)) for line in lines]
+        uses += [(f"{words}, cut off", partial(cut_off, folder, words=words, text=given)) for words, given in CUT_OFF]
         for use, run in uses:
             wanted = run(copies[0])
             for program, copy in zip(programs, copies[1:]):

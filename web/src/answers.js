@@ -75,6 +75,7 @@ export class Answers {
   forgetChoices() {
     const { sets } = this.#memory;
     Object.assign(this.#memory, { by: "", procedure: false, zero: false, kind: "total", wish: {} });
+    if (this.#memory.secondIs === "chosen") this.#memory.secondIs = null;
     for (const key of Object.keys(sets)) if (/^(condition|also set|instrument|strata|experiment \d+)$/.test(key)) delete sets[key];
     this.#memory.experiments = 1;
   }

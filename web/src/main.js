@@ -11,7 +11,7 @@ import { toast } from "./page/notices.js";
 import { Diagrams } from "./page/diagrams.js";
 import { fileName, Kept } from "./page/kept.js";
 import { resizePanes } from "./page/panes.js";
-import { followLink, partOf, readLink, writeLink } from "./page/link.js";
+import { followLink, hasLink, partOf, readLink, writeLink } from "./page/link.js";
 import { pathClasses } from "./paths.js";
 import { Places } from "./places.js";
 import { Program } from "./program.js";
@@ -92,12 +92,12 @@ addEventListener("beforeunload", (e) => kept.isSafe || e.preventDefault());
 byId("undo").onclick = () => draft.undo();
 byId("redo").onclick = () => draft.redo();
 byId("share").onclick = async () => {
-  const link = writeLink(draft.text, answers.active.id);
+  const link = await writeLink(draft.text, answers.active.id);
   history.replaceState(null, "", link);
   const isFile = location.protocol === "file:";
   await copy(isFile ? partOf(link) : link);
   toast(isFile
-    ? "Copied: what stands behind the address. This page is a file of yours, so put it behind the address of any copy."
+    ? "Copied is the end of the address, from # on. This page is a file of yours: put it behind the address of any other copy."
     : "The link with this diagram in it is copied.");
 };
 byId("about").onclick = () => byId("about-box").showModal();
@@ -242,7 +242,7 @@ function handToHovered(e) {
 
 /** Shows the diagram of the link, or else what this tab showed, or else what was changed last. */
 async function start() {
-  const { text, card } = readLink();
+  const { text, card } = await readLink();
   if (card) answers.show(card);
   const [first] = exampleGraphs, left = kept.left() ?? kept.list()[0];
   if (text !== null) await open(text, left?.text === text ? left : {});
@@ -250,7 +250,7 @@ async function start() {
   else await open(first.text, { name: first.title, source: first.source });
 }
 
-addEventListener("hashchange", () => readLink().text !== null && start());
+addEventListener("hashchange", () => hasLink() && start());
 
 await start();
 await drawn;

@@ -74,7 +74,7 @@ export class Places {
     };
     if (known) {
       this.#scale = known.scale;
-      return draw(copied(known.places), false);
+      return draw(copied(known.places), this.#isElsewhere(known.places));
     }
     if (given.size || act) {
       const isOther = !act && this.#isOther(given), places = isOther ? this.#fitted(graph, given) : this.#written(graph, given);

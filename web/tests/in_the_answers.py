@@ -87,7 +87,7 @@ def chooses_sets(s):
 
 def saves_a_certificate(s):
     s.example("napkin")
-    s.one("#panel details summary").click()
+    s.one("#panel summary[data-key=derivation]").click()
     asked = """return ['.tick', '.cross', '.asked'].map((css) => document.querySelectorAll(css).length)"""
     s.run("document.querySelector('#panel .steps').scrollIntoView()") if wait(lambda: s.all("#panel .steps")) else None
     for item in s.all("#panel .steps > li"):
@@ -485,7 +485,8 @@ def compares_your_diagrams(s):
     """The second diagram of Compare: it is the first until it is chosen, and can be drawn."""
     s.example("hidden_cause")
     s.tab("compare")
-    s.soon("hidden causes aren't taken, and that is said first", lambda: "Compare takes diagrams without hidden causes alone" in s.panel(), s.panel)
+    over_tables.press(s, "copy first")
+    s.soon("hidden causes aren't taken, and that is said first", lambda: "Compare takes only diagrams without hidden causes" in s.panel(), s.panel)
     s.example("chain")
     s.soon("the second is the first", lambda: s.printed() == "equivalent", s.panel)
     s.write("dag {\nA\nB\nC\nA -> B -> C\n}\n")

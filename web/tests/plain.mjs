@@ -5,7 +5,7 @@ import { markOf, readRows, written } from "../src/text/csv.js";
 import { columnsOf, prepared } from "../src/text/prepare.js";
 import { annotate, annotatePieces } from "../src/latex.js";
 import { codeOfR } from "../src/diagram/code.js";
-import { bend, curve, freePlace } from "../src/diagram/geometry.js";
+import { bend, curve, freePlace, halfHeight, linesOf } from "../src/diagram/geometry.js";
 import { fileName, Kept, titleOf } from "../src/page/kept.js";
 import { nameTex } from "../src/paper.js";
 import { intervalOf } from "../src/statistics/bootstrap.js";
@@ -48,6 +48,25 @@ function testFitting() {
   check("a wide drawing gets less, so that names are seen larger", Math.abs(scaleFor(row, halves, HEIGHT, 100, narrow) - 456 / 5) < 0.1, scaleFor(row, halves, HEIGHT, 100, narrow));
   check("but not so little that they meet", scaleFor(new Map([["A", { x: 0, y: 0 }], ["B", { x: 1, y: 0 }], ["C", { x: 9, y: 0 }]]), halves, HEIGHT, 100, { width: 300, height: 400 }) > 68, "");
   check("a scale that will do is kept", scaleFor(new Map([["A", { x: 0, y: 0 }], ["B", { x: 1, y: 0 }]]), halves, HEIGHT, 100) === 100);
+}
+
+function testLines() {
+  const parted = (name, ...lines) => check(`the lines of ${name}`, linesOf(name).join("|") === lines.join("|"), linesOf(name));
+  parted("Smoking", "Smoking");
+  parted("birth weight", "birth weight");
+  parted("Connective tissue disorder", "Connective ", "tissue disorder");
+  parted("low_birth_weight", "low_birth_", "weight");
+  parted("Antihypertensives", "Antihypertensives");
+  parted("A antihypertensives", "A antihypertensives");
+  check("two lines are higher than one", halfHeight({ name: "Fitness level" }) > halfHeight({ name: "Coach" }), halfHeight({ name: "Fitness level" }));
+}
+
+function testSigns() {
+  const tex = annotate('\\sum_{"Fitness level 100\\%", p\\^{}q} P("Fitness level 100\\%", p\\^{}q)');
+  check("signs with braces stay in their names", tex.includes("\\text{Fitness level 100\\%}") && tex.split("\\text{p{\\textasciicircum}q}").length === 3 && !tex.includes("\ue000"), tex);
+  const graph = { vertices: ["A", "o", "B"].map((name) => ({ name, role: null })), edges: [{ a: "o", b: "B", both: false }] };
+  const notes = warningsOf("dag { A o-> B }", graph).map(({ sentence }) => sentence);
+  check("an edge with a circle is told", notes.length === 1 && notes[0].includes("circles"), notes);
 }
 
 function testLayout() {
@@ -229,6 +248,8 @@ function testNames() {
   check("and on the page", shown === "P(R \\mid \\mathrm{do}(\\text{my drug}), \\text{my drug}', T', \\text{“a,b”}')", shown);
 }
 
+testLines();
+testSigns();
 testTaken();
 testFractions();
 testNames();

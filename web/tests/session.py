@@ -384,6 +384,14 @@ def saves_the_drawing_and_a_link(s):
     link = s.run("return location.href")
     browser.open_page(s.driver, fragment="#" + link.split("#")[1])
     s.check("the link carries the diagram", s.text() == text, s.text())
+    long = browser.survey()
+    s.write(long)
+    s.one("#share").click()
+    s.soon("a long text is packed", lambda: "zip=" in s.run("return location.href"), lambda: s.run("return location.href"))
+    link = s.run("return location.href")
+    s.check("so that the link is short", len(link) < 2500, len(link))
+    browser.open_page(s.driver, fragment="#" + link.split("#")[1])
+    s.check("and carries it whole", s.text() == long, s.text())
 
 
 def takes_other_texts(s):

@@ -126,7 +126,7 @@ def on_paper(driver):
     browser.example(driver, "napkin")
     driver.execute_script("document.getElementById('tab-effect').click()")
     time.sleep(0.7)
-    driver.find_element(By.CSS_SELECTOR, "#panel details summary").click()
+    driver.find_element(By.CSS_SELECTOR, "#panel summary[data-key=derivation]").click()
     time.sleep(0.5)
     printed = driver.execute_cdp_cmd("Page.printToPDF", {"printBackground": False})
     (browser.OUT / "printed.pdf").write_bytes(base64.b64decode(printed["data"]))

@@ -4,13 +4,12 @@ The draws and the interval are computed here, and nothing about them is proved.
 """
 from __future__ import annotations
 
-import html
 from dataclasses import dataclass, field
 from operator import itemgetter
 from typing import TYPE_CHECKING, Any, Callable, Dict, List, Mapping, Optional, Sequence, Tuple
 
 from causal.contrasts import ContrastInterval
-from causal.display import html_table
+from causal.display import Printed, html_table
 from causal.effects import Effects, Level, Value, level_text, levels_at
 from causal.events import Support, doubt_of, in_one, lost_text, many_lost
 from causal.intervals import KINDS, Interval, Measure, corrected_interval, estimated, interval_of, told
@@ -25,7 +24,7 @@ Progress = Callable[[int, int], object]
 
 
 @dataclass(frozen=True)
-class MeanInterval:
+class MeanInterval(Printed):
     """The mean of a numeric outcome under levels of the exposures, or the difference of two, with its interval. Both are computed.
 
     `note` is what has to be known beside the numbers: resamples that had no value, or an interval of width 0.
@@ -40,9 +39,6 @@ class MeanInterval:
     def __str__(self) -> str:
         at = "".join(f"{name}={level_text(level)}, " for name, level in (*self.x.items(), *self.given.items()))
         return beside(f"{at}mean {told(self.value, self.interval)}", self.note)
-
-    def _repr_html_(self) -> str:
-        return f"<pre>{html.escape(str(self))}</pre>"
 
 
 def beside(text: str, note: str) -> str:

@@ -7,7 +7,7 @@ from typing import TYPE_CHECKING, Any, Dict, Iterator, List, Mapping, Optional, 
 
 from causal.answers import Path
 from causal.columns import Data, path_of
-from causal.display import html_table
+from causal.display import Printed, html_table
 from causal.effects import Level, LevelOf, Value, cell_text, digits, levels_at, typed_order
 from causal.errors import CausalError, RequestError
 from causal.files import read_bytes
@@ -24,7 +24,7 @@ if TYPE_CHECKING:
 
 
 @dataclass(frozen=True)
-class EffectBound:
+class EffectBound(Printed):
     """What one probability `P(y | do(x), given)` is at least and at most, with the levels of y, of x and of what is given."""
 
     y: Dict[str, Level]
@@ -167,7 +167,7 @@ class EffectBounds(Sequence[EffectBound]):
 
 
 @dataclass(frozen=True)
-class EffectDifference:
+class EffectDifference(Printed):
     """What the difference of two effects is at least and at most, by the bounds of each. It holds wherever these do."""
 
     treated: EffectBound

@@ -5,6 +5,13 @@ import html
 from typing import Any, Sequence
 
 
+class Printed:
+    """An answer that a notebook shows as it is printed."""
+
+    def _repr_html_(self) -> str:
+        return f"<pre>{html.escape(str(self))}</pre>"
+
+
 def html_table(heads: Sequence[str], rows: Sequence[Sequence[Any]], notes: Sequence[str] = ()) -> str:
     """A table of HTML, with notes above it.
 

@@ -9,7 +9,7 @@ from decimal import Decimal
 from fractions import Fraction
 from typing import TYPE_CHECKING, AbstractSet, Any, Callable, Dict, Hashable, Iterator, List, Mapping, Optional, Sequence, Tuple, Union, overload
 
-from causal.display import html_table
+from causal.display import Printed, html_table
 from causal.errors import RequestError
 from causal.formula import Formula
 from causal.names import Names, names_of, printed_name
@@ -27,7 +27,7 @@ LevelOf = Callable[[str, str], Level]
 
 
 @dataclass(frozen=True)
-class Value:
+class Value(Printed):
     """A value between two fractions, which are equal where it is exact. `Effects` says what is proved to lie between them.
 
     >>> from fractions import Fraction
@@ -149,7 +149,7 @@ def number_of(level: Level) -> Optional[Fraction]:
 
 
 @dataclass(frozen=True)
-class Mean:
+class Mean(Printed):
     """The mean of a numeric outcome under levels of the exposures, and of what is given. It is computed of proved probabilities,
     exactly or outward."""
 
@@ -163,7 +163,7 @@ class Mean:
 
 
 @dataclass(frozen=True)
-class Effect:
+class Effect(Printed):
     """One probability `P(y | do(x), given)`: the levels of y, of x and of what is given, and its value."""
 
     y: Dict[str, Level]
@@ -545,6 +545,10 @@ class Spread(Sequence[Effects]):
     def frame(self) -> "pandas.DataFrame":
         """A DataFrame with the rows of each effect at each level (it needs pandas): see `Effects.frame`."""
         return needed("pandas", "a DataFrame").concat([effects.frame() for effects in self.effects], ignore_index=True)
+
+    def to_frame(self) -> "pandas.DataFrame":
+        """The same as `frame`."""
+        return self.frame()
 
     def _repr_html_(self) -> str:
         if not self.effects:

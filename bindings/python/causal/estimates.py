@@ -11,7 +11,7 @@ from typing import TYPE_CHECKING, Any, Callable, Dict, FrozenSet, List, Mapping,
 
 from causal.columns import Data
 from causal.contrasts import IN_COLUMNS, MEASURES, arm_level
-from causal.display import html_table
+from causal.display import Printed, html_table
 from causal.draws import seed_of
 from causal.effects import Level, check_arms, levels_at, levels_text, typed_order
 from causal.errors import DataWarning, NotIdentifiable, RequestError
@@ -43,7 +43,7 @@ INTERVALS = {"influence": "intervals by influence functions", "percentile": "per
 
 
 @dataclass(frozen=True)
-class Estimate:
+class Estimate(Printed):
     """A number with its interval, computed by models."""
 
     measure: str

@@ -5,7 +5,7 @@ from dataclasses import dataclass
 from typing import TYPE_CHECKING, Dict, Iterator, Optional, Sequence, Tuple, Union, overload
 
 from causal.columns import Data, may_have_blanks, path_of
-from causal.display import html_table
+from causal.display import Printed, html_table
 from causal.effects import Level, LevelOf
 from causal.files import read_bytes
 from causal.names import printed_name, printed_set
@@ -19,7 +19,7 @@ if TYPE_CHECKING:
 
 
 @dataclass(frozen=True)
-class Difference:
+class Difference(Printed):
     """How far counts are from an independence of a and b given w.
 
     `value` is the difference `N(a,b,w) * N(w) - N(a,w) * N(b,w)` that is greatest in size over all levels, N being sums of counts,
@@ -43,7 +43,7 @@ class Difference:
 
 
 @dataclass(frozen=True)
-class Implication:
+class Implication(Printed):
     """A pair of variables that the diagram has independent given a set, and their largest difference where data was given.
 
     >>> from causal import Implication
@@ -128,6 +128,10 @@ class Implications(Sequence[Implication]):
         frame = pandas.DataFrame(rows, columns=["a", "b", "given", *(["difference", "cell"] if has_data else [])])
         frame.attrs.update(dropped=self.dropped)
         return frame
+
+    def to_frame(self) -> "pandas.DataFrame":
+        """The same as `frame`."""
+        return self.frame()
 
     def _repr_html_(self) -> str:
         has_data = any(it.difference is not None for it in self.implications)

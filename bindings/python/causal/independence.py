@@ -4,7 +4,6 @@ Which pairs are independent given which set the library tells. The tests are com
 """
 from __future__ import annotations
 
-import html
 import math
 from dataclasses import dataclass, replace
 from typing import TYPE_CHECKING, Iterator, List, Optional, Sequence, Tuple, Union, overload
@@ -12,7 +11,7 @@ from typing import TYPE_CHECKING, Iterator, List, Optional, Sequence, Tuple, Uni
 from causal.bootstrap import Progress
 from causal.columns import Data
 from causal.contingency import chi_squared, shift_at, strata_of
-from causal.display import html_table
+from causal.display import Printed, html_table
 from causal.draws import seed_of
 from causal.errors import DataWarning, RequestError
 from causal.implications import Implication, read_implications, table_for
@@ -33,7 +32,7 @@ UNTESTED, SPARSE = 2, 5
 
 
 @dataclass(frozen=True)
-class IndependenceTest:
+class IndependenceTest(Printed):
     """A test of one independence that a diagram implies. It is computed, and nothing about it is proved.
 
     `statistic` is G² over the levels of what is given, and `df` its degrees of freedom; `p_value` is by the `method`
@@ -81,9 +80,6 @@ class IndependenceTest:
         rmsea = f"RMSEA = {self.rmsea:.3g} [{self.rmsea_low:.3g}, {self.rmsea_high:.3g}]"
         sizes = f"largest difference {self.largest_difference:.3g}, {rmsea}, V = {self.effect_size:.3g}"
         return f"{self.pair}: {tested}, {sizes}" + (f" ({self.note})" if self.note else "")
-
-    def _repr_html_(self) -> str:
-        return f"<pre>{html.escape(str(self))}</pre>"
 
 
 @dataclass(frozen=True)

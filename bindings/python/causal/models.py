@@ -5,6 +5,7 @@ They are fitted by numpy and computed, and nothing about them is proved.
 from __future__ import annotations
 
 import copy
+import warnings
 from dataclasses import dataclass
 from typing import Any, Dict, List, Mapping, Optional, Sequence, Tuple
 
@@ -330,15 +331,16 @@ class Own(Model):
         self.fitted = copied(self.learner)
         wanted, kept = codes[self.target.name], weights > 0
         design = self._design(codes, len(weights))[kept]
-        try:
-            if bool((weights[kept] == 1).all()):
-                self.fitted.fit(design, wanted[kept])
-            else:
-                self.fitted.fit(design, wanted[kept], sample_weight=weights[kept])
-        except (TypeError, ValueError) as cause:
-            raise RequestError(f"the model {self.kind} of {self.term} can't be fitted: {cause}") from cause
+        more = {} if bool((weights[kept] == 1).all()) else {"sample_weight": weights[kept]}
+        with warnings.catch_warnings(record=True) as caught:
+            warnings.simplefilter("always")
+            try:
+                self.fitted.fit(design, wanted[kept], **more)
+            except (TypeError, ValueError) as cause:
+                raise RequestError(f"the model {self.kind} of {self.term} can't be fitted: {cause}") from cause
         lost = sorted(set(range(len(self.target.levels))) - {int(code) for code in self.fitted.classes_})
         self.notes = [f"no record that it was fitted to has {self.target.name}={self.target.levels[code]}" for code in lost]
+        self.notes += dict.fromkeys(f"its fit warned: {str(it.message).splitlines()[0]}" for it in caught)
         return self
 
     def chances(self, codes: Mapping[str, Any], rows: int) -> Any:

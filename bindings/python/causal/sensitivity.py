@@ -9,11 +9,12 @@ import numbers
 from dataclasses import dataclass
 from typing import Optional
 
+from causal.display import Printed
 from causal.errors import RequestError
 
 
 @dataclass(frozen=True)
-class EValue:
+class EValue(Printed):
     """The least risk ratio that a hidden common cause must have with both the exposure and the outcome, beyond what was adjusted for, to
     explain the whole ratio (`value`), or to move its interval to 1 (`interval`: 1 where the interval holds 1, None where there is none).
     """

@@ -270,6 +270,16 @@ class Told(unittest.TestCase):
             self.assertIn("computed: by the formula&#x27;s terms" if "<" in text else "computed: by the formula's terms", text)
             self.assertNotIn("proved", text)
 
+    def test_a_model_that_warns(self):
+        class Warner(Fixed):
+            def fit(self, rows, wanted, sample_weight=None):
+                warnings.warn("it didn't converge")
+                return super().fit(rows, wanted)
+
+        with self.assertWarnsRegex(causal.DataWarning, "its fit warned: it didn't converge"):
+            found = STUDY.estimate(study(50), **ARMS, model=Warner(), resamples=2)
+        self.assertIn("its fit warned: it didn't converge", str(found))
+
     def test_extreme_weights(self):
         data = study(300)
         data["drug"] = [int(age > 5) if k % 50 else int(age <= 5) for k, age in enumerate(data["age"])]

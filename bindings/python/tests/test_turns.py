@@ -194,6 +194,17 @@ class Told(unittest.TestCase):
         for text in (str(found), found._repr_html_()):
             self.assertIn("of the resamples have no value", text)
 
+    def test_notebooks(self):
+        data = {"X": [0, 1] * 10, "Y": [0, 0, 1, 1] * 5}
+        edge = Diagram("dag { X -> Y }")
+        found = edge.contrast(data, "X", "Y", treated=1, control=0, outcome=1, resamples=20)
+        effects, bounds = edge.effects(data, "X", "Y"), edge.bounds(data, "X", "Y")
+        answers = [found.difference, found.e_value, effects[0], effects.effect_means()[0], bounds[0], bounds.difference(1, 1, 0)]
+        answers += [*Diagram("dag { X -> Z -> Y }").implications({**data, "Z": data["X"]})]
+        for it in answers:
+            self.assertNotIn("Fraction(", it._repr_html_())
+            self.assertIn("<pre>", it._repr_html_())
+
     def test_in_groups(self):
         data = {"X": [0] * 226 + [1] * 100, "Y": [0] * 316 + [1] * 10, "Z": [0, 1] * 163}
         with warnings.catch_warnings():

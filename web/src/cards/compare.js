@@ -13,7 +13,7 @@ const CONFOUNDED = 7; // of the faults of a question: a diagram has common hidde
 /** @param {import("./parts.js").Context} ctx */
 async function answer(ctx) {
   const { memory } = ctx;
-  if (!memory.isSecondChosen) memory.second = ctx.text;
+  if (!memory.secondIs) memory.second = ctx.text; // else it is "chosen", or "typed", which stays when another diagram is opened
   if (memory.secondGiven !== memory.second) ctx.put(SECOND, (memory.secondGiven = memory.second));
   const [said, read] = await Promise.all([ctx.read(WORDS), ctx.read(["graph", SECOND])]);
   const second = read.fault ? null : graphOf(read.object), { difference } = said.object;
@@ -58,7 +58,7 @@ function judged({ status, object, fault }) {
       ` are separated in the ${separatedIn} alone.`);
   }
   if (fault.number === CONFOUNDED) {
-    return verdict("ask", "Compare takes diagrams without hidden causes alone", ...listed(fault.names), " have one in the ",
+    return verdict("ask", "Compare takes only diagrams without hidden causes", ...listed(fault.names), " have one in the ",
       fault.stage.startsWith("second") ? "second" : "first", ": two arrows out of what is unmeasured, or a ↔. Equivalence isn't decided with them.");
   }
   return verdict("ask", `${fault.stage?.startsWith("second") ? "Second diagram: " : ""}${fault.sentence}`,
@@ -69,13 +69,13 @@ function judged({ status, object, fault }) {
 function secondHead(ctx, canSwap) {
   const { memory } = ctx, mine = ctx.kept().filter(({ text }) => text !== ctx.text);
   const choose = (text) => {
-    Object.assign(memory, { second: text, isSecondChosen: true });
+    Object.assign(memory, { second: text, secondIs: "chosen" });
     ctx.refresh();
   };
-  const swap = () => {
-    const { second } = memory;
-    Object.assign(memory, { second: ctx.text, isSecondChosen: true });
-    ctx.open(second);
+  const swap = async () => {
+    await ctx.open(memory.second);
+    Object.assign(memory, { second: ctx.text, secondIs: "typed" });
+    ctx.refresh();
   };
   const list = h("select", { "aria-label": "Take one of your diagrams", data: { key: "take mine" }, onchange: (e) => choose(mine[e.target.value].text) },
     h("option", { value: "" }, "Yours …"), mine.map(({ name, text }, i) => h("option", { value: i }, name || titleOf(text))));
@@ -88,7 +88,7 @@ function secondHead(ctx, canSwap) {
 function secondText(ctx) {
   let timer;
   const typed = (e) => {
-    Object.assign(ctx.memory, { second: e.target.value, isSecondChosen: true });
+    Object.assign(ctx.memory, { second: e.target.value, secondIs: "typed" });
     clearTimeout(timer);
     timer = setTimeout(ctx.refresh, PAUSE_MS);
   };

@@ -24,7 +24,8 @@ export function instrumentsPart(ctx) {
 /** @returns {Promise<{fault?: string, instruments: Instrument[], others: Other[]}>} */
 async function foundInstruments(ctx) {
   const { observed } = ctx, named = [...withRole(ctx, "exposure"), ...withRole(ctx, "outcome")];
-  ctx.put(TABLE, written([observed, observed.map(() => "0"), observed.map(() => "1")]));
+  const records = written([observed, observed.map(() => "0"), observed.map(() => "1")]);
+  if (records !== ctx.memory.twoRecords) ctx.put(TABLE, (ctx.memory.twoRecords = records));
   const asked = await Promise.all(observed.filter((name) => !named.includes(name)).map((name) => askedFor(ctx, name)));
   return { fault: asked.find(({ fault }) => fault)?.fault, instruments: asked.flatMap(({ instruments }) => instruments), others: asked.flatMap(({ other }) => other ?? []) };
 }

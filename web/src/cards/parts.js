@@ -37,7 +37,7 @@ import { formulaTex } from "../paper.js";
  * @property {(marks?: Marks) => void} mark shows something else in the drawing; nothing gives the card's own again
  * @property {(file: File) => void} take takes a table of counts
  * @property {() => import("../page/kept.js").Entry[]} kept the diagrams that the browser keeps
- * @property {(text: string) => void} open shows another diagram
+ * @property {(text: string) => Promise<void>} open shows another diagram
  * @property {import("../page/drawing.js").Drawing} drawing
  * @property {import("../page/acts.js").Acts} acts
  * @property {import("../places.js").Places} places
@@ -81,7 +81,7 @@ const lineOf = ({ number, told }) => (number ? "" : told);
 
 /** @param {"yes" | "no" | "ask" | "warn"} kind */
 export const verdict = (kind, title, ...text) =>
-  h("div", { class: `verdict ${kind}` }, h("strong", {}, title), text.length ? h("p", {}, ...text) : null);
+  h("div", { class: `verdict ${kind}` }, h("strong", { role: "heading", "aria-level": 2 }, title), text.length ? h("p", {}, ...text) : null);
 
 /** A part that opens; it stays open over later answers, and is filled only when open. */
 export function fold({ memory }, key, title, fill) {

@@ -8,7 +8,7 @@ const FAR = 600;
 const GAP = { x: 24, y: 20 };
 const MOST_ROUNDS = 200;
 
-const LOOSE = 1.3; // how much further apart names stand than they must, where there is no room for more
+const LOOSE = 1.1; // how much further apart names stand than they must, where there is no room for more
 
 /**
  * The pixels of a unit at which names don't overlap; `scale` where it will do, or less where that shows names larger in their room.

@@ -1,7 +1,7 @@
 # What effects are at least and at most over a table of counts. Each end is the library's; what is made of it as a number of R is rounded.
 
 bounds_effect <- function(diagram, data, x = NULL, y = NULL, given = NULL, instrument = NULL, strata = NULL, count = NULL, exact = FALSE,
-                          missing = c("error", "drop", "level")) {
+                          missing = c("error", "drop", "level"), treated = NULL, control = NULL, outcome = NULL) {
   diagram <- as_causal_diagram(diagram)
   check_exposures(diagram, x)
   if (is.null(instrument) && !is.null(strata)) refuse("`strata` are those of an instrument, which `instrument` names")
@@ -9,19 +9,46 @@ bounds_effect <- function(diagram, data, x = NULL, y = NULL, given = NULL, instr
   outcomes <- if (is.null(y)) diagram$vertices$name[diagram$vertices$role == "outcome"] else enc2utf8(as.character(y))
   table <- count_table(diagram, words, data, count, one_of(missing), "bounds", keeps = outcomes)
   asked <- if (is.null(table)) words else c(words, "--count", count_name(table), flag("exact", exact))
-  told <- ask_counts(diagram, asked, if (is.null(table)) "" else counts_text(table), command = "bounds")
+  told <- if (is.null(table)) ask_counts(diagram, asked, "", command = "bounds") else ask_table(diagram, asked, table, "bounds")
   read <- read_bounds(object_of(told))
-  if (read$answer == "bounds") return(bounds_frame(read, table))
+  if (read$answer == "bounds") {
+    if (is.null(treated) && is.null(control)) return(bounds_frame(read, table, outcome))
+    return(compared_bounds(read, table, x, treated, control, outcome))
+  }
   if (read$answer == "no instrument")
     return(new_answer("causal_no_instrument", list(holds = FALSE, moved = read$moved, path = read$path), told, diagram))
   new_answer("causal_no_model", list(holds = FALSE, crossed = bounds_frame(read, table)), told, diagram)
 }
 
-bounds_frame <- function(read, table) {
+bounds_frame <- function(read, table, outcome = NULL) {
+  if (!is.null(outcome)) {
+    kept <- wanted_cells(read, table, list(y = names(read$y[[1]]), given = names(read$given[[1]]), levels = list()), outcome)
+    for (part in c("x", "y", "given", "at_least", "at_most")) read[[part]] <- read[[part]][kept]
+  }
   columns <- c(columns_of(read$x, table), columns_of(read$given, table), columns_of(read$y, table))
   ends <- list(at_least = number_in(read$at_least), at_most = number_in(read$at_most))
   if (read$exact) ends <- c(ends, list(at_least_exact = read$at_least, at_most_exact = read$at_most))
   structure(frame_of(c(columns, ends)), class = c("causal_bounds", "data.frame"), dropped = table$dropped)
+}
+
+# Of both arms and of their difference: it is at least what the ends that are farthest apart leave, and no narrower bounds are claimed.
+compared_bounds <- function(read, table, x, treated, control, outcome) {
+  found <- bounds_frame(read, table)
+  asked <- list(x = if (is.null(x)) names(read$x[[1]]) else as.character(x), typed = !is.null(x), y = names(read$y[[1]]), given = names(read$given[[1]]), levels = list())
+  effects <- list(x = read$x, y = read$y, given = read$given)
+  arms <- arms_of(list(effects = effects, table = table, asked = asked), treated, control, outcome)
+  told <- lapply(arms, function(places) arm_text(labels_at(table, read$x[[places[1]]])))
+  key <- function(places) vapply(places, function(k) paste(c(read$given[[k]], read$y[[k]]), collapse = "\r"), "")
+  other <- arms$control[match(key(arms$treated), key(arms$control))]
+  ends <- function(at) c(found$at_least[at], found$at_most[at])
+  rows <- lapply(seq_along(other), function(k) {
+    a <- ends(arms$treated[k])
+    b <- ends(other[k])
+    levels <- as.list(found)[c(names(read$given[[1]]), names(read$y[[1]]))]
+    frame_of(c(lapply(levels, function(column) rep(column[arms$treated[k]], 3)), list(treated = rep(told$treated, 3), control = rep(told$control, 3),
+               measure = c("risk_treated", "risk_control", "difference"), at_least = c(a[1], b[1], a[1] - b[2]), at_most = c(a[2], b[2], a[2] - b[1]))))
+  })
+  structure(do.call(rbind, rows), class = c("causal_bounds", "data.frame"), dropped = attr(found, "dropped"))
 }
 
 # The nearest number of R to a fraction or to digits.

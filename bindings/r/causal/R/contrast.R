@@ -38,7 +38,7 @@ warn_of_lost <- function(drawn) {
 
 check_numbers <- function(level, resamples) {
   if (length(level) != 1 || !isTRUE(level > 0 && level < 1)) refuse("`level` is a number between 0 and 1")
-  if (length(resamples) != 1 || !isTRUE(resamples >= 0 && resamples == round(resamples))) refuse("`resamples` is a whole number")
+  check_whole("resamples", resamples, 0)
 }
 
 # The places of the cells of both arms, in the order of the outcomes.
@@ -53,14 +53,21 @@ arms_of <- function(drawn, treated, control, outcome = NULL) {
   if (is.null(treated) || is.null(control))
     refuse("`treated` and `control` have to name the levels of ", paste(names, collapse = ", "), "; ", levels_told(drawn$table, names))
   wanted <- wanted_cells(drawn$effects, drawn$table, drawn$asked, outcome)
-  lapply(list(treated = treated, control = control), function(arm) which(arm_of(arm, drawn, names) & wanted))
+  arms <- lapply(list(treated = treated, control = control), function(arm) which(arm_of(arm, drawn, names) & wanted))
+  check_arms(arms)
+  arms
+}
+
+check_arms <- function(arms) {
+  if (identical(arms$treated, arms$control)) refuse("`treated` and `control` are the same level, so that there is nothing to compare")
 }
 
 levels_told <- function(table, names) paste0(names, " has ", vapply(table$levels[names], function(levels) listed(level_labels(levels)), ""), collapse = "; ")
 
 # Which cells an arm has: its levels are named, or stand in the order of `x` as it was given.
 arm_of <- function(wanted, drawn, names) {
-  wanted <- if (is.null(names(wanted))) stats::setNames(as.list(wanted), order_of_arm(wanted, drawn$asked, names)) else as.list(wanted)
+  levels <- if (is.list(wanted)) wanted else lapply(seq_along(wanted), function(k) wanted[k])
+  wanted <- stats::setNames(levels, if (is.null(names(wanted))) order_of_arm(wanted, drawn$asked, names) else names(wanted))
   unknown <- setdiff(names(wanted), names)
   if (length(unknown)) refuse(unknown[1], " is no exposure; these are ", paste(names, collapse = ", "), meant(unknown[1], names))
   if (length(wanted) != length(names) || !setequal(names(wanted), names)) refuse("an arm needs one level of each of ", paste(names, collapse = ", "))
@@ -132,7 +139,7 @@ contrast_frame <- function(drawn, arms) {
             interval = drawn$kind, without_value = sum(is.na(drawn$drawn[, 1])), without_ratio = computed$ratio$without, seed = drawn$seed,
             outcomes = c(names(effects$given[[1]]), names(effects$y[[1]])), exposures = names(effects$x[[1]]),
             treated = levels_at(table, effects$x[[arms$treated[1]]]), control = levels_at(table, effects$x[[arms$control[1]]]),
-            pinned = levels_at(table, effects$pinned), dropped = table$dropped, weighted = !is.null(table$survey))
+            pinned = levels_at(table, effects$pinned), dropped = table$dropped, weighted = !is.null(table$survey), frequencies = frequency_note(table))
 }
 
 # The level of one exposure, or those of several with their names.
@@ -163,17 +170,11 @@ interval_notes <- function(drawn, columns, events, computed) {
       paste0("few events: ", format(found[["events"]]), " of ", format(found[["records"]]), " records of ", columns[[arm]][1])
     }, "")
   })
-  flat <- !is.na(columns$conf_low) & columns$conf_low == columns$conf_high
   needs <- list(treated = columns$measure != "risk_control", control = columns$measure != "risk_treated")
   without <- unlist(lapply(computed, `[[`, "without"))[order(rep(seq_len(rows / length(measures)), length(measures)))] - lost
-  parts <- list(ifelse(lost > 0, paste(lost, "of", nrow(drawn$drawn), "resamples had no value"), ""),
-                ifelse(without > 0, paste(without, "more resamples had no ratio"), ""),
-                ifelse(needs$treated, told[[1]], ""), ifelse(needs$control, told[[2]], ""),
-                ifelse(flat, "an interval of width 0 says nothing: no resample differs", ""))
-  vapply(seq_len(rows), function(row) {
-    texts <- vapply(parts, function(part) rep_len(part, rows)[row], "")
-    paste(texts[nzchar(texts)], collapse = "; ")
-  }, "")
+  ends <- end_notes(drawn, columns$estimate, columns$conf_low, columns$conf_high)
+  joined_notes(list(lost_note(drawn), ifelse(without > 0, paste(without, "more resamples had no ratio"), ""), ifelse(needs$treated, told[[1]], ""),
+                    ifelse(needs$control, told[[2]], ""), ends), rows)
 }
 
 old_contrast <- c(outer(c("difference", "ratio", "odds_ratio"), c("", "_lower", "_upper"), paste0))
@@ -218,4 +219,38 @@ shown_measures <- function(x, levels, digits) {
     ifelse(is.na(texts), "", texts)
   })
   frame_of(c(lapply(stats::setNames(levels, levels), function(name) x[[name]][first]), found))
+}
+
+# A forest plot: the interval of one measure of each cell.
+plot.causal_contrast <- function(x, measure = "difference", ...) {
+  has <- unique(x[["measure"]])
+  check_word("measure", measure, has)
+  shown <- as.data.frame(x)[x[["measure"]] == measure, ]
+  drawn_forest(shown, forest_labels(shown), measure, switch(measure, difference = 0, ratio = 1, odds_ratio = 1), ...)
+}
+
+# What each line of a forest plot is of.
+forest_labels <- function(shown) {
+  levels <- seq_len(match("treated", names(shown)) - 1)
+  cells <- if (length(levels)) cell_texts(shown, levels) else rep("", nrow(shown))
+  arms <- paste(shown$treated, "against", shown$control)
+  if (length(unique(arms)) > 1 || !all(nzchar(cells)) || anyDuplicated(cells)) paste0(cells, ifelse(nzchar(cells), ": ", ""), arms) else cells
+}
+
+drawn_forest <- function(shown, labels, measure, none, ...) {
+  known <- !is.na(shown$estimate) | !is.na(shown$conf_low)
+  rows <- rev(seq_len(sum(known)))
+  shown <- shown[known, ]
+  old <- graphics::par(mai = c(0.8, max(0.4, graphics::strwidth(labels, "inches", cex = 0.8)) + 0.3, 0.4, 0.2))
+  on.exit(graphics::par(old))
+  graphics::plot.new()
+  reach <- range(c(shown$estimate, shown$conf_low, shown$conf_high, none), na.rm = TRUE, finite = TRUE)
+  graphics::plot.window(reach, c(0.5, max(length(rows), 1) + 0.5))
+  if (!is.null(none)) graphics::abline(v = none, lty = 2, col = "#888888")
+  graphics::segments(shown$conf_low, rows, shown$conf_high, rows)
+  graphics::points(shown$estimate, rows, pch = 19)
+  graphics::axis(1)
+  if (length(rows)) graphics::axis(2, at = rows, labels = labels[known], las = 1, tick = FALSE, cex.axis = 0.8)
+  graphics::title(xlab = measure, ...)
+  invisible(shown)
 }

@@ -5,6 +5,19 @@ ask_counts <- function(diagram, words, text, hand_back = integer(), command = "e
   ask(command, diagram, c("counts", words), list(counts = text), hand_back)
 }
 
+# The same over a table, with what its levels are where there are too many combinations of them.
+ask_table <- function(diagram, words, table, command = "evaluate", hand_back = integer()) {
+  told <- ask_counts(diagram, words, counts_text(table), c(hand_back, 4L), command)
+  if (told$status != 4) return(told)
+  fault <- causal_fault(told, list(diagram = diagram$text))
+  if (fault$number == 5) {
+    sizes <- lengths(table$levels)
+    fault <- retold(fault, ": ", listed(paste(names(sizes), sizes)[order(-sizes)]), " levels. What may help: another `set` of adjustment_sets(), fewer classes; ",
+                    "estimate() needs no combinations over a set")
+  }
+  stop(fault)
+}
+
 # The columns that the answer needs, by the library's own words: it names the first one that a header lacks. NULL where it reads
 # no counts.
 used_columns <- function(diagram, words, command) {
@@ -25,6 +38,7 @@ csv_line <- function(fields) paste0('"', gsub('"', '""', fields, fixed = TRUE), 
 # them.
 count_table <- function(diagram, words, data, count, missing, command = "evaluate", keeps = character(), design = NULL,
                         of = NULL) {
+  named_count <- count
   if (inherits(data, "table")) {
     count <- utils::tail(make.unique(c(names(dimnames(data)), "count")), 1)
     data <- as.data.frame(data, responseName = count, stringsAsFactors = TRUE)
@@ -44,20 +58,43 @@ count_table <- function(diagram, words, data, count, missing, command = "evaluat
   columns <- lapply(stats::setNames(used, used), function(name) data[[match(name, enc2utf8(names(data)))]])
   if (!all(vapply(columns, is_plain, NA))) refuse("a column that the answer needs is no vector")
   records <- if (is.null(count)) rep(1, nrow(data)) else check_counts(data[[match(count, names(data))]])
+  if (!is.null(named_count) && !is_remote) doubt_weights(data, count, records)
   survey <- design_columns(design, data)
   is_whole <- complete_rows(c(columns, survey), missing, records, names(columns))
   columns <- lapply(columns, `[`, is_whole)
   levels <- mapply(levels_of, columns, names(columns) %in% keeps, SIMPLIFY = FALSE)
   codes <- mapply(match_levels, columns, levels, SIMPLIFY = FALSE)
-  rows <- do.call(paste, c(codes, list(sep = ",")))
-  first <- !duplicated(rows)
+  key <- row_keys(codes, lengths(levels))
+  first <- !duplicated(key)
   survey <- lapply(survey, `[`, is_whole)
   weights <- if (is.null(survey$weights)) records[is_whole] else whole_weights(survey$weights)
-  counts <- vapply(split(weights, factor(rows, unique(rows))), sum, 0)
-  structure(list(names = used, levels = levels, codes = do.call(cbind, lapply(codes, `[`, first)), rows = rows[first],
-                 counts = as.vector(counts), records = as.vector(vapply(split(records[is_whole], factor(rows, unique(rows))), sum, 0)),
-                 survey = if (length(survey)) c(list(row = match(rows, rows[first])), survey), dropped = sum(records[!is_whole])),
+  of_rows <- lapply(codes, `[`, first)
+  structure(list(names = used, levels = levels, codes = do.call(cbind, of_rows), rows = do.call(paste, c(of_rows, list(sep = ","))),
+                 counts = sums_of(weights, key), records = sums_of(records[is_whole], key), survey = if (length(survey)) c(list(row = key), survey),
+                 dropped = sum(records[!is_whole]), frequencies = named_count),
             class = "causal_counts")
+}
+
+# Which rows are the same: their numbers, in order of first appearance.
+row_keys <- function(codes, sizes) {
+  key <- rep(1, length(codes[[1]]))
+  for (k in seq_along(codes)) {
+    wide <- key * sizes[[k]] + codes[[k]]
+    key <- match(wide, unique(wide))
+  }
+  key
+}
+
+sums_of <- function(numbers, key) if (length(key)) as.vector(rowsum(numbers, key, reorder = FALSE)) else numeric()
+
+# Frequencies of a table stand in rows that differ. Where most rows are alike in all else, each is likely a record with its weight.
+doubt_weights <- function(data, count, records) {
+  others <- data[setdiff(names(data), count)]
+  if (nrow(data) < 20 || nrow(data) > 1e6 || !all(vapply(others, is_plain, NA)) || length(unique(records)) < 3) return(invisible())
+  alike <- sum(duplicated(others))
+  if (alike > nrow(data) / 2)
+    doubt(count, " holds frequencies, so that ", nrow(data), " rows stand for ", format(sum(records), big.mark = ",", scientific = FALSE),
+          " records; but ", alike, " rows are like another in all else: weights of a survey are given as `weights`")
 }
 
 check_count_name <- function(count) {
@@ -118,23 +155,32 @@ levels_of <- function(column, keeps = FALSE) {
     own <- if (keeps) levels(column) else levels(droplevels(column))
     own <- factor(own, levels(column), exclude = NULL, ordered = is.ordered(column))
   } else {
-    own <- if (is.character(column)) unique(column) else sort(unique(column))
+    own <- column[!duplicated(column)]
     own <- own[!is.na(own)]
+    if (!is.character(own)) own <- own[order(own)]
   }
   if (anyNA(column) && !anyNA(own)) c(own, NA) else own
 }
 
-# The levels as texts of which each stands for one: numbers that print alike with 15 digits have 17.
+# The levels as texts of which each stands for one: numbers that print alike with 15 digits have 17; those of dates and times, which may
+# hold parts that aren't printed, stand behind them.
 level_labels <- function(levels) {
   labels <- as.character(levels)
-  if (is.numeric(levels) && anyDuplicated(labels)) labels <- formatC(as.vector(levels), digits = 17, format = "g", width = 1)
+  if (is.double(levels) && anyDuplicated(labels)) {
+    exact <- formatC(as.vector(unclass(levels)), digits = 17, format = "g", width = 1)
+    labels <- if (is.numeric(levels) || inherits(levels, "difftime")) exact else paste0(labels, " (", exact, ")")
+  }
   replace(labels, is.na(levels), "NA")
 }
 
 # The place of a level that a caller names: by its value, or by its text; NA where there is none.
 place_of_level <- function(levels, wanted) {
   if (length(wanted) != 1) refuse("a level is one value")
-  if (is.numeric(wanted) && is.numeric(levels) && !anyNA(match(wanted, as.vector(levels)))) return(match(wanted, as.vector(levels)))
+  is_time <- is.object(levels) && is.double(levels) && inherits(wanted, class(levels)[1])
+  if (is.numeric(wanted) && is.numeric(levels) || is_time) {
+    place <- match(as.vector(unclass(wanted)), as.vector(unclass(levels)))
+    if (!is.na(place)) return(place)
+  }
   match(if (is.na(wanted)) "NA" else as.character(wanted), level_labels(levels))
 }
 

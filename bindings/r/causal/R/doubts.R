@@ -1,5 +1,7 @@
 # Warnings of what in a text may be a typing error, though the library reads it: it may have cost an edge.
 
+role_words <- c(exposure = "exposure", outcome = "outcome", adjusted = "adjusted vertex", latent = "latent vertex")
+
 white_form <- "[ \\t\\r\\n]*"
 
 # The statements `name = value` of a text that is read as a diagram, with what stands before each. Attributes in brackets are
@@ -31,11 +33,11 @@ doubts_of <- function(text, graph) {
   where <- vapply(strsplit(paste0(dropped$before, " ", recycle0 = TRUE), "\n", fixed = TRUE),
                   function(lines) paste0("at line ", length(lines), ", column ", nchar(lines[length(lines)])), "")
   has_edge <- graph$vertices$name %in% c(graph$edges$from, graph$edges$to)
-  idle <- graph$vertices[graph$vertices$role %in% c("exposure", "outcome") & !has_edge, , drop = FALSE]
+  idle <- graph$vertices[nzchar(graph$vertices$role) & !has_edge, , drop = FALSE]
   lone <- setdiff(graph$vertices$name[is_of_signs(graph$vertices$name)], c(graph$edges$from, graph$edges$to))
   c(paste0("'", dropped$text, "' ", where, " says nothing of the diagram, and was dropped; ", edges, recycle0 = TRUE),
     paste0("the vertex ", printed(lone), " has no edge, and its name is made of signs; ", edges, recycle0 = TRUE),
-    paste0("the ", idle$role, " ", printed(idle$name), " has no edge; is its name written as in the edges?", recycle0 = TRUE))
+    paste0("the ", role_words[idle$role], " ", printed(idle$name), " has no edge; is its name written as in the edges?", recycle0 = TRUE))
 }
 
 warn_of_doubts <- function(text, graph) {

@@ -12,7 +12,9 @@ evaluate <- function(diagram, data, x = NULL, y = NULL, count = NULL, exact = FA
 # The table of counts that an effect is computed over, with the free variables at their level.
 table_for <- function(asked, data, count, missing, at = NULL, design = NULL) {
   table <- count_table(asked$diagram, asked$words, data, count, missing, keeps = asked$y, design = design)
-  pin(table, first_places(table, asked$formula$free, at))
+  table <- pin(table, first_places(table, asked$formula$free, at))
+  if (is.data.frame(data) || inherits(data, "table")) table$source <- list(data = data, count = count, missing = missing, design = design)
+  table
 }
 
 # The value at each level at which the formula's free variables may be pinned: in the population all are the same.
@@ -70,13 +72,14 @@ first_places <- function(table, free, at) {
 # The condition that an effect can't be computed from observations, with its hedge.
 not_identifiable <- function(hedge) {
   target <- if (is.null(hedge$conditional)) hedge$target else hedge$conditional
-  message <- paste0(target, " is not identifiable: no observations determine it. The hedge is in the condition's `hedge`")
+  message <- paste0(target, " is not identifiable: no observations determine it. The hedge is in the condition's `hedge`; ",
+                    "bounds_effect() says what the effect is at least and at most")
   structure(class = c("causal_not_identifiable", "causal_refusal", "error", "condition"), list(message = message, call = NULL, hedge = hedge))
 }
 
 effects_of <- function(asked, table, exact = FALSE) {
   words <- c(asked$words, "--count", count_name(table), flag("exact", exact))
-  told <- ask_counts(asked$diagram, words, counts_text(table), hand_back = 5)
+  told <- ask_table(asked$diagram, words, table, hand_back = 5L)
   if (told$status == 5) stop(with_levels(causal_fault(told, list(diagram = asked$diagram$text)), table, asked))
   c(read_effects(object_of(told)), list(out = told$out))
 }
@@ -99,15 +102,29 @@ with_levels <- function(fault, table, asked) {
     without <- if (is.null(divisor$term)) paste0("a divisor is 0 at ", at) else paste0("no record has ", at, ", which ", divisor$term, " is given")
     fault$sentence <- paste0(without, ", so the effect has no value over these data")
   }
-  fault$message <- paste0(fault$sentence, if (fault$number == 1) paste0(". ", remedies(asked)))
+  fault$message <- paste0(fault$sentence, if (fault$number == 1) paste0(". ", remedies(asked, set_with_value(asked, table))))
   fault
 }
 
+# The first of some minimal sets whose adjustment formula has a value over the data, where this one has none.
+set_with_value <- function(asked, table) {
+  if (is.null(table$source) || length(asked$given) || !length(asked$x)) return(NULL)
+  has_value <- function(set) {
+    other <- asked_of(asked$diagram, asked$x, asked$y, set, zero = TRUE)
+    if (asked$zero && identical(other$formula$expression, asked$formula$expression)) return(FALSE)
+    its <- suppressWarnings(do.call(table_for, c(list(other), table$source)))
+    ask_table(other$diagram, c(other$words, "--count", count_name(its)), its, hand_back = 5L)$status == 0
+  }
+  for (set in adjustment_sets(asked$diagram, asked$x, asked$y, most = 12)$sets)
+    if (tryCatch(has_value(set), causal_refusal = function(it) FALSE)) return(set)
+}
+
 # What may have a value where this has none, in the words of the caller.
-remedies <- function(asked) {
+remedies <- function(asked, set = NULL) {
   tried <- c(if (!asked$zero) "zero = TRUE", if (is.null(asked$set) && !asked$short) "short = TRUE")
-  paste0("What may help: ", if (length(tried)) paste0(paste(tried, collapse = ", "), ", "), "another `set` of adjustment_sets(), fewer classes; ",
-         "support() shows where records lack, and estimate() fills in by models")
+  other <- if (is.null(set)) "another `set` of adjustment_sets()" else paste0("set = ", paste(deparse(set, width.cutoff = 500), collapse = " "), " (it has a value)")
+  paste0("What may help: ", if (length(tried)) paste0(paste(tried, collapse = ", "), ", "), other, ", fewer classes; ",
+         "support() shows where records lack, estimate() fills in by models, and bounds_effect() says what the effect is at least and at most")
 }
 
 level_of <- function(table, name, code) table$levels[[name]][as.integer(code)]
@@ -144,7 +161,7 @@ values_of <- function(effects) {
   vapply(sides, function(side) as.numeric(side[1]) / as.numeric(side[2]), 0)
 }
 
-print.causal_effects <- function(x, ...) print_with_notes(x, x, ...)
+print.causal_effects <- function(x, ...) print_with_notes(x, shown_levels(x), ...)
 
 # Columns between what they rest on; what stands in the columns may be shown otherwise than an answer has it.
 print_with_notes <- function(x, shown, ...) {

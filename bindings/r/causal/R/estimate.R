@@ -4,27 +4,43 @@
 estimate <- function(diagram, data, x = NULL, y = NULL, treated = NULL, control = NULL, outcome = NULL,
                      method = c("formula", "ipw", "aipw"), model = "logistic", set = NULL, given = NULL, count = NULL, level = 0.95,
                      resamples = NULL, seed = 0, missing = c("error", "drop", "level"), weights = NULL, clusters = NULL, strata = NULL,
-                     smoothing = 1, at = NULL, short = is.null(set), progress = NULL) {
+                     smoothing = 1, at = NULL, short = is.null(set), progress = NULL, interval = NULL, factors = character(), observed = NULL,
+                     trials = NULL, experiments = NULL, draws = 1000) {
   method <- one_of(method)
   missing <- one_of(missing)
-  if (is.null(resamples)) resamples <- if (method == "aipw") 0 else 200
-  check_numbers(level, resamples)
-  asked <- asked_for_models(diagram, x, y, set, given, method, short)
-  design <- design_of(weights, clusters, strata)
-  of_set <- if (!is.null(asked$set)) unique(c(asked$x, asked$y, asked$set))
-  table <- count_table(asked$diagram, asked$words, data, count, missing, keeps = asked$y, design = design, of = of_set)
-  table <- pin(table, first_places(table, asked$formula$free, at))
+  check_numbers(level, if (is.null(resamples)) 0 else resamples)
+  if (!is.null(interval)) check_word("interval", interval, c("influence", "percentile"))
+  if (!is.numeric(smoothing) || length(smoothing) != 1 || !isTRUE(smoothing >= 0)) refuse("`smoothing` is a number of records from 0")
+  check_whole("draws", draws, 1)
+  asked <- asked_for_models(as_causal_diagram(diagram), x, y, set, given, method, short, observed, experiments_of(experiments, trials))
+  table <- model_table(asked, data, count, missing, design_of(weights, clusters, strata), trials, at)
+  options <- list(models = read_models(model), smoothing = smoothing, factors = factors_of(factors, asked, table), draws = draws)
   arms <- model_arms(asked, table, treated, control)
   targets <- model_targets(asked, table, outcome)
-  estimator <- if (is.null(asked$set)) formula_estimator(asked, table, arms, targets, model, smoothing)
-               else set_estimator(asked, table, arms, targets, model, smoothing, method)
-  estimate_frame(asked, table, arms, targets, estimator, method, level, resamples, seed_or_drawn(seed), progress)
+  estimator <- if (is.null(asked$set)) formula_estimator(asked, table, arms, targets, options) else set_estimator(asked, table, arms, targets, options, method)
+  estimate_frame(asked, table, arms, targets, estimator, method, level, interval, resamples, seed_or_drawn(seed), progress)
 }
 
-# What is asked for: by a set that the library calls admissible, or by the formula. A formula that is a standardisation over one is taken
-# as that, so that its members may have any number of values.
-asked_for_models <- function(diagram, x, y, set, given, method, short) {
-  diagram <- as_causal_diagram(diagram)
+# The sets of variables that trials set: by their names, as in list(Z = ..) or list("A,B" = ..), or as `experiments` has them.
+experiments_of <- function(experiments, trials) {
+  if (is.null(trials)) {
+    if (!is.null(experiments)) refuse("`experiments` says what `trials` set; these have the data")
+    return(NULL)
+  }
+  if (!is.null(experiments)) return(if (is.list(experiments)) experiments else list(experiments))
+  if (is.data.frame(trials) || !is.list(trials) || is.null(names(trials)) || !all(nzchar(names(trials))))
+    refuse("`trials` is a list of data by what was set in each, as list(Z = ..), or \"A,B\" for two variables")
+  lapply(strsplit(names(trials), ",", fixed = TRUE), trimws)
+}
+
+# What is asked for: by a set that the library calls admissible, or by a formula: also that of the effect among the treated, or from
+# experiments. A formula that is a standardisation over a set is taken as that, so that its members may have any number of values.
+asked_for_models <- function(diagram, x, y, set, given, method, short, among, experiments) {
+  if (!is.null(among) || !is.null(experiments)) {
+    if (method != "formula" || !is.null(set)) refuse("an effect among the treated, or from experiments, goes by its own formula: with method = \"formula\" and no `set`")
+    if (!is.null(among) && !is.null(experiments)) refuse("`observed` and `trials` are two questions: give one")
+    return(if (is.null(among)) asked_from_experiments(diagram, x, y, given, experiments) else asked_among(diagram, x, y, given, among))
+  }
   if (is.null(set) && method != "formula") {
     listed <- adjustment_sets(diagram, x, y, most = 1)$sets
     if (!length(listed)) refuse("no set can be adjusted for here, so that there is nothing to weight by; method = \"formula\" goes by the formula",
@@ -36,6 +52,59 @@ asked_for_models <- function(diagram, x, y, set, given, method, short) {
   if (!is.null(asked$set)) asked$set <- as.character(asked$set)
   asked
 }
+
+# The formula of another question, whose columns are those that its trees name. `observed` has second names of exposures, of the levels that
+# were observed.
+asked_by_trees <- function(diagram, told, x, y, condition, observed = character()) {
+  object <- object_of(told)
+  list(diagram = diagram, formula = read_formula(object), trees = read_trees(object), x = texts(object$x), typed = !is.null(x), y = texts(object$y),
+       given = condition$names, levels = condition$levels, set = NULL, zero = TRUE, short = FALSE, observed = observed)
+}
+
+asked_among <- function(diagram, x, y, given, among) {
+  check_exposures(diagram, x)
+  condition <- condition_of(given)
+  told <- ask("treated", diagram, c(option("x", x), option("y", y), option("given", condition$names)))
+  if (!told$yes) refuse("the effect among the treated has no formula: ", lines_of(text_of(told$asked, diagram))[1], "; treated_effect() says why",
+                        kind = "not_identifiable")
+  object <- object_of(told)
+  c(asked_by_trees(diagram, told, x, y, condition, stats::setNames(texts(object$observed), texts(object$x))), list(among = among))
+}
+
+asked_from_experiments <- function(diagram, x, y, given, experiments) {
+  check_exposures(diagram, x)
+  if (length(given)) refuse("an effect from experiments is estimated without a condition")
+  told <- ask("surrogate", diagram, c(option("x", x), option("y", y), "--experiments", experiments_word(experiments)))
+  if (!told$yes) refuse("these experiments give no formula: ", lines_of(text_of(told$asked, diagram))[1], "; surrogate() says why", kind = "not_identifiable")
+  c(asked_by_trees(diagram, told, x, y, condition_of(NULL)), list(experiments = if (is.list(experiments)) experiments else list(experiments)))
+}
+
+# The table of the records that an estimate is made of, with its rows as values (`frame`) too.
+model_table <- function(asked, data, count, missing, design, trials, at) {
+  if (!is.null(asked$experiments)) {
+    table <- table_of_trials(asked, data, trials, count, missing, design)
+  } else {
+    of <- if (!is.null(asked$set)) unique(c(asked$x, asked$y, asked$set))
+          else if (length(asked$observed)) setdiff(unique(c(asked$x, asked$y, asked$given, unlist(lapply(asked$trees, names_in)))), asked$observed)
+    table <- count_table(asked$diagram, asked$words, data, count, missing, keeps = asked$y, design = design, of = of)
+  }
+  for (name in names(asked$observed)) {
+    second <- asked$observed[[name]]
+    table$levels[[second]] <- table$levels[[name]]
+    table$codes <- cbind(table$codes, matrix(table$codes[, name], dimnames = list(NULL, second)))
+    table$names <- c(table$names, second)
+  }
+  table <- pin(table, first_places(table, asked$formula$free, at))
+  table$frame <- model_rows(table, table$codes)
+  table
+}
+
+# All names of a tree.
+names_in <- function(tree) {
+  unique(c(texts(tree$term), texts(tree$given), texts(tree$do), texts(tree$sum), unlist(lapply(inner_trees(tree), names_in))))
+}
+
+inner_trees <- function(tree) c(if (!is.null(tree$of)) list(tree$of), tree$product, tree$quotient)
 
 # The set over which a formula standardises: it sums a term of the outcomes, given the exposures and the set, times terms of the set alone,
 # and the set is admissible. NULL where it is another formula.
@@ -66,7 +135,9 @@ model_arms <- function(asked, table, treated, control) {
     refuse("`treated` and `control` have to name the levels of ", paste(asked$x, collapse = ", "), "; ", levels_told(table, asked$x))
   cells <- expand.grid(lapply(table$levels[asked$x], seq_along))
   told <- list(asked = asked, table = table, effects = list(x = lapply(seq_len(nrow(cells)), function(k) unlist(cells[k, , drop = FALSE]))))
-  lapply(list(treated = treated, control = control), function(arm) unlist(cells[which(arm_of(arm, told, asked$x))[1], , drop = FALSE]))
+  arms <- lapply(list(treated = treated, control = control), function(arm) unlist(cells[which(arm_of(arm, told, asked$x))[1], , drop = FALSE]))
+  check_arms(arms)
+  arms
 }
 
 # What is estimated of the outcome: the chance of some of its levels, or the mean of one with more than two numbers.
@@ -86,133 +157,4 @@ model_rows <- function(table, codes) {
     levels <- table$levels[[name]]
     if (is.numeric(levels) && !anyNA(levels)) as.vector(levels)[codes[, name]] else factor(level_labels(levels)[codes[, name]], level_labels(levels))
   }))
-}
-
-# An estimator by the formula's tree: each term is a product of models, each of one variable by what the term is given and the variables
-# before it.
-formula_estimator <- function(asked, table, arms, targets, model, smoothing) {
-  sizes <- lengths(table$levels)
-  in_conditions <- unlist(lapply(asked$trees, summed_or_given))
-  if (targets$mean && asked$y %in% in_conditions) refuse("the formula isn't linear in ", asked$y, ", so that there is no mean by models; cut it to classes")
-  if (targets$mean) sizes[[asked$y]] <- 1
-  if (largest_node(asked$trees, sizes) > 2^20) {
-    wide <- names(sizes)[which.max(sizes)]
-    refuse("the formula has too many combinations of levels for models of its terms: ", wide, " has ", sizes[[wide]],
-           " levels; cut it to classes, or name a `set`", kind = "model_refusal")
-  }
-  frame <- model_rows(table, table$codes)
-  whole <- unique(c(asked$x, asked$y, asked$given, asked$formula$free))
-  models <- list()
-  chain <- function(of, given) {
-    for (name in setdiff(c(setdiff(of, asked$y), intersect(of, asked$y)), given)) {
-      key <- paste(name, paste(sort(given), collapse = "\r"), sep = "\r\r")
-      is_mean <- targets$mean && name == asked$y
-      if (is.null(models[[key]]))
-        models[[key]] <<- c(new_model(name, given, frame, table$codes, table$levels, model, smoothing, is_mean), list(order = given))
-      given <- c(given, name)
-    }
-  }
-  for (tree in asked$trees) each_term(tree, chain)
-  pinned <- stats::setNames(rep(1L, length(asked$formula$free)), asked$formula$free)
-  conditions <- condition_cells(asked, table)
-  answer <- function(weights) {
-    fits <- lapply(models, function(model) model$fit(weights))
-    scope <- list(sizes = sizes, tables = 1, zero = TRUE, present = function(name) NULL,
-                  term = function(of, given) term_by_models(of, given, asked, models, fits, table, sizes, targets))
-    factor <- trees_factor(asked$trees, scope)
-    at <- function(arm, code) {
-      cells <- do.call(cbind, c(lapply(arm, function(k) rep(k, nrow(conditions))), as.list(pinned)))
-      cells <- cbind(cells, conditions, matrix(code, nrow(conditions), 1, dimnames = list(NULL, asked$y)))
-      colnames(cells) <- c(names(arm), names(pinned), colnames(conditions), asked$y)
-      at_cells(factor, cells, sizes)[, 1]
-    }
-    codes <- if (targets$mean) 1L else targets$codes
-    values <- lapply(arms, function(arm) as.vector(vapply(codes, function(code) at(arm, code), numeric(nrow(conditions)))))
-    list(values = values, fits = fits)
-  }
-  list(answer = answer, models = models, conditions = conditions)
-}
-
-# The levels of the condition that are wanted: each combination that has a record.
-condition_cells <- function(asked, table) {
-  cells <- unique(table$codes[table$counts > 0, asked$given, drop = FALSE])
-  if (!length(asked$given)) cells <- matrix(0L, 1, 0)
-  for (name in names(asked$levels)) {
-    place <- place_of_level(table$levels[[name]], asked$levels[[name]])
-    if (is.na(place)) no_level(name, as.character(asked$levels[[name]]), level_labels(table$levels[[name]]))
-    cells <- cells[cells[, name] == place, , drop = FALSE]
-  }
-  cells[order_of_codes(cells, table), , drop = FALSE]
-}
-
-# The names that a tree sums over, or gives.
-summed_or_given <- function(tree) {
-  c(texts(tree$sum), texts(tree$given), unlist(lapply(c(if (!is.null(tree$of)) list(tree$of), tree$product, tree$quotient), summed_or_given)))
-}
-
-each_term <- function(tree, call) {
-  if (!is.null(tree$term)) call(texts(tree$term), texts(tree$given))
-  for (part in c(if (!is.null(tree$of)) list(tree$of), tree$product, tree$quotient)) each_term(part, call)
-}
-
-term_by_models <- function(of, given, asked, models, fits, table, sizes, targets) {
-  product <- new_factor(character(), matrix(1, 1, 1))
-  scope <- list(sizes = sizes, zero = TRUE)
-  for (name in setdiff(c(setdiff(of, asked$y), intersect(of, asked$y)), given)) {
-    key <- paste(name, paste(sort(given), collapse = "\r"), sep = "\r\r")
-    model <- models[[key]]
-    wide <- model$order
-    grid <- as.matrix(expand.grid(lapply(sizes[wide], seq_len)))
-    if (!length(wide)) grid <- matrix(0L, 1, 0)
-    colnames(grid) <- wide
-    rows <- if (isTRUE(model$by_codes)) model$rows(grid) else model$rows(model_rows(table, grid))
-    values <- fits[[key]]$predict(rows)
-    is_mean <- targets$mean && name == asked$y
-    product <- product_factor(product, new_factor(if (is_mean) wide else c(wide, name), matrix(as.vector(values))), scope)
-    given <- c(given, name)
-  }
-  product
-}
-
-# An estimator by a set: the mean over the records of what the outcome's model says of each in both arms (standardisation); the mean of
-# outcomes weighted by the inverse chance of the arm (Hajek's form); or the doubly robust one of both (Robins, Rotnitzky and Zhao, 1994).
-set_estimator <- function(asked, table, arms, targets, model, smoothing, method) {
-  frame <- model_rows(table, table$codes)
-  codes <- table$codes
-  given <- c(asked$x, asked$set)
-  outcome_model <- if (method != "ipw") new_model(asked$y, given, frame, codes, table$levels, model, smoothing, targets$mean)
-  arm_models <- if (method != "formula") lapply(seq_along(asked$x), function(k) {
-    new_model(asked$x[k], c(asked$set, asked$x[seq_len(k - 1)]), frame, codes, table$levels, model, smoothing)
-  })
-  models <- c(if (!is.null(outcome_model)) list(outcome_model), arm_models)
-  set_to <- function(arm) { for (name in names(arm)) codes[, name] <- arm[[name]]; codes }
-  rows_of_model <- function(model, codes) if (isTRUE(model$by_codes)) model$rows(codes) else model$rows(model_rows(table, codes))
-  outcome_rows <- if (!is.null(outcome_model)) lapply(arms, function(arm) rows_of_model(outcome_model, set_to(arm)))
-  arm_rows <- lapply(arms, function(arm) lapply(arm_models, rows_of_model, set_to(arm)))
-  is_in <- lapply(arms, function(arm) Reduce(`&`, lapply(names(arm), function(name) codes[, name] == arm[[name]])))
-  response <- if (targets$mean) matrix(as.numeric(frame[[asked$y]])) else outer(codes[, asked$y], targets$codes, "==") + 0
-  answer <- function(weights) {
-    fits <- lapply(models, function(model) model$fit(weights))
-    parts <- lapply(names(arms), function(name) {
-      fitted <- if (!is.null(outcome_model)) fits[[1]]$predict(outcome_rows[[name]])
-      if (!is.null(fitted) && !targets$mean) fitted <- fitted[, targets$codes, drop = FALSE]
-      behind <- length(models) - length(arm_models)
-      chances <- lapply(seq_along(arm_models), function(k) fits[[behind + k]]$predict(arm_rows[[name]][[k]])[, arms[[name]][[k]]])
-      chance <- if (length(chances)) Reduce(`*`, chances)
-      arm_part(method, weights, is_in[[name]], response, fitted, chance)
-    })
-    names(parts) <- names(arms)
-    list(values = lapply(parts, `[[`, "value"), fits = fits, parts = parts)
-  }
-  list(answer = answer, models = models, conditions = matrix(0L, 1, 0), is_in = is_in)
-}
-
-# The value in one arm, for each target, with each row's part in it (`share`, by which the influence function goes) and its weight.
-arm_part <- function(method, weights, is_in, response, fitted, chance) {
-  inverse <- if (!is.null(chance)) ifelse(is_in, 1 / chance, 0)
-  if (method == "formula") return(list(value = colSums(weights * fitted) / sum(weights)))
-  if (method == "ipw") return(list(value = colSums(weights * inverse * response) / sum(weights * inverse), inverse = inverse, chance = chance))
-  share <- fitted + inverse * (response - fitted)
-  value <- colSums(weights * share) / sum(weights)
-  list(value = value, share = sweep(share, 2, value), inverse = inverse, chance = chance)
 }

@@ -1,35 +1,56 @@
 # Estimates by models as a table: measures with their intervals, the fits, and what speaks against them.
 
-estimate_frame <- function(asked, table, arms, targets, estimator, method, level, resamples, seed, progress) {
-  point <- estimator$answer(table_weights(table))
+estimate_frame <- function(asked, table, arms, targets, estimator, method, level, interval, resamples, seed, progress) {
+  weights <- table_weights(table)
+  point <- estimator$answer(weights)
+  kind <- interval_kind(interval, resamples, estimator$has_moves(point))
+  resamples <- if (kind != "percentile") 0 else if (is.null(resamples)) 200 else resamples
+  drawn <- if (kind == "percentile") model_draws(estimator, table, resamples, seed, progress)
+  shares <- if (kind == "influence") estimator$moves(weights, point)
   values <- point$values
-  draws <- if (resamples > 0) model_draws(estimator, table, resamples, seed, progress)
-  shares <- if (method == "aipw" && resamples == 0) lapply(point$parts, `[[`, "share")
-  of_means <- list(mean_treated = function(a, b) a, mean_control = function(a, b) b, difference = function(a, b) a - b)
-  wanted <- if (targets$mean) of_means else measures
+  wanted <- if (targets$mean) mean_measures else measures
   cells <- length(values$treated)
   rows <- lapply(seq_len(cells), function(k) lapply(names(wanted), function(name) {
     here <- function(parts) lapply(parts, function(part) part[, k])
-    measure_row(wanted[[name]], name, vapply(values, `[[`, 0, k), here(draws), here(shares), table, level)
+    measure_row(wanted[[name]], name, vapply(values, `[[`, 0, k), here(drawn), here(shares), table, level)
   }))
   rows <- do.call(rbind, unlist(rows, recursive = FALSE))
-  lost <- if (is.null(draws)) 0 else sum(is.na(rowSums(draws$treated + draws$control)))
-  each <- length(wanted)
+  lost <- if (is.null(drawn)) 0 else sum(is.na(rowSums(drawn$treated + drawn$control)))
+  columns <- c(estimate_cells(asked, table, arms, targets, estimator, length(wanted)),
+               list(measure = rep(names(wanted), cells), estimate = rows[, 1], std_error = rows[, 2], conf_low = rows[, 3], conf_high = rows[, 4]))
+  fits <- fit_frame(estimator$models, point$fits)
+  columns$note <- estimate_notes(fits, lost, resamples, point, table, rows)
+  columns <- lapply(columns, rep_len, length(columns$measure))
+  structure(frame_of(columns), class = c("causal_estimate", "causal_rows", "data.frame"), models = fits, method = method, set = asked$set,
+            formula = asked$formula, among = if (!is.null(asked$among)) labels_at(table, stats::setNames(codes_among(asked, table), asked$x)),
+            outcome = asked$y, mean = targets$mean, level = level, resamples = resamples, lost = lost, seed = if (resamples > 0) seed, exposures = asked$x,
+            interval = kind, diagnostics = weight_diagnostics(point, estimator, table), balance = balance_of(asked, table, estimator, point),
+            dropped = table$dropped, drawn = estimator$drawn, records = sum(table$records),
+            pinned = levels_at(table, stats::setNames(rep(1L, length(asked$formula$free)), asked$formula$free)), design = !is.null(table$survey))
+}
+
+mean_measures <- list(
+  mean_treated = function(treated, control) treated,
+  mean_control = function(treated, control) control,
+  difference = function(treated, control) treated - control,
+  ratio = function(treated, control) ifelse(control > 0, treated / control, NA)
+)
+
+# By influence functions where they are known and no resamples are asked for; else by resamples, unless there are to be none.
+interval_kind <- function(interval, resamples, has_moves) {
+  if (identical(interval, "influence") && !has_moves)
+    refuse("influence functions are known of the package's own regressions over a set; interval = \"percentile\" draws the records anew")
+  if (!is.null(interval)) return(if (interval == "percentile" && identical(as.numeric(resamples), 0)) "none" else interval)
+  if (has_moves && (is.null(resamples) || resamples == 0)) "influence" else if (identical(as.numeric(resamples), 0)) "none" else "percentile"
+}
+
+# The levels that each row of the table is of.
+estimate_cells <- function(asked, table, arms, targets, estimator, each) {
   conditions <- lapply(stats::setNames(colnames(estimator$conditions), colnames(estimator$conditions)), function(name) {
     rep(rep(level_of(table, name, estimator$conditions[, name]), each = each), max(length(targets$codes), 1))
   })
   outcome <- if (!targets$mean) stats::setNames(list(level_of(table, asked$y, rep(targets$codes, each = each * nrow(estimator$conditions)))), asked$y)
-  columns <- c(conditions, outcome, list(treated = arm_text(labels_at(table, arms$treated)), control = arm_text(labels_at(table, arms$control))),
-               list(measure = rep(names(wanted), cells), estimate = rows[, 1], std_error = rows[, 2], conf_low = rows[, 3], conf_high = rows[, 4]))
-  fits <- fit_frame(estimator$models, point$fits)
-  columns$note <- estimate_notes(fits, lost, resamples, estimator, point, table, method)
-  columns <- lapply(columns, rep_len, length(columns$measure))
-  structure(frame_of(columns), class = c("causal_estimate", "causal_rows", "data.frame"), models = fits, method = method, set = asked$set,
-            formula = asked$formula,
-            outcome = asked$y, mean = targets$mean, level = level, resamples = resamples, lost = lost, seed = if (resamples > 0) seed, exposures = asked$x,
-            interval = if (resamples > 0) "percentile" else if (method == "aipw") "influence function" else "none",
-            diagnostics = weight_diagnostics(point, estimator, table), balance = balance_of(asked, table, estimator, point), dropped = table$dropped,
-            pinned = levels_at(table, stats::setNames(rep(1L, length(asked$formula$free)), asked$formula$free)), design = !is.null(table$survey))
+  c(conditions, outcome, list(treated = arm_text(labels_at(table, arms$treated)), control = arm_text(labels_at(table, arms$control))))
 }
 
 # The weight of each row over the data.
@@ -38,9 +59,8 @@ table_weights <- function(table) if (is.null(table$survey)) table$counts else ta
 # The values of both arms over resamples, a row for each; NA where a fit gives no number.
 model_draws <- function(estimator, table, resamples, seed, progress) {
   tell <- progress_of(progress, resamples)
-  by_design <- !is.null(table$survey)
   drawn <- with_seed(seed, lapply(seq_len(resamples), function(k) {
-    weights <- if (by_design) design_resamples(table$survey, length(table$counts), 1)[, 1] else stats::rmultinom(1, sum(table$counts), table$counts)[, 1]
+    weights <- resampled_weights(table)
     found <- tryCatch(estimator$answer(weights)$values, error = function(it) NULL)
     tell(k, resamples)
     found
@@ -50,7 +70,17 @@ model_draws <- function(estimator, table, resamples, seed, progress) {
   list(treated = part("treated"), control = part("control"))
 }
 
-# An estimate, its standard error and the ends of its interval: by resamples, or by the influence function, for ratios on their logarithm.
+# The weights of the rows over one resample, of each study by itself.
+resampled_weights <- function(table) {
+  if (!is.null(table$survey)) return(design_resamples(table$survey, length(table$counts), 1)[, 1])
+  weights <- table$counts
+  of <- if (is.null(table$source_of)) rep(1L, length(weights)) else table$source_of
+  for (rows in split(seq_along(weights), of)) weights[rows] <- stats::rmultinom(1, sum(table$counts[rows]), table$counts[rows])[, 1]
+  weights
+}
+
+# An estimate, its standard error and the ends of its interval: by resamples, or by the influence function, for risks on their logit and
+# for ratios on their logarithm.
 measure_row <- function(measure, name, values, draws, shares, table, level) {
   value <- measure(values[["treated"]], values[["control"]])
   if (length(draws)) {
@@ -59,18 +89,18 @@ measure_row <- function(measure, name, values, draws, shares, table, level) {
     return(c(value, stats::sd(have), percentile_interval(have, level)))
   }
   if (!length(shares)) return(c(value, NA, NA, NA))
-  by_logarithm <- name %in% c("ratio", "odds_ratio")
-  on_scale <- function(a, b) if (by_logarithm) log(measure(a, b)) else measure(a, b)
+  is_risk <- name %in% c("risk_treated", "risk_control") && isTRUE(value > 0 && value < 1)
+  scale <- if (is_risk) list(there = stats::qlogis, back = stats::plogis, slope = value * (1 - value))
+           else if (name %in% c("ratio", "odds_ratio")) list(there = log, back = exp, slope = value)
+           else list(there = identity, back = identity, slope = 1)
+  on_scale <- function(values) scale$there(measure(values[["treated"]], values[["control"]]))
+  if (!isTRUE(is.finite(on_scale(values)))) return(c(value, NA, NA, NA))
   slope <- function(arm) {
     step <- 1e-5 * max(abs(values[[arm]]), 1e-3)
-    up <- replace(values, arm, values[[arm]] + step)
-    down <- replace(values, arm, values[[arm]] - step)
-    (on_scale(up[["treated"]], up[["control"]]) - on_scale(down[["treated"]], down[["control"]])) / (2 * step)
+    (on_scale(replace(values, arm, values[[arm]] + step)) - on_scale(replace(values, arm, values[[arm]] - step))) / (2 * step)
   }
-  if (!isTRUE(is.finite(on_scale(values[["treated"]], values[["control"]])))) return(c(value, NA, NA, NA))
   error <- sqrt(design_variance(slope("treated") * shares$treated + slope("control") * shares$control, table))
-  ends <- on_scale(values[["treated"]], values[["control"]]) + stats::qnorm(c(1 - level, 1 + level) / 2) * error
-  if (by_logarithm) c(value, value * error, exp(ends)) else c(value, error, ends)
+  c(value, scale$slope * error, scale$back(on_scale(values) + stats::qnorm(c(1 - level, 1 + level) / 2) * error))
 }
 
 # The variance of a weighted mean of numbers, one for each row of the table: between the clusters of each stratum.
@@ -85,16 +115,16 @@ design_variance <- function(share, table) {
   sum(vapply(split(sums, units$stratum), function(part) length(part) / (length(part) - 1) * sum((part - mean(part))^2), 0))
 }
 
-estimate_notes <- function(fits, lost, resamples, estimator, point, table, method) {
+estimate_notes <- function(fits, lost, resamples, point, table, rows) {
   bad <- nzchar(fits$note)
   told <- c(paste0(fits$model[bad], ": ", fits$note[bad], recycle0 = TRUE), if (lost > 0) paste(lost, "of", resamples, "resamples had no estimate"),
-            small_chances(point, estimator, table))
+            small_chances(point, table), if (any(is.nan(rows[, 2]))) "no interval: the fit doesn't tell how far it could be")
   if (length(told)) doubt(paste(told, collapse = "; "))
   paste(told, collapse = "; ")
 }
 
 # Chances of an arm so small that few records stand for many.
-small_chances <- function(point, estimator, table) {
+small_chances <- function(point, table) {
   unlist(lapply(names(point$parts), function(arm) {
     chance <- point$parts[[arm]]$chance
     few <- if (!is.null(chance)) sum(table$records[chance < 0.01]) else 0
@@ -144,7 +174,10 @@ estimate_head <- function(x) {
   set <- attr(x, "set")
   over <- if (is.null(set)) paste("the formula", attr(x, "formula")$expression)
           else paste0("adjustment for {", paste(set, collapse = ","), "}, which the diagram admits")
+  among <- attr(x, "among")
   c(paste0("computed: by these models, over ", over), paste0("  ", attr(x, "models")$kind, ": ", attr(x, "models")$model),
+    if (length(among)) paste0("among those for whom ", level_text(among), " was observed"),
+    if (length(attr(x, "drawn"))) paste0("summed over draws of ", paste(attr(x, "drawn"), collapse = ", ")),
     paste0("method: ", attr(x, "method"), if (attr(x, "design")) ", by the weights, clusters or strata of the design"),
     head_notes(x))
 }
@@ -152,7 +185,7 @@ estimate_head <- function(x) {
 estimate_foot <- function(x) {
   level <- paste0(100 * attr(x, "level"), "%")
   c(switch(attr(x, "interval"), percentile = paste0(level, " percentile intervals of ", attr(x, "resamples"), " resamples; seed ", attr(x, "seed")),
-           none = "no intervals: resamples = 0", paste(level, "intervals by the influence function")), row_notes(x))
+           none = "no intervals: resamples = 0", influence = paste(level, "intervals by influence functions")), row_notes(x))
 }
 
 print.causal_estimate <- function(x, digits = 4, ...) {

@@ -5,7 +5,7 @@ implications <- function(diagram, data = NULL, count = NULL, missing = c("error"
   missing <- one_of(missing)
   table <- if (!is.null(data)) count_table(diagram, character(), data, count, missing, "implications")
   told <- if (is.null(table)) ask("implications", diagram)
-          else ask_counts(diagram, c("--count", count_name(table)), counts_text(table), command = "implications")
+          else ask_table(diagram, c("--count", count_name(table)), table, "implications")
   implications_frame(read_implications(object_of(told)), table)
 }
 

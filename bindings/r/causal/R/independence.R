@@ -4,7 +4,7 @@ test_implications <- function(diagram, data, count = NULL, method = c("auto", "c
                               missing = c("error", "drop", "level"), progress = NULL) {
   diagram <- as_causal_diagram(diagram)
   method <- one_of(method)
-  if (length(permutations) != 1 || !isTRUE(permutations >= 1 && permutations == round(permutations))) refuse("`permutations` is a whole number from 1")
+  check_whole("permutations", permutations, 1)
   table <- count_table(diagram, character(), data, count, one_of(missing), "implications")
   pairs <- read_implications(object_of(ask("implications", diagram)))
   seed <- seed_or_drawn(seed)
@@ -34,7 +34,7 @@ pair_test <- function(table, a, b, given, method, permutations) {
   found <- independence_test(strata_of(table, a, b, given), method, permutations, length(many) == 0)
   note <- ""
   if (length(many)) {
-    note <- paste0("no test: ", many[1], " has ", sizes[[many[1]]], " levels in ", counted(records, "record"), "; cut it to a few classes")
+    note <- paste0("no test: ", many[1], " has ", sizes[[many[1]]], " levels in ", counted(records, "record"), ", so cut it to a few classes")
     doubt(a, " from ", b, ": ", note)
   } else if (is.na(found$p)) {
     note <- "no test: no level of what is given has two levels of both"

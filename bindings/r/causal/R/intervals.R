@@ -68,6 +68,8 @@ told_by <- function(values, progress, of) {
 
 progress_of <- function(progress, of) {
   if (is.function(progress)) return(progress)
+  if (!is.null(progress) && !isTRUE(progress) && !isFALSE(progress))
+    refuse("`progress` is a function of how much is done and of how much, TRUE, FALSE or NULL")
   if (!isTRUE(progress) && !(is.null(progress) && interactive())) return(function(done, of) NULL)
   began <- proc.time()[["elapsed"]]
   shown <- FALSE

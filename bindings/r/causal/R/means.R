@@ -33,11 +33,18 @@ means_frame <- function(drawn, control) {
   lost <- sum(is.na(drawn$drawn[, 1]))
   columns <- c(lapply(levels, rep, each = 2), list(control = rep(c(NA, against), length(rows)), measure = rep(c("mean", "difference"), length(rows))),
                list(estimate = both("value"), conf_low = both("lower"), conf_high = both("upper"),
-                    note = rep(if (lost > 0) paste(lost, "of", nrow(drawn$drawn), "resamples had no value") else "", 2 * length(rows))))
+                    note = means_notes(drawn, mean, difference, unique(reference))))
   structure(frame_of(columns), class = c("causal_means", "causal_rows", "data.frame"), outcome = outcome, level = drawn$level,
             resamples = nrow(drawn$drawn), interval = drawn$kind, without_value = lost, seed = drawn$seed,
             control = levels_at(table, effects$x[[rows[reference[1]]]]), pinned = levels_at(table, effects$pinned), dropped = table$dropped,
-            weighted = !is.null(table$survey))
+            weighted = !is.null(table$survey), frequencies = frequency_note(table))
+}
+
+# The difference of an arm from itself has no interval, and nothing is said of it.
+means_notes <- function(drawn, mean, difference, references) {
+  difference$value[references] <- NA
+  both <- function(part) c(rbind(mean[[part]], difference[[part]]))
+  joined_notes(list(lost_note(drawn), end_notes(drawn, both("value"), both("lower"), both("upper"))), 2 * length(mean$value))
 }
 
 # Which levels of the exposures the means are compared with: the first, unless they are given.

@@ -1,38 +1,103 @@
 # Models of the terms of a formula: base R's logistic and linear regression, the multinomial one of nnet, and a smoothed table. A model is
 # prepared once over the rows of a table, fitted with a weight for each row, and asked about rows of other levels.
 
-model_words <- c("logistic", "multinomial", "table")
+model_words <- c("logistic", "multinomial", "linear", "table")
 
-# What is meant by `model`: a word for all variables, or a list by variable of words and formulas, in which an element without a name is
-# for all others.
-model_for <- function(model, name) {
-  if (inherits(model, "formula")) model <- list(model)
+# What is asked for by `model`: a word, a formula or a model of the caller's own, for all variables or in a list by variable. A formula with a
+# left side is of that variable. What has no name is for all others.
+read_models <- function(model) {
+  if (inherits(model, "formula") || is_own_model(model)) model <- list(model)
+  if (!is.list(model) && !is.character(model)) refuse_model()
   model <- as.list(model)
   named <- if (is.null(names(model))) rep("", length(model)) else names(model)
-  found <- if (name %in% named) model[[match(name, named)]] else if ("" %in% named) model[[match("", named)]] else "logistic"
-  if (inherits(found, "formula")) return(found)
-  if (!is.character(found) || length(found) != 1 || !found %in% model_words)
-    refuse("a model is one of ", paste(model_words, collapse = ", "), ", or a formula as ~ age + sex")
-  found
+  for (k in seq_along(model)) {
+    it <- model[[k]]
+    if (!inherits(it, "formula") && !is_own_model(it) && !(is.character(it) && length(it) == 1 && it %in% model_words)) refuse_model(it)
+    if (inherits(it, "formula") && length(it) == 3) {
+      left <- all.vars(it[[2]])
+      if (length(left) != 1 || nzchar(named[k]) && named[k] != left) refuse("the left side of the model ", deparse(it)[1], " is no name of its variable")
+      named[k] <- left
+    }
+  }
+  if (anyDuplicated(named)) refuse("there are two models of ", if (nzchar(named[duplicated(named)][1])) named[duplicated(named)][1] else "all other variables")
+  stats::setNames(model, named)
+}
+
+refuse_model <- function(it = NULL) {
+  word <- if (is.character(it) && length(it) == 1) meant(it, model_words)
+  refuse("a model is one of ", paste(model_words, collapse = ", "), ", a formula as ~ age + sex, or a list of `fit` and `predict`", word)
+}
+
+# A model of the caller's own: fit(data, response, weights) gives what predict(fitted, data) takes, which gives a matrix with a column for each
+# level of the response, the chances of the second of two, or means.
+is_own_model <- function(it) is.list(it) && all(c("fit", "predict") %in% names(it)) && is.function(it$fit) && is.function(it$predict)
+
+# The model that was asked for, of one variable. Each variable that has one of its own has to be modelled.
+model_for <- function(models, name) if (identical(models, list("table"))) "table" else if (name %in% names(models)) models[[name]] else if ("" %in% names(models)) models[[match("", names(models))]] else "logistic"
+
+check_modelled <- function(models, names) {
+  strange <- setdiff(names(models), c(names, ""))
+  if (length(strange)) refuse("`model` has a model of ", strange[1], ", which isn't modelled here; these are ", listed(names), meant(strange[1], names), kind = "model_refusal")
 }
 
 # A model of one variable by others. `fit(weights)` gives what has `predict(rows)`: a matrix with a column for each level, or for a mean
-# with one column; and `told`, what is said of the fit.
-new_model <- function(name, given, frame, codes, levels, model, smoothing = 0, mean = FALSE) {
-  wanted <- model_for(model, name)
-  if (identical(wanted, "table") || !length(given)) return(table_model(name, given, frame, codes, levels, if (length(given)) smoothing else 0, mean))
-  formula <- if (inherits(wanted, "formula")) stats::update(wanted, NULL ~ .) else stats::reformulate(paste0("`", given, "`"))
+# with one column; and what is told of the fit. Where it is known how the fit moves with the weight of a row, it has `moves` and `slope`
+# (see regression_fit).
+new_model <- function(name, given, table, models, smoothing = 0, mean = FALSE, factors = character()) {
+  wanted <- model_for(models, name)
+  frame <- table$frame
+  size <- length(table$levels[[name]])
+  if (is_own_model(wanted)) return(own_model(name, given, frame, size, wanted, mean))
+  if (identical(wanted, "table") || !length(given)) return(table_model(name, given, frame, table$codes, table$levels, if (length(given)) smoothing else 0, mean))
+  formula <- if (inherits(wanted, "formula")) stats::as.formula(call("~", wanted[[length(wanted)]]), environment(wanted)) else plain_formula(given, factors)
   check_formula(formula, name, given)
+  if (!mean && size > 50)
+    refuse("a model of ", name, " would have ", size, " classes, one for each of its values; cut it to a few", kind = "model_refusal")
+  if (identical(wanted, "linear") && !mean) refuse("a linear model is of numbers whose mean is wanted, and not of the levels of ", name, kind = "model_refusal")
   design <- design_matrix(formula, frame)
-  if (!mean && length(levels[[name]]) > 50)
-    refuse("a model of ", name, " would have ", length(levels[[name]]), " classes, one for each of its values; cut it to a few", kind = "model_refusal")
-  several <- !mean && (length(levels[[name]]) > 2 || identical(wanted, "multinomial"))
-  label <- paste0(printed(name), " ~ ", paste(deparse(formula[[length(formula)]], width.cutoff = 500), collapse = " "))
-  fit <- if (several) multinomial_fit(codes[, name], length(levels[[name]]), design$matrix)
+  several <- !mean && (size > 2 || identical(wanted, "multinomial"))
+  fit <- if (several) multinomial_fit(table$codes[, name], size, design$matrix)
          else if (mean) linear_fit(as.numeric(frame[[name]]), design$matrix)
-         else logistic_fit(codes[, name] == 2, design$matrix)
-  list(kind = if (several) "multinomial" else if (mean) "linear" else "logistic", label = label, name = name, given = given,
+         else logistic_fit(table$codes[, name] == 2, design$matrix)
+  list(kind = if (several) "multinomial" else if (mean) "linear" else "logistic", label = model_label(name, formula), name = name, given = given,
        rows = function(new) design$of(new), fit = fit)
+}
+
+model_label <- function(name, formula) paste0(printed(name), " ~ ", paste(deparse(formula[[length(formula)]], width.cutoff = 500), collapse = " "))
+
+# All that is given, one beside the other; categories that are written as numbers as factors.
+plain_formula <- function(given, factors) {
+  stats::reformulate(ifelse(given %in% factors, paste0("factor(`", given, "`)"), paste0("`", given, "`")))
+}
+
+# Numbers that are categories: those that are said to be, and exposures with a few levels.
+factors_of <- function(factors, asked, table) {
+  strange <- setdiff(factors, table$names)
+  if (length(strange)) refuse("`factors` names ", strange[1], ", which the estimate doesn't read", meant(strange[1], table$names))
+  few <- asked$x[lengths(table$levels[asked$x]) %in% 3:10]
+  Filter(function(name) is.numeric(table$levels[[name]]), unique(c(factors, few)))
+}
+
+own_model <- function(name, given, frame, size, wanted, mean) {
+  fit <- function(weights) {
+    fitted <- wanted$fit(frame[given], if (mean) as.numeric(frame[[name]]) else frame_factor(frame[[name]]), weights)
+    list(predict = function(new) as_chances(wanted$predict(fitted, new), size, mean, nrow(new), name), notes = character(), deviance = NA,
+         null_deviance = NA, parameters = NA)
+  }
+  list(kind = "the caller's own", label = paste0(printed(name), " by ", paste(printed(given), collapse = ", ")), name = name, given = given,
+       rows = function(new) new[given], fit = fit)
+}
+
+frame_factor <- function(column) if (is.factor(column)) column else factor(column)
+
+# What a model of the caller's own predicts: a column for each level, the chances of the second of two, or means.
+as_chances <- function(found, size, mean, rows, name) {
+  found <- if (is.null(dim(found))) matrix(as.numeric(found)) else unname(as.matrix(found))
+  if (!mean && size == 2 && ncol(found) == 1) found <- cbind(1 - found, found)
+  if (nrow(found) != rows || ncol(found) != (if (mean) 1 else size) || !is.numeric(found))
+    refuse("the model of ", name, " predicts ", nrow(found), " rows and ", ncol(found), " columns, where ", rows, " and ", if (mean) 1 else size, " are wanted",
+           kind = "model_refusal")
+  found
 }
 
 # A model reads nothing but what its term is given.
@@ -61,15 +126,32 @@ watched <- function(call) {
   list(value = value, notes = unique(notes))
 }
 
+# A regression. `moves` has a row for each row of the data: how the coefficients move with its weight. `slope(rows, weight, column)` is how
+# the weighted sum of what is predicted moves with the coefficients.
 regression_fit <- function(response, matrix, family, spread) {
   function(weights) {
     found <- watched(stats::glm.fit(matrix, response, weights = weights, family = family, control = list(epsilon = 1e-12, maxit = 50)))
-    coefficients <- replace(found$value$coefficients, is.na(found$value$coefficients), 0)
+    has <- !is.na(found$value$coefficients)
+    coefficients <- replace(found$value$coefficients, !has, 0)
     sure <- family$family == "quasibinomial" && any(abs(found$value$fitted.values[weights > 0] - 0.5) > 0.5 - 1e-8)
-    notes <- c(found$notes, if (sure) "perfect separation: some fitted chances are 0 or 1", if (anyNA(found$value$coefficients)) "some columns of the model tell nothing that the others don't")
-    list(predict = function(new) spread(family$linkinv(drop(new %*% coefficients))), notes = notes,
+    notes <- c(found$notes, if (sure) "perfect separation: some fitted chances are 0 or 1", if (!all(has)) "some columns of the model tell nothing that the others don't")
+    known <- matrix[, has, drop = FALSE]
+    score <- drop(matrix %*% coefficients)
+    moves <- function() (known * (response - family$linkinv(score))) %*% inverse_of(crossprod(known, known * (weights * family$mu.eta(score))))
+    slope <- function(rows, weight, column) {
+      sign <- if (family$family == "quasibinomial" && column == 1) -1 else 1
+      sign * drop(crossprod(rows[, has, drop = FALSE], weight * family$mu.eta(drop(rows %*% coefficients))))
+    }
+    list(predict = function(new) spread(family$linkinv(drop(new %*% coefficients))), notes = notes, moves = moves, slope = slope,
          deviance = found$value$deviance, null_deviance = found$value$null.deviance, parameters = found$value$rank)
   }
+}
+
+# The inverse of a matrix of information, or of what of it can be inverted.
+inverse_of <- function(information) {
+  scale <- sqrt(pmax(diag(information), .Machine$double.xmin))
+  found <- tryCatch(solve(information / outer(scale, scale), tol = 1e-14), error = function(it) matrix(NaN, length(scale), length(scale)))
+  found / outer(scale, scale)
 }
 
 # Weights needn't be whole numbers, so that the family is quasi-binomial; the coefficients are those of the binomial one.
@@ -97,8 +179,24 @@ multinomial_fit <- function(codes, levels, matrix) {
     if (is.null(dim(rows))) rows <- base::matrix(rows, 1)
     if (found$value$convergence != 0) notes <- c(notes, "the fit has not converged")
     list(predict = function(new) probabilities(cbind(0, new %*% t(rows))), notes = c(notes, found$notes),
+         moves = function() multinomial_moves(codes, matrix, weights, probabilities(cbind(0, matrix %*% t(rows))), seen),
+         slope = function(new, weight, column) multinomial_slope(new, weight, column, probabilities(cbind(0, new %*% t(rows))), seen),
          deviance = found$value$deviance, null_deviance = NA, parameters = length(rows))
   }
+}
+
+# The same as in `regression_fit`, level by level: the first of those that are seen has no coefficients.
+multinomial_moves <- function(codes, matrix, weights, chances, seen) {
+  others <- seen[-1]
+  score <- do.call(cbind, lapply(others, function(k) matrix * ((codes == k) - chances[, k])))
+  blocks <- lapply(others, function(k) do.call(cbind, lapply(others, function(l) {
+    crossprod(matrix, matrix * (weights * chances[, k] * ((k == l) - chances[, l])))
+  })))
+  score %*% inverse_of(do.call(rbind, blocks))
+}
+
+multinomial_slope <- function(new, weight, column, chances, seen) {
+  unlist(lapply(seen[-1], function(k) drop(crossprod(new, weight * chances[, column] * ((column == k) - chances[, k])))))
 }
 
 # The part of the records, or their mean, where the given levels are the same; with `smoothing` records in addition, that have each level
@@ -120,7 +218,19 @@ table_model <- function(name, given, frame, codes, levels, smoothing, mean) {
     values <- (above + smoothing * overall) / (below + smoothing)
     values[!is.finite(values)] <- NaN
     rest <- if (smoothing > 0) rep(overall, length.out = ncol(values)) else rep(NaN, ncol(values))
-    list(predict = function(new) {
+    # as in `regression_fit`: each cell and level is a coefficient of its own
+    moves <- function() {
+      do.call(cbind, lapply(seq_len(ncol(values)), function(k) outer(rows, cells, "==") * ((columns[, k] - values[match(rows, cells), k]) / (below + smoothing)[match(rows, cells)])))
+    }
+    slope <- function(new, weight, column) {
+      block <- matrix(0, length(cells), ncol(values))
+      known <- !is.na(match(new, cells))
+      sums <- rowsum(weight[known], match(new[known], cells), reorder = TRUE)
+      block[as.integer(rownames(sums)), column] <- sums
+      as.vector(block)
+    }
+    is_small <- length(values) <= 200 && !(mean && smoothing > 0)
+    list(moves = if (is_small) moves, slope = if (is_small) slope, predict = function(new) {
       found <- values[match(new, cells), , drop = FALSE]
       lacking <- is.na(match(new, cells))
       found[lacking, ] <- rep(rest, each = sum(lacking))

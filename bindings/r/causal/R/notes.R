@@ -13,8 +13,32 @@ foot_notes <- function(x) {
   without <- if (inherits(x, "causal_spread")) attr(x, "without_value")
   c(vapply(without, function(levels) paste0("no value at ", level_text(levels)), ""),
     if (inherits(x, "causal_spread") && nrow(x)) paste("at most", format(widest(x), digits = 4), "apart; in the population every level gives the same"),
-    if (inherits(x, c("causal_contrast", "causal_means")) && isTRUE(attr(x, "resamples") > 0)) interval_note(x),
+    if (inherits(x, c("causal_contrast", "causal_means")) && isTRUE(attr(x, "resamples") > 0)) paste0(interval_note(x), if (!is.null(attr(x, "frequencies"))) paste0("; ", attr(x, "frequencies"))),
     if ("note" %in% names(x)) row_notes(x))
+}
+
+# What is told of some rows, each part for all rows or for each, as one text a row.
+joined_notes <- function(parts, rows) {
+  vapply(seq_len(rows), function(row) {
+    texts <- vapply(parts, function(part) rep_len(part, rows)[row], "")
+    paste(texts[nzchar(texts)], collapse = "; ")
+  }, "")
+}
+
+lost_note <- function(drawn) {
+  lost <- sum(is.na(drawn$drawn[, 1]))
+  if (lost > 0) paste(lost, "of", nrow(drawn$drawn), "resamples had no value") else ""
+}
+
+# What the ends of intervals say of themselves.
+end_notes <- function(drawn, estimate, low, high) {
+  lacking <- drawn$kind == "bca" & nrow(drawn$drawn) > 0 & is.na(low) & !is.na(estimate)
+  ifelse(!is.na(low) & low == high, "an interval of width 0 says nothing: no resample differs",
+         ifelse(lacking, "no BCa interval: all resamples lie on one side of the estimate", ""))
+}
+
+frequency_note <- function(table) {
+  if (!is.null(table$frequencies)) paste0(table$frequencies, " holds frequencies: ", format(sum(table$records), big.mark = ",", scientific = FALSE), " records")
 }
 
 # The notes of rows, each once, with what they are of where they aren't of all.
@@ -31,6 +55,15 @@ interval_note <- function(x) {
 }
 
 level_text <- function(levels) paste0(names(levels), "=", vapply(levels, function(level) replace(as.character(level), is.na(level), "NA"), ""), collapse = ", ")
+
+# Columns whose levels print alike, as texts that don't.
+shown_levels <- function(x) {
+  for (name in names(x)) {
+    levels <- if (is.double(x[[name]])) unique(x[[name]])
+    if (!is.null(levels) && anyDuplicated(as.character(levels))) x[[name]] <- level_labels(levels)[match(x[[name]], levels)]
+  }
+  x
+}
 
 # Columns between what they rest on; what stands in the columns may be shown otherwise than an answer has it.
 print_with_notes <- function(x, shown, ...) {

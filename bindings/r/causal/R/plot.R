@@ -2,7 +2,8 @@
 
 role_colours <- c(exposure = "#b7e1a1", outcome = "#a9cdf5", adjusted = "#f3dfa0", latent = "#d9d9d9", none = "white")
 
-plot.causal_diagram <- function(x, path = NULL, hedge = NULL, layout = NULL, legend = TRUE, ...) {
+plot.causal_diagram <- function(x, path = NULL, hedge = NULL, layout = NULL, legend = TRUE, set = NULL, ...) {
+  if (length(set)) x$vertices$role[x$vertices$name %in% known_vertices(x, set)] <- "adjusted"
   places <- places_of(x, layout)
   roles <- ifelse(is.na(x$vertices$role) | x$vertices$role == "", "none", x$vertices$role)
   graphics::plot.new()
@@ -28,7 +29,14 @@ plot.causal_separation <- function(x, ...) plot(project(x$diagram), path = x$pat
 
 plot.causal_rule <- function(x, ...) plot(project(x$diagram), path = x$path, ...)
 
-plot.causal_adjustment <- function(x, ...) plot(project(x$diagram), path = x$path, ...)
+plot.causal_adjustment <- function(x, ...) plot(project(x$diagram), path = x$path, set = x$set, ...)
+
+# The observed graph with one of the sets.
+plot.causal_sets <- function(x, which = 1, ...) {
+  if (!length(x$sets)) refuse("no set can be adjusted for, so that none can be drawn")
+  if (!which %in% seq_along(x$sets)) refuse("`which` is the number of a set, from 1 to ", length(x$sets))
+  plot(project(x$diagram), set = x$sets[[which]], ...)
+}
 
 # The observed graph with the vertices of the hedge, its choices and its links.
 plot.causal_hedge <- function(x, ...) plot(project(x$diagram), hedge = x, ...)

@@ -123,7 +123,7 @@ check_certificate <- function(diagram, certificate, experiments = NULL) {
 
 adjustment_sets <- function(diagram, x = NULL, y = NULL, most = 100) {
   diagram <- as_causal_diagram(diagram)
-  if (length(most) != 1 || !is.numeric(most) || !most %in% 1:10000) refuse("`most` is a whole number from 1 to 10000")
+  check_whole("most", most, 1, 10000)
   told <- ask("adjust", diagram, c(option("x", x), option("y", y), "--most", format(most, scientific = FALSE)))
   object <- object_of(told)
   new_answer("causal_sets", list(sets = lapply(object$sets, texts), more = object$more), told, diagram)

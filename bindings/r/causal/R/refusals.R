@@ -16,6 +16,7 @@ old_word <- function(old, new) .Deprecated(msg = paste0("`", old, "` has the wor
 
 # A name that is among those that are there but for its capital letters, its spaces or two of its characters; "" where none is.
 meant <- function(name, among) {
+  if (is.na(name)) return("")
   among <- unique(as.character(among))
   plain <- function(text) tolower(gsub("[[:space:]._-]+", "", text))
   found <- among[plain(among) == plain(name)]
@@ -24,6 +25,20 @@ meant <- function(name, among) {
     if (min(apart) <= min(2, (nchar(name) - 1) / 2)) found <- among[which.min(apart)]
   }
   if (length(found)) paste0("; did you mean ", found[1], "?") else ""
+}
+
+# Whether a word is one of those that are there.
+check_word <- function(argument, word, words) {
+  if (!is.character(word) || length(word) != 1 || !word %in% words)
+    refuse("`", argument, "` is ", paste0('"', words, '"', collapse = ", "), ", and not ", paste0('"', as.character(word), '"', collapse = ", "),
+           if (length(word) == 1) meant(word, words))
+}
+
+check_flag <- function(argument, value) if (!isTRUE(value) && !isFALSE(value)) refuse("`", argument, "` is TRUE or FALSE")
+
+check_whole <- function(argument, value, least, most = Inf) {
+  if (!is.numeric(value) || length(value) != 1 || !isTRUE(value >= least && value <= most && value == round(value)))
+    refuse("`", argument, "` is a whole number from ", least, if (is.finite(most)) paste(" to", most))
 }
 
 # Some names of which a message tells the first ones.
@@ -44,8 +59,6 @@ one_of <- function(word) {
   argument <- as.character(substitute(word))
   words <- eval(formals(sys.function(sys.parent()))[[argument]], parent.frame())
   if (identical(word, words)) return(words[1])
-  if (length(word) != 1 || !word %in% words)
-    refuse("`", argument, "` is ", paste0('"', words, '"', collapse = ", "), ", and not ", paste0('"', as.character(word), '"', collapse = ", "),
-           if (length(word) == 1) meant(word, words))
+  check_word(argument, word, words)
   word
 }

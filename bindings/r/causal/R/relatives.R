@@ -50,6 +50,7 @@ paths <- function(diagram, from = NULL, to = NULL, given = character(), most = 1
   from <- one_vertex(graph, if (is.null(from)) has_role(graph, "exposure") else from, "from")
   to <- one_vertex(graph, if (is.null(to)) has_role(graph, "outcome") else to, "to")
   given <- known_vertices(graph, given)
+  check_whole("most", most, 1)
   found <- walks(graph, from, to, most)
   opened <- vapply(found$walks, is_open, NA, graph = graph, given = given)
   columns <- list(path = vapply(found$walks, path_text, ""), open = opened,
@@ -118,8 +119,9 @@ direct_effect <- function(diagram, x = NULL, y = NULL, short = FALSE) {
 
 # Records of a model on the diagram that is drawn by chance: each vertex has some levels, and by its parents its own chances.
 simulate.causal_diagram <- function(object, nsim = 100, seed = NULL, levels = 2, strength = 2, ...) {
-  if (length(nsim) != 1 || !isTRUE(nsim >= 1 && nsim == round(nsim))) refuse("`nsim` is a whole number of records")
-  if (length(levels) != 1 || !levels %in% 2:20) refuse("`levels` is a whole number from 2 to 20")
+  check_whole("nsim", nsim, 1)
+  check_whole("levels", levels, 2, 20)
+  if (!is.numeric(strength) || length(strength) != 1 || !is.finite(strength)) refuse("`strength` is a number")
   found <- with_seed(seed_or_drawn(seed), drawn_records(object, nsim, levels, strength))
   frame_of(found[observed_names(object)])
 }

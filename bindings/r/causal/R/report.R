@@ -3,13 +3,13 @@
 
 report <- function(diagram, data, x = NULL, y = NULL, treated = NULL, control = NULL, outcome = NULL, file = NULL,
                    format = c("html", "markdown", "latex"), title = "Analysis of an effect", set = NULL, count = NULL, level = 0.95, resamples = 1000, seed = 0,
-                   missing = c("error", "drop", "level"), permutations = 1000) {
+                   missing = c("error", "drop", "level"), permutations = 1000, progress = NULL) {
   if (!is.null(file) && identical(format, c("html", "markdown", "latex"))) format <- format_of_file(file)
   format <- one_of(format)
   diagram <- as_causal_diagram(diagram)
   check_exposures(diagram, x)
   missing <- one_of(missing)
-  parts <- report_parts(diagram, data, x, y, treated, control, outcome, set, count, level, resamples, seed, missing, permutations)
+  parts <- report_parts(diagram, data, x, y, treated, control, outcome, set, count, level, resamples, seed, missing, permutations, progress)
   lines <- switch(format, html = report_html(title, parts), markdown = report_markdown(title, parts), latex = report_latex(title, parts))
   if (is.null(file)) return(structure(list(lines = lines, parts = parts, format = format), class = "causal_report"))
   writeLines(enc2utf8(lines), file, useBytes = TRUE)
@@ -26,16 +26,26 @@ print.causal_report <- function(x, ...) {
   invisible(x)
 }
 
+most_parts <- 11
+
 # Each part has a head and what stands below it: a text, lines of the program, a formula or a table. A part that has no answer says why.
-report_parts <- function(diagram, data, x, y, treated, control, outcome, set, count, level, resamples, seed, missing, permutations) {
+report_parts <- function(diagram, data, x, y, treated, control, outcome, set, count, level, resamples, seed, missing, permutations, progress) {
+  tell <- progress_of(progress, most_parts)
+  done <- 0
   quietly <- function(call) withCallingHandlers(call, causal_doubt = function(it) invokeRestart("muffleWarning"))
   part <- function(head, call) {
-    list(head = head, body = tryCatch(quietly(call), causal_refusal = function(it) list(paste("No answer:", conditionMessage(it)))))
+    body <- tryCatch(quietly(call), causal_refusal = function(it) list(paste("No answer:", conditionMessage(it))))
+    tell(done <<- done + 1, most_parts)
+    list(head = head, body = body)
   }
   effect <- identify_effect(diagram, x, y, short = TRUE)
+  bounds <- function() bounds_effect(diagram, data, x, y, count = count, missing = missing, treated = treated, control = control, outcome = outcome)
+  told_bounds <- paste("What the effect is at least and at most, whatever the hidden causes are: the bounds are proved to hold of the counts,",
+                       "and say nothing of the sample's error.")
   if (!effect$identifiable) {
-    return(list(part("Diagram", list(verbatim(format(diagram)))),
-                part("The effect", list("No formula over observations exists; the hedge shows why.", verbatim(lines_of(effect$text))))))
+    return(list(part("Diagram", list(verbatim(format(diagram)), drawing_of(diagram))),
+                part("The effect", list("No formula over observations exists; the hedge shows why.", verbatim(lines_of(effect$text)))),
+                part("Bounds", list(bounds(), told_bounds))))
   }
   exposures <- if (is.null(x)) has_role(diagram, "exposure") else x
   outcomes <- if (is.null(y)) has_role(diagram, "outcome") else y
@@ -46,7 +56,7 @@ report_parts <- function(diagram, data, x, y, treated, control, outcome, set, co
   adjusted <- function() if (is.null(kept)) kept <<- compare(diagram, set) else kept
   crude <- as_causal_diagram(expand.grid(from = exposures, to = outcomes, stringsAsFactors = FALSE))
   list(
-    part("Diagram", list(verbatim(format(diagram)))),
+    part("Diagram", list(verbatim(format(diagram)), drawing_of(diagram))),
     part("The effect", list("The effect can be computed from observations. That is proved, and so is the formula.", effect)),
     part("Sets to adjust for", list(verbatim(lines_of(adjustment_sets(diagram, x, y)$text)))),
     part("Support", support_part(diagram, data, x, y, set, count, missing)),
@@ -54,11 +64,34 @@ report_parts <- function(diagram, data, x, y, treated, control, outcome, set, co
     part("Effect", list(adjusted(), paste("Each value of a probability is proved to be that of the formula over the counts,",
                                           "where the formula has one without 'zero'.",
                                           "Differences, ratios and intervals are computed."))),
+    part("By models", models_part(diagram, data, x, y, treated, control, outcome, set, count, missing)),
+    part("Bounds", list(bounds(), told_bounds)),
     part("Sensitivity", list(e_value(adjusted()), paste("An E-value is the least risk ratio that a hidden common cause would need with both",
                                                         "exposure and outcome."))),
     part("Tests of what the diagram implies",
          list(test_implications(diagram, data, count = count, missing = missing, permutations = permutations, seed = seed))),
     part("Derivation", list(verbatim(derivation_lines(effect)))))
+}
+
+# The estimate by models, where the set or the formula has one.
+models_part <- function(diagram, data, x, y, treated, control, outcome, set, count, missing) {
+  found <- estimate(diagram, data, x, y, treated, control, outcome = outcome, set = set, count = count, missing = missing)
+  list(found, "An estimate is computed by the models that it names; nothing but the formula, or that the set may be adjusted for, is proved.")
+}
+
+# The drawing as SVG, where the machine can draw one: it stands in HTML alone.
+drawing_of <- function(diagram) {
+  if (!isTRUE(capabilities("cairo"))) return(character())
+  file <- tempfile(fileext = ".svg")
+  on.exit(unlink(file))
+  drawn <- tryCatch({
+    grDevices::svg(file, 7, 4)
+    graphics::par(mar = rep(0.5, 4))
+    plot(diagram)
+    TRUE
+  }, error = function(it) FALSE, finally = grDevices::dev.off())
+  lines <- if (drawn) readLines(file, encoding = "UTF-8", warn = FALSE)
+  structure(list(lines = lines[!grepl("^<[?]xml", lines)]), class = "causal_svg")
 }
 
 verbatim <- function(lines) structure(list(lines = lines), class = "causal_verbatim")
@@ -84,10 +117,14 @@ report_table <- function(body) {
   lapply(columns, function(column) if (is.double(column)) trimws(formatC(column, digits = 4, format = "g")) else as.character(column))
 }
 
-report_notes <- function(body) if (inherits(body, "causal_rows") || inherits(body, "causal_tests")) c(head_notes(body), foot_notes(body))
+report_notes <- function(body) {
+  if (inherits(body, "causal_estimate")) return(c(estimate_head(body), estimate_foot(body)))
+  if (inherits(body, c("causal_rows", "causal_tests", "causal_bounds"))) c(head_notes(body), foot_notes(body))
+}
 
 report_markdown <- function(title, parts) {
   one <- function(body) {
+    if (inherits(body, "causal_svg") || !length(body)) return(character())
     if (inherits(body, "causal_verbatim")) return(c("```", body$lines, "```", ""))
     if (inherits(body, "causal_formula")) return(c("$$", latex_equations(body), "$$", ""))
     if (is.character(body)) return(c(body, ""))
@@ -103,6 +140,8 @@ html_escaped <- function(text) gsub(">", "&gt;", gsub("<", "&lt;", gsub("&", "&a
 # A document that needs no script and no file beside it: the formula stands as text.
 report_html <- function(title, parts) {
   one <- function(body) {
+    if (inherits(body, "causal_svg")) return(body$lines)
+    if (!length(body)) return(character())
     if (inherits(body, "causal_verbatim")) return(c("<pre>", html_escaped(body$lines), "</pre>"))
     if (inherits(body, "causal_formula")) return(c("<pre>", html_escaped(lines_of(body$text)), "</pre>"))
     if (is.character(body)) return(paste0("<p>", html_escaped(body), "</p>"))
@@ -119,6 +158,7 @@ report_html <- function(title, parts) {
 
 report_latex <- function(title, parts) {
   one <- function(body) {
+    if (inherits(body, "causal_svg") || !length(body)) return(character())
     if (inherits(body, "causal_verbatim")) return(c("\\begin{flushleft}\\ttfamily\\small", paste0(latex_escaped(ifelse(nzchar(body$lines), body$lines, "~")), "\\\\"), "\\end{flushleft}"))
     if (inherits(body, "causal_formula")) return(unclass(toLatex(body)))
     if (is.character(body)) return(c(latex_escaped(body), ""))

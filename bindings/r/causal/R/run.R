@@ -77,7 +77,10 @@ experiments_word <- function(experiments) {
   paste(vapply(if (is.list(experiments)) experiments else list(experiments), list_word, ""), collapse = ";")
 }
 
-flag <- function(name, wanted) if (isTRUE(wanted)) paste0("--", name) else character()
+flag <- function(name, wanted) {
+  check_flag(gsub("-", "_", name, fixed = TRUE), wanted)
+  if (wanted) paste0("--", name) else character()
+}
 
 list_word <- function(names) {
   names <- enc2utf8(as.character(names))

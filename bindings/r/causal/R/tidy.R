@@ -29,7 +29,10 @@ tidy_methods <- list(
   causal_contrast = function(x, ...) broom_names(x),
   causal_means = function(x, ...) broom_names(x),
   causal_estimate = function(x, ...) broom_names(x),
-  causal_support = function(x, ...) as.data.frame(x)
+  causal_support = function(x, ...) as.data.frame(x),
+  causal_bounds = function(x, ...) as.data.frame(x),
+  causal_comparison = function(x, ...) broom_names(x),
+  causal_paths = function(x, ...) as.data.frame(x)
 )
 
 glance_methods <- list(
@@ -62,7 +65,16 @@ glance_methods <- list(
   causal_contrast = function(x, ...) {
     frame_of(c(list(treated = levels_or_none(attr(x, "treated")), control = levels_or_none(attr(x, "control"))), of_intervals(x)))
   },
-  causal_means = function(x, ...) frame_of(c(list(outcome = attr(x, "outcome"), control = levels_or_none(attr(x, "control"))), of_intervals(x)))
+  causal_means = function(x, ...) frame_of(c(list(outcome = attr(x, "outcome"), control = levels_or_none(attr(x, "control"))), of_intervals(x))),
+  causal_estimate = function(x, ...) {
+    set <- attr(x, "set")
+    frame_of(list(outcome = attr(x, "outcome"), method = attr(x, "method"), set = if (is.null(set)) NA_character_ else cell_or_set(set),
+                  models = paste(attr(x, "models")$model, collapse = "; "), conf.level = attr(x, "level"), conf.method = attr(x, "interval"),
+                  resamples = attr(x, "resamples"), without_value = attr(x, "lost"), nobs = attr(x, "records"), dropped = dropped_from(x)))
+  },
+  causal_support = function(x, ...) frame_of(c(lacking_support(x), list(dropped = dropped_from(x)))),
+  causal_bounds = function(x, ...) frame_of(list(cells = nrow(x), widest = max(x$at_most - x$at_least), dropped = dropped_from(x))),
+  causal_comparison = function(x, ...) frame_of(list(ways = nrow(x), agree = !length(apart_sets(x)), complete = !isTRUE(attr(x, "more"))))
 )
 
 # The names that broom gives the columns: the measure is a term.

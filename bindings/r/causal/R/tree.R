@@ -7,7 +7,7 @@
 tree_factor <- function(tree, scope, behind = list()) {
   part <- function(it) tree_factor(it, scope, behind)
   if (!is.null(tree$definition)) return(behind[[tree$definition + 1]])
-  if (!is.null(tree$term)) return(scope$term(texts(tree$term), texts(tree$given)))
+  if (!is.null(tree$term)) return(scope$term(texts(tree$term), texts(tree$given), texts(tree$do)))
   if (!is.null(tree$sum)) return(sum_factor(part(tree$of), texts(tree$sum), scope))
   if (!is.null(tree$quotient)) return(quotient_factor(part(tree$quotient[[1]]), part(tree$quotient[[2]]), scope))
   Reduce(function(a, b) product_factor(a, b, scope), lapply(tree$product, part), new_factor(character(), matrix(1, 1, scope$tables)))
@@ -115,7 +115,7 @@ counts_scope <- function(codes, sizes, counts, whole, zero) {
     values
   }
   list(sizes = sizes, tables = ncol(counts), zero = zero,
-       term = function(of, given) {
+       term = function(of, given, do) {
          names <- c(given, setdiff(of, given))
          below <- margin(given)
          values <- margin(names) / below[rows_in(given, names, sizes), , drop = FALSE]

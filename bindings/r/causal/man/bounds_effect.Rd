@@ -8,8 +8,10 @@
   Gives what the effects of \code{x} on \code{y} are at least and at most over data, whether or not there is a formula.
 }
 \usage{
-bounds_effect(diagram, data, x = NULL, y = NULL, given = NULL, instrument = NULL, strata = NULL, count = NULL,
-              exact = FALSE, missing = c("error", "drop", "level"))
+bounds_effect(diagram, data, x = NULL, y = NULL, given = NULL,
+              instrument = NULL, strata = NULL, count = NULL,
+              exact = FALSE, missing = c("error", "drop", "level"),
+              treated = NULL, control = NULL, outcome = NULL)
 
 \method{print}{causal_bounds}(x, ...)
 \method{as.data.frame}{causal_bounds}(x, ...)
@@ -24,6 +26,8 @@ bounds_effect(diagram, data, x = NULL, y = NULL, given = NULL, instrument = NULL
     arm that was assigned in a trial; \code{NULL} for the natural bounds.}
   \item{strata}{names of variables in whose strata the instrument is one; the bounds are summed over them.}
   \item{count, exact, missing}{as in \code{\link{evaluate}}.}
+  \item{treated, control, outcome}{as in \code{\link{contrast}}: with both arms the answer has a row for the risk in each and one for their
+    difference, which is at least what the ends leave that are nearest, and at most those that are farthest apart.}
   \item{...}{for \code{print} arguments of \code{print.data.frame}.}
 }
 \details{
@@ -46,8 +50,12 @@ bounds_effect(diagram, data, x = NULL, y = NULL, given = NULL, instrument = NULL
 }
 \seealso{\code{\link{identify_effect}}, \code{\link{evaluate}}}
 \examples{
-trial <- data.frame(assigned = c("no", "no", "yes", "yes", "yes", "yes"), taken = c("no", "no", "no", "no", "yes", "yes"),
-                    improved = c("no", "yes", "no", "yes", "no", "yes"), n = c(158, 14, 52, 12, 23, 78))
+trial <- data.frame(assigned = rep(c("no", "yes"), c(2, 4)),
+                    taken = rep(c("no", "yes"), c(4, 2)),
+                    improved = c("no", "yes"), n = c(158, 14, 52, 12, 23, 78))
 diagram <- causal_diagram("dag { assigned -> taken -> improved taken <-> improved }")
-bounds_effect(diagram, trial, "taken", "improved", instrument = "assigned", count = "n", exact = TRUE)
+bounds_effect(diagram, trial, "taken", "improved", instrument = "assigned",
+              count = "n", exact = TRUE)
+bounds_effect(diagram, trial, "taken", "improved", instrument = "assigned",
+              count = "n", treated = "yes", control = "no", outcome = "yes")
 }

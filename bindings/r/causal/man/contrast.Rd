@@ -1,6 +1,7 @@
 \name{contrast}
 \alias{contrast}
 \alias{print.causal_contrast}
+\alias{plot.causal_contrast}
 \title{Compare Two Arms, with Intervals}
 \description{
   Gives the difference, the ratio and the odds ratio of the probabilities of each outcome under two interventions, with intervals
@@ -15,6 +16,7 @@ contrast(diagram, data, x = NULL, y = NULL, treated = NULL, control = NULL,
          short = is.null(set), outcome = NULL, weights = NULL,
          clusters = NULL, strata = NULL)
 \method{print}{causal_contrast}(x, digits = 4, ...)
+\method{plot}{causal_contrast}(x, measure = "difference", ...)
 }
 \arguments{
   \item{diagram, data, x, y, count, missing, at, set, given, back_door, zero, short, weights}{as in \code{\link{evaluate}}; in the method
@@ -32,7 +34,8 @@ contrast(diagram, data, x = NULL, y = NULL, treated = NULL, control = NULL,
   \item{clusters, strata}{names of columns of the design of a survey: resamples draw clusters within strata, one fewer than there are, and
     raise their weights by as much. They go with \code{"percentile"} alone.}
   \item{digits}{how many digits are shown.}
-  \item{...}{passed on to \code{\link{print.data.frame}}.}
+  \item{measure}{which measure the forest plot is of.}
+  \item{...}{passed on to \code{\link{print.data.frame}}, or to \code{\link[graphics]{title}}.}
   \item{seed}{a seed for this computation alone; \code{NULL} draws one, which the answer tells.}
 }
 \details{

@@ -3,7 +3,8 @@
 \title{Records of a Model on a Diagram}
 \description{Draws a model on the diagram by chance, and records of it: to try an analysis before there are data.}
 \usage{
-\method{simulate}{causal_diagram}(object, nsim = 100, seed = NULL, levels = 2, strength = 2, ...)
+\method{simulate}{causal_diagram}(object, nsim = 100, seed = NULL, levels = 2,
+         strength = 2, ...)
 }
 \arguments{
   \item{object}{a diagram.}

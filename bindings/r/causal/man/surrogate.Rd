@@ -34,5 +34,6 @@ diagram <- causal_diagram("dag { X [exposure] Y [outcome] Z -> X -> Y Z <-> X Z 
 identify_effect(diagram)$identifiable
 surrogate(diagram, experiments = "Z")
 surrogate("dag { X -> Y X <-> Y X -> Z }", "X", "Y", experiments = list("Z"))
-surrogate("dag { Z -> X -> Y Z <-> X Z <-> Y X <-> Y }", "X", "Y", experiments = "Z", models = TRUE)$district
+surrogate("dag { Z -> X -> Y Z <-> X Z <-> Y X <-> Y }", "X", "Y",
+          experiments = "Z", models = TRUE)$district
 }

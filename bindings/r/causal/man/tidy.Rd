@@ -12,14 +12,14 @@
 
   \code{tidy} gives
   \itemize{
-    \item of \code{\link{contrast}} and \code{\link{effect_means}}: the answer itself, with broom's names: \code{term} (which
+    \item of \code{\link{contrast}}, \code{\link{effect_means}}, \code{\link{estimate}} and \code{\link{compare}}: the answer itself, with broom's names: \code{term} (which
       measure), \code{estimate}, \code{conf.low} and \code{conf.high}, \code{NA} where there is no interval;
     \item of \code{\link{evaluate}} and \code{\link{pin_spread}}: the levels, \code{estimate}, and the fraction or the bounds
       \code{from} and \code{to} for rounding, which are no interval;
     \item of \code{\link{test_implications}}: \code{a}, \code{b}, \code{given}, \code{estimate} (Cramer's V), \code{statistic},
       \code{parameter} (the degrees of freedom), \code{p.value}, \code{adj.p.value} (after Holm), \code{method}, \code{largest},
       and \code{rmsea} with \code{rmsea.low} and \code{rmsea.high};
-    \item of \code{\link{implications}}: its plain data frame;
+    \item of \code{\link{implications}}, \code{\link{support}}, \code{\link{bounds_effect}} and \code{\link{paths}}: its plain data frame;
     \item of a formula: \code{term} (the effect, then \code{q0}, \code{q1} and so on) and \code{expression}; of a hedge: \code{set}
       and \code{term}, a row for each vertex of each of its sets; of \code{\link{adjustment_sets}}: \code{set} and \code{term};
     \item of any other answer: \code{holds} (\code{NA} where it isn't yes or no), the open \code{path} that shows it, or \code{NA},

@@ -122,8 +122,8 @@ same(without, list(list(list(Z = "1")), list()))
 # The condition that no record has is named
 caught <- tryCatch(evaluate(diagram, data, "X", "Y", count = "n", zero = FALSE, short = FALSE), causal_evaluation_fault = identity)
 same(conditionMessage(caught), paste("no record has A=1, B=1, X=0, which P(Y|A,B,X) is given, so the effect has no value over these data. What may help:",
-                                     "zero = TRUE, short = TRUE, another `set` of adjustment_sets(), fewer classes; support() shows where records lack,",
-                                     "and estimate() fills in by models"))
+                                     "zero = TRUE, short = TRUE, set = \"A\" (it has a value), fewer classes; support() shows where records lack,",
+                                     "estimate() fills in by models, and bounds_effect() says what the effect is at least and at most"))
 same(caught$condition, c(A = "1", B = "1", X = "0"))
 same(names(caught$cell), c("A", "B", "X", "Y"))
 caught <- tryCatch(evaluate(napkin, cells, "X", "Y", count = "n", at = list(Z = 1), zero = FALSE, short = FALSE), causal_evaluation_fault = identity)

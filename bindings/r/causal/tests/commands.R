@@ -173,6 +173,7 @@ same(divisor, list(term = "P(Y|\"X 1\",D)", names = c("X 1", "D")))
 answering(hedge_of("[]", "P(Y|do(X))", "[\"Y\"]"), "a text")
 caught <- tryCatch(asked_of("dag { X -> Y X <-> Y }", "X", "Y"), causal_not_identifiable = identity)
 same(c(conditionMessage(caught), caught$hedge$certificate, caught$hedge$text),
-     c("P(Y|do(X)) is not identifiable: no observations determine it. The hedge is in the condition's `hedge`", "{\"answer\":\"hedge\"}", "a text"))
+     c(paste0("P(Y|do(X)) is not identifiable: no observations determine it. The hedge is in the condition's `hedge`; ",
+              "bounds_effect() says what the effect is at least and at most"), "{\"answer\":\"hedge\"}", "a text"))
 same(lapply(asked, `[[`, "words"), list(c("identify", "diagram", "--x", "\"X\"", "--y", "\"Y\"", "--certificate", "--json"),
                                         c("identify", "diagram", "--x", "\"X\"", "--y", "\"Y\"")))

@@ -57,7 +57,10 @@ same(sort(evaluate(stones, fetched, count = "count", exact = TRUE)$fraction), so
 fetched <- DBI::dbGetQuery(connection, counts_query(stones, "counted", count = "count", set = "S"))
 same(sort(evaluate(stones, fetched, count = "count", exact = TRUE)$fraction), sort(wanted$fraction))
 for (interval in c("percentile", "bca")) {
-  compare <- function(data, count = NULL) contrast(stones, data, treated = "A", control = "B", count = count, resamples = 50, seed = 1, interval = interval)
+  # (whether records are counted is told)
+  compare <- function(data, count = NULL) {
+    structure(contrast(stones, data, treated = "A", control = "B", count = count, resamples = 50, seed = 1, interval = interval), frequencies = NULL)
+  }
   same(compare(counted, "count"), compare(ordered_stones, "count"))
   same(compare(listed), compare(ordered_stones, "count"))
 }

@@ -2,7 +2,7 @@
 library(causal)
 own <- function(name) getFromNamespace(name, "causal")
 same <- function(a, b) stopifnot(identical(a, b))
-near <- function(a, b, by = 1e-8) stopifnot(all(abs(a - b) < by))
+near <- function(a, b, by = 1e-8) stopifnot(length(a) == length(b), all(abs(a - b) < by))
 chain <- causal_diagram("dag { A -> B -> C }")
 set.seed(3)
 chain_data <- function(size, direct = 0, levels = 2) {
@@ -43,7 +43,7 @@ near(test$effect_size, sqrt(chi / (4000 * 2)))
 by_chance <- test_implications(chain, data, method = "permutation", permutations = 2000, seed = 1)
 near(by_chance$p_value, test$p_value, 0.05)
 fisher <- matrix(c(8, 1, 2, 5), 2)
-near(own("permutation_p")(list(fisher), own("deviance_of")(fisher), 20000), fisher.test(fisher)$p_value.value, 0.01)
+near(own("permutation_p")(list(fisher), own("deviance_of")(fisher), 20000), fisher.test(fisher)$p.value, 0.01)
 
 # Independent data has p-values of each size, dependent data small ones
 p <- replicate(150, test_implications(chain, chain_data(60), permutations = 199)$p_value)

@@ -20,7 +20,9 @@ wanted <- evaluate(stones, counts, count = "count", exact = TRUE)
 same(evaluate(stones, lazy(kidney_stones), count = "count", exact = TRUE), wanted)
 same(evaluate(stones, lazy(records), exact = TRUE), wanted)
 same(evaluate(stones, dplyr::group_by(lazy(records), S), exact = TRUE), wanted)
-compare <- function(data, count = NULL) contrast(stones, data, treated = "A", control = "B", count = count, resamples = 20, seed = 1)
+compare <- function(data, count = NULL) {
+  structure(contrast(stones, data, treated = "A", control = "B", count = count, resamples = 20, seed = 1), frequencies = NULL)
+}
 same(compare(lazy(records)), compare(counts, "count"))
 chain <- causal_diagram("dag { S -> T -> R }")
 test <- function(data, count = NULL) test_implications(chain, data, count = count, method = "permutation", permutations = 9, seed = 1)

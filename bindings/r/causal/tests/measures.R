@@ -3,7 +3,7 @@ library(causal)
 part_of <- function(answer, measure, column = "estimate") as.data.frame(answer)[[column]][answer$measure == measure]
 own <- function(name) getFromNamespace(name, "causal")
 same <- function(a, b) stopifnot(identical(a, b))
-near <- function(a, b, by = 1e-8) stopifnot(all(abs(a - b) < by))
+near <- function(a, b, by = 1e-8) stopifnot(length(a) == length(b), all(abs(a - b) < by))
 refusal <- function(call) conditionMessage(tryCatch(call, error = identity))
 stones <- causal_diagram("dag { T [exposure] R [outcome] S -> T S -> R T -> R }")
 

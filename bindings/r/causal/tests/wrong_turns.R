@@ -36,11 +36,15 @@ for (role in c("exposure", "outcome", "adjusted", "latent")) {
   names(given) <- c("x", role)
   refused(do.call(as_causal_diagram, given), "unknown_vertex", "did you mean statin?")
 }
-same(as_causal_diagram(edges, vertices = "sex", latent = "sex")$vertices$role[1], "latent")
+same(suppressWarnings(as_causal_diagram(edges, vertices = "sex", latent = "sex"))$vertices$role[1], "latent")
 matrix <- matrix(c(0, 0, 1, 0), 2, dimnames = list(c("A", "B"), c("A", "B")))
 refused(as_causal_diagram(matrix, outcome = "b"), "unknown_vertex", "did you mean B?")
 refused(causal_diagram("digraph { A -> B }", format = "dot", exposure = "a"), "unknown_vertex", "did you mean A?")
 stopifnot(grepl("the exposure Statin has no edge", doubted(causal_diagram("dag { Statin [exposure] mi [outcome] statin -> mi }"))))
+
+# A hidden or adjusted vertex without an edge is doubted too: the one that was meant would be taken as observed
+stopifnot(grepl("the latent vertex U has no edge", doubted(causal_diagram("dag { U [latent] X [exposure] Y [outcome] u -> X u -> Y X -> Y }"))))
+stopifnot(grepl("the adjusted vertex Age has no edge", doubted(causal_diagram("dag { Age [adjusted] age -> X -> Y }"))))
 
 # No exposure is refused unless it is said
 for (call in list(identify_effect, function(d) evaluate(d, data, count = "n"), function(d) contrast(d, data, count = "n"),
@@ -55,7 +59,7 @@ X <- rbinom(400, 1, plogis(age))
 Y <- rbinom(400, 1, plogis(3 * age))
 chain <- causal_diagram("dag { age -> X -> Y }")
 found <- doubted(tests <- test_implications(chain, data.frame(age, X, Y), permutations = 99))
-stopifnot(is.na(tests$p_value), is.na(tests$p_holm), grepl("no test: age has 400 levels in 400 records; cut it", tests$note), grepl("cut it", found))
+stopifnot(is.na(tests$p_value), is.na(tests$p_holm), grepl("no test: age has 400 levels in 400 records, so cut it", tests$note), grepl("cut it", found))
 stopifnot(any(grepl("note: no test: age has 400 levels", capture.output(print(tests)))))
 cut_tests <- test_implications(chain, data.frame(age = cut(age, 5), X, Y))
 stopifnot(cut_tests$p_value < 1e-3, cut_tests$note == "")
@@ -68,6 +72,17 @@ answer <- contrast("dag { X -> Y }", arms, "X", "Y", resamples = 0, outcome = 1)
 near(abs(part_of(answer, "difference")), 0.5)
 stopifnot(answer$treated != answer$control)
 near(part_of(contrast("dag { X -> Y }", arms, "X", "Y", treated = 0.1 + 0.2, control = 0.3, resamples = 0, outcome = 1), "risk_treated"), 0.8)
+
+near(unique(as.data.frame(evaluate("dag { X -> Y }", arms, "X", "Y"))$X), c(0.3, 0.1 + 0.2), 1e-12)
+same(anyDuplicated(sub(" .*", "", sub("^[0-9]+ +", "", capture.output(print(evaluate("dag { X -> Y }", arms, "X", "Y"))[c(1, 3), ])[c(2, 4)]))), 0L)
+# and so do times and dates whose parts of a second or a day aren't printed
+for (apart in list(as.POSIXct("2020-01-01", tz = "UTC") + c(0.1, 0.3), as.Date(c(100.1, 100.3), origin = "1970-01-01"), as.difftime(c(0.1 + 0.2, 0.3), units = "hours"))) {
+  timed <- data.frame(X = rep(apart, each = 10), Y = arms$Y)
+  near(abs(part_of(contrast("dag { X -> Y }", timed, "X", "Y", resamples = 0, outcome = 1), "difference")), 0.5)
+  near(part_of(contrast("dag { X -> Y }", timed, "X", "Y", treated = apart[1], control = apart[2], resamples = 0, outcome = 1), "risk_treated"), 0.8)
+}
+refused(contrast("dag { X -> Y }", arms, "X", "Y", treated = 0.3, control = 0.3), "argument", "the same level")
+refused(estimate("dag { X -> Y }", arms, "X", "Y", treated = 0.3, control = 0.3), "argument", "the same level")
 
 # Rows that are bound together keep their arms
 three <- data.frame(X = rep(0:2, each = 10), Y = rep(c(0, 1), 15))
@@ -97,9 +112,38 @@ answer <- contrast("dag { X -> Y }", none, "X", "Y", outcome = 1, resamples = 50
 stopifnot(grepl("few events: 0 of 30 records of 0; an interval of width 0 says nothing", part_of(answer, "risk_control", "note")))
 same(part_of(answer, "risk_treated", "note"), "")
 
+# So are they of means, and where an interval can't be corrected
+numbers <- effect_means("dag { X -> Y }", data.frame(X = rep(0:1, each = 20), Y = c(rep(3, 20), rep(1:4, 5))), "X", "Y", resamples = 30)
+same(part_of(numbers, "mean", "note"), c("an interval of width 0 says nothing: no resample differs", ""))
+same(part_of(numbers, "difference", "note"), c("", ""))
+flat <- contrast("dag { X -> Y }", none, "X", "Y", outcome = 1, resamples = 50, interval = "bca")
+stopifnot(is.na(part_of(flat, "risk_control", "conf_low")) == grepl("no BCa interval", part_of(flat, "risk_control", "note")))
+lost <- doubted(answer <- effect_means("dag { S -> T S -> R T -> R }", thin, "T", "R", resamples = 50))
+stopifnot(grepl("resamples had no value", lost), grepl("of 50 resamples had no value", answer$note))
+
 # Weights aren't counts
 weights <- data.frame(X = rep(0:1, 50), Y = rep(c(0, 1, 1, 0, 1), 20), w = rep(c(1.5, 20, 3), length.out = 100))
 refused(evaluate("dag { X -> Y }", weights, "X", "Y", count = "w"), "counts_fault", "weights of a survey are given as `weights`")
+whole <- transform(weights, w = round(10 * w))
+found <- doubted(answer <- contrast("dag { X -> Y }", whole, "X", "Y", count = "w", outcome = 1, resamples = 20))
+stopifnot(grepl("w holds frequencies, so that 100 rows stand for 8,100 records; but 96 rows are like another in all else", found))
+stopifnot(any(grepl("w holds frequencies: 8,100 records", capture.output(print(answer)))))
+same(doubted(contrast("dag { T -> R }", kidney_stones, "T", "R", count = "count", treated = "A", control = "B", resamples = 5)), character())
+
+# What is no yes or no isn't taken for no
+refused(evaluate("dag { X -> Y }", whole, "X", "Y", exact = "yes"), "argument", "`exact` is TRUE or FALSE")
+refused(evaluate("dag { X -> Y }", whole, "X", "Y", zero = 1), "argument", "`zero` is TRUE or FALSE")
+refused(adjusts("dag { X -> Y }", character(), "X", "Y", back_door = NA), "argument", "`back_door` is TRUE or FALSE")
+
+# A refusal names what would answer
+sparse <- data.frame(A = rep(0:1, each = 20), B = c(rep(0, 38), 1, 1), X = c(rep(0:1, 19), 1, 1), Y = rep(c(0, 0, 1, 1, 1), 8))
+both <- causal_diagram("dag { X [exposure] Y [outcome] A -> X A -> B -> Y X -> Y }")
+refused(evaluate(both, sparse, set = "B"), "evaluation_fault", "set = \"A\" (it has a value)")
+refused(evaluate(both, sparse, set = "B"), "evaluation_fault", "bounds_effect() says what the effect is at least and at most")
+refused(evaluate("dag { X -> Y X <-> Y }", sparse, "X", "Y"), "not_identifiable", "bounds_effect()")
+wide <- as.data.frame(lapply(stats::setNames(1:10, LETTERS[1:10]), function(k) (seq_len(60) * k) %/% 7 %% 4))
+confounders <- paste("dag { X [exposure] Y [outcome] X -> Y", paste(LETTERS[1:10], "-> X", LETTERS[1:10], "-> Y", collapse = " "), "}")
+refused(evaluate(confounders, cbind(wide, X = 0:1, Y = c(0, 1, 1))), "counts_fault", "A 4, B 4, C 4")
 
 # Old words warn, and are what they were
 answer <- contrast("dag { X -> Y }", none, "X", "Y", resamples = 20)

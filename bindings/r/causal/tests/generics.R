@@ -1,0 +1,27 @@
+# A package whose generics have the names of calls of this one, and which is attached later, doesn't hide them.
+same <- function(a, b) stopifnot(identical(a, b))
+here <- tempfile("generics")
+dir.create(file.path(here, "lava", "R"), recursive = TRUE)
+writeLines(c("Package: lava", "Version: 1.0", "Title: A Stand-in", "Description: Generics alone.", "License: none", "Author: none", "Maintainer: none <none@none.example>"),
+           file.path(here, "lava", "DESCRIPTION"))
+writeLines(c("export(estimate, children, compare, evaluate)", "S3method(children, character)"), file.path(here, "lava", "NAMESPACE"))
+writeLines(c("estimate <- function(x, ...) UseMethod(\"estimate\")", "children <- function(object, ...) UseMethod(\"children\")",
+             "compare <- function(object, ...) UseMethod(\"compare\")", "evaluate <- function(object) stop(\"no generic\")",
+             "children.character <- function(object, ...) \"theirs\""), file.path(here, "lava", "R", "code.R"))
+there <- file.path(here, "library")
+dir.create(there)
+words <- c("CMD", "INSTALL", "--no-docs", "--no-test-load", paste0("--library=", shQuote(there)), shQuote(file.path(here, "lava")))
+log <- system2(file.path(R.home("bin"), "R"), words, stdout = TRUE, stderr = TRUE)
+if (!"lava" %in% dir(there)) stop(paste(log, collapse = "\n"))
+library(causal)
+diagram <- causal_diagram("dag { X [exposure] Y [outcome] X -> Y }")
+data <- data.frame(X = rep(0:1, 20), Y = rep(c(0, 1, 1, 0), 10))
+found <- estimate(diagram, data, resamples = 0)
+library(lava, lib.loc = there, warn.conflicts = FALSE)
+same(environmentName(environment(estimate)), "lava")
+same(estimate(diagram, data, resamples = 0), found)
+same(estimate("dag { X [exposure] Y [outcome] X -> Y }", data, resamples = 0)$estimate, found$estimate)
+same(children(diagram, "X"), "Y")
+same(children(data.frame(from = "A", to = "B"), "A"), "B")
+same(children("dag { A -> B }", "A"), "theirs")
+same(as.data.frame(compare(diagram, data, outcome = 1, resamples = 10))$set, c("crude", "formula", "{}"))
