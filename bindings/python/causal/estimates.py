@@ -229,7 +229,8 @@ def estimated_by(
     rows = reading.rows(numpy, data, trials)
     pinned = pins_of(rows, formula, at)
     told = None if outcome is None else levels_at(target.y, outcome, typed_order(y))
-    asked = asked_of(rows, formula, arms, {**(given or {}), **pinned, **{prime: had[name] for prime, name in primes.items()}}, told, model, smoothing)
+    fixed = {**(given or {}), **pinned, **{prime: had[name] for prime, name in primes.items()}}
+    asked = asked_of(rows, formula, arms, fixed, told, model, smoothing)
     estimator = estimator_of(rows, asked, formula, reading.names, method, members, primes)
     estimator.fit(rows.weights)
     estimator.examine()
@@ -238,7 +239,7 @@ def estimated_by(
         raise RequestError("influence functions are known of the package's own models over a set; interval='percentile' draws records anew")
     numbers = estimator.numbers(rows.weights)
     if not all(map(math.isfinite, numbers)):
-        raise RequestError("by these models the formula has no value at these levels, where no record has some condition: give smoothing, or another model")
+        raise RequestError("by these models there is no value: no record has some condition; give smoothing, or another model")
     fits = tuple(it.told(rows.records) for it in estimator.models)
     weighting = weighting_of(estimator, members) if isinstance(estimator, Weighted) else None
     kept: Dict[str, int] = {}
@@ -506,7 +507,9 @@ def logit(value: float) -> float:
     return math.log(value / (1 - value))
 
 
-def by_draws(rows: Union[Rows, Joined], estimator: Estimator, resamples: int, seed: int, progress: Optional[Progress]) -> List[Optional[Tuple[float, float]]]:
+def by_draws(
+    rows: Union[Rows, Joined], estimator: Estimator, resamples: int, seed: int, progress: Optional[Progress]
+) -> List[Optional[Tuple[float, float]]]:
     """The numbers of both arms over records that are drawn anew, with the models fitted to each draw."""
     check_whole("resamples", resamples)
     source, members = rows.numpy.random.RandomState(seed % 2**32), rows.members

@@ -273,7 +273,7 @@ class Told(unittest.TestCase):
             found = among.estimate(data, **ARMS, model="table", smoothing=0, resamples=50)
         self.assertIn("of the resamples have no value", str(found))
         self.assertGreater(found.without_value, 5)
-        with self.assertRaisesRegex(causal.RequestError, "no record has some condition: give smoothing"):
+        with self.assertRaisesRegex(causal.RequestError, "no record has some condition; give smoothing"):
             among.estimate({**data, "X": [0, 1] * 15 + [1, 1]}, **ARMS, model="table", smoothing=0)
 
     def test_computed(self):
