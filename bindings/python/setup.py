@@ -96,7 +96,16 @@ class WheelOfOnePlatform(bdist_wheel):
         self.root_is_pure = False
 
     def get_tag(self):
-        return "py3", "none", super().get_tag()[2]
+        return "py3", "none", platform_of(super().get_tag()[2], os.path.join(self.bdist_dir, "causal", LIBRARY))
+
+
+def platform_of(platform, library):
+    """The tag of a platform: on Linux that of the glibc whose symbols the library needs, since it needs nothing else (PEP 600)."""
+    if not platform.startswith("linux_") or not os.path.isfile(library):
+        return platform
+    with open(library, "rb") as file:
+        needed = [int(minor) for minor in re.findall(rb"GLIBC_2\.([0-9]+)", file.read())]
+    return f"manylinux_2_{max([17, *needed])}_{platform[len('linux_'):]}" if needed else platform
 
 
 SOURCES = take_sources()

@@ -69,9 +69,8 @@ static void poke(char *at) {
   while (*at && *at != '-') {
     L to = strtoull(at, &at, 10);
     for (at++; *at && *at != ','; at += 2) {
-      unsigned byte;
-      sscanf(at, "%2x", &byte);
-      P1(to++, byte);
+      char digits[3] = {at[0], at[1], 0};
+      P1(to++, strtoul(digits, NULL, 16));
     }
     if (*at) at++;
   }

@@ -78,8 +78,9 @@ class ContrastInterval(Framed):
     @property
     def row_notes(self) -> Tuple[str, ...]:
         """What has to be known beside each measure: resamples that had no value, a width of 0, and few events of its arms."""
-        arms = [doubt_of(self.treated, self._support(0), where=MEASURES[0][5:]), doubt_of(self.control, self._support(1), where=MEASURES[1][5:])]
-        found = [arms[0], arms[1]]
+        risks = zip((self.treated, self.control), (self._support(0), self._support(1)), MEASURES)
+        arms = [doubt_of(interval, support, where=name[5:]) for interval, support, name in risks]
+        found = list(arms)
         for interval in (self.difference, self.ratio, self.odds_ratio):
             own = "" if interval is None else lost_text(self.with_value - interval.draws, self.resamples, "ratio")
             found.append(in_one([own, *(f"{name}: {doubt}" for name, doubt in zip(("treated", "control"), arms) if doubt)]))

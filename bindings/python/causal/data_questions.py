@@ -68,7 +68,7 @@ class DataQuestions:
         its degrees of freedom (it needs scipy), or, where the tables are too thin or scipy isn't there, with tables that are drawn
         with the same sums, as many as `permutations` says, from the seed. `method` may be "chi-squared" or "permutation" for all.
         The pairs are proved, as `implications` says; the tests are computed, and nothing about them is proved. Where a variable has
-        nearly a level for each record, as a number that wasn't cut has, there is no test, and `reason` says so.
+        nearly a level for each record, as a number that wasn't cut has, there is no test, and `note` says so.
 
         >>> from causal import Diagram
         >>> data = {"A": [0, 0, 0, 1, 1, 1] * 20, "B": [0] * 60 + [1] * 60, "C": ([0, 0, 1, 0, 1, 1]) * 20}

@@ -17,6 +17,7 @@ from causal.effects import Level, check_arms, levels_at, levels_text, typed_orde
 from causal.errors import DataWarning, NotIdentifiable, RequestError
 from causal.estimators import Asked, DoublyRobust, Estimator, Standardized, Weighted, pattern_of
 from causal.evaluation import adjusted, check_pins, identified
+from causal.events import many_lost
 from causal.formula import Formula
 from causal.framed import Framed
 from causal.intervals import Interval, check_level, interval_of
@@ -146,22 +147,23 @@ class Estimates(Framed):
 
     @property
     def doubts(self) -> Tuple[str, ...]:
-        """What is wrong with the models, or with the weights."""
+        """What is wrong with the models, with the weights, or with the resamples."""
         found = [f"{fit.term}: {note}" for fit in self.fits for note in fit.notes]
-        return (*found, *(self.weighting.doubts if self.weighting else ()))
+        return (*found, *(self.weighting.doubts if self.weighting else ()), *many_lost(self.without_value, self.resamples))
 
-    HEADS = ("treated", "control", "measure", "estimate", "conf_low", "conf_high")
+    HEADS = ("treated", "control", "measure", "estimate", "conf_low", "conf_high", "note")
 
     def _cells(self) -> List[List[Any]]:
         ends = [(it.interval.lower, it.interval.upper) if it.interval else (None, None) for it in self.rows]
-        return [[it.measure, it.estimate, *end] for it, end in zip(self.rows, ends)]
+        return [[it.measure, it.estimate, *end, "; ".join(self.doubts)] for it, end in zip(self.rows, ends)]
 
     def _table(self) -> Tuple[Sequence[str], List[List[Any]]]:
         names = {**IN_COLUMNS, **MEANS_IN_COLUMNS}
         return self.HEADS, [[*map(arm_level, self.arms), names[measure], *cells] for measure, *cells in self._cells()]
 
     def frame(self) -> Any:
-        """A DataFrame with a row for each measure (it needs pandas). What they rest on stands in its `attrs`, as `notes` and `doubts`."""
+        """A DataFrame with a row for each measure (it needs pandas), with what speaks against it as `note`. What they rest on stands in its
+        `attrs`, as `notes` and `doubts`."""
         frame = super().frame()
         frame.attrs.update(notes=list(self.notes), doubts=list(self.doubts))
         return frame
@@ -227,7 +229,8 @@ def estimated_by(
     rows = reading.rows(numpy, data, trials)
     pinned = pins_of(rows, formula, at)
     told = None if outcome is None else levels_at(target.y, outcome, typed_order(y))
-    asked = asked_of(rows, formula, arms, {**(given or {}), **pinned, **{prime: had[name] for prime, name in primes.items()}}, told, model, smoothing)
+    fixed = {**(given or {}), **pinned, **{prime: had[name] for prime, name in primes.items()}}
+    asked = asked_of(rows, formula, arms, fixed, told, model, smoothing)
     estimator = estimator_of(rows, asked, formula, reading.names, method, members, primes)
     estimator.fit(rows.weights)
     estimator.examine()
@@ -236,18 +239,18 @@ def estimated_by(
         raise RequestError("influence functions are known of the package's own models over a set; interval='percentile' draws records anew")
     numbers = estimator.numbers(rows.weights)
     if not all(map(math.isfinite, numbers)):
-        raise RequestError("by these models the formula has no value at these levels: a divisor is 0; give smoothing, or another model")
+        raise RequestError("by these models there is no value: no record has some condition; give smoothing, or another model")
     fits = tuple(it.told(rows.records) for it in estimator.models)
     weighting = weighting_of(estimator, members) if isinstance(estimator, Weighted) else None
-    first, drawn = seed_of(seed), []  # type: int, List[Optional[Tuple[float, float]]]
+    kept: Dict[str, int] = {}
     if kind == "influence":
         intervals = by_influence(estimator.rows, estimator, numbers, level, told is None)
     else:
+        first = seed_of(seed)
         drawn = by_draws(rows, estimator, resamples, first, progress)
         intervals = of_draws(drawn, level, told is None)
-    names_told = MEANS if told is None else MEASURES
-    measures = tuple(Estimate(*it) for it in zip(names_told, values_of(numbers, told is None), intervals))
-    kept = {"resamples": len(drawn), "without_value": sum(it is None for it in drawn), "seed": first} if drawn else {}
+        kept = {"resamples": len(drawn), "without_value": sum(it is None for it in drawn), "seed": first}
+    measures = tuple(Estimate(*it) for it in zip(MEANS if told is None else MEASURES, values_of(numbers, told is None), intervals))
     found = Estimates(
         *(formula, method, arms, told or {}, measures, fits, kind, level, rows.records, rows.dropped, dict(given or {}), pinned),
         **kept,  # type: ignore[arg-type]
@@ -504,7 +507,9 @@ def logit(value: float) -> float:
     return math.log(value / (1 - value))
 
 
-def by_draws(rows: Union[Rows, Joined], estimator: Estimator, resamples: int, seed: int, progress: Optional[Progress]) -> List[Optional[Tuple[float, float]]]:
+def by_draws(
+    rows: Union[Rows, Joined], estimator: Estimator, resamples: int, seed: int, progress: Optional[Progress]
+) -> List[Optional[Tuple[float, float]]]:
     """The numbers of both arms over records that are drawn anew, with the models fitted to each draw."""
     check_whole("resamples", resamples)
     source, members = rows.numpy.random.RandomState(seed % 2**32), rows.members

@@ -57,7 +57,10 @@ class Estimator:
 
     def numbers(self, weights: Any) -> Tuple[float, float]:
         """The number of each arm."""
-        found = [float((weights * above).sum() / (weights * below).sum()) for above, below in self.parts(self.models) or ()]
+        # (what isn't drawn may be unknown)
+        some = weights > 0
+        held = weights[some]
+        found = [float((held * above[some]).sum() / (held * below[some]).sum()) for above, below in self.parts(self.models) or ()]
         return found[0], found[1]
 
     @property

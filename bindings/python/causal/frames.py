@@ -13,6 +13,8 @@ from causal.errors import CountsError
 
 # Columns of levels, then that of the sums of counts and that of the numbers of records.
 Columns = List[Any]
+# A DataFrame of pandas with as many rows counts its own records as well.
+MANY_ROWS = 20_000
 WRONG = "the column {} has a count that isn't a whole number from 0 to 10^15"
 
 
@@ -104,6 +106,38 @@ def spark_columns(frame: Any, names: List[str], count: Optional[str]) -> Columns
 def _spark_name(name: str) -> str:
     """A name as Spark reads one, in which a point would lead into a part of a column."""
     return "`" + name.replace("`", "``") + "`"
+
+
+def counted_rows(data: Any, names: Sequence[str], count: Optional[str]) -> Optional[Tuple[Dict[str, Column], List[int]]]:
+    """The columns of a DataFrame of pandas with many rows, equal ones as one, with how many each stands for; None where it is no such frame,
+    or where its own groups don't have all of its rows.
+
+    >>> import pandas
+    >>> from causal.frames import counted_rows
+    >>> columns, rows = counted_rows(pandas.DataFrame({"X": [True, False] * 20000}), ["X"], None)
+    >>> columns["X"].values, columns["X"].order, rows
+    ([True, False], [False, True], [20000, 20000])
+    """
+    kind = type(data)
+    if kind.__module__.partition(".")[0] != "pandas" or kind.__name__ != "DataFrame" or len(data) < MANY_ROWS or not names:
+        return None
+    there = list(data.columns)
+    if any(there.count(name) != 1 for name in [*names, *([] if count is None else [count])]):
+        return None
+    if count is not None and (getattr(data[count].dtype, "kind", "") not in ("i", "u") or bool((data[count] < 0).any())):
+        return None
+    try:
+        groups = data.groupby(list(names), sort=False, dropna=False, observed=True)
+        records = groups.size()
+        sums = records if count is None else groups[count].sum()
+    except (TypeError, ValueError):
+        return None
+    if int(records.sum()) != len(data):
+        return None
+    levels = records.index.to_frame(index=False)
+    columns = {name: column_of(name, levels[name].astype(data[name].dtype)) for name in names}
+    head = count_name(names) if count is None else count
+    return {**columns, head: column_of(head, sums.tolist())}, records.tolist()
 
 
 # By the package and the name of the class.

@@ -299,17 +299,18 @@ class Shares(Model):
         counts = numpy.bincount(place * levels + codes[self.target.name], weights, len(known) * levels).reshape(len(known), levels)
         total = counts.sum(axis=1, keepdims=True) + self.smoothing
         uniform = numpy.full(levels, 1.0 / levels)
-        self.known, self.uniform = known, uniform
-        self.shares = numpy.where(total > 0, (counts + self.smoothing * uniform) / numpy.where(total > 0, total, 1.0), uniform)
+        # (records that weren't drawn have the weight 0)
+        some = total[:, 0] > 0
+        self.known, self.uniform = known[some], uniform
+        self.shares = (counts[some] + self.smoothing * uniform) / total[some]
         return self
 
     def chances(self, codes: Mapping[str, Any], rows: int) -> Any:
+        """The shares; of a condition that no record has they are unknown, or with smoothing alike."""
         numpy, places = self.numpy, self._places(codes, rows)
         at = numpy.minimum(numpy.searchsorted(self.known, places), len(self.known) - 1)
         is_known = self.known[at] == places
-        if not self.smoothing and not bool(is_known.all()):
-            raise RequestError(f"no record has some condition of {self.term}: give smoothing, or another model")
-        return numpy.where(is_known[:, None], self.shares[at], self.uniform[None, :])
+        return numpy.where(is_known[:, None], self.shares[at], self.uniform[None, :] if self.smoothing else numpy.nan)
 
 
 class Own(Model):

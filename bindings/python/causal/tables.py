@@ -13,7 +13,7 @@ from typing import Any, Callable, Dict, Hashable, Iterable, List, Mapping, Optio
 from causal.columns import Column, Data, columns_of, csv_columns
 from causal.databases import MOST_ROWS, DatabaseTable, database_of
 from causal.errors import CausalError, CountsError, MissingValues, RequestError, WrongType
-from causal.frames import Frame, frame_of
+from causal.frames import Frame, counted_rows, frame_of
 
 Cell = Tuple[int, ...]
 MISSING = ("error", "drop", "level")
@@ -154,6 +154,9 @@ def table_of(
     source = database_of(data) or frame_of(data)
     if source is not None:
         return table_of_source(source, names, count, missing)
+    counted = counted_rows(data, names, count)
+    if counted is not None:
+        return table_from(counted[0], names, list(counted[0])[-1], missing, counted[1], declared).ordered()
     columns = columns_of(data, [*names, *([count] if count is not None else [])])
     return table_from(columns, names, count, missing, declared=declared).ordered()
 

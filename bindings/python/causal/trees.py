@@ -238,7 +238,8 @@ class ByTree(Estimator):
             shape = self.numpy.broadcast_shapes(found.shape, value.shape)
             if math.prod(shape) > MOST_CELLS:
                 raise RequestError("the formula sums over too many combinations of levels; cut numbers into classes, or give a set to adjust for")
-            found = found * value
+            # a factor 0 makes a product 0, also where another one is unknown
+            found = self.numpy.where((found == 0) | (value == 0), 0.0, found * value)
         return found
 
     def _sum(self, names: Sequence[str], body: Told, at: Optional[At]) -> Any:

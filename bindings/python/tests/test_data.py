@@ -475,6 +475,36 @@ class Requests(unittest.TestCase):
 class Frames(unittest.TestCase):
     """DataFrames in and out."""
 
+    def test_many_rows_are_counted_alike(self):
+        from unittest import mock
+
+        from causal.tables import table_of
+
+        source = random.Random(8)
+        kinds = {
+            "text": [source.choice(["b", "a", "C"]) for _ in range(300)],
+            "gaps": [source.choice(["b", None, "a"]) for _ in range(300)],
+            "whole": pandas.array([source.choice([2, 10, None]) for _ in range(300)], dtype="Int64"),
+            "float": [source.choice([0.1 + 0.2, 0.3, -1.5, float("nan")]) for _ in range(300)],
+            "mixed": [source.choice(["x", 1, 2.5, None]) for _ in range(300)],
+            "truth": [source.random() < 2 for _ in range(300)],
+            "class": pandas.Categorical([source.choice(["low", "high"]) for _ in range(300)], ["low", "mid", "high"], ordered=True),
+            "day": pandas.to_datetime([source.choice(["2020-04-03", "2020-01-01"]) for _ in range(300)]),
+            "string": pandas.array([source.choice(["b", "a"]) for _ in range(300)], dtype="string"),
+        }
+        data = pandas.DataFrame({**kinds, "n": [source.randrange(4) for _ in range(300)]})
+        for names in (["text", "float"], ["gaps", "whole"], ["mixed"], ["truth", "class"], ["day", "string"], list(kinds)):
+            for count in (None, "n"):
+                for missing in ("drop", "level"):
+                    found = []
+                    for many in (1, 1 << 30):
+                        with mock.patch("causal.frames.MANY_ROWS", many):
+                            found.append(table_of(data, names, count, missing, ["truth", "class"]))
+                    first, second = ({**vars(it), "counts": {k: n for k, n in it.counts.items() if n}} for it in found)
+                    self.assertEqual(repr(first), repr(second), (names, count, missing))
+        with mock.patch("causal.frames.MANY_ROWS", 1), self.assertRaisesRegex(causal.MissingValues, "gaps has no value in .* of 300 records"):
+            table_of(data, ["gaps"])
+
     def test_frame(self):
         frame = KIDNEY.evaluate(pandas.DataFrame(COUNTS), count="n", exact=True)
         self.assertEqual(list(frame.columns), ["T", "R", "estimate", "exact"])

@@ -263,6 +263,18 @@ class Told(unittest.TestCase):
             found = STUDY.estimate(data, **ARMS)
         self.assertIn("told apart perfectly", str(found))
         self.assertIn("told apart perfectly", found._repr_html_())
+        self.assertEqual(found._table()[0][-1], "note")
+        self.assertIn("told apart perfectly", found._table()[1][0][-1])
+
+    def test_lost_resamples(self):
+        data = {"Z": ["a"] * 30 + ["b"] * 2, "X": [0, 1] * 16, "Y": [0, 0, 1, 1] * 8}
+        among = Diagram("dag { X [exposure] Y [outcome] Z -> X -> Y <- Z }")
+        with self.assertWarnsRegex(causal.DataWarning, "of the resamples have no value"):
+            found = among.estimate(data, **ARMS, model="table", smoothing=0, resamples=50)
+        self.assertIn("of the resamples have no value", str(found))
+        self.assertGreater(found.without_value, 5)
+        with self.assertRaisesRegex(causal.RequestError, "no record has some condition; give smoothing"):
+            among.estimate({**data, "X": [0, 1] * 15 + [1, 1]}, **ARMS, model="table", smoothing=0)
 
     def test_computed(self):
         found = STUDY.estimate(study(200), **ARMS)

@@ -134,8 +134,8 @@ export function certificateRow(ctx, asked) {
   const certificate = async () => (await ctx.ask([...asked, "--certificate"])).out;
   const check = async () => {
     ctx.put(CERTIFICATE, await certificate());
-    const words = ["check", DIAGRAM, CERTIFICATE], answer = await ctx.ask(words);
-    result.replaceChildren(source(words, answer.out + answer.err));
+    const words = ["check", DIAGRAM, CERTIFICATE], { status, out, err } = await ctx.ask(words);
+    result.replaceChildren(verdict(status === 0 ? "yes" : "no", (out + err).trim()), source(words, ""));
   };
   const keep = async () => save(ctx.nameOf("certificate.json"), await certificate(), "application/json");
   return h("div", { class: "certificate" },

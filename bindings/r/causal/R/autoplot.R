@@ -17,6 +17,7 @@ autoplot_methods <- list(
     has <- intersect(eval(formals()$measure), object[["measure"]])
     forest_drawing(object, match.arg(measure, if (length(has)) has else "difference"))
   },
+  causal_comparison = function(object, ...) forest_drawing(object, "difference"),
   causal_tests = function(object, ...) {
     known <- shown_tests(object)
     pairs <- paste0(known$a, " from ", known$b, " given ", known$given)

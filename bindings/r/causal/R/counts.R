@@ -71,7 +71,7 @@ count_table <- function(diagram, words, data, count, missing, command = "evaluat
   of_rows <- lapply(codes, `[`, first)
   structure(list(names = used, levels = levels, codes = do.call(cbind, of_rows), rows = do.call(paste, c(of_rows, list(sep = ","))),
                  counts = sums_of(weights, key), records = sums_of(records[is_whole], key), survey = if (length(survey)) c(list(row = key), survey),
-                 dropped = sum(records[!is_whole]), frequencies = named_count),
+                 dropped = sum(records[!is_whole]), lacking = attr(is_whole, "lacking"), frequencies = named_count),
             class = "causal_counts")
 }
 
@@ -138,14 +138,14 @@ check_counts <- function(counts) {
 complete_rows <- function(columns, missing, records, used) {
   if (missing == "level") columns <- columns[!names(columns) %in% used]
   is_missing <- Reduce(`|`, lapply(columns, is.na), rep(FALSE, length(records)))
+  lacking <- vapply(columns, function(column) sum(records[is.na(column)]), 0)
+  lacking <- lacking[lacking > 0]
   if (missing != "drop" && any(is_missing)) {
-    lacking <- vapply(columns, function(column) sum(records[is.na(column)]), 0)
-    lacking <- lacking[lacking > 0]
     message <- paste0(sum(records[is_missing]), " of ", counted(sum(records), "record"), " have a missing value in a column that the answer needs (",
                       paste0(names(lacking), ": ", lacking, collapse = ", "), '); missing = "drop" leaves them out, "level" makes missing a level')
     refuse(message, kind = "missing_values", told = list(rows = which(is_missing), columns = names(lacking)))
   }
-  !is_missing
+  structure(!is_missing, lacking = lacking)
 }
 
 # The levels in the order in which they are numbered: those of a factor that occur, or all of them; text by first appearance; else sorted.

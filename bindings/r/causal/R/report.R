@@ -26,7 +26,7 @@ print.causal_report <- function(x, ...) {
   invisible(x)
 }
 
-most_parts <- 11
+most_parts <- 12
 
 # Each part has a head and what stands below it: a text, lines of the program, a formula or a table. A part that has no answer says why.
 report_parts <- function(diagram, data, x, y, treated, control, outcome, set, count, level, resamples, seed, missing, permutations, progress) {
@@ -58,6 +58,7 @@ report_parts <- function(diagram, data, x, y, treated, control, outcome, set, co
   list(
     part("Diagram", list(verbatim(format(diagram)), drawing_of(diagram))),
     part("The effect", list("The effect can be computed from observations. That is proved, and so is the formula.", effect)),
+    part("Records", list(records_told(diagram, data, exposures, outcomes, set, count, missing))),
     part("Sets to adjust for", list(verbatim(lines_of(adjustment_sets(diagram, x, y)$text)))),
     part("Support", support_part(diagram, data, x, y, set, count, missing)),
     part("Crude comparison", list(compare(crude, character()))),
@@ -71,6 +72,15 @@ report_parts <- function(diagram, data, x, y, treated, control, outcome, set, co
     part("Tests of what the diagram implies",
          list(test_implications(diagram, data, count = count, missing = missing, permutations = permutations, seed = seed))),
     part("Derivation", list(verbatim(derivation_lines(effect)))))
+}
+
+# How many records are used, and how many were left out for which columns.
+records_told <- function(diagram, data, x, y, set, count, missing) {
+  asked <- asked_of(diagram, x, y, set, zero = TRUE, short = is.null(set))
+  table <- count_table(asked$diagram, asked$words, data, count, missing, keeps = asked$y)
+  number <- function(count) format(count, big.mark = ",", scientific = FALSE)
+  paste0(number(sum(table$records)), " records are used. ", number(table$dropped), " were left out for missing values",
+         if (table$dropped > 0) paste0(" (", paste0(names(table$lacking), ": ", number(table$lacking), collapse = ", "), ")"), ".")
 }
 
 # The estimate by models, where the set or the formula has one.

@@ -9,8 +9,8 @@
 }
 \details{
   The package \pkg{ggplot2} isn't needed; where it is loaded, its generic takes diagrams, the answers that
-  \code{\link{plot.causal_diagram}} draws, and those of \code{\link{contrast}}, \code{\link{effect_means}} and
-  \code{\link{test_implications}}.
+  \code{\link{plot.causal_diagram}} draws, and those of \code{\link{contrast}}, \code{\link{effect_means}},
+  \code{\link{compare}} and \code{\link{test_implications}}.
 
   \code{autoplot(diagram, path, hedge, layout)} has the arguments of \code{\link{plot.causal_diagram}}, and its colours. The methods
   for answers take \code{layout} alone. \code{autoplot(answer, measure)} of a contrast or an estimate is a forest plot

@@ -58,3 +58,8 @@ tests <- test_implications("dag { S -> T -> R }", kidney_stones, count = "count"
 layers <- drawn(autoplot(tests))
 same(layers[[3]]$x, tests$rmsea)
 same(c(layers[[2]]$xmin, layers[[2]]$xmax), c(tests$rmsea_low, tests$rmsea_high))
+
+# A comparison: a line for each way
+compared <- compare(stones, kidney_stones, treated = "A", control = "B", outcome = "success", count = "count", resamples = 10)
+layers <- drawn(autoplot(compared))
+same(sort(layers[[3]]$x), sort(compared$estimate))

@@ -97,3 +97,17 @@ if (nzchar(system.file(package = "generics"))) {
     same(getExportedValue("generics", "glance")(it), glance(it))
   }
 } else cat("skipped: generics: the package isn't there\n")
+
+# Estimates, bounds, support and comparisons
+plain <- transform(kidney_stones, R = as.integer(R == "success"))
+estimated <- estimate(stones, plain, treated = "A", control = "B", count = "count", resamples = 0, method = "aipw")
+same(names(tidy(estimated)), c("R", "treated", "control", "term", "estimate", "std.error", "conf.low", "conf.high", "note"))
+same(glance(estimated)[c("outcome", "method", "set", "conf.method", "nobs")],
+     data.frame(outcome = "R", method = "aipw", set = "{S}", conf.method = "influence", nobs = 700))
+bounds <- bounds_effect(stones, plain, count = "count", treated = "A", control = "B", outcome = 1)
+same(tidy(bounds)$measure, c("risk_treated", "risk_control", "difference"))
+same(glance(bounds)$cells, 3L)
+same(glance(support(stones, plain, count = "count"))[1:4], data.frame(strata = 2L, lacking = 0L, records = 700, without = 0))
+compared <- compare(stones, plain, treated = "A", control = "B", outcome = 1, count = "count", resamples = 20)
+same(tidy(compared)$term, rep("difference", 3))
+same(as.list(glance(compared)), list(ways = 3L, agree = TRUE, complete = TRUE))
