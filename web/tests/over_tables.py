@@ -77,7 +77,7 @@ def drops_a_table(s):
     s.one("summary[data-key='levels']").click()
     s.soon("levels", lambda: "small (357)" in s.panel(), s.panel)
     s.one("summary[data-key='bounds']").click()
-    s.soon("bounds", lambda: "0.832546217385603774" in s.panel(), s.panel)
+    s.soon("bounds", lambda: len(s.all("#panel .source details")) > 1 and "0.832546217385603774" in s.printed(1), s.panel)
 
 
 def reads_other_tables(s):
