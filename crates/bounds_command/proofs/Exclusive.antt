@@ -11,8 +11,6 @@ use Rattle.count_rows.specs.Rows.{Table}
 use Rattle.count_rows.specs.declared.fault.CountFault.{CountFault}
 use Rattle.count_answers.specs.Reads.{HoldsCounts}
 use Rattle.count_answers.proofs.OneReading.{AreAlike, one_table}
-use Rattle.natural_bounds.specs.Instruments.{IsInstrument}
-use Rattle.natural_bounds.specs.Bounds.{fixed}
 use Rattle.bound_values.specs.declared.questions.Question.{Question}
 use Rattle.bound_values.specs.declared.values.CellBounds.{CellBounds}
 use Rattle.bound_values.specs.declared.values.CellFault.{CellFault}
@@ -26,27 +24,27 @@ use Rattle.bound_values.specs.Found.{crossing_in, IsFound, IsUnfound}
 use Rattle.bounds_command.specs.declared.answer.Answer.{Answer}
 use Rattle.bounds_command.specs.declared.faults.BoundsFault.{BoundsFault}
 use Rattle.bounds_command.specs.declared.faults.BoundsFault.TheVariants.{TooLong, Counts, NoRecords, TooWide, NoMemory}
-use Rattle.bounds_command.specs.declared.first.NoInstrument.{NoInstrument}
+use Rattle.bounds_command.specs.declared.first.Unmet.{Unmet}
 use Rattle.bounds_command.specs.BoundsTelling.{bounds_telling, found_outcome}
 use Rattle.bounds_command.specs.Faults.{bounds_refusal}
-use Rattle.bounds_command.specs.First.{HasInstrument, no_instrument_telling, IsNotAsked}
-use Rattle.bounds_command.specs.Asking.{BoundLists, AreNamed, IsAsked}
+use Rattle.bounds_command.specs.First.{unmet_telling, IsNotAsked}
+use Rattle.bounds_command.specs.Asking.{AskedLists, IsAsked}
 use Rattle.bounds_command.specs.Right.{IsOverTable, IsFaultOver, IsForCounts, IsFaultFor, IsBounded}
 use Rattle.bounds_command.proofs.Alike.{same_crossing, same_bounds}
-use Rattle.bounds_command.proofs.OneQuestion.{one_question, no_fault}
+use Rattle.bounds_command.proofs.OneQuestion.{not_unmet, no_asked_fault, no_unmet_fault}
 
 -- ---- before the counts
 
--- sets that are an instrument's aren't refused
-pub asked_alone : (g : MixedGraph) (l : BoundLists) (q : Question) (r : Result NoInstrument TargetFault) → IsAsked g l q → IsNotAsked g l r → ⊥
-asked_alone g l q (Ok a) asked h = h.1.none (subst (HasInstrument g) (sym (one_question l q a.question asked.named h.0)) asked.instrument)
-asked_alone g l q (Err fault) asked h = no_fault l q fault asked.named h
+-- lists that ask for bounds aren't refused
+pub asked_alone : (g : MixedGraph) (l : AskedLists) (q : Question) (r : Result Unmet TargetFault) → IsAsked g l q → IsNotAsked g l r → ⊥
+asked_alone g l q (Ok a) asked h = not_unmet g l q a asked h
+asked_alone g l q (Err fault) asked h = no_asked_fault g l q fault asked h
 
-pub first_alike : (g : MixedGraph) (l : BoundLists) (a b : Result NoInstrument TargetFault) → IsNotAsked g l a → IsNotAsked g l b
-    → outcome_in no_instrument_telling target_refusal a ≡ outcome_in no_instrument_telling target_refusal b
+pub first_alike : (g : MixedGraph) (l : AskedLists) (a b : Result Unmet TargetFault) → IsNotAsked g l a → IsNotAsked g l b
+    → outcome_in unmet_telling target_refusal a ≡ outcome_in unmet_telling target_refusal b
 first_alike g l (Ok a) (Ok b) f h = refl
-first_alike g l (Ok a) (Err fault) f h = absurd (no_fault l a.question fault f.0 h)
-first_alike g l (Err fault) (Ok b) f h = absurd (no_fault l b.question fault h.0 f)
+first_alike g l (Ok a) (Err fault) f h = absurd (no_unmet_fault g l a fault f h)
+first_alike g l (Err fault) (Ok b) f h = absurd (no_unmet_fault g l b fault h f)
 first_alike g l (Err fault) (Err other) f h = refl
 
 -- ---- over a table

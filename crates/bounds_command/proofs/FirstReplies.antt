@@ -1,59 +1,29 @@
--- What is known before counts are read, by what was decided.
-use Rattle.std.proofs.Common.{◌≡◌, ℕ, true, false, Result, Ok, Err, IfOk, sym, ap, subst, ◌∙◌}
+-- What is known before counts are read, as it is told.
+use Rattle.std.proofs.Common.{◌≡◌, false, true, Result, Ok, Err, ap, subst}
 use Rattle.mixed_graph.specs.Graphs.{MixedGraph}
-use Rattle.mixed_graph.specs.Shown.{graph_of}
 use Rattle.targets.specs.declared.fault.TargetFault.{TargetFault}
 use Rattle.targets.specs.declared.fault.TargetFault.TheVariants.{NoMemory}
 use Rattle.targets.specs.Targets.{OrMemory}
 use Rattle.targets.proofs.Faults.{not_memory}
+use Rattle.diagram.specs.Sets.{Names}
 use Rattle.diagram.specs.declared.diagram.Diagram.{Diagram}
-use Rattle.told.specs.Refusals.{is_memory}
-use Rattle.bound_values.specs.declared.questions.Question.{Question}
-use Rattle.bounds_command.specs.declared.first.QuestionOrReply.{QuestionOrReply}
-use Rattle.bounds_command.specs.declared.first.QuestionOrReply.TheVariants.{Replied, Asked}
-use Rattle.bounds_command.specs.Requests.{Request}
-use Rattle.bounds_command.specs.Asking.{BoundLists, AreNamed, IsBoundFault, IsAsked}
-use Rattle.replies.specs.declared.format.Format.{Format}
-use Rattle.bounds_command.specs.declared.first.NoInstrument.{NoInstrument}
-use Rattle.bounds_command.specs.First.{lists_of, HasNoInstrument, IsReplied, IsDecided, IsQuestionOrReply}
+use Rattle.told.specs.Refusals.{is_memory, target_refusal}
+use Rattle.told.specs.Telling.{is_wanting}
+use Rattle.bounds_command.specs.declared.first.First.{First}
+use Rattle.bounds_command.specs.declared.first.First.TheVariants as first
+use Rattle.bounds_command.specs.declared.first.Unmet.{Unmet}
+use Rattle.bounds_command.specs.Ways.{Way}
+use Rattle.bounds_command.specs.Asking.{AskedLists, asked_lists, IsAskedFault}
+use Rattle.bounds_command.specs.First.{IsUnmet, IsNotAsked, IsFirst}
 
-of_decided : (d : Diagram) (q : Request) (b : Question) → AreNamed (lists_of q d) b → (r : QuestionOrReply) → IsDecided q.format d b r → IsQuestionOrReply d q r
-of_decided d q b named (Asked k) h = subst (IsAsked (graph_of d.observed.graph) (lists_of q d)) (sym h.0) (record { named = named; instrument = h.1 })
-of_decided d q b named (Replied r) h = record {
-  answer = Ok h.0;
-  right = (subst (AreNamed (lists_of q d)) (sym h.1) named, h.2);
-  ends = h.3.0.0;
-  prints = h.3.0.1;
-}
+-- an answer that isn't want of memory is right
+pub right_answer : (g : MixedGraph) (l : AskedLists) (r : Result Unmet TargetFault) → IsFirst g l (first.Answered r)
+    → is_wanting target_refusal r ≡ false → IsNotAsked g l r
+right_answer g l (Ok a) h memory = h
+right_answer g l (Err fault) h memory =
+    not_memory (IsAskedFault l) fault (λ e. (let m : is_memory fault ≡ true = ap is_memory e in let k = memory in cc)) h
 
-of_fault : (d : Diagram) (q : Request) (fault : TargetFault) → OrMemory (IsBoundFault (lists_of q d)) fault → (r : QuestionOrReply)
-    → IsReplied q.format d (Err fault) r → IsQuestionOrReply d q r
-of_fault d q fault is (Asked k) h = absurd h
-of_fault d q fault is (Replied r) h = record {
-  answer = Err fault;
-  right = not_memory (IsBoundFault (lists_of q d)) fault (λ e. (let m : is_memory fault ≡ true = ap is_memory e in let k = h.1 in cc)) is;
-  ends = h.0.0;
-  prints = h.0.1;
-}
-
-pub decided : {E : Type 0} (d : Diagram) (q : Request) (b : Question) → AreNamed (lists_of q d) b → (r : Result QuestionOrReply E)
-    → IfOk r (IsDecided q.format d b) → IfOk r (IsQuestionOrReply d q)
-decided d q b named (Ok r) h = of_decided d q b named r h
-decided d q b named (Err e) h = tt
-
-pub faulted : {E : Type 0} (d : Diagram) (q : Request) (fault : TargetFault) → OrMemory (IsBoundFault (lists_of q d)) fault → (r : Result QuestionOrReply E)
-    → IfOk r (IsReplied q.format d (Err fault)) → IfOk r (IsQuestionOrReply d q)
-faulted d q fault is (Ok r) h = of_fault d q fault is r h
-faulted d q fault is (Err e) h = tt
-
--- ---- sets that are no instrument's
-of_refused : (format : Format) (d : Diagram) (q : Question) (a : NoInstrument) → a.question ≡ q → HasNoInstrument (graph_of d.observed.graph) a
-    → (r : QuestionOrReply) → IsReplied format d (Ok a) r → IsDecided format d q r
-of_refused format d q a e none (Asked k) h = absurd h
-of_refused format d q a e none (Replied r) h = (a, e, none, h)
-
-pub refused : {E : Type 0} (format : Format) (d : Diagram) (q : Question) (a : NoInstrument) → a.question ≡ q
-    → HasNoInstrument (graph_of d.observed.graph) a → (r : Result QuestionOrReply E)
-    → IfOk r (IsReplied format d (Ok a)) → IfOk r (IsDecided format d q)
-refused format d q a e none (Ok r) h = of_refused format d q a e none r h
-refused format d q a e none (Err k) h = tt
+-- what is said of a way and of lists that are lent is said of those of the request
+pub as_asked : (g : MixedGraph) (d : Diagram) (way asked : Way) (x y on of : Names) → way ≡ asked → x ≡ on → y ≡ of → (known : First)
+    → IsFirst g (asked_lists way d x y) known → IsFirst g (asked_lists asked d on of) known
+as_asked g d way asked x y on of e f h known is = subst (λ (l : AskedLists). IsFirst g l known) (λ i. asked_lists (e i) d (f i) (h i)) is

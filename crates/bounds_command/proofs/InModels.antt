@@ -1,6 +1,6 @@
 -- What is found holds in every model of the graph that has the counts.
 use Rattle.std.proofs.Common.{◌≡◌, ◌<◌, ◌≤◌, ℕ, Bool, true, false, ◌||◌, List, All, length, refl, sym, ap, subst, ◌∙◌, inl, inr, arith}
-use Rattle.std.proofs.lemmas.Bool.{or_left}
+use Rattle.std.proofs.lemmas.Bool.{or_left, true≢false}
 use Rattle.std.proofs.Common.{get_or}
 use Rattle.mixed_graph.specs.Bits.{has, members_below}
 use Rattle.mixed_graph.specs.Graphs.{MixedGraph, IsMixedGraph}
@@ -10,9 +10,10 @@ use Rattle.finite_models.proofs.Bools.{either}
 use Rattle.count_rows.specs.Rows.{Table}
 use Rattle.count_table.specs.Tables.{AreCounts}
 use Rattle.count_eval.specs.Programs.{is_used}
-use Rattle.natural_bounds.specs.Bounds.{fixed, IsAskedOf}
+use Rattle.natural_bounds.specs.Bounds.{Asked, fixed}
 use Rattle.replies.proofs.OneTarget.{some_member}
 use Rattle.bound_values.specs.declared.questions.Method.{Method}
+use Rattle.bound_values.specs.declared.questions.Method.TheVariants.{Instruments, Adjustment}
 use Rattle.bound_values.specs.declared.questions.Question.{Question}
 use Rattle.bound_values.specs.declared.values.CellBounds.{CellBounds}
 use Rattle.bound_values.specs.declared.found.Found.{Found}
@@ -23,15 +24,40 @@ use Rattle.bound_values.specs.Told.{AreEnds}
 use Rattle.bound_values.specs.Found.{IsFound}
 use Rattle.bound_values.proofs.Used.{joint_has, counted_of}
 use Rattle.bounds_command.specs.Right.{IsKnown, IsCounted, Encloses, HoldsInModels}
+use Rattle.bounds_command.proofs.Known.{among_all}
+
+-- ---- by either method
+module _ (g : MixedGraph) (used : ℕ → Bool) (q : Asked) where
+  -- what is asked of is a vertex
+  vertex_of : (method : Method) → MayBeUsed method g used q → (v : ℕ) → joint_set q v ≡ true → v < g.vertices
+  vertex_of Instruments may v i =
+      let sets = may.instrument.sets in
+      either (q.x v) (q.y v || level_set q v) (v < g.vertices) i (sets.x_within v)
+      (λ j. either (q.y v) (level_set q v) (v < g.vertices) j (sets.y_within v)
+      (λ k. either (q.z v) (fixed q v) (v < g.vertices) k (sets.z_within v) (sets.w_within v)))
+  vertex_of Adjustment may v i =
+      let sets = may.sets in
+      either (q.x v) (q.y v || level_set q v) (v < g.vertices) i (sets.x_within v)
+      (λ j. either (q.y v) (level_set q v) (v < g.vertices) j (sets.y_within v)
+      (λ k. either (q.z v) (fixed q v) (v < g.vertices) k (λ z. absurd (true≢false (sym z ∙ may.no_instrument v)))
+      (λ f. either (q.c v) (q.u v) (v < g.vertices) f (λ c. absurd (true≢false (sym c ∙ may.no_condition v))) (sets.w_within v))))
+
+  -- the method may be used where what is asked of is used
+  may_over : (method : Method) (other : ℕ → Bool) → ((v : ℕ) → joint_set q v ≡ true → other v ≡ true) → MayBeUsed method g used q
+      → MayBeUsed method g other q
+  may_over Instruments other there may = record { instrument = may.instrument; apart = may.apart; covered = there }
+  may_over Adjustment other there may = record {
+    sets = may.sets;
+    admissible = may.admissible;
+    no_instrument = may.no_instrument;
+    no_condition = may.no_condition;
+    covered = λ v h. there v (among_all (q.x v) (q.y v) (q.z v) (q.c v) (q.u v) h);
+  }
 
 module _ (g : MixedGraph) (names : List (List ℕ)) (q : Question) (known : IsKnown g names q) where
   -- what is asked of is a vertex
   pub joint_below : (v : ℕ) → joint_set (asked_of q) v ≡ true → v < g.vertices
-  joint_below v i =
-      let sets = known.instrument.sets in
-      either (has q.x.bits v) (has q.y.bits v || level_set (asked_of q) v) (v < g.vertices) i (sets.x_within v)
-      (λ j. either (has q.y.bits v) (level_set (asked_of q) v) (v < g.vertices) j (sets.y_within v)
-      (λ k. either (has q.instruments.bits v) (fixed (asked_of q) v) (v < g.vertices) k (sets.z_within v) (sets.w_within v)))
+  joint_below = vertex_of g (has (joint_mask q)) (asked_of q) q.method known.may
 
   pub joint_low : (v : ℕ) → joint_set (asked_of q) v ≡ true → v < 64
   joint_low v i = (let a = joint_below v i in let b = known.few in omega (arith, a, b))
@@ -42,7 +68,7 @@ module _ (g : MixedGraph) (names : List (List ℕ)) (q : Question) (known : IsKn
   -- there is one
   pub joint_some : 0 < joint_mask q
   joint_some =
-      let found = some_member g.vertices q.x.bits known.instrument.sets.x_within known.some in
+      let found = some_member g.vertices q.x.bits (λ v h. joint_below v (or_left (has q.x.bits v) (has q.y.bits v || level_set (asked_of q) v) h)) known.some in
       let there : has (joint_mask q) found.0 ≡ true =
       joint_has q found.0 ∙ or_left (has q.x.bits found.0) (has q.y.bits found.0 || level_set (asked_of q) found.0) found.1 in
       let full : joint_mask q ≡ 0 → ⊥ = λ e. (let z = has-zero found.0 in
@@ -50,19 +76,13 @@ module _ (g : MixedGraph) (names : List (List ℕ)) (q : Question) (known : IsKn
       omega (arith, full)
 
   module _ (t : Table) (are : AreCounts t) (used : IsCounted q t) where
-    is_asked : IsAskedOf g (is_used t) (asked_of q)
-    is_asked = record {
-      instrument = known.instrument;
-      apart = known.apart;
-      covered = counted_of q t are used joint_low;
-    }
-
     may : MayBeUsed q.method g (is_used t) (asked_of q)
-    may = subst (λ (m : Method). MayBeUsed m g (is_used t) (asked_of q)) (sym known.method) is_asked
+    may = may_over g (has (joint_mask q)) (asked_of q) q.method (is_used t) (counted_of q t are used joint_low) known.may
 
     enclosed : (b : CellBounds) → AreEnds q.method g.vertices t (asked_of q) b → Encloses g q t b
     enclosed b ends = record { at_least = ends.at_least g known.graph may; at_most = ends.at_most g known.graph may }
 
     pub found_holds : (is_exact : Bool) (f : Found) → IsFound is_exact g.vertices t q f → HoldsInModels g q t f
     found_holds is_exact (Bounded bounds) h = λ k d lt. enclosed (get_or bounds.items k d) (h.1.ends k d lt)
-    found_holds is_exact (Crossed c) h = h.1.model g known.graph is_asked h.1.others
+    found_holds is_exact (Crossed c) h =
+        h.1.model g known.graph (subst (λ (m : Method). MayBeUsed m g (is_used t) (asked_of q)) h.0.0 may) h.1.others

@@ -3,11 +3,12 @@ use Rattle.std.proofs.Common.{◌≡◌, ℕ, List, Option, Some, Result, Ok, Er
 use Rattle.std.specs.Prelude.{codes}
 use Rattle.std.proofs.lemmas.Option.{same_Some}
 use Rattle.command_words.specs.Form.{Text, Use, value_of}
-use Rattle.command_words.proofs.OneValue.{one_listed, one_listed_or_empty}
+use Rattle.command_words.proofs.OneValue.{one_listed}
 use Rattle.mixed_graph.specs.Graphs.{MixedGraph}
 use Rattle.mixed_graph.specs.Shown.{graph_of}
 use Rattle.targets.specs.declared.fault.TargetFault.{TargetFault}
 use Rattle.diagram.specs.declared.diagram.Diagram.{Diagram}
+use Rattle.diagram.specs.Sets.{Names}
 use Rattle.diagram.proofs.OneDiagram.{AreSameDiagrams, same_drawing, same_query_lists}
 use Rattle.replies.specs.declared.outcome.Outcome.{Outcome}
 use Rattle.replies.specs.OneOutcome.{OneOutcome, IsAnswerOn}
@@ -26,27 +27,43 @@ use Rattle.bound_values.specs.declared.found.Found.TheVariants.{Crossed, Bounded
 use Rattle.bounds_command.specs.declared.answer.Answer.{Answer}
 use Rattle.bounds_command.specs.declared.faults.BoundsFault.{BoundsFault}
 use Rattle.bounds_command.specs.declared.faults.BoundsFault.TheVariants.{TooLong, Counts, NoRecords, TooWide, NoMemory}
-use Rattle.bounds_command.specs.declared.first.NoInstrument.{NoInstrument}
+use Rattle.bounds_command.specs.declared.first.Unmet.{Unmet}
 use Rattle.bounds_command.specs.Requests.{Request, IsRequest}
-use Rattle.bounds_command.specs.Asking.{BoundLists, IsAsked}
+use Rattle.bounds_command.specs.Ways.{Way, by_instruments, by_adjusting}
+use Rattle.bounds_command.specs.Asking.{AskedLists, of_instruments, of_set, asked_lists, IsAsked}
 use Rattle.bounds_command.specs.BoundsTelling.{bounds_telling, found_outcome}
 use Rattle.bounds_command.specs.Faults.{bounds_refusal}
-use Rattle.bounds_command.specs.First.{no_instrument_telling, IsNotAsked, lists_of}
+use Rattle.bounds_command.specs.First.{unmet_telling, IsNotAsked, lists_of}
 use Rattle.bounds_command.specs.Right.{IsKnown, IsBounded, CountsAnswer}
 use Rattle.bounds_command.specs.Command.{bounds_command, bounds_left}
 use Rattle.bounds_command.proofs.Exclusive.{asked_alone, first_alike, counts_alike}
+use Rattle.bounds_command.proofs.NoWays.{AreListed, one_way}
 use Rattle.bounds_command.proofs.OneQuestion.{one_question}
+
+-- the lists of a request
+lists_in : (uses : List Use) (q : Request) → IsRequest uses q
+    → AreListed (value_of uses (codes "set")) (value_of uses (codes "given")) (value_of uses (codes "instrument")) (value_of uses (codes "strata"))
+lists_in uses q is = record {
+  set = is.set;
+  given = is.given;
+  instruments = is.instruments;
+  strata = is.strata;
+  is_set = is.is_set;
+  is_given = is.is_given;
+  are_instruments = is.are_instruments;
+  are_strata = is.are_strata;
+}
 
 -- the uses ask for one request
 one_request : (uses : List Use) (q r : Request) → IsRequest uses q → IsRequest uses r → r ≡ q
+unfolding lists_in
 one_request uses q r a b = λ i. record {
   file = same_Some r.file q.file (sym b.file ∙ a.file) i;
   counts = same_Some r.counts q.counts (sym b.counts ∙ a.counts) i;
   x = one_listed (value_of uses (codes "x")) q.x r.x a.x b.x i;
   y = one_listed (value_of uses (codes "y")) q.y r.y a.y b.y i;
-  given = one_listed_or_empty (value_of uses (codes "given")) q.given r.given a.given b.given i;
-  instruments = one_listed_or_empty (value_of uses (codes "instrument")) q.instruments r.instruments a.instruments b.instruments i;
-  strata = one_listed_or_empty (value_of uses (codes "strata")) q.strata r.strata a.strata b.strata i;
+  way = same_Some r.way q.way (sym b.is_way ∙ one_way (value_of uses (codes "set")) (value_of uses (codes "given")) (value_of uses (codes "instrument"))
+      (value_of uses (codes "strata")) (lists_in uses q a) (lists_in uses r b) ∙ a.is_way) i;
   count = (sym b.count ∙ a.count) i;
   exact = (sym b.exact ∙ a.exact) i;
   format = (b.format ∙ sym a.format) i;
@@ -65,23 +82,28 @@ fault_answered names TooWide = tt
 fault_answered names NoMemory = tt
 
 -- ---- diagrams that are the same
+lists_by : (way : Way) (x y : Names) (d e : Diagram) → AreSameDiagrams d e → asked_lists way e x y ≡ asked_lists way d x y
+lists_by (by_instruments given instruments strata) x y d e s =
+    λ i. of_instruments (record { query = same_query_lists x y (Some given) d e s i; instruments = instruments; strata = strata })
+lists_by (by_adjusting set) x y d e s = λ i. of_set (same_query_lists x y (Some set) d e s i)
+
 lists_same : (q : Request) (d e : Diagram) → AreSameDiagrams d e → lists_of q e ≡ lists_of q d
-lists_same q d e s = λ i. record { query = same_query_lists q.x q.y (Some q.given) d e s i; instruments = q.instruments; strata = q.strata }
+lists_same q d e s = lists_by q.way q.x q.y d e s
 
 asked_same : (q : Request) (d e : Diagram) → AreSameDiagrams d e → (b : Question) → IsAsked (graph_of e.observed.graph) (lists_of q e) b
     → IsAsked (graph_of d.observed.graph) (lists_of q d) b
-asked_same q d e s b h = subst (λ (l : BoundLists). IsAsked (graph_of d.observed.graph) l b) (lists_same q d e s)
+asked_same q d e s b h = subst (λ (l : AskedLists). IsAsked (graph_of d.observed.graph) l b) (lists_same q d e s)
     (subst (λ (g : MixedGraph). IsAsked g (lists_of q e) b) (sym (same_drawing d e s)) h)
 
-first_same : (q : Request) (d e : Diagram) → AreSameDiagrams d e → (r : Result NoInstrument TargetFault)
+first_same : (q : Request) (d e : Diagram) → AreSameDiagrams d e → (r : Result Unmet TargetFault)
     → IsNotAsked (graph_of e.observed.graph) (lists_of q e) r
     → IsNotAsked (graph_of d.observed.graph) (lists_of q d) r
-first_same q d e s r h = subst (λ (l : BoundLists). IsNotAsked (graph_of d.observed.graph) l r) (lists_same q d e s)
+first_same q d e s r h = subst (λ (l : AskedLists). IsNotAsked (graph_of d.observed.graph) l r) (lists_same q d e s)
     (subst (λ (g : MixedGraph). IsNotAsked g (lists_of q e) r) (sym (same_drawing d e s)) h)
 
 -- ---- one outcome
 first_once : (q : Request) (bytes : List ℕ) → OneOutcome (IsAnswerOn bytes
-    (λ d. Tells no_instrument_telling target_refusal (IsNotAsked (graph_of d.observed.graph) (lists_of q d)) (plain_form q.format) d.observed.names))
+    (λ d. Tells unmet_telling target_refusal (IsNotAsked (graph_of d.observed.graph) (lists_of q d)) (plain_form q.format) d.observed.names))
 first_once q bytes = one_on_diagram bytes _ (λ d e s o p told other a b.
     a.ends ∙ first_alike (graph_of d.observed.graph) (lists_of q d) a.answer b.answer a.right (first_same q d e s b.answer b.right) ∙ sym b.ends)
 
@@ -102,7 +124,7 @@ both_once : (q : Request) (bytes other : List ℕ) → OneOutcome (IsAnswerOn by
     × IsAsked (graph_of d.observed.graph) (lists_of q d) b
     × CountsAnswer q.format q.exact (graph_of d.observed.graph) d.observed.names b q.count other o told))
 both_once q bytes other = one_on_diagram bytes _ (λ d e s o p told more a b.
-    let same = one_question (lists_of q d) a.0 b.0 a.1.named (asked_same q d e s b.0 b.1).named in
+    let same = one_question (graph_of d.observed.graph) (lists_of q d) a.0 b.0 a.1 (asked_same q d e s b.0 b.1) in
     a.2.ends
     ∙ counts_alike q.exact (graph_of d.observed.graph) d.observed.names a.0 q.count other a.2.answer b.2.answer a.2.right
     (same_counts q d e s other a.0 b.0 same b.2.answer b.2.right)
@@ -112,7 +134,7 @@ both_once q bytes other = one_on_diagram bytes _ (λ d e s o p told more a b.
 -- what holds of each command holds of it
 pub bounds_lawful : IsLawful bounds_command
 bounds_lawful = lawful_on_two_inputs one_request
-    (λ q d o told a. told_answered no_instrument_telling target_refusal (λ i. tt) (λ e. tt) (IsNotAsked (graph_of d.observed.graph) (lists_of q d))
+    (λ q d o told a. told_answered unmet_telling target_refusal (λ i. tt) (λ e. tt) (IsNotAsked (graph_of d.observed.graph) (lists_of q d))
     (plain_form q.format) d.observed.names o told a)
     (λ q d other o told a. told_answered bounds_telling (bounds_refusal d.observed.names) (λ i. found_answered i.found) (fault_answered d.observed.names)
     (IsBounded q.exact (graph_of d.observed.graph) d.observed.names a.0 q.count other) (plain_form q.format) d.observed.names o told a.2)

@@ -1,3 +1,4 @@
+mod NoWays
 mod AskedSets
 mod NameFaults
 mod FirstReplies

@@ -1,17 +1,21 @@
 -- What the lists of `bounds` ask for.
 use Rattle.std.specs.Prelude.{ℕ, ◌≡◌, ◌⊎◌, List, ◌++◌, Option, Some, None}
+use Rattle.mixed_graph.specs.Bits.{has}
 use Rattle.mixed_graph.specs.Graphs.{MixedGraph}
 use Rattle.mixed_graph.specs.Names.{is_named}
-use Rattle.mixed_graph.specs.Shown.{graph_of}
 use Rattle.targets.specs.declared.fault.TargetFault.{TargetFault}
 use Rattle.targets.specs.Targets.{Lists, NameFault, first_fault, IsFaultOfTarget, IsListedSet, AreSets, IsTargetFault}
 use Rattle.diagram.specs.Sets.{Names, query_lists}
 use Rattle.diagram.specs.declared.diagram.Diagram.{Diagram}
+use Rattle.adjustment.specs.Criteria.{IsAdmissible}
 use Rattle.natural_bounds.specs.Bounds.{fixed}
 use Rattle.natural_bounds.specs.Instruments.{IsInstrument}
 use Rattle.bound_values.specs.declared.questions.Question.{Question}
-use Rattle.bound_values.specs.declared.questions.Method.TheVariants.{Instruments}
+use Rattle.bound_values.specs.declared.questions.Method.TheVariants.{Instruments, Adjustment}
 use Rattle.bound_values.specs.Questions.{asked_of}
+use Rattle.bounds_command.specs.Ways.{Way, by_instruments, by_adjusting}
+
+-- ---- lists
 
 -- the lists of a query, and those of the instruments and the strata
 pub record BoundLists : Type 0 where
@@ -27,17 +31,21 @@ bound_lists d x y given instruments strata = record {
   strata = strata;
 }
 
+-- the lists of either way: those with instruments; or those of a query, of which the third is the set that is adjusted for
+pub data AskedLists : Type 0 where
+  of_instruments : BoundLists → AskedLists
+  of_set : Lists → AskedLists
+
+-- the lists on a diagram, by the way that is asked for
+abbrev pub asked_lists : Way → Diagram → (x y : Names) → AskedLists
+asked_lists (by_instruments given instruments strata) d x y = of_instruments (bound_lists d x y given instruments strata)
+asked_lists (by_adjusting set) d x y = of_set (query_lists d.read d.observed.names x y (Some set))
+
+-- ---- their faults
+
 -- the first name at fault of the instruments and then of the strata, where x, y and given were walked before
 abbrev pub later_fault : BoundLists → Option NameFault
 later_fault l = first_fault l.query.all l.query.observed (is_named (l.query.x ++ (l.query.y ++ l.query.given))) (l.instruments ++ l.strata)
-
--- the question asks for the sets that the lists name, by the instruments
-pub record AreNamed (l : BoundLists) (q : Question) : Type 0 where
-  pub query : AreSets l.query q.x.bits q.y.bits q.given.bits
-  pub no_fault : later_fault l ≡ None
-  pub instruments : IsListedSet l.query.observed l.instruments q.instruments.bits
-  pub strata : IsListedSet l.query.observed l.strata q.strata.bits
-  pub method : q.method ≡ Instruments
 
 -- the lists x, y and given name sets, and the fault is that of the first name at fault of the others
 pub record IsLaterFault (l : BoundLists) (fault : TargetFault) : Type 0 where
@@ -51,7 +59,43 @@ pub record IsLaterFault (l : BoundLists) (fault : TargetFault) : Type 0 where
 abbrev pub IsBoundFault : BoundLists → TargetFault → Type 0
 IsBoundFault l fault = IsTargetFault l.query fault ⊎ IsLaterFault l fault
 
+-- the same in either way
+abbrev pub IsAskedFault : AskedLists → TargetFault → Type 0
+IsAskedFault (of_instruments l) fault = IsBoundFault l fault
+IsAskedFault (of_set l) fault = IsTargetFault l fault
+
+-- ---- what they ask for
+
+-- the question asks for the sets that the lists name, by the instruments
+pub record AreNamed (l : BoundLists) (q : Question) : Type 0 where
+  pub query : AreSets l.query q.x.bits q.y.bits q.given.bits
+  pub no_fault : later_fault l ≡ None
+  pub instruments : IsListedSet l.query.observed l.instruments q.instruments.bits
+  pub strata : IsListedSet l.query.observed l.strata q.strata.bits
+  pub method : q.method ≡ Instruments
+
+-- the sets of a question are an instrument's
+abbrev pub HasInstrument : MixedGraph → Question → Type 0
+HasInstrument g q = IsInstrument g (asked_of q).x (asked_of q).y (asked_of q).z (fixed (asked_of q))
+
 -- the lists ask for this in a graph: its sets are an instrument's
-pub record IsAsked (g : MixedGraph) (l : BoundLists) (q : Question) : Type 0 where
+pub record IsByInstruments (g : MixedGraph) (l : BoundLists) (q : Question) : Type 0 where
   pub named : AreNamed l q
-  pub instrument : IsInstrument g (asked_of q).x (asked_of q).y (asked_of q).z (fixed (asked_of q))
+  pub instrument : HasInstrument g q
+
+-- the question asks for x and y by adjusting for the set, which is its strata; there is no condition, and no instrument
+pub record IsOfSet (l : Lists) (q : Question) : Type 0 where
+  pub sets : AreSets l q.x.bits q.y.bits q.strata.bits
+  pub no_condition : q.given.bits ≡ 0
+  pub no_instrument : q.instruments.bits ≡ 0
+  pub method : q.method ≡ Adjustment
+
+-- the lists ask for this in a graph: its strata are those of an admissible set
+pub record IsByAdjusting (g : MixedGraph) (l : Lists) (q : Question) : Type 0 where
+  pub named : IsOfSet l q
+  pub admissible : IsAdmissible g (has q.x.bits) (has q.y.bits) (has q.strata.bits)
+
+-- one of these
+abbrev pub IsAsked : MixedGraph → AskedLists → Question → Type 0
+IsAsked g (of_instruments l) q = IsByInstruments g l q
+IsAsked g (of_set l) q = IsByAdjusting g l q

@@ -1,3 +1,4 @@
+pub mod Ways
 pub mod Requests
 pub mod Asking
 pub mod Sentences

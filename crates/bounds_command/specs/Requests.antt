@@ -6,16 +6,17 @@ use Rattle.command_words.specs.ListViews.{names_in}
 use Rattle.diagram.specs.Sets.{Names}
 use Rattle.replies.specs.declared.format.Format.{Format}
 use Rattle.replies.specs.Told.{format_of}
+use Rattle.bounds_command.specs.Ways.{Way, way_of, way_for}
 use Rattle.bounds_command.specs.declared.request.Request.{Request as CodeRequest}
 
--- `bounds FILE COUNTS [--x L] [--y L] [--given L] [--instrument L [--strata L]] [--count NAME] [--exact] [--json]`
+-- `bounds FILE COUNTS [--x L] [--y L] [[--given L] [--instrument L [--strata L]] | --set L] [--count NAME] [--exact] [--json]`
 abbrev pub bounds_row : Row
 bounds_row = record {
   name = codes "bounds";
   positionals = codes "file" ∷ codes "counts" ∷ [];
   optional = [];
   required = [];
-  options = codes "x" ∷ codes "y" ∷ codes "given" ∷ codes "instrument" ∷ codes "strata" ∷ codes "count" ∷ [];
+  options = codes "x" ∷ codes "y" ∷ codes "given" ∷ codes "instrument" ∷ codes "strata" ∷ codes "set" ∷ codes "count" ∷ [];
   flags = codes "exact" ∷ codes "json" ∷ [];
 }
 
@@ -25,9 +26,7 @@ pub record Request : Type 0 where
   pub counts : Text
   pub x : Names
   pub y : Names
-  pub given : List (List ℕ)
-  pub instruments : List (List ℕ)
-  pub strata : List (List ℕ)
+  pub way : Way
   pub count : Option Text
   pub exact : Bool
   pub format : Format
@@ -39,19 +38,11 @@ request_of r = record {
   counts = r.counts.now;
   x = option_map names_in r.x;
   y = option_map names_in r.y;
-  given = names_in r.given;
-  instruments = names_in r.instruments;
-  strata = names_in r.strata;
+  way = way_of r.way;
   count = option_map (λ s. s.now) r.count;
   exact = r.exact;
   format = r.format;
 }
-
--- strata are named only where instruments are
-abbrev pub AreTogether : (instruments strata : List (List ℕ)) → Type 0
-AreTogether (n ∷ ns) strata = Unit {0}
-AreTogether [] [] = Unit {0}
-AreTogether [] (s ∷ ss) = ⊥
 
 -- the uses ask for this
 pub record IsRequest (uses : List Use) (r : Request) : Type 0 where
@@ -60,10 +51,15 @@ pub record IsRequest (uses : List Use) (r : Request) : Type 0 where
   pub inputs : values.AreTwoInputs r.file r.counts
   pub x : values.IsListed (value_of uses (codes "x")) r.x
   pub y : values.IsListed (value_of uses (codes "y")) r.y
-  pub given : values.IsListedOrEmpty (value_of uses (codes "given")) r.given
-  pub instruments : values.IsListedOrEmpty (value_of uses (codes "instrument")) r.instruments
-  pub strata : values.IsListedOrEmpty (value_of uses (codes "strata")) r.strata
-  pub together : AreTogether r.instruments r.strata
+  pub set : Names
+  pub is_set : values.IsListed (value_of uses (codes "set")) set
+  pub given : List (List ℕ)
+  pub is_given : values.IsListedOrEmpty (value_of uses (codes "given")) given
+  pub instruments : List (List ℕ)
+  pub are_instruments : values.IsListedOrEmpty (value_of uses (codes "instrument")) instruments
+  pub strata : List (List ℕ)
+  pub are_strata : values.IsListedOrEmpty (value_of uses (codes "strata")) strata
+  pub is_way : way_for set given instruments strata ≡ Some r.way
   pub count : value_of uses (codes "count") ≡ r.count
   pub exact : has_flag uses (codes "exact") ≡ r.exact
   pub format : r.format ≡ format_of (has_flag uses (codes "json"))

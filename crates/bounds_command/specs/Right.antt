@@ -19,13 +19,13 @@ use Rattle.natural_bounds.specs.declared.ends.End.{End}
 use Rattle.natural_bounds.specs.declared.ends.End.TheVariants.{AtLeast, AtMost}
 use Rattle.natural_bounds.specs.Bounds.{BoundsEffect, HasNoModel}
 use Rattle.bound_values.specs.declared.questions.Question.{Question}
-use Rattle.bound_values.specs.declared.questions.Method.TheVariants.{Instruments}
 use Rattle.bound_values.specs.declared.values.Value.{Value}
 use Rattle.bound_values.specs.declared.values.CellBounds.{CellBounds}
 use Rattle.bound_values.specs.declared.values.CellFault.TheVariants as cell
 use Rattle.bound_values.specs.declared.found.Found.{Found}
 use Rattle.bound_values.specs.declared.found.Found.TheVariants.{Crossed, Bounded}
 use Rattle.bound_values.specs.Questions.{asked_of, joint_mask}
+use Rattle.bound_values.specs.Values.{MayBeUsed}
 use Rattle.bound_values.specs.Told.{number_of}
 use Rattle.bound_values.specs.Found.{IsFound, IsUnfound}
 use Rattle.bounds_command.specs.declared.answer.Answer.{Answer}
@@ -33,7 +33,6 @@ use Rattle.bounds_command.specs.declared.faults.BoundsFault.{BoundsFault}
 use Rattle.bounds_command.specs.declared.faults.BoundsFault.TheVariants.{TooLong, Counts, NoRecords, TooWide, NoMemory}
 use Rattle.bounds_command.specs.BoundsTelling.{bounds_telling}
 use Rattle.bounds_command.specs.Faults.{bounds_refusal}
-use Rattle.bounds_command.specs.First.{HasInstrument}
 
 -- ---- in models
 
@@ -54,15 +53,14 @@ HoldsInModels g q t (Crossed c) = HasNoModel g (is_used t) (weights_in g.vertice
 
 -- ---- over a table
 
--- what is known of a question before counts are read
+-- what is known of a question before counts are read: its method may be used where all vertices that are asked of are used
 pub record IsKnown (g : MixedGraph) (names : List (List ℕ)) (q : Question) : Type 0 where
   pub graph : IsMixedGraph g
   pub few : g.vertices ≤ 64
   pub named : length names ≡ g.vertices
-  pub instrument : HasInstrument g q
+  pub may : MayBeUsed q.method g (has (joint_mask q)) (asked_of q)
   pub apart : Apart (has q.given.bits) (has q.strata.bits)
   pub some : 0 < q.x.bits
-  pub method : q.method ≡ Instruments
 
 -- the table's vertices are those that are asked of
 abbrev pub IsCounted : Question → Table → Type 0

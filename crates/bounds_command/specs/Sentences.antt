@@ -1,6 +1,6 @@
 -- The parts of what is told of a question without an instrument.
 use Rattle.std.specs.Prelude.{ℕ, List, [], ◌∷◌, ◌++◌, codes}
-use Rattle.json.specs.Json.{Json}
+use Rattle.json.specs.Json.{Json, string}
 use Rattle.mixed_graph.specs.Names.{name_of}
 use Rattle.answer_text.specs.Printing.{printed}
 use Rattle.answer_text.specs.Texts.{set_text}
@@ -8,6 +8,8 @@ use Rattle.answer_json.specs.Values.{set_json, query_members, vertex_json, path_
 use Rattle.replies.specs.Lines.{open_text}
 use Rattle.natural_bounds.specs.declared.instruments.InstrumentFault.{InstrumentFault}
 use Rattle.natural_bounds.specs.declared.instruments.InstrumentFault.TheVariants.{Moved, Open}
+use Rattle.bound_values.specs.declared.questions.Method.{Method}
+use Rattle.bound_values.specs.declared.questions.Method.TheVariants.{Instruments, Adjustment}
 use Rattle.bound_values.specs.declared.questions.Question.{Question}
 use Rattle.bound_values.specs.Questions.{fixed_mask}
 
@@ -25,7 +27,15 @@ abbrev pub why_members : List (List ℕ) → InstrumentFault → List (List ℕ 
 why_members names (Moved v) = (codes "moved", vertex_json names v) ∷ []
 why_members names (Open p) = (codes "open", path_json names p.vertices p.marks p.count) ∷ []
 
+-- the sets by which x and y are asked for: the instruments and the strata; or the set that is adjusted for
+abbrev pub method_members : List (List ℕ) → Question → Method → List (List ℕ × Json)
+method_members names q Instruments = (codes "instrument", set_json names q.instruments.bits) ∷ (codes "strata", set_json names q.strata.bits) ∷ []
+method_members names q Adjustment = (codes "set", set_json names q.strata.bits) ∷ []
+
 -- the sets that are asked of
 abbrev pub asked_members : List (List ℕ) → Question → List (List ℕ × Json)
-asked_members names q = query_members names q.x.bits q.y.bits q.given.bits
-    ++ ((codes "instrument", set_json names q.instruments.bits) ∷ (codes "strata", set_json names q.strata.bits) ∷ [])
+asked_members names q = query_members names q.x.bits q.y.bits q.given.bits ++ method_members names q q.method
+
+-- what stands before the reason: that these sets are no instrument's
+abbrev pub refused_members : List (List ℕ) → Question → List (List ℕ × Json)
+refused_members names q = (codes "answer", string (codes "no instrument")) ∷ asked_members names q

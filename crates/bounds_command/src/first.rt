@@ -2,70 +2,94 @@
 
 ghost use Rattle.std.specs.Prelude.{◌≡◌, ◌++◌, IfOk, OnOk};
 ghost use Rattle.mixed_graph.specs.Bits.{has};
+ghost use Rattle.mixed_graph.specs.Names.{texts};
 ghost use Rattle.mixed_graph.specs.Shown.{graph_of};
-ghost use Rattle.do_rules.specs.Rules.{AreFourSets};
+ghost use Rattle.do_rules.specs.Rules.{AreThreeSets, AreFourSets};
+ghost use Rattle.targets.specs.Targets.{Lists, AreSets};
+ghost use Rattle.diagram.specs.Sets.{lent};
 ghost use Rattle.natural_bounds.specs.Bounds.{fixed};
-ghost use Rattle.natural_bounds.specs.Instruments.{IsInstrument, IsInstrumentFault};
 ghost use Rattle.answer_json.specs.Progress.{with_members};
 ghost use Rattle.bound_values.specs.Questions.{asked_of};
+ghost use Rattle.bounds_command.specs.Asking.{BoundLists, of_instruments, of_set, asked_lists, AreNamed};
+ghost use Rattle.bounds_command.specs.Ways.{by_instruments as way_by_instruments, by_adjusting as way_by_adjusting};
 ghost use Rattle.bounds_command.specs.Requests.{request_of};
-ghost use Rattle.bounds_command.specs.Sentences.{refused_text, why_text, why_members};
-ghost use Rattle.bounds_command.specs.First.{IsReplied, IsDecided, IsQuestionOrReply};
+ghost use Rattle.bounds_command.specs.Sentences.{refused_text, why_text, refused_members, why_members};
+ghost use Rattle.bounds_command.specs.First.{lists_of, IsFirst, IsQuestionOrReply};
 
 use crate::asking::question_of;
 use crate::objects::push_asked;
 use crate::request::Request;
+use crate::way::Way;
+use adjust_command::Answer as SetAnswer;
+use adjustment::{AdjFault, adjusts};
 use answer_json::Object;
 use answer_text::{push_set, push_vertex};
-use bound_values::Question;
-use diagram::Diagram;
-use mixed_graph::Names;
+use bound_values::{Method, Question};
+use diagram::{Diagram, asked_query};
+use mixed_graph::{Graph, Names, VSet};
 use natural_bounds::{InstrumentFault, instrument};
-use replies::{Format, Outcome, Reply, push_open};
+use replies::{Outcome, Reply, push_open};
 use std::alloc::{AllocError, Global};
-use targets::TargetFault;
+use targets::{Sets, TargetFault};
 use told::{Form, Told, Writing, reply};
 
-/// The sets of a question are no instrument's.
+/// Why bounds can't be had in the way that is asked for.
 #[derive(Drop)]
-pub struct NoInstrument {
-    pub question: Question,
-    pub fault: InstrumentFault,
+pub enum Unmet {
+    /// The sets of a question are no instrument's.
+    NoInstrument(Question, InstrumentFault),
+    /// The third set may not be adjusted for: this breaks the adjustment criterion.
+    NotAdmissible(Sets, AdjFault),
+}
+
+/// What lists ask for.
+#[derive(Drop)]
+pub enum First {
+    /// Bounds of an effect.
+    Asked(Question),
+    /// The answer: bounds can't be had in this way, or a listed name is at fault.
+    Answered(Result<Unmet, TargetFault>),
 }
 
 /// What is known before counts are read.
 #[derive(Drop)]
 pub enum QuestionOrReply {
-    /// The answer: the sets are no instrument's, or a listed name is at fault.
+    /// The reply that tells the answer.
     Replied(Reply),
-    /// The sets are an instrument's.
+    /// The sets are an instrument's, or the strata are those of an admissible set.
     Asked(Question),
 }
 
-impl Told for NoInstrument {
-    ghost use Rattle.bounds_command.specs.First.{no_instrument_telling};
+impl Told for Unmet {
+    ghost use Rattle.bounds_command.specs.First.{unmet_telling};
 
-    ghost telling = { no_instrument_telling };
+    ghost telling = { unmet_telling };
 
     fn outcome(&self) -> Outcome {
         Outcome::No
     }
 
-    fn text(&self, alloc: Global, names: &Names, _: Writing) -> Result<Vec<u8>, AllocError> {
-        let mut text = refused(alloc, names, self.question)?;
-        push_why(&mut text, names, &self.fault)?;
-        Ok(text)
+    fn text(&self, alloc: Global, names: &Names, writing: Writing) -> Result<Vec<u8>, AllocError> {
+        match self {
+            Unmet::NoInstrument(question, fault) => refusal(alloc, names, *question, fault),
+            Unmet::NotAdmissible(sets, fault) => {
+                SetAnswer::NotAdmissible(*sets, *fault).text(alloc, names, writing)
+            }
+        }
     }
 
     fn push_members(
         &self,
         object: &mut Object,
         names: &Names,
-        _: Writing,
+        writing: Writing,
     ) -> Result<(), AllocError> {
-        object.word_at("answer", "no instrument")?;
-        push_asked(object, names, self.question)?;
-        why_at(object, names, &self.fault)
+        match self {
+            Unmet::NoInstrument(question, fault) => push_refusal(object, names, *question, fault),
+            Unmet::NotAdmissible(sets, fault) => {
+                SetAnswer::NotAdmissible(*sets, *fault).push_members(object, names, writing)
+            }
+        }
     }
 }
 
@@ -106,7 +130,35 @@ fn why_at(object: &mut Object, names: &Names, fault: &InstrumentFault) -> Result
     }
 }
 
-/// The question of a request whose sets are an instrument's in the observed graph; or else the answer. The only error is want of memory.
+/// Both lines: the sets, and why they are no instrument's.
+fn refusal(
+    alloc: Global,
+    names: &Names,
+    question: Question,
+    fault: &InstrumentFault,
+) -> Result<Vec<u8>, AllocError>
+    ensures { IfOk result (λ v. v.items ≡ refused_text names.now question ++ why_text names.now fault.now) }
+{
+    let mut text = refused(alloc, names, question)?;
+    push_why(&mut text, names, fault)?;
+    Ok(text)
+}
+
+/// The same as members.
+fn push_refusal(
+    object: &mut Object,
+    names: &Names,
+    question: Question,
+    fault: &InstrumentFault,
+) -> Result<(), AllocError>
+    ensures { OnOk result (object.new ≡ with_members (refused_members names.now question ++ why_members names.now fault.now) object.old) }
+{
+    object.word_at("answer", "no instrument")?;
+    push_asked(object, names, question)?;
+    why_at(object, names, fault)
+}
+
+/// The question of a request that asks for bounds in the observed graph; or else the reply. The only error is want of memory.
 pub fn ask_first(
     alloc: Global,
     diagram: &Diagram,
@@ -114,35 +166,63 @@ pub fn ask_first(
 ) -> Result<QuestionOrReply, AllocError>
     ensures { IfOk result (IsQuestionOrReply diagram.now (request_of asked.now)) }
 {
-    let (x, y) = (asked.x.as_deref(), asked.y.as_deref());
-    match question_of(
-        alloc,
-        diagram,
-        x,
-        y,
-        &asked.given,
-        &asked.instruments,
-        &asked.strata,
-    ) {
-        Ok(question) => by_instrument(alloc, diagram, question, asked.format),
-        Err(fault) => {
-            let answer: Result<NoInstrument, TargetFault> = Err(fault);
-            replied(alloc, diagram, asked.format, &answer)
+    match first_of(alloc, diagram, asked) {
+        First::Asked(question) => Ok(QuestionOrReply::Asked(question)),
+        First::Answered(answer) => {
+            let form = Form::plain(asked.format);
+            let reply = reply(alloc, form, &diagram.observed.names, &answer)?;
+            Ok(QuestionOrReply::Replied(reply))
         }
     }
 }
 
-/// The question, where its sets are an instrument's; or why not.
-fn by_instrument(
+/// What the lists of a request ask for in the observed graph, in the way that is asked for.
+fn first_of(alloc: Global, diagram: &Diagram, asked: &Request<'_>) -> First
+    ensures { IsFirst (graph_of diagram.now.observed.graph) (lists_of (request_of asked.now) diagram.now) result }
+{
+    let (x, y) = (asked.x.as_deref(), asked.y.as_deref());
+    match &asked.way {
+        Way::Instruments {
+            given,
+            instruments,
+            strata,
+        } => by_instruments(
+            alloc,
+            diagram,
+            x,
+            y,
+            given.as_slice(),
+            instruments.as_slice(),
+            strata.as_slice(),
+        ),
+        Way::Adjusting { set } => by_adjusting(alloc, diagram, x, y, set.as_slice()),
+    }
+}
+
+/// Bounds by instruments, where the sets are an instrument's.
+fn by_instruments(
     alloc: Global,
     diagram: &Diagram,
-    question: Question,
-    format: Format,
-) -> Result<QuestionOrReply, AllocError>
-    requires { AreFourSets diagram.now.observed.graph.n (asked_of question).x (asked_of question).y (asked_of question).z (fixed (asked_of question)) }
-    ensures { IfOk result (IsDecided format diagram.now question) }
+    x: Option<&[Vec<u8>]>,
+    y: Option<&[Vec<u8>]>,
+    given: &[Vec<u8>],
+    instruments: &[Vec<u8>],
+    strata: &[Vec<u8>],
+) -> First
+    ensures { IsFirst (graph_of diagram.now.observed.graph)
+        (asked_lists (way_by_instruments (texts given.now) (texts instruments.now) (texts strata.now)) diagram.now (lent x.entry) (lent y.entry)) result }
 {
-    let graph = &diagram.observed.graph;
+    match question_of(alloc, diagram, x, y, given, instruments, strata) {
+        Ok(question) => by_instrument(&diagram.observed.graph, question),
+        Err(fault) => First::Answered(Err(fault)),
+    }
+}
+
+/// The question, where its sets are an instrument's; or why they are none.
+fn by_instrument(graph: &Graph, question: Question) -> First
+    requires { AreFourSets graph.now.n (asked_of question).x (asked_of question).y (asked_of question).z (fixed (asked_of question)) }
+    ensures { (l : BoundLists) → AreNamed l question → IsFirst (graph_of graph.now) (of_instruments l) result }
+{
     let Question {
         x,
         y,
@@ -150,24 +230,41 @@ fn by_instrument(
         ..
     } = question;
     match instrument(graph, x, y, instruments, question.fixed()) {
-        Ok(()) => Ok(QuestionOrReply::Asked(question)),
-        Err(fault) => {
-            let answer: Result<NoInstrument, TargetFault> = Ok(NoInstrument { question, fault });
-            replied(alloc, diagram, format, &answer)
-        }
+        Ok(()) => First::Asked(question),
+        Err(fault) => First::Answered(Ok(Unmet::NoInstrument(question, fault))),
     }
 }
 
-/// The reply that tells such an answer.
-fn replied(
+/// Bounds by adjusting for a set, where it is admissible.
+fn by_adjusting(
     alloc: Global,
     diagram: &Diagram,
-    format: Format,
-    answer: &Result<NoInstrument, TargetFault>,
-) -> Result<QuestionOrReply, AllocError>
-    ensures { IfOk result (IsReplied format diagram.now answer.now) }
+    x: Option<&[Vec<u8>]>,
+    y: Option<&[Vec<u8>]>,
+    set: &[Vec<u8>],
+) -> First
+    ensures { IsFirst (graph_of diagram.now.observed.graph) (asked_lists (way_by_adjusting (texts set.now)) diagram.now (lent x.entry) (lent y.entry)) result }
 {
-    let form = Form::plain(format);
-    let reply = reply(alloc, form, &diagram.observed.names, answer)?;
-    Ok(QuestionOrReply::Replied(reply))
+    match asked_query(alloc, diagram, x, y, Some(set)) {
+        Ok(sets) => by_set(&diagram.observed.graph, sets),
+        Err(fault) => First::Answered(Err(fault)),
+    }
+}
+
+/// The question whose strata are those of the third set, where it is admissible; or why it isn't.
+fn by_set(graph: &Graph, sets: Sets) -> First
+    requires { AreThreeSets graph.now.n (has sets.x.bits) (has sets.y.bits) (has sets.given.bits) }
+    ensures { (l : Lists) → AreSets l sets.x.bits sets.y.bits sets.given.bits → IsFirst (graph_of graph.now) (of_set l) result }
+{
+    match adjusts(graph, sets.x, sets.y, sets.given) {
+        Ok(()) => First::Asked(Question {
+            x: sets.x,
+            y: sets.y,
+            given: VSet::EMPTY,
+            instruments: VSet::EMPTY,
+            strata: sets.given,
+            method: Method::Adjustment,
+        }),
+        Err(fault) => First::Answered(Ok(Unmet::NotAdmissible(sets, fault))),
+    }
 }

@@ -10,10 +10,12 @@ mod lines;
 mod objects;
 mod reply;
 mod request;
+mod way;
 
 pub use answer::Answer;
 pub use asking::question_of;
 pub use faults::BoundsFault;
-pub use first::{NoInstrument, QuestionOrReply, ask_first};
+pub use first::{QuestionOrReply, Unmet, ask_first};
 pub use reply::{bounds_reply, long_counts};
 pub use request::{ROW, Request};
+pub use way::Way;

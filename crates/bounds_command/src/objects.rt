@@ -2,12 +2,12 @@
 
 ghost use Rattle.std.specs.Prelude.{◌≡◌, map, OnOk, codes};
 ghost use Rattle.answer_json.specs.Progress.{with_value, with_values, with_member, with_members, array_of};
-ghost use Rattle.bounds_command.specs.Sentences.{asked_members};
+ghost use Rattle.bounds_command.specs.Sentences.{asked_members, method_members};
 ghost use Rattle.bounds_command.specs.Objects.{level_members, ends_members, bounds_json, bounds_begun, bounds_members, crossing_json, crossing_members};
 
 use crate::lines::{counts_text, value_text};
 use answer_json::Object;
-use bound_values::{CellBounds, CellCrossing, Question};
+use bound_values::{CellBounds, CellCrossing, Method, Question};
 use count_answers::entries;
 use count_json::push_cell;
 use count_table::Counts;
@@ -19,9 +19,21 @@ pub fn push_asked(object: &mut Object, names: &Names, question: Question) -> Res
     ensures { OnOk result (object.new ≡ with_members (asked_members names.now question) object.old) }
 {
     object.query(names, question.x, question.y, question.given)?;
-    object.set_at("instrument", names, question.instruments)?;
-    object.set_at("strata", names, question.strata)?;
+    push_method(object, names, question)?;
     Ok(())
+}
+
+/// The sets by which x and y are asked for.
+fn push_method(object: &mut Object, names: &Names, question: Question) -> Result<(), AllocError>
+    ensures { OnOk result (object.new ≡ with_members (method_members names.now question question.method) object.old) }
+{
+    match question.method {
+        Method::Instruments => {
+            object.set_at("instrument", names, question.instruments)?;
+            object.set_at("strata", names, question.strata)
+        }
+        Method::Adjustment => object.set_at("set", names, question.strata),
+    }
 }
 
 /// The levels of x, of y and of what is given in a cell.

@@ -1,24 +1,27 @@
 //! What `bounds` is asked.
 
-ghost use Rattle.std.specs.Prelude.{ℕ, ◌≡◌, false, List, IfOk, IsErrOf, IsTrue};
+ghost use Rattle.std.specs.Prelude.{ℕ, ◌≡◌, List, IfOk, IsErrOf, option_map};
 ghost use Rattle.command_words.specs.Form.{Use};
 ghost use Rattle.command_words.specs.Gives.{HoldsCall};
 ghost use Rattle.command_words.specs.ListViews.{names_in};
-ghost use Rattle.bounds_command.specs.Requests.{AreTogether};
+ghost use Rattle.bounds_command.specs.Ways.{way_of, way_for};
 
+use crate::way::Way;
 use command_words::forms::Entry;
-use command_words::typed::{RequestFault, Subject, names_or_empty, second_input, value_bytes};
+use command_words::typed::{
+    RequestFault, Subject, listed_names, names_or_empty, second_input, value_bytes,
+};
 use command_words::values::Values;
 use replies::Format;
 use std::alloc::Global;
 
-/// `bounds FILE COUNTS [--x L] [--y L] [--given L] [--instrument L [--strata L]] [--count NAME] [--exact] [--json]`
+/// `bounds FILE COUNTS [--x L] [--y L] [[--given L] [--instrument L [--strata L]] | --set L] [--count NAME] [--exact] [--json]`
 pub const ROW: Entry = Entry {
     name: "bounds",
     positionals: &["file", "counts"],
     optional: &[],
     required: &[],
-    options: &["x", "y", "given", "instrument", "strata", "count"],
+    options: &["x", "y", "given", "instrument", "strata", "set", "count"],
     flags: &["exact", "json"],
 };
 
@@ -29,9 +32,7 @@ pub struct Request<'a> {
     pub counts: &'a str,
     pub x: Option<Vec<Vec<u8>>>,
     pub y: Option<Vec<Vec<u8>>>,
-    pub given: Vec<Vec<u8>>,
-    pub instruments: Vec<Vec<u8>>,
-    pub strata: Vec<Vec<u8>>,
+    pub way: Way,
     pub count: Option<&'a [u8]>,
     pub exact: bool,
     pub format: Format,
@@ -52,20 +53,19 @@ impl<'a> Request<'a> {
         let count = value_bytes(values, "count");
         let exact = values.flag("exact");
         let format = Format::of(values.flag("json"));
+        let set = listed_names(alloc, values, "set")?;
         let given = names_or_empty(alloc, values, "given")?;
         let instruments = names_or_empty(alloc, values, "instrument")?;
         let strata = names_or_empty(alloc, values, "strata")?;
-        if !are_together(&instruments, &strata) {
+        let Some(way) = way_from(set, given, instruments, strata) else {
             return Err(RequestFault::NotUnderstood);
-        }
+        };
         Ok(Request {
             file,
             counts,
             x,
             y,
-            given,
-            instruments,
-            strata,
+            way,
             count,
             exact,
             format,
@@ -73,13 +73,30 @@ impl<'a> Request<'a> {
     }
 }
 
-/// Whether strata are named only where instruments are.
-fn are_together(instruments: &Vec<Vec<u8>>, strata: &Vec<Vec<u8>>) -> bool
-    ensures yes { IsTrue result → AreTogether (names_in instruments.now) (names_in strata.now) }
-    ensures no { result ≡ false → AreTogether (names_in instruments.now) (names_in strata.now) → ⊥ }
+/// The way that is asked for: strata are named only where instruments are, and a set excludes a condition, instruments and strata.
+fn way_from(
+    set: Option<Vec<Vec<u8>>>,
+    given: Vec<Vec<u8>>,
+    instruments: Vec<Vec<u8>>,
+    strata: Vec<Vec<u8>>,
+) -> Option<Way>
+    ensures { option_map way_of result ≡ way_for (option_map names_in set) (names_in given) (names_in instruments) (names_in strata) }
 {
-    if instruments.is_empty() {
-        return strata.is_empty();
+    let (bare, without, unstratified) = (
+        given.is_empty(),
+        instruments.is_empty(),
+        strata.is_empty(),
+    );
+    match set {
+        Some(_) if !bare => None,
+        Some(_) if !without => None,
+        Some(_) if !unstratified => None,
+        Some(set) => Some(Way::Adjusting { set }),
+        None if without && !unstratified => None,
+        None => Some(Way::Instruments {
+            given,
+            instruments,
+            strata,
+        }),
     }
-    true
 }

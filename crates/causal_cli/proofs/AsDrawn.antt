@@ -6,6 +6,8 @@ use Rattle.std.proofs.lemmas.Option.{none-some, same_Some}
 use Rattle.std.proofs.lemmas.List.Elements.{All-weaker}
 use Rattle.mixed_graph.specs.Bits.{has}
 use Rattle.mixed_graph.specs.Graphs.{MixedGraph}
+use Rattle.mixed_graph.specs.Masks.{union}
+use Rattle.mixed_graph.proofs.MaskLaws.{has_join}
 use Rattle.mixed_graph.specs.Shown.{graph_of}
 use Rattle.mixed_graph.specs.declared.sets.VSet.{VSet}
 use Rattle.finite_models.specs.Data.{meaning}
@@ -67,6 +69,15 @@ use Rattle.surrogate_command.specs.Right.{IsStop, IsSurrogateAnswer, stop_shown}
 use Rattle.surrogate_command.specs.declared.answer.Answer.{Answer as SurrogateAnswer}
 use Rattle.surrogate_command.specs.declared.answer.Answer.TheVariants as surrogated
 use Rattle.surrogate_command.specs.declared.sets.SurrogateSets.{SurrogateSets}
+use Rattle.treated_id.specs.Sets.{AreBefore}
+use Rattle.treated_drawn.specs.Drawn.{EqualsAmongAsDrawn, IsLostAmongAsDrawn}
+use Rattle.treated_drawn.specs.Laws.{IsAsked}
+use Rattle.treated_drawn.proofs.Among.{right_among_is_drawn, joint_lost_is_drawn}
+use Rattle.treated_command.specs.Right as treated_right
+use Rattle.treated_command.specs.Right.{IsTreatedAnswer}
+use Rattle.treated_command.specs.declared.answer.Answer.{Answer as TreatedAnswer}
+use Rattle.treated_command.specs.declared.answer.Answer.TheVariants as treated
+use Rattle.treated_command.proofs.Sets.{three_sets, turned}
 use Rattle.separation_commands.specs.SeparateRight as separate_right
 use Rattle.separation_commands.specs.SeparateRight.{IsSeparateAnswer}
 use Rattle.separation_commands.specs.declared.separate.answer.Answer.{Answer as SeparateAnswer}
@@ -91,10 +102,11 @@ use Rattle.evaluate_command.specs.declared.answer.Answer.TheVariants as evaluate
 use Rattle.check_command.specs.Right.{IsForText, of_formula, of_hedge, IsForCertificate}
 use Rattle.check_command.specs.declared.answer.Answer.{Answer as CheckAnswer}
 use Rattle.check_command.specs.declared.answer.Answer.TheVariants as checked
-use Rattle.causal_cli.specs.AsDrawn.{IsUnevaluatedAsDrawn, IsCheckedAsDrawn}
+use Rattle.causal_cli.specs.AsDrawn.{IsTreatedAsDrawn, IsUnevaluatedAsDrawn, IsCheckedAsDrawn}
 use Rattle.causal_cli.specs.AsDrawn.{IsRightAsDrawn, IsNotIdentifiable, IsNotIdentifiableOver, IsJointLost, IdentifiesAsDrawn, AdjustsAsDrawn}
 use Rattle.causal_cli.specs.AsDrawn.{IsAdjustedAsDrawn, IsSurrogateAsDrawn, IsSeparatedAsDrawn, IsRuledAsDrawn, IsIndependentAsDrawn, IsZeroAsDrawn}
 use Rattle.causal_cli.specs.AsDrawn.{ArePairsAsDrawn, AreZeroAsDrawn, AreDifferencesAsDrawn}
+use Rattle.causal_cli.proofs.TwoModels.{two_models}
 
 -- the observed graph of a diagram is that of the graph that was read
 observed : (d : Diagram) → IsObservedGraph d.read (graph_of d.observed.graph)
@@ -141,11 +153,13 @@ joint_drawn : (d : Diagram) (t : PlainTarget) (settled : Bool) (a : EffectHedge)
 joint_drawn d t settled a h =
     let g = d.read in
     let q = graph_of d.observed.graph in
+    let m = h.models in
     record {
       joint = hedge_drawn d a h.hedge;
-      no_formula = λ f free equal. h.not_fixed
-          (λ one two fit fit' serves serves' positive positive' agreed s within. formula_as_drawn_fixes (graph_of g.graph) g.graph.valid (has g.latent.bits)
-          q (observed d) t f free equal one two fit fit' serves serves' positive positive' agreed s within);
+      models = two_models g q (observed d) t m;
+      no_formula = λ f free equal. m.differ.unequal (formula_as_drawn_fixes (graph_of g.graph) g.graph.valid (has g.latent.bits)
+          q (observed d) t f free equal m.first m.second m.first_fits m.second_fits m.first_two m.second_two m.first_positive m.second_positive
+          m.observed m.differ.at m.differ.within);
       differs = λ is. not_identifiable g q (observed d) a.sets.x.bits a.sets.y.bits a.pair h.hedge.found.right.counter t (h.differs is);
     }
 
@@ -304,6 +318,41 @@ surrogates_sets wanted d s (surrogated.Blocked u district k) h = blocked_drawn w
 pub surrogates : (wanted : Bool) (x y : Names) (experiments : Experiments) (d : Diagram) (a : SurrogateAnswer)
     → IsSurrogateAnswer wanted d x y experiments (Ok a) → IsSurrogateAsDrawn d a
 surrogates wanted x y experiments d a h = surrogates_sets wanted d h.sets a h.decided
+
+-- ---- treated
+
+-- the sets of an effect among the treated
+asked_of_sets : (q : MixedGraph) (x y z : ℕ) → AreThreeSets q.vertices (has x) (has y) (has z) → AreBefore q x z → IsAsked q x y z
+asked_of_sets q x y z sets before = record {
+  x_low = sets.x_within;
+  z_low = sets.w_within;
+  y_off_x = λ v e. turned (has x v) (has y v) e (sets.x_y v);
+  y_off_z = λ v e. sets.y_w v e;
+  z_off_x = λ v e. turned (has x v) (has z v) e (sets.x_w v);
+  before = λ p v path end inside leads member.
+      before end (has_join x z end ∙ member) (record { start = p; next = v; path = path; inside = inside; leads = leads });
+}
+
+treats_sets : (d : Diagram) (s : Sets) (a : TreatedAnswer) → IsAsked (graph_of d.observed.graph) s.x.bits s.y.bits s.given.bits
+    → treated_right.Decides (graph_of d.observed.graph) s a → IsTreatedAsDrawn d a
+treats_sets d s (treated.Formula a f) asked h =
+    subst (λ (t : Sets). EqualsAmongAsDrawn (graph_of d.read.graph) (has d.read.latent.bits) t.x.bits t.y.bits t.given.bits (formula_view f)) (sym h.0.sets)
+    (right_among_is_drawn (graph_of d.read.graph) d.read.graph.valid (has d.read.latent.bits) (graph_of d.observed.graph) (observed d)
+    s.x.bits s.y.bits s.given.bits (formula_view f) h.1.observed h.1.equals)
+treats_sets d s (treated.Excluded a c k pair) asked h =
+    subst (λ (t : Sets). IsLostAmongAsDrawn (graph_of d.read.graph) (has d.read.latent.bits) d.observed.graph.n t.x.bits t.y.bits t.given.bits)
+    (sym h.0.sets)
+    (joint_lost_is_drawn (graph_of d.read.graph) d.read.graph.valid (has d.read.latent.bits) (graph_of d.observed.graph) (observed d)
+    s.x.bits s.y.bits s.given.bits asked
+    (effect_lost d.read (graph_of d.observed.graph) (observed d) s.x.bits (union s.y.bits s.given.bits) pair h.1.found.right.counter))
+treats_sets d s (treated.Left a c) asked h = tt
+
+-- a right answer of `treated`
+pub treats : (x y : Names) (given : List (List ℕ)) (d : Diagram) (a : TreatedAnswer) → IsTreatedAnswer d x y given (Ok a) → IsTreatedAsDrawn d a
+treats x y given d a h = treats_sets d h.sets a
+    (asked_of_sets (graph_of d.observed.graph) h.sets.x.bits h.sets.y.bits h.sets.given.bits
+    (three_sets (query_lists d.read d.observed.names x y (Some given)) d.observed.graph.n h.sets.x.bits h.sets.y.bits h.sets.given.bits d.observed.sized h.named)
+    h.is.before) h.is.decided
 
 -- ---- separate and rule
 

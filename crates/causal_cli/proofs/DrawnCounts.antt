@@ -29,10 +29,9 @@ use Rattle.command_words.specs.Form.{Text}
 use Rattle.diagram.specs.Sets.{Names}
 use Rattle.diagram.specs.declared.diagram.Diagram.{Diagram}
 use Rattle.diagram.proofs.ObservedParts.{part_of}
-use Rattle.evaluate_command.specs.Answers.{CoversEffect}
 use Rattle.evaluate_command.specs.Cells.{CellValue}
 use Rattle.evaluate_command.specs.Effects.{PlainEffect, target_of, Identifies}
-use Rattle.evaluate_command.specs.Right.{IsOverTable, IsForTable, IsForCounts}
+use Rattle.evaluate_command.specs.Right.{CoversEffect, IsOverTable, IsForTable, IsForCounts}
 use Rattle.evaluate_command.specs.Ways.{Way}
 use Rattle.evaluate_command.specs.declared.answer.Values.{Values}
 use Rattle.evaluate_command.specs.declared.answer.Values.TheVariants as values

@@ -26,6 +26,11 @@ use Rattle.surrogate_command.specs.Forms.{wants_common, told_form as surrogate_f
 use Rattle.surrogate_command.specs.Requests as surrogate_requests
 use Rattle.surrogate_command.specs.Right.{IsSurrogateAnswer}
 use Rattle.surrogate_command.specs.Telling.{surrogate_telling}
+use Rattle.treated_command.specs.Faults.{treated_refusal}
+use Rattle.treated_command.specs.Requests as treated_requests
+use Rattle.treated_command.specs.Right.{IsTreatedAnswer}
+use Rattle.treated_command.specs.Telling.{treated_telling}
+use Rattle.treated_command.specs.declared.fault.TreatedFault.{TreatedFault}
 use Rattle.separation_commands.specs.SeparateRequests as separate_requests
 use Rattle.separation_commands.specs.SeparateRight.{IsSeparateAnswer}
 use Rattle.separation_commands.specs.SeparateTelling.{separate_telling}
@@ -59,17 +64,28 @@ use Rattle.evaluate_command.specs.declared.answer.Answer.{Answer as EvaluateAnsw
 use Rattle.evaluate_command.specs.declared.answer.Answer.TheVariants as evaluations
 use Rattle.evaluate_command.specs.declared.faults.ValuesFault.{ValuesFault}
 use Rattle.evaluate_command.specs.declared.faults.ValuesFault.TheVariants as faults
+use Rattle.bounds_command.specs.Asking.{IsAsked}
+use Rattle.bounds_command.specs.BoundsTelling.{bounds_telling}
+use Rattle.bounds_command.specs.Faults.{bounds_refusal}
+use Rattle.bounds_command.specs.First.{lists_of, unmet_telling}
+use Rattle.bounds_command.specs.Requests as bounds_requests
+use Rattle.bounds_command.specs.Right as bounds_right
+use Rattle.bounds_command.specs.declared.faults.BoundsFault.{BoundsFault}
+use Rattle.bounds_command.specs.declared.faults.BoundsFault.TheVariants as bound_faults
+use Rattle.bounds_command.specs.declared.first.Unmet.{Unmet}
 use Rattle.command_run.specs.Answers.{HoldsAnswer, Defined, DefinedWith}
 use Rattle.command_run.specs.Commands.{Request, of}
 use Rattle.command_run.proofs.Deliveries.{mapped}
 use Rattle.causal_cli.specs.AsDrawn.{IdentifiesAsDrawn, IsAdjustedAsDrawn, IsSurrogateAsDrawn, IsSeparatedAsDrawn, IsRuledAsDrawn, ArePairsAsDrawn}
-use Rattle.causal_cli.specs.AsDrawn.{AreDifferencesAsDrawn, IsUnevaluatedAsDrawn, IsEvaluatedAsDrawn, IsCheckedAsDrawn}
+use Rattle.causal_cli.specs.AsDrawn.{IsTreatedAsDrawn, AreDifferencesAsDrawn, IsUnevaluatedAsDrawn, IsEvaluatedAsDrawn, IsCheckedAsDrawn, IsBoundedAsDrawn}
 use Rattle.causal_cli.specs.Calls.{Call, WrittenFor, WrittenForBoth}
-use Rattle.causal_cli.specs.Commands.{commands, form_of}
-use Rattle.causal_cli.specs.declared.commands.Command.TheVariants.{Identify, Adjust, Surrogate, Separate, Rule, Implications, Check, Evaluate}
-use Rattle.causal_cli.specs.Drawn.{IsIdentifiedAsDrawn, IsAdjusted, IsSurrogated, IsSeparated, IsRuled, IsImplied, IsImpliedOverCounts, IsImpliedIn, Implied, RightAsDrawn}
-use Rattle.causal_cli.specs.Drawn.{IsChecked, IsEvaluated, IsUnevaluated}
-use Rattle.causal_cli.proofs.AsDrawn.{identifies, adjusts, surrogates, separates, rules, implies, implies_over_counts, unevaluated, checks}
+use Rattle.causal_cli.specs.Commands.{commands}
+use Rattle.causal_cli.specs.declared.commands.Command.TheVariants.{Identify, Adjust, Surrogate, Treated, Separate, Rule, Implications, Check, Evaluate}
+use Rattle.causal_cli.specs.declared.commands.Command.TheVariants.{Bounds}
+use Rattle.causal_cli.specs.Drawn.{IsIdentifiedAsDrawn, IsAdjusted, IsSurrogated, IsSeparated, IsRuled, IsImplied, IsImpliedOverCounts, IsImpliedIn}
+use Rattle.causal_cli.specs.Drawn.{Implied, RightAsDrawn, IsTreated, IsChecked, IsEvaluated, IsUnevaluated, IsBounded}
+use Rattle.causal_cli.proofs.AsDrawn.{identifies, adjusts, surrogates, treats, separates, rules, implies, implies_over_counts, unevaluated, checks}
+use Rattle.causal_cli.proofs.DrawnBounds.{bounds_drawn}
 use Rattle.causal_cli.proofs.DrawnCounts.{evaluates}
 use Rattle.causal_cli.proofs.CallAnswers.{CallAnswer, on_words, on_file, on_both, Gave, under_name, under_names, written_for}
 use Rattle.causal_cli.proofs.ToldAnswers.{answered, answered_on_both}
@@ -77,6 +93,10 @@ use Rattle.causal_cli.proofs.ToldAnswers.{answered, answered_on_both}
 -- names that are refused have status 3
 target_refused : (e : TargetFault) → 1 < code_of (target_refusal.outcome e)
 target_refused e = omega arith
+
+-- and so have those of an effect among the treated
+treated_refused : (e : TreatedFault) → 1 < code_of (treated_refusal.outcome e)
+treated_refused e = omega arith
 
 -- and so have counts that are, another
 counts_refused : (e : CountsFault) → 1 < code_of (counts_refusal.outcome e)
@@ -105,6 +125,12 @@ module _ (r : Call) (uses : List Use) (code : ℕ) (o : Outcome) (text : Told) (
       answered surrogate_telling target_refusal target_refused (surrogate_form q.form) bytes code o text status small
       (λ d. IsSurrogateAnswer (wants_common q.form.writing) d q.x q.y q.experiments) IsSurrogateAsDrawn
       (surrogates (wants_common q.form.writing) q.x q.y q.experiments) h.diagram h.holds h.answer) whole
+
+  treated : CallAnswer r Treated uses o text → WrittenFor treated_requests.IsRequest (λ q. q.file) (λ q bytes. IsTreated q bytes code) r uses
+  treated = written_for r Treated uses o text (λ q. q.file) (λ q bytes. IsTreated q bytes code) (λ q h. h) (λ q. refl) (λ q. refl)
+      (λ q is bytes a. let h = held (of Treated q) bytes a in
+      answered treated_telling treated_refusal treated_refused q.form bytes code o text status small
+      (λ d. IsTreatedAnswer d q.x q.y q.given) IsTreatedAsDrawn (treats q.x q.y q.given) h.diagram h.holds h.answer) whole
 
   separated : CallAnswer r Separate uses o text → WrittenFor separate_requests.IsRequest (λ q. q.file) (λ q bytes. IsSeparated q bytes code) r uses
   separated = written_for r Separate uses o text (λ q. q.file) (λ q bytes. IsSeparated q bytes code) (λ q h. h) (λ q. refl) (λ q. refl)
@@ -299,6 +325,47 @@ module _ (r : Call) (uses : List Use) (code : ℕ) (text : Told) (status : code 
     whole = whole;
   }
 
+-- ---- bounds
+
+-- faults of counts and of bounds have another status
+bounds_refused : (names : List (List ℕ)) (e : BoundsFault) → 1 < code_of ((bounds_refusal names).outcome e)
+bounds_refused names bound_faults.TooLong = omega arith
+bounds_refused names (bound_faults.Counts fault) = omega arith
+bounds_refused names (bound_faults.NoRecords counts given cell) = omega arith
+bounds_refused names bound_faults.TooWide = omega arith
+bounds_refused names bound_faults.NoMemory = omega arith
+
+-- a yes is given over counts
+module _ (r : Call) (uses : List Use) (code : ℕ) (text : Told) (status : code ≡ 0) (whole : Appends r.before r.after text.text) where
+  no_bounds_alone : (k : Result Unmet TargetFault) → Yes ≡ outcome_in unmet_telling target_refusal k → ⊥
+  no_bounds_alone (Ok a) e = let c : 0 ≡ 1 = ap code_of e in omega (arith, c)
+  no_bounds_alone (Err fault) e = let c : 0 ≡ 3 = ap code_of e in omega (arith, c)
+
+  pub bounded : CallAnswer r Bounds uses Yes text
+      → WrittenForBoth bounds_requests.IsRequest (λ q. q.file) (λ q. q.counts) (λ q bytes other. IsBounded q bytes other code) r uses
+  bounded (on_words q is h) = absurd h
+  bounded (on_file q is file names h) = record {
+    request = q;
+    told = text;
+    asks = is;
+    right = under_name r.held q.file file (λ bytes. HoldsAnswer commands (of Bounds q) bytes Yes text)
+        (λ bytes. IfSome (r.held_second q.counts) (λ other. IsBounded q bytes other code text))
+        (λ bytes b. absurd (no_bounds_alone b.answer.answer b.answer.ends)) names h;
+    whole = whole;
+  }
+  bounded (on_both q is file second names names_second h) = record {
+    request = q;
+    told = text;
+    asks = is;
+    right = under_names r.held r.held_second q.file file q.counts second (λ bytes other. DefinedWith commands (of Bounds q) bytes other Yes text)
+        (λ bytes other. IsBounded q bytes other code text)
+        (λ bytes other d. answered_on_both bounds_telling (bounds_refusal d.0.observed.names) (bounds_refused d.0.observed.names) (plain_form q.format) bytes
+        code Yes text status (omega (arith, status)) other (λ d. IsAsked (graph_of d.observed.graph) (lists_of q d))
+        (λ d b. bounds_right.IsBounded q.exact (graph_of d.observed.graph) d.observed.names b q.count)
+        IsBoundedAsDrawn (λ d b a asked h. bounds_drawn q.exact d b q.count other a h) d.0 d.1 d.3.0 d.3.1 d.3.2) names names_second h;
+    whole = whole;
+  }
+
 -- ---- a run
 
 pub right_as_drawn_of : (r : Call) (code : ℕ) (o : Outcome) (text : Told) → code ≡ code_of o → (code ≤ 1 → Gave r o text) → RightAsDrawn r code
@@ -306,32 +373,38 @@ right_as_drawn_of r code Yes text c g = let h = g (omega (arith, c)) in record {
   identified = λ uses call small. identified r uses code Yes text c small h.whole (λ w bytes a. a) (h.answers Identify uses call);
   adjusted = λ uses call small. adjusted r uses code Yes text c small h.whole (λ w bytes a. a) (h.answers Adjust uses call);
   surrogated = λ uses call small. surrogated r uses code Yes text c small h.whole (λ w bytes a. a) (h.answers Surrogate uses call);
+  treated = λ uses call small. treated r uses code Yes text c small h.whole (λ w bytes a. a) (h.answers Treated uses call);
   separated = λ uses call small. separated r uses code Yes text c small h.whole (λ w bytes a. a) (h.answers Separate uses call);
   ruled = λ uses call small. ruled r uses code Yes text c small h.whole (λ w bytes a. a) (h.answers Rule uses call);
   checked = λ uses call small. checked r uses code Yes text c small h.whole (λ w bytes a. a) (h.answers Check uses call);
   implied = λ uses call zero. implied r code text c uses h.whole (h.answers Implications uses call);
   evaluated = λ uses call zero. evaluated r uses code text zero h.whole (h.answers Evaluate uses call);
   unevaluated = λ uses call one. absurd (omega (arith, c, one));
+  bounded = λ uses call zero. bounded r uses code text zero h.whole (h.answers Bounds uses call);
 }
 right_as_drawn_of r code No text c g = let h = g (omega (arith, c)) in record {
   identified = λ uses call small. identified r uses code No text c small h.whole (λ w bytes a. a) (h.answers Identify uses call);
   adjusted = λ uses call small. adjusted r uses code No text c small h.whole (λ w bytes a. a) (h.answers Adjust uses call);
   surrogated = λ uses call small. surrogated r uses code No text c small h.whole (λ w bytes a. a) (h.answers Surrogate uses call);
+  treated = λ uses call small. treated r uses code No text c small h.whole (λ w bytes a. a) (h.answers Treated uses call);
   separated = λ uses call small. separated r uses code No text c small h.whole (λ w bytes a. a) (h.answers Separate uses call);
   ruled = λ uses call small. ruled r uses code No text c small h.whole (λ w bytes a. a) (h.answers Rule uses call);
   checked = λ uses call small. checked r uses code No text c small h.whole (λ w bytes a. a) (h.answers Check uses call);
   implied = λ uses call zero. absurd (omega (arith, c, zero));
   evaluated = λ uses call zero. absurd (omega (arith, c, zero));
   unevaluated = λ uses call one. not_evaluated r uses code text one h.whole (h.answers Evaluate uses call);
+  bounded = λ uses call zero. absurd (omega (arith, c, zero));
 }
 right_as_drawn_of r code o text c g = record {
   identified = λ uses call small. absurd (omega (arith, c, small));
   adjusted = λ uses call small. absurd (omega (arith, c, small));
   surrogated = λ uses call small. absurd (omega (arith, c, small));
+  treated = λ uses call small. absurd (omega (arith, c, small));
   separated = λ uses call small. absurd (omega (arith, c, small));
   ruled = λ uses call small. absurd (omega (arith, c, small));
   implied = λ uses call zero. absurd (omega (arith, c, zero));
   checked = λ uses call small. absurd (omega (arith, c, small));
   evaluated = λ uses call zero. absurd (omega (arith, c, zero));
   unevaluated = λ uses call one. absurd (omega (arith, c, one));
+  bounded = λ uses call zero. absurd (omega (arith, c, zero));
 }

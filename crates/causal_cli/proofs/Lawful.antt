@@ -18,6 +18,8 @@ use Rattle.survey_command.proofs.Lawful.{survey_lawful}
 use Rattle.surrogate_command.proofs.Lawful.{surrogate_lawful}
 use Rattle.bounds_command.proofs.Lawful.{bounds_lawful}
 use Rattle.treated_command.proofs.Lawful.{treated_lawful}
+use Rattle.instruments_command.proofs.Lawful.{instruments_lawful}
+use Rattle.natural_command.proofs.Lawful.{natural_lawful}
 use Rattle.command_run.specs.Commands.{AreApart}
 use Rattle.command_run.specs.Laws.{AreLawful}
 use Rattle.causal_cli.specs.Commands.{commands, all_commands, row_for, form_of}
@@ -50,6 +52,8 @@ each command.Survey = survey_lawful
 each command.Surrogate = surrogate_lawful
 each command.Bounds = bounds_lawful
 each command.Treated = treated_lawful
+each command.Instruments = instruments_lawful
+each command.Natural = natural_lawful
 
 pub lawful : AreLawful commands
 lawful = record { each = each; apart = apart; clear = refl }

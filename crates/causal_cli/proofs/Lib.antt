@@ -2,9 +2,11 @@ pub mod Lawful
 pub mod CallAnswers
 mod AsDrawn
 mod DrawnCounts
+mod DrawnBounds
 mod ToldAnswers
 pub mod DrawnRuns
 pub mod Headlines
 mod OneFault
 mod Readable
 mod Texts
+mod TwoModels

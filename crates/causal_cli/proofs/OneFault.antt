@@ -1,16 +1,11 @@
--- Lists that are refused have one fault, and so one line.
+-- Lists that are refused have one fault.
 use Rattle.std.proofs.Common.{◌≡◌, ℕ, List, [], Option, Some, None, refl, sym, ap, ◌∙◌}
 use Rattle.std.proofs.lemmas.Option.{none-some, same_Some}
 use Rattle.targets.specs.declared.fault.TargetFault.{TargetFault}
 use Rattle.targets.specs.declared.fault.TargetFault.TheVariants.{Unknown, Latent, Twice, EmptyY, EmptyX}
 use Rattle.targets.specs.Targets.{NameFault, unknown, latent, twice, IsFaultOfTarget, Lists, fault_in, IsListFault, RuleLists, rule_fault, EffectLists}
 use Rattle.targets.specs.Targets.{effect_fault, IsEffectFault, IsTargetFault, IsRuleFault}
-use Rattle.replies.specs.Refusals.{target_told}
-use Rattle.replies.specs.Told.{Told}
-use Rattle.effect_answers.specs.Effects.{IsEffectRefusal}
 use Rattle.surrogate_command.specs.Sets.{SurrogateLists, surrogate_fault, IsSurrogateFault}
-use Rattle.surrogate_command.specs.Asked.{IsRefusal}
-use Rattle.causal_cli.specs.Texts.{IsOneText}
 
 -- the fault of a target that a name at fault makes
 abbrev named : NameFault → TargetFault
@@ -47,11 +42,6 @@ one_kind first y x _ _ (empty_x a c) (empty_x b d) = refl
 one_fault : (first : Option NameFault) (y x : List (List ℕ)) (f k : TargetFault) → IsFaultOfTarget first y x f → IsFaultOfTarget first y x k → k ≡ f
 one_fault first y x f k a b = one_kind first y x f k (kind_of first y x f a) (kind_of first y x k b)
 
--- and one line
-one_line : (first : Option NameFault) (y x : List (List ℕ)) (f k : TargetFault) (text line : Told) → IsFaultOfTarget first y x f
-    → IsFaultOfTarget first y x k → text ≡ target_told f → line ≡ target_told k → line ≡ text
-one_line first y x f k text line a b p q = q ∙ ap (λ (e : TargetFault). target_told e) (one_fault first y x f k a b) ∙ sym p
-
 pub one_target_fault : (l : Lists) (f k : TargetFault) → IsTargetFault l f → IsTargetFault l k → k ≡ f
 one_target_fault l f k a b = one_fault (fault_in l) l.y l.x f k a b
 
@@ -73,14 +63,9 @@ of_effect l f h = h
 pub one_effect_fault : (l : EffectLists) (f k : TargetFault) → IsEffectFault l f → IsEffectFault l k → k ≡ f
 one_effect_fault l f k a b = one_fault (effect_fault l) l.y l.x f k (of_effect l f a) (of_effect l k b)
 
-pub one_effect_refusal : (l : EffectLists) → IsOneText (IsEffectRefusal l)
-one_effect_refusal l text line a b = one_line (effect_fault l) l.y l.x a.fault b.fault text line (of_effect l a.fault a.is_fault)
-    (of_effect l b.fault b.is_fault) a.prints b.prints
-
 of_surrogate : (l : SurrogateLists) (f : TargetFault) → IsSurrogateFault l f → IsFaultOfTarget (surrogate_fault l) l.effect.y l.effect.x f
 of_surrogate l EmptyX h = absurd h
 of_surrogate l f h = h
 
-pub one_surrogate_refusal : (l : SurrogateLists) → IsOneText (IsRefusal l)
-one_surrogate_refusal l text line a b = one_line (surrogate_fault l) l.effect.y l.effect.x a.fault b.fault text line (of_surrogate l a.fault a.is_fault)
-    (of_surrogate l b.fault b.is_fault) a.prints b.prints
+pub one_surrogate_fault : (l : SurrogateLists) (f k : TargetFault) → IsSurrogateFault l f → IsSurrogateFault l k → k ≡ f
+one_surrogate_fault l f k a b = one_fault (surrogate_fault l) l.effect.y l.effect.x f k (of_surrogate l f a) (of_surrogate l k b)

@@ -1,5 +1,5 @@
 -- That the text of an answer is fixed.
-use Rattle.std.proofs.Common.{◌≡◌, ◌≢◌, ◌≤◌, ℕ, Bool, true, false, List, [], ◌∷◌, ◌&&◌, nat_lt, map, Some, None, Result, Ok, Err, codes, refl, sym, ap, ◌∙◌}
+use Rattle.std.proofs.Common.{◌≡◌, ◌≢◌, ◌≤◌, ℕ, Bool, true, false, List, [], ◌∷◌, ◌&&◌, nat_lt, map, Some, Result, Ok, Err, codes, refl, sym, ap, ◌∙◌}
 use Rattle.std.proofs.Common.{subst, arith}
 use mathlib.Core.Path.{fun_ext}
 use Rattle.std.proofs.lemmas.Bool.{false≢true}
@@ -24,14 +24,16 @@ use Rattle.json.specs.Json.{string}
 use Rattle.answer_json.specs.Progress.{array_of, object_of, json_line}
 use Rattle.answer_json.specs.Values.{text_json, vertex_json, pairs_json}
 use Rattle.replies.specs.declared.outcome.Outcome.{Outcome}
-use Rattle.replies.specs.declared.outcome.Outcome.TheVariants.{Yes, No, Graph}
+use Rattle.replies.specs.declared.outcome.Outcome.TheVariants.{Yes, No}
 use Rattle.replies.specs.OneOutcome.{IsAnswerOn}
 use Rattle.diagram.specs.Sets.{Names, effect_lists, query_lists, rule_lists}
 use Rattle.diagram.specs.declared.diagram.Diagram.{Diagram}
 use Rattle.diagram.proofs.OneDiagram.{AreSameDiagrams, same_drawing, same_effect_lists, same_query_lists, same_rule_lists}
 use Rattle.replies.proofs.OneGraph.{one_holding}
-use Rattle.replies.proofs.OneTarget.{one_set, same_two}
+use Rattle.replies.proofs.OneTarget.{one_set}
 use Rattle.told.specs.declared.form.Form.{Form}
+use Rattle.replies.specs.Refusals.{target_told}
+use Rattle.told.proofs.OneTold.{one_told as told_once}
 use Rattle.told.specs.Forms.{plain_form}
 use Rattle.told.specs.Refusals.{target_refusal}
 use Rattle.told.specs.Telling.{Telling, Refusal, Tells, outcome_in, told_in}
@@ -62,29 +64,28 @@ use Rattle.identify_command.specs.Telling.{identify_telling}
 use Rattle.identify_command.proofs.Lawful.{same_asked}
 use Rattle.identify_command.proofs.Lists.{one_target}
 use Rattle.identify_command.proofs.OneText.{one_identification, joint_sets, one_sets as one_effect_sets}
-use Rattle.experiment_lists.specs.Words.{Lists as Experiments}
-use Rattle.surrogate_command.specs.Answers as surrogates
+use Rattle.surrogate_command.specs.Forms.{wants_common, told_form as surrogate_form}
+use Rattle.surrogate_command.specs.Right.{IsForNames as IsForExperiments}
 use Rattle.surrogate_command.specs.Sets.{SurrogateLists, surrogate_lists}
+use Rattle.surrogate_command.specs.Telling.{surrogate_telling}
+use Rattle.surrogate_command.specs.declared.answer.Answer.{Answer as SurrogateAnswer}
+use Rattle.surrogate_command.specs.declared.answer.Answer.TheVariants as surrogated
 use Rattle.surrogate_command.specs.declared.form.Form.{Form as SurrogateForm}
 use Rattle.surrogate_command.proofs.Exclusive.{same_surrogate_lists}
 use Rattle.surrogate_command.specs.Command.{surrogate_command}
-use Rattle.surrogate_command.proofs.SurrogateTold.{surrogate_as_told}
-use Rattle.surrogate_command.proofs.OneText.{surrogate_yes_once, surrogate_no_once}
+use Rattle.surrogate_command.proofs.OneText.{one_over_experiments}
 use Rattle.survey_command.proofs.OneText.{one_survey_text}
-use Rattle.implications_command.specs.Answers.{FirstAnswer, DifferencesAnswer}
 use Rattle.implications_command.specs.Command.{implications_command}
-use Rattle.implications_command.proofs.ImplicationsTold.{first_as_told, differences_as_told}
-use Rattle.implications_command.proofs.OneText.{first_text, differences_text}
+use Rattle.implications_command.proofs.OneText.{one_listing, IsMeasured, one_measuring}
 use Rattle.evaluate_command.specs.Command.{evaluate_command}
 use Rattle.evaluate_command.specs.First.{HasHedge, HasJointHedge, IsForDiagram}
 use Rattle.evaluate_command.specs.Telling.{evaluate_telling}
 use Rattle.evaluate_command.specs.declared.answer.Answer.{Answer as EvaluateAnswer}
 use Rattle.evaluate_command.specs.declared.answer.Answer.TheVariants as evaluated
 use Rattle.evaluate_command.specs.Ways.{Way, by_procedure, by_adjusting, by_condition}
-use Rattle.evaluate_command.proofs.EvaluateTold.{evaluate_as_told}
-use Rattle.evaluate_command.proofs.OneText.{evaluate_text}
+use Rattle.evaluate_command.proofs.OneText.{one_evaluation}
 use Rattle.causal_cli.specs.Texts.{IsOneText, adjusts, TextsAreOne}
-use Rattle.causal_cli.proofs.OneFault.{one_target_fault, one_rule_fault, one_list_fault, one_effect_fault, one_effect_refusal, one_surrogate_refusal}
+use Rattle.causal_cli.proofs.OneFault.{one_target_fault, one_rule_fault, one_list_fault, one_effect_fault, one_surrogate_fault}
 
 -- an answer that has one text on diagrams that are the same has one on the bytes of a file
 on_bytes : (bytes : List ℕ) (answer : Diagram → Outcome → Told → Type 0) (o : Outcome)
@@ -110,23 +111,21 @@ for_diagrams lists answer same once = of_diagrams lists answer same (λ d. once 
 
 -- ---- values
 
--- right answers with one outcome, of which one thing is told, have one text; a yes or a no is no refusal
+-- right answers with one outcome, of which one thing is told, have one text
 module _ {A : Type 0} (t : Telling A) (form : Form) (names : List (List ℕ)) (small : (a : A) → code_of (t.outcome a) ≤ 1) (o : Outcome) where
   one_told : (right : Result A TargetFault → Type 0)
       → ((a b : A) → right (Ok a) → right (Ok b) → t.outcome a ≡ o → t.outcome b ≡ t.outcome a
       → told_in t target_refusal form names (Ok b) ≡ told_in t target_refusal form names (Ok a))
       → ((e f : TargetFault) → right (Err e) → right (Err f) → f ≡ e) → IsOneText (Tells t target_refusal right form names o)
-  one_told right answers faults told other x y = y.prints ∙ go x.answer y.answer x.right y.right x.ends y.ends ∙ sym x.prints
+  one_told right answers faults told other x y =
+      told_once t target_refusal (record { answered = small; refused = λ e. omega arith }) form names names
+      (λ r. right r × (o ≡ outcome_in t target_refusal r)) (λ r. right r × (o ≡ outcome_in t target_refusal r))
+      (λ a b f g ends. answers a b f.0 g.0 (sym f.1) ends) (λ e f g h. ap target_told (faults e f g.0 h.0))
+      o told other (with_end told x) (with_end other y)
     where
-      apart : (a : A) → o ≡ t.outcome a → o ≡ Graph → ⊥
-      apart a p q = let c : code_of (t.outcome a) ≡ 3 = ap code_of (sym p ∙ q) in omega (arith, c, small a)
-
-      go : (a b : Result A TargetFault) → right a → right b → o ≡ outcome_in t target_refusal a → o ≡ outcome_in t target_refusal b
-          → told_in t target_refusal form names b ≡ told_in t target_refusal form names a
-      go (Ok a) (Ok b) f g p q = answers a b f g (sym p) (sym q ∙ p)
-      go (Err e) (Err k) f g p q = ap (λ (r : TargetFault). told_in t target_refusal form names (Err r)) (faults e k f g)
-      go (Ok a) (Err e) f g p q = absurd (apart a p q)
-      go (Err e) (Ok a) f g p q = absurd (apart a q p)
+      with_end : (line : Told) → Tells t target_refusal right form names o line
+          → Tells t target_refusal (λ r. right r × (o ≡ outcome_in t target_refusal r)) form names o line
+      with_end line h = record { answer = h.answer; right = (h.right, h.ends); ends = h.ends; prints = h.prints }
 
 -- ---- separate
 
@@ -261,21 +260,18 @@ graph_once format project o d e s told other x y = y.prints ∙ go x.answer y.an
 
 -- ---- surrogate
 
-surrogated_once : (o : Outcome) (form : SurrogateForm) (d : Diagram) (l : SurrogateLists)
-    → IsOneText (surrogates.ListsAnswer form (graph_of d.observed.graph) l o)
-surrogated_once Yes form d l = surrogate_yes_once form (graph_of d.observed.graph) l
-surrogated_once No form d l = surrogate_no_once form (graph_of d.observed.graph) d.observed.graph.valid d.observed.graph.small l
-surrogated_once Graph form d l = one_surrogate_refusal l
-surrogated_once o form d l = λ text line a b. absurd a
+surrogate_small : (a : SurrogateAnswer) → code_of (surrogate_telling.outcome a) ≤ 1
+surrogate_small (surrogated.Formula s f) = omega arith
+surrogate_small (surrogated.Unfound s district h) = omega arith
+surrogate_small (surrogated.Blocked s district h) = omega arith
 
-surrogate_once : (o : Outcome) (form : SurrogateForm) (x y : Names) (experiments : Experiments) (d e : Diagram)
-    → AreSameDiagrams d e → (text line : Told) → surrogates.SurrogateAnswer form d x y experiments o text
-    → surrogates.SurrogateAnswer form e x y experiments o line → line ≡ text
-surrogate_once o form x y experiments =
-    of_diagrams (λ d. surrogate_lists d.read d.observed.names x y experiments) (λ q l. surrogates.ListsAnswer form q l o)
-    (same_surrogate_lists x y experiments) (λ d. surrogated_once o form d (surrogate_lists d.read d.observed.names x y experiments))
-
--- ---- graph
+surrogated_once : (form : SurrogateForm) (o : Outcome) (d : Diagram) (l : SurrogateLists)
+    → IsOneText (Tells surrogate_telling target_refusal (IsForExperiments (wants_common form.writing) (graph_of d.observed.graph) l) (surrogate_form form)
+    d.observed.names o)
+surrogated_once form o d l = one_told surrogate_telling (surrogate_form form) d.observed.names surrogate_small o
+    (IsForExperiments (wants_common form.writing) (graph_of d.observed.graph) l)
+    (λ a b f g p ends. one_over_experiments form d.observed.names (graph_of d.observed.graph) d.observed.graph.valid d.observed.graph.small l a b f g ends)
+    (one_surrogate_fault l)
 
 -- ---- evaluate, before the counts
 
@@ -392,18 +388,16 @@ texts_are_one = record {
       (λ d e s. λ i. (same_asked q.x q.y q.given d e s i, s.observed.names i))
       (λ d. identified_once q.form o told d (asked_of d q.x q.y q.given)) d e s text line a b);
   surrogate = λ q o bytes. on_bytes bytes (λ d. surrogate_command.by_diagram q d) o (λ d e s text line a b.
-      surrogate_once o q.form q.x q.y q.experiments d e s text line
-      (surrogate_as_told q.form d q.x q.y q.experiments o text a) (surrogate_as_told q.form e q.x q.y q.experiments o line b));
-  implications = λ q o bytes. on_bytes bytes (λ d. implications_command.by_diagram q d) o (λ d e s text line a b.
-      for_diagrams (λ d. d.observed.names) (λ p names. FirstAnswer q.format q.counts p names o) (λ d e s. s.observed.names) (first_text q.format q.counts o)
-      d e s text line (first_as_told q.format q.counts d.observed o text a) (first_as_told q.format q.counts e.observed o line b));
+      of_diagrams {L = SurrogateLists × List (List ℕ)} (λ d. (surrogate_lists d.read d.observed.names q.x q.y q.experiments, d.observed.names))
+      (λ p l. Tells surrogate_telling target_refusal (IsForExperiments (wants_common q.form.writing) p l.0) (surrogate_form q.form) l.1 o)
+      (λ d e s. λ i. (same_surrogate_lists q.x q.y q.experiments d e s i, s.observed.names i))
+      (λ d. surrogated_once q.form o d (surrogate_lists d.read d.observed.names q.x q.y q.experiments)) d e s text line a b);
+  implications = λ q o bytes. on_bytes bytes (λ d. implications_command.by_diagram q d) o (λ d e s.
+      one_listing q.format d.observed e.observed (sym (same_drawing d e s)) s.observed.names q.counts o);
   implications_over_counts = λ q o bytes other. on_bytes bytes (λ d. implications_command.by_both q d other) o (λ d e s text line a b.
-      for_diagrams (λ d. d.observed.names) (λ p names. DifferencesAnswer q.format p names q.count other o) (λ d e s. s.observed.names)
-      (differences_text q.format q.count other o) d e s text line
-      (differences_as_told q.format d.observed q.count other o text a) (differences_as_told q.format e.observed q.count other o line b));
+      for_diagrams (λ d. d.observed.names) (λ p names. IsMeasured q.format q.count other o p names) (λ d e s. s.observed.names)
+      (one_measuring q.format q.count other o) d e s text line a b);
   evaluate_before_counts = λ q other o bytes. on_bytes bytes (λ d. evaluate_command.by_diagram q d) o (alone_once (plain_form q.format) q.way other o q.x q.y);
-  evaluate_over_counts = λ q fixed o bytes other. on_bytes bytes (λ d. evaluate_command.by_both q d other) o (λ d e s text line a b.
-      evaluate_text q.format q.exact q.zero q.way fixed q.x q.y q.count other o d e s text line
-      (evaluate_as_told q.format q.exact q.zero q.way d q.x q.y q.count other o text a)
-      (evaluate_as_told q.format q.exact q.zero q.way e q.x q.y q.count other o line b));
+  evaluate_over_counts = λ q fixed o bytes other. on_bytes bytes (λ d. evaluate_command.by_both q d other) o
+      (one_evaluation q.format q.exact q.zero q.way fixed q.x q.y q.count other o);
 }

@@ -16,6 +16,7 @@ use Rattle.dag_reader.specs.declared.graph.ReadGraph.{ReadGraph}
 use Rattle.hidden_models.specs.Folding.{IsObservedPositive, IsMatchedAsDrawn, values_after, drawn_effect}
 use Rattle.hidden_models.specs.FoldingLaws.{EqualsAsDrawn}
 use Rattle.hidden_models.specs.Statements.{AreIndependentAsDrawn, AreDependentAsDrawn, AreEqualSidesAsDrawn, DifferSomewhereAsDrawn}
+use Rattle.hidden_models.specs.Unfolding.{AgreeAsDrawn, DifferOnAsDrawn}
 use Rattle.hidden_models.specs.Unfolding.{NotIdentifiableAsDrawn, NotIdentifiableOverAsDrawn, FailsSomewhereAsDrawn}
 use Rattle.adjustment.specs.Formulas.{adjustment_formula}
 use Rattle.surrogates.specs.Answers.{IsBlockedTogether}
@@ -38,6 +39,9 @@ use Rattle.adjust_command.specs.declared.answer.Answer.{Answer as AdjustAnswer}
 use Rattle.adjust_command.specs.declared.answer.Answer.TheVariants as adjusted
 use Rattle.surrogate_command.specs.declared.answer.Answer.{Answer as SurrogateAnswer}
 use Rattle.surrogate_command.specs.declared.answer.Answer.TheVariants as surrogated
+use Rattle.treated_drawn.specs.Drawn.{EqualsAmongAsDrawn, IsLostAmongAsDrawn}
+use Rattle.treated_command.specs.declared.answer.Answer.{Answer as TreatedAnswer}
+use Rattle.treated_command.specs.declared.answer.Answer.TheVariants as treated
 use Rattle.separation_commands.specs.declared.separate.answer.Answer.{Answer as SeparateAnswer}
 use Rattle.separation_commands.specs.declared.separate.answer.Answer.TheVariants as separated
 use Rattle.separation_commands.specs.declared.rule.answer.Answer.{Answer as RuleAnswer}
@@ -55,6 +59,16 @@ use Rattle.evaluate_command.specs.declared.answer.Answer.{Answer as EvaluateAnsw
 use Rattle.evaluate_command.specs.declared.answer.Answer.TheVariants as evaluated
 use Rattle.check_command.specs.declared.answer.Answer.{Answer as CheckAnswer}
 use Rattle.check_command.specs.declared.answer.Answer.TheVariants as checked
+use Rattle.natural_bounds.specs.declared.ends.End.{End}
+use Rattle.natural_bounds.specs.declared.ends.End.TheVariants.{AtLeast, AtMost}
+use Rattle.natural_bounds.specs.Drawn.{BoundsAsDrawn, HasNoModelAsDrawn}
+use Rattle.bound_values.specs.declared.questions.Question.{Question}
+use Rattle.bound_values.specs.declared.values.Value.{Value}
+use Rattle.bound_values.specs.declared.values.CellBounds.{CellBounds}
+use Rattle.bound_values.specs.declared.found.Found.{Found}
+use Rattle.bound_values.specs.declared.found.Found.TheVariants.{Crossed, Bounded}
+use Rattle.bound_values.specs.Told.{number_of}
+use Rattle.bounds_command.specs.declared.answer.Answer.{Answer as BoundsAnswer}
 
 -- ---- formulas and effects
 
@@ -77,12 +91,24 @@ HasNoFormulaAsDrawn g t = (f : PlainFormula) → is_do_free f ≡ true → IsRig
 abbrev pub IsNotIdentifiableOver : ReadGraph → List ℕ → PlainTarget → Type 0
 IsNotIdentifiableOver g zs t = NotIdentifiableOverAsDrawn (graph_of g.graph) (has g.latent.bits) zs t
 
+-- two models of the graph that was read, positive on the observed vertices, have equal observed probabilities and, at some values, two values of the target
+pub record HasTwoModels (g : ReadGraph) (t : PlainTarget) : Type 0 where
+  pub first : FiniteModel
+  pub second : FiniteModel
+  pub first_fits : Fits (graph_of g.graph) first
+  pub second_fits : Fits (graph_of g.graph) second
+  pub first_positive : IsObservedPositive (has g.latent.bits) first
+  pub second_positive : IsObservedPositive (has g.latent.bits) second
+  pub observed : AgreeAsDrawn (has g.latent.bits) first second
+  pub differ : DifferOnAsDrawn (has g.latent.bits) first second t
+
 -- ---- identify
 
--- The joint effect into which the target turns isn't identifiable, and the target itself has no formula; where its observations settle it, it isn't
--- identifiable by the same two models.
+-- The joint effect into which the target turns isn't identifiable, and two models give the target itself two values, so it has no formula; where its
+-- observations settle it, it isn't identifiable by the same two models as the joint effect.
 pub record IsJointLost (g : ReadGraph) (t : PlainTarget) (settled : Bool) (h : EffectHedge) : Type 0 where
   pub joint : IsNotIdentifiable g (effect_of h)
+  pub models : HasTwoModels g t
   pub no_formula : HasNoFormulaAsDrawn g t
   pub differs : IsTrue settled → IsNotIdentifiable g t
 
@@ -120,6 +146,17 @@ IsSurrogateAsDrawn d (surrogated.Unfound s district h) = IsNotIdentifiable d.rea
     → IsNotIdentifiableOver d.read (masks_of s.experiments.items) (effect_on s.x.bits s.y.bits))
 IsSurrogateAsDrawn d (surrogated.Blocked s district h) = IsNotIdentifiable d.read (effect_on s.x.bits s.y.bits)
     × IsNotIdentifiableOver d.read (masks_of s.experiments.items) (effect_on s.x.bits s.y.bits)
+
+-- ---- treated
+
+-- A formula equals the effect among those whose x, and what is given, were observed. What a hedge for the joint effect excludes isn't identifiable: two
+-- models show it. Of what is left open nothing is said.
+abbrev pub IsTreatedAsDrawn : Diagram → TreatedAnswer → Type 0
+IsTreatedAsDrawn d (treated.Formula a f) = EqualsAmongAsDrawn (graph_of d.read.graph) (has d.read.latent.bits) a.sets.x.bits a.sets.y.bits a.sets.given.bits
+    (formula_view f)
+IsTreatedAsDrawn d (treated.Excluded a c h pair) = IsLostAmongAsDrawn (graph_of d.read.graph) (has d.read.latent.bits) d.observed.graph.n a.sets.x.bits
+    a.sets.y.bits a.sets.given.bits
+IsTreatedAsDrawn d (treated.Left a c) = Unit {0}
 
 -- ---- separate and rule
 
@@ -213,3 +250,26 @@ IsCheckedAsDrawn d zs (checked.AcceptedFormula a) = IsRightAsDrawn d.read (targe
 IsCheckedAsDrawn d zs (checked.AcceptedHedge s h over) =
     IsNotIdentifiable d.read (effect_on s.x.bits s.y.bits) × IsNotIdentifiableOver d.read zs (effect_on s.x.bits s.y.bits)
 IsCheckedAsDrawn d zs a = Unit {0}
+
+-- ---- bounds
+
+-- an end of the bounds of a question bounds P(y | do(x), given) at the cell in the diagram as drawn: in every model of the graph that was read, positive
+-- or not, whose observed weights are those of the counts, up to one factor, wherever the observed vertices have the levels of the cell
+abbrev pub EndHoldsAsDrawn : End → Diagram → Question → Table → (cell : List ℕ) → Value → Type 0
+EndHoldsAsDrawn end d q t cell v = BoundsAsDrawn end (graph_of d.read.graph) (has d.read.latent.bits) (has q.x.bits) (has q.y.bits) (has q.given.bits)
+    (is_used t) (weights_in d.observed.graph.n t) (total t.rows) (cell_of cell) (number_of v)
+
+-- both ends do
+pub record EnclosesAsDrawn (d : Diagram) (q : Question) (t : Table) (b : CellBounds) : Type 0 where
+  pub at_least : EndHoldsAsDrawn AtLeast d q t b.cell b.at_least
+  pub at_most : EndHoldsAsDrawn AtMost d q t b.cell b.at_most
+
+-- so do all bounds that are found; and where bounds cross, no model of the diagram as drawn has the counts
+abbrev pub IsFoundAsDrawn : Diagram → Question → Table → Found → Type 0
+IsFoundAsDrawn d q t (Bounded bounds) = All (EnclosesAsDrawn d q t) bounds.items
+IsFoundAsDrawn d q t (Crossed c) = HasNoModelAsDrawn (graph_of d.read.graph) (has d.read.latent.bits) (is_used t) (weights_in d.observed.graph.n t)
+    (total t.rows)
+
+-- those of an answer
+abbrev pub IsBoundedAsDrawn : Diagram → Question → BoundsAnswer → Type 0
+IsBoundedAsDrawn d q a = IsFoundAsDrawn d q a.counts a.found

@@ -30,6 +30,10 @@ use Rattle.bounds_command.specs.Command.{bounds_command, bounds_left}
 use Rattle.bounds_command.specs.Requests as of_bounds
 use Rattle.treated_command.specs.Command.{treated_command}
 use Rattle.treated_command.specs.Requests as of_treated
+use Rattle.instruments_command.specs.Command.{instruments_command}
+use Rattle.instruments_command.specs.Requests as of_instruments
+use Rattle.natural_command.specs.Command.{natural_command}
+use Rattle.natural_command.specs.Requests as of_natural
 use Rattle.prob_expr.specs.Listed.{masks_of}
 use Rattle.evaluate_command.specs.Effects.{effect_in}
 use Rattle.causal_cli.specs.declared.commands.Command.{Command}
@@ -44,7 +48,8 @@ use Rattle.causal_cli.specs.declared.second.SecondInput.TheVariants as input
 -- all commands, in the order of the table
 abbrev pub all_commands : List Command
 all_commands = command.Graph ∷ command.Separate ∷ command.Rule ∷ command.Identify ∷ command.Check ∷ command.Adjust ∷ command.Evaluate ∷ command.Equivalent
-    ∷ command.Survey ∷ command.Implications ∷ command.Surrogate ∷ command.Bounds ∷ command.Treated ∷ []
+    ∷ command.Survey ∷ command.Implications ∷ command.Surrogate ∷ command.Bounds ∷ command.Treated
+    ∷ command.Instruments ∷ command.Natural ∷ []
 
 -- the row of a command
 abbrev pub row_for : Command → Row
@@ -61,6 +66,8 @@ row_for command.Implications = of_implications.implications_row
 row_for command.Surrogate = of_surrogate.surrogate_row
 row_for command.Bounds = of_bounds.bounds_row
 row_for command.Treated = of_treated.treated_row
+row_for command.Instruments = of_instruments.instruments_row
+row_for command.Natural = of_natural.natural_row
 
 -- the table of commands
 abbrev pub table : List Row
@@ -81,6 +88,8 @@ form_of command.Implications = implications_command
 form_of command.Surrogate = surrogate_command
 form_of command.Bounds = bounds_command
 form_of command.Treated = treated_command
+form_of command.Instruments = instruments_command
+form_of command.Natural = natural_command
 
 -- the commands, with their names where words ask for nothing
 abbrev pub commands : CommandSet
@@ -103,6 +112,8 @@ request_of (request.Survey q) = of command.Survey (of_survey.request_of q)
 request_of (request.Surrogate q) = of command.Surrogate (of_surrogate.request_of q)
 request_of (request.Bounds q) = of command.Bounds (of_bounds.request_of q)
 request_of (request.Treated q) = of command.Treated (of_treated.request_of q)
+request_of (request.Instruments q) = of command.Instruments (of_instruments.request_of q)
+request_of (request.Natural q) = of command.Natural (of_natural.request_of q)
 
 -- what is left to answer on a diagram
 abbrev pub left_of : Diagram → SecondInput → Remainder

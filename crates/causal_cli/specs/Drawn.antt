@@ -19,6 +19,10 @@ use Rattle.surrogate_command.specs.Requests.{surrogate_row}
 use Rattle.surrogate_command.specs.Requests as surrogate_requests
 use Rattle.surrogate_command.specs.Right.{IsSurrogateAnswer}
 use Rattle.surrogate_command.specs.Telling.{surrogate_telling}
+use Rattle.treated_command.specs.Requests.{treated_row}
+use Rattle.treated_command.specs.Requests as treated_requests
+use Rattle.treated_command.specs.Right.{IsTreatedAnswer}
+use Rattle.treated_command.specs.Telling.{treated_telling}
 use Rattle.separation_commands.specs.SeparateRequests.{separate_row}
 use Rattle.separation_commands.specs.SeparateRequests as separate_requests
 use Rattle.separation_commands.specs.SeparateRight.{IsSeparateAnswer}
@@ -42,12 +46,19 @@ use Rattle.evaluate_command.specs.Requests.{evaluate_row}
 use Rattle.evaluate_command.specs.Requests as evaluate_requests
 use Rattle.evaluate_command.specs.Right as evaluate_right
 use Rattle.evaluate_command.specs.Telling.{evaluate_telling}
+use Rattle.bounds_command.specs.Asking.{IsAsked}
+use Rattle.bounds_command.specs.BoundsTelling.{bounds_telling}
+use Rattle.bounds_command.specs.First.{lists_of}
+use Rattle.bounds_command.specs.Requests.{bounds_row}
+use Rattle.bounds_command.specs.Requests as bounds_requests
+use Rattle.bounds_command.specs.Right as bounds_right
 use Rattle.causal_cli.specs.Answered.{IsAnswered, IsAnsweredOnBoth}
-use Rattle.causal_cli.specs.AsDrawn.{IdentifiesAsDrawn, IsAdjustedAsDrawn, IsSurrogateAsDrawn, IsSeparatedAsDrawn, IsRuledAsDrawn, ArePairsAsDrawn, AreDifferencesAsDrawn}
-use Rattle.causal_cli.specs.AsDrawn.{IsUnevaluatedAsDrawn, IsEvaluatedAsDrawn, IsCheckedAsDrawn}
+use Rattle.causal_cli.specs.AsDrawn.{IdentifiesAsDrawn, IsAdjustedAsDrawn, IsSurrogateAsDrawn, IsSeparatedAsDrawn, IsRuledAsDrawn, ArePairsAsDrawn}
+use Rattle.causal_cli.specs.AsDrawn.{AreDifferencesAsDrawn}
+use Rattle.causal_cli.specs.AsDrawn.{IsTreatedAsDrawn, IsUnevaluatedAsDrawn, IsEvaluatedAsDrawn, IsCheckedAsDrawn, IsBoundedAsDrawn}
 use Rattle.causal_cli.specs.Calls.{Call, IsCallOf, WrittenFor, WrittenForBoth}
 
--- ---- identify, adjust, surrogate, separate and rule
+-- ---- identify, adjust, surrogate, treated, separate and rule
 
 -- the answer to a request of `identify`, with a condition or without one
 abbrev pub IsIdentifiedAsDrawn : identify_requests.Request → (bytes : List ℕ) (code : ℕ) (told : Told) → Type 0
@@ -62,6 +73,10 @@ IsAdjusted q = IsAnswered adjust_telling (λ d. IsAdjustAnswer d q.x q.y q.query
 abbrev pub IsSurrogated : surrogate_requests.Request → (bytes : List ℕ) (code : ℕ) (told : Told) → Type 0
 IsSurrogated q = IsAnswered surrogate_telling (λ d. IsSurrogateAnswer (wants_common q.form.writing) d q.x q.y q.experiments)
     IsSurrogateAsDrawn (surrogate_form q.form)
+
+-- and to one of `treated`
+abbrev pub IsTreated : treated_requests.Request → (bytes : List ℕ) (code : ℕ) (told : Told) → Type 0
+IsTreated q = IsAnswered treated_telling (λ d. IsTreatedAnswer d q.x q.y q.given) IsTreatedAsDrawn q.form
 
 -- and to one of `separate`
 abbrev pub IsSeparated : separate_requests.Request → (bytes : List ℕ) (code : ℕ) (told : Told) → Type 0
@@ -111,10 +126,15 @@ IsEvaluated q = IsAnsweredOnBoth evaluate_telling (λ d. Identifies q.way d q.x 
 abbrev pub IsUnevaluated : evaluate_requests.Request → (bytes : List ℕ) (code : ℕ) (told : Told) → Type 0
 IsUnevaluated q = IsAnswered evaluate_telling (λ d. IsForDiagram q.way d q.x q.y) (IsUnevaluatedAsDrawn q.way) (plain_form q.format)
 
+-- the answer to a request of `bounds` over counts
+abbrev pub IsBounded : bounds_requests.Request → (bytes other : List ℕ) (code : ℕ) (told : Told) → Type 0
+IsBounded q = IsAnsweredOnBoth bounds_telling (λ d. IsAsked (graph_of d.observed.graph) (lists_of q d))
+    (λ d b. bounds_right.IsBounded q.exact (graph_of d.observed.graph) d.observed.names b q.count) IsBoundedAsDrawn (plain_form q.format)
+
 -- ---- a run
 
--- What is written with status 0 or 1 for `identify`, `adjust`, `surrogate`, `separate`, `rule`, `check` and `evaluate`, and with status 0 for `implications`, is
--- told of a right answer, which is so in the diagram as drawn. A status of 1 of `evaluate` is one of the diagram alone.
+-- What is written with status 0 or 1 for `identify`, `adjust`, `surrogate`, `treated`, `separate`, `rule`, `check` and `evaluate`, and with status 0 for
+-- `implications` and `bounds`, is told of a right answer, which is so in the diagram as drawn. A status of 1 of `evaluate` is one of the diagram alone.
 pub record RightAsDrawn (r : Call) (code : ℕ) : Type 0 where
   pub identified : (uses : List Use) → IsCallOf identify_row r.words uses → code ≤ 1
       → WrittenFor identify_requests.IsRequest (λ q. q.file) (λ q bytes. IsIdentifiedAsDrawn q bytes code) r uses
@@ -122,6 +142,8 @@ pub record RightAsDrawn (r : Call) (code : ℕ) : Type 0 where
       → WrittenFor adjust_requests.IsRequest (λ q. q.file) (λ q bytes. IsAdjusted q bytes code) r uses
   pub surrogated : (uses : List Use) → IsCallOf surrogate_row r.words uses → code ≤ 1
       → WrittenFor surrogate_requests.IsRequest (λ q. q.file) (λ q bytes. IsSurrogated q bytes code) r uses
+  pub treated : (uses : List Use) → IsCallOf treated_row r.words uses → code ≤ 1
+      → WrittenFor treated_requests.IsRequest (λ q. q.file) (λ q bytes. IsTreated q bytes code) r uses
   pub separated : (uses : List Use) → IsCallOf separate_row r.words uses → code ≤ 1
       → WrittenFor separate_requests.IsRequest (λ q. q.file) (λ q bytes. IsSeparated q bytes code) r uses
   pub ruled : (uses : List Use) → IsCallOf rule_row r.words uses → code ≤ 1
@@ -133,3 +155,5 @@ pub record RightAsDrawn (r : Call) (code : ℕ) : Type 0 where
       → WrittenForBoth evaluate_requests.IsRequest (λ q. q.file) (λ q. q.counts) (λ q bytes other. IsEvaluated q bytes other code) r uses
   pub unevaluated : (uses : List Use) → IsCallOf evaluate_row r.words uses → code ≡ 1
       → WrittenForBoth evaluate_requests.IsRequest (λ q. q.file) (λ q. q.counts) (λ q bytes other. IsUnevaluated q bytes code) r uses
+  pub bounded : (uses : List Use) → IsCallOf bounds_row r.words uses → code ≡ 0
+      → WrittenForBoth bounds_requests.IsRequest (λ q. q.file) (λ q. q.counts) (λ q bytes other. IsBounded q bytes other code) r uses

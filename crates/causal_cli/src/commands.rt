@@ -24,9 +24,11 @@ pub enum Command {
     Surrogate,
     Bounds,
     Treated,
+    Instruments,
+    Natural,
 }
 
-static COMMANDS: [Command; 13] = [
+static COMMANDS: [Command; 15] = [
     Command::Graph,
     Command::Separate,
     Command::Rule,
@@ -40,9 +42,11 @@ static COMMANDS: [Command; 13] = [
     Command::Surrogate,
     Command::Bounds,
     Command::Treated,
+    Command::Instruments,
+    Command::Natural,
 ];
 
-static TABLE: [Entry; 13] = [
+static TABLE: [Entry; 15] = [
     separation_commands::graph::ROW,
     separation_commands::separate::ROW,
     separation_commands::rule::ROW,
@@ -56,6 +60,8 @@ static TABLE: [Entry; 13] = [
     surrogate_command::ROW,
     bounds_command::ROW,
     treated_command::ROW,
+    instruments_command::ROW,
+    natural_command::ROW,
 ];
 
 /// The row of a command.
@@ -76,6 +82,8 @@ fn row_for(command: Command) -> Entry
         Command::Surrogate => surrogate_command::ROW,
         Command::Bounds => bounds_command::ROW,
         Command::Treated => treated_command::ROW,
+        Command::Instruments => instruments_command::ROW,
+        Command::Natural => natural_command::ROW,
     }
 }
 

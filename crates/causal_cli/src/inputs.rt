@@ -94,6 +94,8 @@ fn inputs_of_request<'a>(request: &Request<'a>) -> Inputs<'a>
         Request::Bounds(asked) => Inputs::two(asked.file, asked.counts, MOST_BYTES),
         Request::Surrogate(asked) => Inputs::file(asked.file),
         Request::Treated(asked) => Inputs::file(asked.file),
+        Request::Instruments(asked) => Inputs::file(asked.file),
+        Request::Natural(asked) => Inputs::file(asked.file),
     }
 }
 

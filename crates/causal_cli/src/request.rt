@@ -27,6 +27,8 @@ use equivalent_command::accept_first;
 use evaluate_command::{first_reply, identify_first};
 use identify_command::identify_reply;
 use implications_command::{counted_pairs, pairs_reply};
+use instruments_command::instruments_reply;
+use natural_command::natural_reply;
 use replies::{Format, Reply};
 use separation_commands::graph::graph_reply;
 use separation_commands::rule::rule_reply;
@@ -52,6 +54,8 @@ pub enum Request<'a> {
     Surrogate(surrogate_command::Request<'a>),
     Bounds(bounds_command::Request<'a>),
     Treated(treated_command::Request<'a>),
+    Instruments(instruments_command::Request<'a>),
+    Natural(natural_command::Request<'a>),
 }
 
 impl<'a> command_run::Request<'a> for Request<'a> {
@@ -75,7 +79,7 @@ impl<'a> command_run::Request<'a> for Request<'a> {
     fn words_line() -> &'static [u8]
         ensures { result.now ≡ words_line commands }
     {
-        b"causal: words not understood; commands are graph separate rule identify check adjust evaluate equivalent survey implications surrogate bounds treated\n"
+        b"causal: words not understood; commands are graph separate rule identify check adjust evaluate equivalent survey implications surrogate bounds treated instruments natural\n"
     }
 
     fn named(name: &str) -> Option<Command>
@@ -103,6 +107,8 @@ impl<'a> command_run::Request<'a> for Request<'a> {
             Request::Treated(asked) => asked.form.format,
             Request::Survey(asked) => asked.format,
             Request::Bounds(asked) => asked.format,
+            Request::Instruments(asked) => asked.format,
+            Request::Natural(asked) => asked.form.format,
         }
     }
 
@@ -121,6 +127,8 @@ impl<'a> command_run::Request<'a> for Request<'a> {
             Request::Treated(asked) => Ok(AfterWords::Reads(asked.file)),
             Request::Survey(asked) => survey(alloc, asked),
             Request::Bounds(asked) => Ok(AfterWords::Reads(asked.file)),
+            Request::Instruments(asked) => Ok(AfterWords::Reads(asked.file)),
+            Request::Natural(asked) => Ok(AfterWords::Reads(asked.file)),
         }
     }
 
@@ -167,6 +175,10 @@ fn read_values<'a>(
         )?)),
         Command::Bounds => Ok(Request::Bounds(bounds_command::Request::read(alloc, values)?)),
         Command::Treated => Ok(Request::Treated(treated_command::Request::read(alloc, values)?)),
+        Command::Instruments => Ok(Request::Instruments(instruments_command::Request::read(
+            alloc, values,
+        )?)),
+        Command::Natural => Ok(Request::Natural(natural_command::Request::read(alloc, values)?)),
     }
 }
 
@@ -193,6 +205,8 @@ fn reply_on<'a>(
         Request::Surrogate(asked) => replied(surrogate_reply(alloc, diagram, &asked)),
         Request::Bounds(asked) => bound_over(alloc, diagram, asked),
         Request::Treated(asked) => replied(treated_reply(alloc, diagram, &asked)),
+        Request::Instruments(asked) => replied(instruments_reply(alloc, diagram, &asked)),
+        Request::Natural(asked) => replied(natural_reply(alloc, diagram, &asked)),
     }
 }
 

@@ -7,6 +7,7 @@ pub mod Answered
 pub mod DividingLaw
 pub mod Settling
 pub mod TurningLaw
+pub mod TurnedModels
 mod Excluding
 pub mod Given
 pub mod Grown

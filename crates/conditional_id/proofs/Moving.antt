@@ -1,8 +1,9 @@
 -- Observations that turn into interventions one after the other: what the rest turns into, all turns into.
-use Rattle.std.proofs.Common.{ℕ, ◌+◌, ◌≡◌, ◌<◌, Bool, true, false, not, refl, sym, ap, subst, ◌∙◌, ◌&&◌, inl, inr, List, [], ◌∷◌, ◌++◌, append_assoc}
+use Rattle.std.proofs.Common.{ℕ, ◌+◌, ◌≡◌, ◌<◌, Bool, true, false, not, refl, sym, ap, subst, ◌∙◌, ◌&&◌, ◌||◌, inl, inr, List, [], ◌∷◌, ◌++◌, append_assoc}
 use Rattle.std.proofs.Common.{append-nil, arith}
 use Rattle.std.proofs.lemmas.Bool.{cases_lt}
-use Rattle.conditional_id.specs.Moves.{AreMoved, IsLowestTurning, NoneTurns}
+use Rattle.conditional_id.specs.HedgeLaws.{HasOpenWalkTo, HaveOpenWalks}
+use Rattle.conditional_id.specs.Moves.{AreMoved, IsLowestTurning}
 use Rattle.conditional_id.specs.declared.answer.Turned.{Turned}
 use Rattle.conditional_id.proofs.TurningLaw.{moved_target, targeted}
 use Rattle.conditional_id.specs.Conditionals.AreTurned.{move, still}
@@ -12,11 +13,15 @@ use Rattle.do_derivation.specs.Plans.{Move, Plan, Plans, plan}
 use Rattle.do_derivation.specs.declared.steps.Step.{Rule2Do, Step}
 use Rattle.do_rules.specs.Rules.{AreFourSets, AreThreeSets, IsBlockedFor, IsOpenFor}
 use Rattle.do_rules.specs.declared.rules.Rule.TheVariants.{Two}
+use Rattle.do_rules.specs.Cuts.{cut_into, cut_out}
+use Rattle.do_rules.proofs.Failing.{open_walk}
 use Rattle.identify.proofs.Steps.{onto_more}
 use Rattle.identify.specs.Lists.{onto}
 use Rattle.identification_theory.proofs.Bools.{and_l, clash, not_e, and_r}
 use Rattle.identification_theory.proofs.Sets.{has-minus, one-is, one-self, smaller}
 use Rattle.m_separation.specs.declared.paths.OpenPath.{OpenPath}
+use Rattle.m_separation.specs.Paths.{IsOpenPath}
+use Rattle.m_separation.specs.Walks.{IsSeparated}
 use Rattle.mixed_graph.specs.Bits.{has}
 use Rattle.mixed_graph.specs.Graphs.{MixedGraph}
 use Rattle.mixed_graph.specs.declared.sets.VSet.{VSet}
@@ -63,6 +68,18 @@ pub open_to : (g : MixedGraph) (x y z v alone rest : ℕ) (p : OpenPath) → alo
 open_to g x y z v alone rest p e f h = subst (λ r. IsOpenFor Two g (has x) (has y) (has (one v)) (has r) p) (f ∙ ap (minus z) e)
     (subst (λ a. IsOpenFor Two g (has x) (has y) (has a) (has rest) p) e h)
 
+-- a path that is open for rule 2 is an open walk
+pub walk_of : (g : MixedGraph) (x y z v : ℕ) (p : OpenPath) → IsOpenFor Two g (has x) (has y) (has (one v)) (has (minus z (one v))) p
+    → HasOpenWalkTo g x y z v
+walk_of g x y z v p o = open_walk (cut_out (cut_into g (has x)) (has (one v))) (has y) (has (one v)) (λ u. has x u || has (minus z (one v)) u) p
+    (subst (λ h. IsOpenPath h (has y) (has (one v)) (λ u. has x u || has (minus z (one v)) u) p.vertices p.marks p.count) o.is_graph o.path)
+
+-- and excludes that the observation turns
+pub walk_excludes : (g : MixedGraph) (x y z v : ℕ) → HasOpenWalkTo g x y z v → IsTurning g x y z v → ⊥
+walk_excludes g x y z v walk turns =
+    let separated = subst (λ h. IsSeparated h (has y) (has (one v)) (λ u. has x u || has (minus z (one v)) u)) turns.is_graph turns.separated in
+    separated walk.0 walk.1 walk.2
+
 -- what a move leaves is a smaller number
 pub move_smaller : (z v : ℕ) → has z v ≡ true → minus z (one v) < z
 move_smaller z v i = smaller (minus z (one v)) z (λ u e. and_l (has z u) (not (has (one v) u)) (rw (has-minus z (one v) u) at e))
@@ -71,11 +88,11 @@ move_smaller z v i = smaller (minus z (one v)) z (λ u e. and_l (has z u) (not (
     bools : (b : Bool) → (b && not true) ≡ false
     bools b = grind arith
 
--- nothing below v + 1 has P where nothing below v has it, nor v
-pub none_more : (P : ℕ → Type 0) (v : ℕ) → ((u : ℕ) → u < v → P u → ⊥) → (P v → ⊥) → (u : ℕ) → u < v + 1 → P u → ⊥
-none_more P v h k u lt p = elim (cases_lt u v) [
-  | inl less ↦ h u less p
-  | inr more ↦ k (subst P (omega (arith, more, lt)) p)
+-- all below v + 1 have P where all below v have it, and v
+pub all_more : (P : ℕ → Type 0) (v : ℕ) → ((u : ℕ) → u < v → P u) → P v → (u : ℕ) → u < v + 1 → P u
+all_more P v h k u lt = elim (cases_lt u v) [
+  | inl less ↦ h u less
+  | inr more ↦ subst P (let e : v ≡ u = omega (arith, more, lt) in e) k
 ]
 
 -- ---- the moves
@@ -115,10 +132,12 @@ moving_more g y x z x1 z1 v steps alone e m l x2 z2 more a b d =
     subst (λ u. Moving g y x z u z2 more) (sym (a ∙ ap (union x1) e)) (subst (λ u. Moving g y x z (union x1 (one v)) u more) (sym (b ∙ ap (minus z1) e))
     (subst (λ u. Moving g y x z (union x1 (one v)) (minus z1 (one v)) u) (sym d) (moving_one g y x z x1 z1 v steps alone e m l)))
 
-pub moving_all : (g : MixedGraph) (y x z : ℕ) (r : Turned) → Moving g y x z r.doing.bits r.left.bits r.steps.items → NoneTurns g r.doing.bits y r.left.bits
+pub moving_all : (g : MixedGraph) (y x z : ℕ) (r : Turned) → Moving g y x z r.doing.bits r.left.bits r.steps.items → HaveOpenWalks g r.doing.bits y r.left.bits
     → AreMoved g y x z r
-moving_all g y x z r m none = record {
+moving_all g y x z r m walks = record {
   moved = m.done;
-  turned = subst (λ w. AreTurned g y x z r.doing.bits r.left.bits w) (append-nil m.done) (m.moves r.doing.bits r.left.bits [] (still none));
+  turned = subst (λ w. AreTurned g y x z r.doing.bits r.left.bits w) (append-nil m.done) (m.moves r.doing.bits r.left.bits []
+      (still (λ v member turns. walk_excludes g r.doing.bits y r.left.bits v (walks v member) turns)));
   steps = m.are;
+  walks = walks;
 }

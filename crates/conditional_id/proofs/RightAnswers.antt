@@ -26,8 +26,9 @@ use Rattle.conditional_id.proofs.DividingLaw.{join-zero}
 use Rattle.conditional_id.proofs.Settling.{joint_settles_target}
 use Rattle.conditional_id.proofs.TurningLaw.{none_moves}
 use Rattle.conditional_id.specs.Conditionals.{IsConditionalBySteps, IsConditionalTarget, IsTurned}
-use Rattle.conditional_id.specs.HedgeLaws.{IsFixed}
-use Rattle.conditional_id.proofs.Given.{hedges_exclude_turned, hedges_exclude_formula}
+use Rattle.conditional_id.specs.HedgeLaws.{AreModelsOf}
+use Rattle.conditional_id.proofs.Given.{hedges_exclude_formula}
+use Rattle.conditional_id.proofs.TurnedModels.{hedges_give_models_turned}
 use Rattle.conditional_id.specs.Answers.{IsAnswerGiven, IsRight, IsJointEffect, IsJointShown, SomeFormula, SomeJointHedge, IfFormula, IfJoint, is_joint}
 use Rattle.conditional_id.specs.declared.answer.Conditional.{Conditional}
 use Rattle.conditional_id.specs.declared.answer.Conditional.TheVariants.{Formula, Joint}
@@ -81,14 +82,22 @@ module _ (g : MixedGraph) (valid : IsMixedGraph g) (t : PlainTarget) (k : IsCond
   module _ (few : g.vertices ≤ 64) where
     -- two models that agree on all observations give the target two values: those of the joint effect, or, where it isn't settled, two of the hedge
     -- for what is left
-    pub joint_not_fixed : (x y : VSet) (settled : Bool) (h : Hedge) (pair : CounterPair) → IsJointShown g t x y settled h pair
-        → AreCounterModels g x.bits y.bits pair → IsFixed g t → ⊥
-    joint_not_fixed x y true h pair i two fixed =
-        let d = differ_on_target x y true h pair i two refl (λ v. 0) (λ v low. two.first.fits.positive_size v low) in
-        d.0.unequal (fixed (meaning g pair.first) (meaning g pair.second) two.first.fits two.second.fits two.two.0 two.two.1
-        two.first.positive two.second.positive two.observed d.0.at d.0.within)
-    joint_not_fixed x y false h pair i two fixed =
-        let left = i.unsettled refl in hedges_exclude_turned g valid few t k x.bits i.left i.moved i.turned left.0 left.1 fixed
+    pub joint_models : (x y : VSet) (settled : Bool) (h : Hedge) (pair : CounterPair) → IsJointShown g t x y settled h pair
+        → AreCounterModels g x.bits y.bits pair → AreModelsOf g t
+    joint_models x y true h pair i two = record {
+      first = meaning g pair.first;
+      second = meaning g pair.second;
+      first_fits = two.first.fits;
+      second_fits = two.second.fits;
+      first_two = two.two.0;
+      second_two = two.two.1;
+      first_positive = two.first.positive;
+      second_positive = two.second.positive;
+      observed = two.observed;
+      differ = (differ_on_target x y true h pair i two refl (λ v. 0) (λ v low. two.first.fits.positive_size v low)).0;
+    }
+    joint_models x y false h pair i two =
+        let left = i.unsettled refl in hedges_give_models_turned g valid few t k x.bits i.left i.moved i.turned (i.walks refl) left.0 left.1
 
     -- so no formula without interventions equals it
     pub joint_no_formula : (x y : VSet) (settled : Bool) (h : Hedge) (pair : CounterPair) → IsJointShown g t x y settled h pair
@@ -105,7 +114,7 @@ module _ (g : MixedGraph) (valid : IsMixedGraph g) (t : PlainTarget) (k : IsCond
     right (Joint x y settled h pair) i = let two = i.1.counter in record {
       effect = joint_effect x y settled h pair i.0;
       hedge = i.1;
-      not_fixed = joint_not_fixed x y settled h pair i.0 two;
+      models = joint_models x y settled h pair i.0 two;
       no_formula = joint_no_formula x y settled h pair i.0 two;
       settled_is = i.0.settled_is;
       target = differ_on_target x y settled h pair i.0 two;

@@ -21,7 +21,7 @@ use Rattle.identify.specs.Hedged.{IsHedgeOf}
 use Rattle.conditional_id.specs.Conditionals.{IsConditionalTarget, IsTurned, IsConditionalBySteps, AreEqualEffects}
 use Rattle.conditional_id.specs.TurnLaws.{IsRightGiven}
 use Rattle.conditional_id.specs.Settled.{IsSettled}
-use Rattle.conditional_id.specs.HedgeLaws.{IsFixed}
+use Rattle.conditional_id.specs.HedgeLaws.{AreModelsOf, HaveOpenWalks}
 use Rattle.conditional_id.specs.declared.answer.Conditional.{Conditional}
 use Rattle.conditional_id.specs.declared.answer.Conditional.TheVariants as answers
 
@@ -40,8 +40,8 @@ pub record IsJointEffect (g : MixedGraph) (t : PlainTarget) (x y : ℕ) : Type 0
 pub record IsRightJoint (g : MixedGraph) (t : PlainTarget) (x y : ℕ) (settled : Bool) (h : Hedge) (pair : CounterPair) : Type 0 where
   pub effect : IsJointEffect g t x y
   pub hedge : IsRightHedge g x y h pair
-  -- two positive models of the graph that agree on all observations give the target two values
-  pub not_fixed : IsFixed g t → ⊥
+  -- two positive models of the graph that agree on all observations give the target two values, at some assignment
+  pub models : AreModelsOf g t
   -- so no formula without interventions equals it
   pub no_formula : HasNoFormula g t
   -- where no observation is left, or those that are left have an effect that is known, the two models of the hedge differ on the target too
@@ -84,7 +84,7 @@ pub record SomeJointHedge (g : MixedGraph) (t : PlainTarget) : Type 0 where
   pub is_hedge : IsHedge g doing (union t.y left) hedge
 
 -- the joint effect, whether it is settled, the hedge at which its identification stops, with its data, and its two models; and where it isn't
--- settled, a hedge for the observations that are left
+-- settled, a hedge for the observations that are left, and to each of these an open walk that shows that it doesn't turn
 pub record IsJointShown (g : MixedGraph) (t : PlainTarget) (x y : VSet) (settled : Bool) (h : Hedge) (pair : CounterPair) : Type 0 where
   pub left : ℕ
   pub moved : List ℕ
@@ -92,6 +92,7 @@ pub record IsJointShown (g : MixedGraph) (t : PlainTarget) (x y : VSet) (settled
   pub joint : y.bits ≡ union t.y left
   pub settled_is : IsTrue settled ↔ IsSettled g x.bits left
   pub unsettled : settled ≡ false → (k : Hedge) × IsHedge g x.bits left k
+  pub walks : settled ≡ false → HaveOpenWalks g x.bits t.y left
   pub stop : IsUnidentified g x.bits y.bits h.small.bits h.big.bits
   pub built : IsHedgeOf g h
   pub hedge : IsHedge g x.bits y.bits h

@@ -93,13 +93,22 @@ pub record AreModelsOf (g : MixedGraph) (t : PlainTarget) : Type 0 where
   pub observed : AgreeObserved first second
   pub differ : DifferOn first second t
 
--- for each observation an open walk shows that it doesn't turn
+-- an open walk shows that the observation of v doesn't turn: in the graph in which rule 2 asks that y and v are separated, they aren't
+abbrev pub HasOpenWalkTo : MixedGraph → (x y z v : ℕ) → Type 0
+HasOpenWalkTo g x y z v = HasOpenWalk (cut_out (cut_into g (has x)) (has (one v))) (has y) (has (one v)) (λ u. has x u || has (minus z (one v)) u)
+
+-- for each observation there is one
 abbrev pub HaveOpenWalks : MixedGraph → (x y z : ℕ) → Type 0
-HaveOpenWalks g x y z = (v : ℕ) → IsTrue (has z v) → HasOpenWalk (cut_out (cut_into g (has x)) (has (one v))) (has y) (has (one v))
-    (λ u. has x u || has (minus z (one v)) u)
+HaveOpenWalks g x y z = (v : ℕ) → IsTrue (has z v) → HasOpenWalkTo g x y z v
 
 -- with these and a hedge for P(z | do(x)) there are two such models of P(y | do(x), z)
 abbrev pub HedgesGiveModels : Type 0
 HedgesGiveModels = (g : MixedGraph) → IsMixedGraph g → g.vertices ≤ 64 → (x y z : ℕ) → IsConditionalTarget g (record { x = x; y = y; given = z })
     → HaveOpenWalks g x y z
     → (h : Hedge) → IsHedge g x z h → AreModelsOf g (record { x = x; y = y; given = z })
+
+-- so there are two of the target from which those observations are left
+abbrev pub HedgesGiveModelsTurned : Type 0
+HedgesGiveModelsTurned = (g : MixedGraph) → IsMixedGraph g → g.vertices ≤ 64 → (t : PlainTarget) → IsConditionalTarget g t → (x' z' : ℕ) (moved : List ℕ)
+    → IsTurned g t x' z' moved → HaveOpenWalks g x' t.y z'
+    → (h : Hedge) → IsHedge g x' z' h → AreModelsOf g t

@@ -18,7 +18,7 @@ pub enum Conditional {
     /// interventions, `y` those that are left. It has a hedge, and two models that agree on all
     /// observations and differ on it. Where `settled`, no observation is left, or those that are left
     /// have an effect that is known: then the two models differ on the target too. Elsewhere two other
-    /// models do.
+    /// models do, which aren't built.
     Joint {
         x: VSet,
         y: VSet,

@@ -26,7 +26,7 @@ ghost use Rattle.identify.specs.Lists.{onto};
 ghost use Rattle.conditional_id.specs.Conditionals.{divided, divided_derivation, turned_steps, IsConditionalTarget, IsConditional, IsConditionalBySteps};
 ghost use Rattle.conditional_id.specs.TurnLaws.{IsShallowGiven};
 ghost use Rattle.conditional_id.specs.Settled.{IsSettled};
-ghost use Rattle.conditional_id.specs.HedgeLaws.{IsFixed};
+ghost use Rattle.conditional_id.specs.HedgeLaws.{AreModelsOf};
 ghost use Rattle.conditional_id.specs.Answers.{IsAnswerGiven, IsRight, IsJointEffect, IsJointShown, SomeFormula, SomeJointHedge, IfFormula, IfJoint, is_joint};
 
 use crate::answer::{Conditional, Turned};
@@ -183,7 +183,7 @@ pub fn identify_given(alloc: Global, g: &Graph, t: &Target) -> Result<Conditiona
 
     // A formula has an accepted derivation and the value of the effect; a joint effect is the one into which the observations
     // turn, by sets with which the effect is the same, and has two models that agree on all observations and differ on it,
-    // and where the answer is settled on the target too. Settled or not, the target isn't identifiable then.
+    // and where the answer is settled on the target too. Settled or not, two models give the target two values.
     ensures right { IfOk result (IsRight (graph_of g.now) (target_view t.now)) }
 
     // A formula is answered exactly where the target has one without interventions.
@@ -210,9 +210,9 @@ pub fn identify_given(alloc: Global, g: &Graph, t: &Target) -> Result<Conditiona
     ensures plain_joint { t.now.given.bits ≡ 0 → IfOk result (λ a. IfJoint a (λ x y b h pair. (x.bits ≡ t.now.x.bits) × (y.bits ≡ t.now.y.bits))) }
     ensures counter { IfOk result (λ a. IfJoint a (λ x y b h pair. AreCounterModels (graph_of g.now) x.bits y.bits pair)) }
 
-    // Where it is answered, two models that agree on all observations give the target two values, and no formula without
-    // interventions equals it.
-    ensures not_fixed { IfOk result (λ a. IfJoint a (λ x y b h pair. IsFixed (graph_of g.now) (target_view t.now) → ⊥)) }
+    // Where it is answered, two positive models that agree on all observations give the target two values, and no formula
+    // without interventions equals it.
+    ensures models { IfOk result (λ a. IfJoint a (λ x y b h pair. AreModelsOf (graph_of g.now) (target_view t.now))) }
     ensures no_formula { IfOk result (λ a. IfJoint a (λ x y b h pair. HasNoFormula (graph_of g.now) (target_view t.now))) }
 {
     answer(alloc, g, *t)

@@ -1,11 +1,12 @@
 //! The observations that turn into interventions.
 
-ghost use Rattle.std.specs.Prelude.{◌≡◌, ℕ, ◌<◌, ◌↔◌, IsTrue, IfOk, MatchOption};
+ghost use Rattle.std.specs.Prelude.{◌≡◌, ℕ, ◌<◌, ◌↔◌, false, IsTrue, IfOk, MatchOption};
 ghost use Rattle.mixed_graph.specs.Bits.{has};
 ghost use Rattle.mixed_graph.specs.Shown.{graph_of};
 ghost use Rattle.do_rules.specs.Rules.{AreThreeSets};
 ghost use Rattle.conditional_id.specs.Conditionals.{IsTurning};
-ghost use Rattle.conditional_id.specs.Moves.{NoneTurns, IsLowestTurning, AreMoved};
+ghost use Rattle.conditional_id.specs.HedgeLaws.{HasOpenWalkTo, HaveOpenWalks};
+ghost use Rattle.conditional_id.specs.Moves.{IsLowestTurning, AreMoved};
 
 use crate::answer::Turned;
 use do_derivation::Step;
@@ -18,7 +19,8 @@ fn turns(g: &Graph, x: VSet, y: VSet, z: VSet, v: u8) -> bool
     requires sets { AreThreeSets g.now.n (has x.bits) (has y.bits) (has z.bits) }
     requires some { 0 < y.bits }
     requires room { v < 64 }
-    ensures { IsTrue result ↔ (IsTrue (has z.bits v) × IsTurning (graph_of g.now) x.bits y.bits z.bits v) }
+    ensures turns { IsTrue result ↔ (IsTrue (has z.bits v) × IsTurning (graph_of g.now) x.bits y.bits z.bits v) }
+    ensures open { result ≡ false → IsTrue (has z.bits v) → HasOpenWalkTo (graph_of g.now) x.bits y.bits z.bits v }
 {
     if !z.has(v) {
         return false;
@@ -30,11 +32,11 @@ fn turns(g: &Graph, x: VSet, y: VSet, z: VSet, v: u8) -> bool
     }
 }
 
-/// The lowest observation in P(y | do(x), z) that may become an intervention.
+/// The lowest observation in P(y | do(x), z) that may become an intervention; where none may, an open walk to each shows it.
 fn lowest_turning(g: &Graph, x: VSet, y: VSet, z: VSet) -> Option<u8>
     requires sets { AreThreeSets g.now.n (has x.bits) (has y.bits) (has z.bits) }
     requires some { 0 < y.bits }
-    ensures { MatchOption result (NoneTurns (graph_of g.now) x.bits y.bits z.bits) (IsLowestTurning (graph_of g.now) x.bits y.bits z.bits) }
+    ensures { MatchOption result (HaveOpenWalks (graph_of g.now) x.bits y.bits z.bits) (IsLowestTurning (graph_of g.now) x.bits y.bits z.bits) }
 {
     for v in 0..64u8 {
         if turns(g, x, y, z, v) {

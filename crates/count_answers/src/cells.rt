@@ -1,10 +1,11 @@
 //! The levels of a cell as text.
 
-ghost use Rattle.std.specs.Prelude.{ℕ, ◌≡◌, ◌++◌, length, slice_index, OnOk};
+ghost use Rattle.std.specs.Prelude.{ℕ, ◌≡◌, ◌++◌, not, length, slice_index, OnOk};
+ghost use Rattle.std.specs.List.{flat_map, list_all};
 ghost use Rattle.mixed_graph.specs.Bits.{has, members_below};
 ghost use Rattle.count_eval.specs.Programs.{cell_of};
 ghost use Rattle.answer_text.specs.Texts.{comma_before};
-ghost use Rattle.count_answers.specs.Lines.{level_text, assignment, assignments};
+ghost use Rattle.count_answers.specs.Lines.{level_text, is_break, escaped, printed_level, assignment, assignments};
 
 use answer_text::push_vertex;
 use count_table::Counts;
@@ -21,6 +22,56 @@ fn level_text(counts: &Counts, v: u8, k: u32) -> &[u8]
     counts.level(v, k)
 }
 
+/// Whether a byte is a line feed, a carriage return or a quotation mark.
+fn is_break(byte: u8) -> bool
+    ensures { result ≡ is_break byte }
+{
+    matches!(byte, b'\n' | b'\r' | b'"')
+}
+
+/// Whether a level is printed as its bytes stand.
+fn is_unbroken(level: &[u8]) -> bool
+    ensures { result ≡ list_all (λ b. not (is_break b)) level.now }
+{
+    level.iter().all(|b| !is_break(*b))
+}
+
+/// Appends a byte as it is printed between quotation marks.
+fn push_escaped(out: &mut Vec<u8>, byte: u8) -> Result<(), AllocError>
+    ensures { OnOk result (out.new.items ≡ out.old.items ++ escaped byte) }
+{
+    match byte {
+        b'\n' => out.extend_from_slice(b"\\n"),
+        b'\r' => out.extend_from_slice(b"\\r"),
+        b'"' => out.extend_from_slice(b"\\\""),
+        b'\\' => out.extend_from_slice(b"\\\\"),
+        other => out.extend_from_slice(&[other]),
+    }
+}
+
+/// Appends the bytes of a level as they are printed between quotation marks.
+fn push_all_escaped(out: &mut Vec<u8>, level: &[u8]) -> Result<(), AllocError>
+    ensures { OnOk result (out.new.items ≡ out.old.items ++ flat_map escaped level.now) }
+{
+    for byte in level {
+        push_escaped(out, *byte)?;
+    }
+    Ok(())
+}
+
+/// Appends a level: its bytes, or between quotation marks where it has a line feed, a carriage return or a quotation mark.
+fn push_level(out: &mut Vec<u8>, level: &[u8]) -> Result<(), AllocError>
+    ensures { OnOk result (out.new.items ≡ out.old.items ++ printed_level level.now) }
+{
+    if is_unbroken(level) {
+        return out.extend_from_slice(level);
+    }
+    out.push(b'"')?;
+    push_all_escaped(out, level)?;
+    out.push(b'"')?;
+    Ok(())
+}
+
 /// Appends a vertex with its level of that number, as `Z=level`.
 pub fn push_assignment(
     out: &mut Vec<u8>,
@@ -33,7 +84,7 @@ pub fn push_assignment(
 {
     push_vertex(out, names, v)?;
     out.push(b'=')?;
-    out.extend_from_slice(level_text(counts, v, k))
+    push_level(out, level_text(counts, v, k))
 }
 
 /// A comma where a member is still to come.

@@ -1,5 +1,5 @@
 -- What the evaluator gives for main is the formula's value, and what it covers.
-use Rattle.std.proofs.Common.{ℕ, ◌≡◌, ◌≢◌, ◌≤◌, Bool, false, cond, ◌∙◌, ap, sym, subst, arith, List, length, map, get_or, None, Result, Ok, Err}
+use Rattle.std.proofs.Common.{ℕ, ◌≡◌, ◌≢◌, ◌≤◌, Bool, true, false, cond, ◌∙◌, ap, sym, subst, arith, List, length, map, get_or, None, Result, Ok, Err}
 use Rattle.std.proofs.Math.Seq.{take-length}
 use Rattle.std.proofs.lemmas.Bool.{false≢true}
 use mathlib.Core.Path.{fun_ext}
@@ -21,10 +21,10 @@ use Rattle.count_eval.specs.Stops.{Stop}
 use Rattle.count_eval.specs.Evaluated.{evaluated, evaluated_from, formula_value}
 use Rattle.count_eval.specs.Programs.{weights_in, is_used, cell_of}
 use Rattle.count_eval.specs.Spots.{value_at}
-use Rattle.count_eval.specs.Answers.{IsEvaluable, IsEvaluationFault, CoversCounts, CoversMatches, DeniesMatches}
-use Rattle.count_eval.proofs.Covered.{formula_good}
+use Rattle.count_eval.specs.Answers.{IsEvaluable, IsEvaluationFault, CoversCounts, CoversWithZeros, CoversMatches, DeniesMatches}
+use Rattle.count_eval.proofs.Covered.{formula_good, zeros_are_covered}
 use Rattle.count_eval.proofs.Matched.{matched_has_value}
-use Rattle.count_eval.proofs.Zeros.{either_rule}
+use Rattle.count_eval.proofs.Zeros.{either_rule, zero_keeps_values}
 use Rattle.count_eval.specs.Rules.{Rule, rule}
 use Rattle.count_eval.proofs.Used.{used_is}
 
@@ -62,7 +62,17 @@ covers_counts k covers law zero first n t f s c e =
     let h = (formula_good k covers law (weights_in n t) f s).found c (subst (λ b. formula_value (rule k b) (weights_in n t) f s ≡ Ok c) first e) in
     record { supported = h.0; covered = h.1 }
 
--- by either rule it covers the true one in each model that the counts match
+-- by either rule it covers the one by the second rule
+pub covers_with_zeros : (k : Kind) (covers : Pair → Fraction → Type 0) → IsLawful k covers → (zero : Bool)
+    → (n : ℕ) (t : Table) (f : PlainFormula) (s : ℕ → ℕ) (c : Pair)
+    → formula_value (rule k zero) (weights_in n t) f s ≡ Ok c → CoversWithZeros covers n t f s c
+covers_with_zeros k covers law true n t f s c e =
+    let h = zeros_are_covered k covers law (weights_in n t) f s c e in record { supported = h.0; covered = h.1 }
+covers_with_zeros k covers law false n t f s c e =
+    let h = zeros_are_covered k covers law (weights_in n t) f s c (zero_keeps_values k (weights_in n t) f s c e) in
+    record { supported = h.0; covered = h.1 }
+
+-- and the true one in each model that the counts match
 pub covers_matches : (k : Kind) (covers : Pair → Fraction → Type 0) → IsLawful k covers
     → (zero : Bool) (n : ℕ) (t : Table) (f : PlainFormula) (s : ℕ → ℕ) (c : Pair) → IsEvaluable n t f
     → formula_value (rule k zero) (weights_in n t) f s ≡ Ok c → CoversMatches covers n t f s c
@@ -78,7 +88,7 @@ pub denies_matches : (k : Kind) (covers : Pair → Fraction → Type 0) → IsLa
     → (zero : Bool) (n : ℕ) (t : Table) (f : PlainFormula) (s : ℕ → ℕ) (e : EvalFault) (stop : Stop) → IsEvaluable n t f
     → formula_value (rule k zero) (weights_in n t) f s ≡ Err stop → IsEvaluationFault (is_used t) e stop → DeniesMatches n t s e
 denies_matches k covers law zero n t f s (NoSupport cell place) stop ok e h = λ g mixed m fit positive matched within.
-    false≢true (sym ((formula_good k covers law (weights_in n t) f s).none stop
+    false≢true (sym ((formula_good k covers law (weights_in n t) f s).none tt stop
     (sym (either_rule k covers law zero g mixed m fit positive (is_used t) (weights_in n t) (total t.rows) matched f ok.do_free ok.defs ok.main s within) ∙ e)
     h.0)
     ∙ (matched_has_value g mixed m fit positive (is_used t) (weights_in n t) (total t.rows) matched f ok.do_free ok.defs ok.main s within).0)

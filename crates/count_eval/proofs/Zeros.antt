@@ -155,7 +155,7 @@ no_zero_below (Err TooFine) h = refl
 
 module _ (kind : Kind) (covers : Pair → Fraction → Type 0) (law : IsLawful kind covers) where
   -- what covers a positive fraction isn't 0
-  not_zero : (h : Bool) (f : Fraction) (r : Result Pair Stop) → Good covers h f r → 1 ≤ f.top → is_zero kind r ≡ false
+  not_zero : (h : Bool) (f : Fraction) (r : Result Pair Stop) → Good (Unit {0}) covers h f r → 1 ≤ f.top → is_zero kind r ≡ false
   not_zero h f (Err e) good positive = refl
   not_zero h f (Ok c) good positive = no_zero_below (kind.div (kind.from_ratio 1 1) c)
       (λ e. let z = (law.div_zero (kind.from_ratio 1 1) c (over 1 1) f (law.keeps.ratio 1 1 (omega arith)) (good.found c refl).1).0 e in
@@ -170,7 +170,7 @@ module _ (kind : Kind) (covers : Pair → Fraction → Type 0) (law : IsLawful k
       pub values : (j : ℕ) (t : ℕ → ℕ) → qv j t ≡ pv j t
       pub supports : (j : ℕ) (t : ℕ → ℕ) → h j t ≡ p j t
       pub sure : (j : ℕ) (t : ℕ → ℕ) → IsAssignment w.vertices size t → IsSure (p j t) (pv j t)
-      pub good : (j : ℕ) (t : ℕ → ℕ) → Good covers (h j t) (qv j t) (q j t)
+      pub good : (j : ℕ) (t : ℕ → ℕ) → Good (Unit {0}) covers (h j t) (qv j t) (q j t)
       pub same : (j : ℕ) (t : ℕ → ℕ) → IsAssignment w.vertices size t → q' j t ≡ q j t
 
     module _ (qv : ℕ → (ℕ → ℕ) → Fraction) (h : ℕ → (ℕ → ℕ) → Bool) (pv : ℕ → (ℕ → ℕ) → Fraction) (p : ℕ → (ℕ → ℕ) → Bool)
@@ -260,8 +260,8 @@ module _ (kind : Kind) (covers : Pair → Fraction → Type 0) (law : IsLawful k
         sure_at true x y f g a c = a
         sure_at false x y f g a c = c
 
-        good_at : (b : Bool) (x y : Bool) (f g : Fraction) (r t : Result Pair Stop) → Good covers x f r → Good covers y g t
-            → Good covers (cond b x y) (cond b f g) (cond b r t)
+        good_at : (b : Bool) (x y : Bool) (f g : Fraction) (r t : Result Pair Stop) → Good (Unit {0}) covers x f r → Good (Unit {0}) covers y g t
+            → Good (Unit {0}) covers (cond b x y) (cond b f g) (cond b r t)
         good_at true x y f g r t a c = a
         good_at false x y f g r t a c = c
 
@@ -273,7 +273,7 @@ module _ (kind : Kind) (covers : Pair → Fraction → Type 0) (law : IsLawful k
       sure = λ j t at. record { has = refl; positive = record { top = omega arith; bottom = omega arith } };
       good = λ j t. record {
         found = λ c e. (refl, subst (λ x. covers x (over 1 1)) (let m : kind.from_ratio 1 1 ≡ c = cc in m) (law.keeps.ratio 1 1 (omega arith)));
-        none = λ x e why. absurd (cc e);
+        none = λ on x e why. absurd (cc e);
       };
       same = λ j t at. refl;
     }

@@ -17,6 +17,7 @@ use Rattle.count_eval.specs.declared.failure.EvalFault.TheVariants.{NoSupport, T
 use Rattle.count_eval.specs.Laws.{IsUsed, AllUsed, IsMatched, is_supported}
 use Rattle.count_eval.specs.Programs.{weights_in, is_used}
 use Rattle.count_eval.specs.Stops.{Stop}
+use Rattle.count_eval.specs.WithZeros.{is_supported_with_zeros, value_of_with_zeros}
 
 -- The formula can be evaluated over the counts: it is one of a graph on n vertices, without interventions, and its vertices are used.
 pub record IsEvaluable (n : ℕ) (t : Table) (f : PlainFormula) : Type 0 where
@@ -52,6 +53,11 @@ Answers numbers t o (Err e) = (s : Stop) × (o ≡ Err s) × IsEvaluationFault (
 pub record CoversCounts (covers : Pair → Fraction → Type 0) (n : ℕ) (t : Table) (f : PlainFormula) (s : ℕ → ℕ) (c : Pair) : Type 0 where
   pub supported : is_supported (weights_in n t) f s ≡ true
   pub covered : covers c (value_of (weights_in n t) f s)
+
+-- by the rule that a product with a factor 0 is 0 the formula has a value over the counts, and this covers it
+pub record CoversWithZeros (covers : Pair → Fraction → Type 0) (n : ℕ) (t : Table) (f : PlainFormula) (s : ℕ → ℕ) (c : Pair) : Type 0 where
+  pub supported : is_supported_with_zeros (weights_in n t) f s ≡ true
+  pub covered : covers c (value_of_with_zeros (weights_in n t) f s)
 
 -- in each positive model of a graph whose observed weights are those of the counts, up to one factor, this covers the formula's value
 abbrev pub CoversMatches : (Pair → Fraction → Type 0) → ℕ → Table → PlainFormula → (ℕ → ℕ) → Pair → Type 0

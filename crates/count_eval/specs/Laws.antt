@@ -14,6 +14,7 @@ use Rattle.quantity.specs.Kinds.{Pair, Kind}
 use Rattle.count_eval.specs.Rules.{rule, plain}
 use Rattle.count_eval.specs.Stops.{Stop}
 use Rattle.count_eval.specs.Supported.{has_value, supported_from}
+use Rattle.count_eval.specs.WithZeros.{is_supported_with_zeros, value_of_with_zeros}
 use Rattle.count_eval.specs.Evaluated.{formula_value}
 
 -- whether the formula has a value over the weights: no denominator that is met is 0
@@ -50,6 +51,11 @@ IsMatched used w all m = AreProportional used w all (weights_of m) (total m)
 -- over any weights, what a kind gives by the first rule is covered
 abbrev pub EachIsCovered : Kind → (Pair → Fraction → Type 0) → Type 0
 EachIsCovered kind covers = (w : Weights) (f : PlainFormula) (s : ℕ → ℕ) → IsCovered covers w f s (formula_value (plain kind) w f s)
+
+-- and what it gives by the second rule covers the value by this rule
+abbrev pub ZerosAreCovered : Kind → (Pair → Fraction → Type 0) → Type 0
+ZerosAreCovered kind covers = (w : Weights) (f : PlainFormula) (s : ℕ → ℕ) (c : Pair) → formula_value (rule kind true) w f s ≡ Ok c
+    → (is_supported_with_zeros w f s ≡ true) × covers c (value_of_with_zeros w f s)
 
 -- in a matching positive model the formula has a value over the counts, and it is the model's
 abbrev pub MatchedHasValue : Type 0

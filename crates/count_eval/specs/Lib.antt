@@ -3,6 +3,7 @@ pub mod Rules
 pub mod Steps
 pub mod Evaluated
 pub mod Supported
+pub mod WithZeros
 pub mod Laws
 pub mod Programs
 pub mod Answers

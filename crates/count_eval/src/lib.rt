@@ -1,7 +1,7 @@
 //! The values of formulas over counts.
 #![tactic(auto)]
 
-ghost use Rattle.count_eval.specs.Laws.{EachIsCovered, MatchedHasValue, MatchedIsCovered, MatchedCoversEffect, ZeroKeepsValues, MatchedIsSame};
+ghost use Rattle.count_eval.specs.Laws.{EachIsCovered, ZerosAreCovered, MatchedHasValue, MatchedIsCovered, MatchedCoversEffect, ZeroKeepsValues, MatchedIsSame};
 
 mod eval;
 mod evaluable;
@@ -24,6 +24,7 @@ pub use values::{value_by, value_by_nodes};
 /// What the values have to do with fractions, and with models.
 pub fn laws<Q: Quantity>()
     ensures covered { EachIsCovered Q.kind Q.covers }
+    ensures zeros { ZerosAreCovered Q.kind Q.covers }
     ensures matched { MatchedHasValue }
     ensures model { MatchedIsCovered Q.kind Q.covers }
     ensures effect { MatchedCoversEffect Q.kind Q.covers }

@@ -7,7 +7,7 @@ ghost use Rattle.count_table.specs.Tables.{AreCounts, HasLevels};
 ghost use Rattle.count_eval.specs.Evaluated.{formula_value};
 ghost use Rattle.count_eval.specs.Rules.{rule};
 ghost use Rattle.count_eval.specs.Programs.{weights_in, is_used, cell_of, stop_of, AreValues};
-ghost use Rattle.count_eval.specs.Answers.{IsEvaluable, IsEvaluationFault, Answers, CoversCounts, CoversMatches, DeniesMatches};
+ghost use Rattle.count_eval.specs.Answers.{IsEvaluable, IsEvaluationFault, Answers, CoversCounts, CoversWithZeros, CoversMatches, DeniesMatches};
 
 use crate::eval::{Scope, value_at};
 use crate::failure::{EvalFault, Failure};
@@ -78,6 +78,7 @@ pub fn value_by<Q: Quantity, L: Lookup<Q>>(
     requires levels { HasLevels (L.counts lookup.now) (is_used (L.counts lookup.now)) at.now }
     ensures value { Answers Q.numbers (L.counts lookup.now) (formula_value (rule Q.kind zero) (weights_in n (L.counts lookup.now)) (formula_view f.now) (cell_of at.now)) result }
     ensures counts { zero ≡ false → IfOk result (λ q. CoversCounts Q.covers n (L.counts lookup.now) (formula_view f.now) (cell_of at.now) (Q.numbers q)) }
+    ensures zeros { IfOk result (λ q. CoversWithZeros Q.covers n (L.counts lookup.now) (formula_view f.now) (cell_of at.now) (Q.numbers q)) }
     ensures matches { IfOk result (λ q. CoversMatches Q.covers n (L.counts lookup.now) (formula_view f.now) (cell_of at.now) (Q.numbers q)) }
     ensures support { IfErr result (DeniesMatches n (L.counts lookup.now) (cell_of at.now)) }
     ensures memory { IfErr result (λ e. e ≢ EvalFault.NoMemory) }
@@ -122,6 +123,7 @@ pub fn value_by_nodes<Q: Quantity>(
     requires levels { HasLevels c.now (is_used c.now) at.now }
     ensures value { Answers Q.numbers c.now (formula_value (rule Q.kind zero) (weights_in n c.now) (formula_view f.now) (cell_of at.now)) result }
     ensures counts { zero ≡ false → IfOk result (λ q. CoversCounts Q.covers n c.now (formula_view f.now) (cell_of at.now) (Q.numbers q)) }
+    ensures zeros { IfOk result (λ q. CoversWithZeros Q.covers n c.now (formula_view f.now) (cell_of at.now) (Q.numbers q)) }
     ensures matches { IfOk result (λ q. CoversMatches Q.covers n c.now (formula_view f.now) (cell_of at.now) (Q.numbers q)) }
     ensures support { IfErr result (DeniesMatches n c.now (cell_of at.now)) }
     ensures memory { IfErr result (λ e. e ≢ EvalFault.NoMemory) }

@@ -1,12 +1,10 @@
 pub mod Found
-pub mod Exclusive
 pub mod OneHedge
 pub mod AlikePairs
 pub mod HedgeTexts
 pub mod HedgeObjects
 pub mod HedgeViews
 pub mod OneNo
-pub mod ObjectLines
 pub mod Shallow
 pub mod Within
 pub mod Writing

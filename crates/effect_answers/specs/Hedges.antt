@@ -1,5 +1,5 @@
 -- The hedge that answers no.
-use Rattle.std.specs.Prelude.{ℕ, ◌≡◌, List, length}
+use Rattle.std.specs.Prelude.{ℕ, ◌≡◌, length}
 use Rattle.mixed_graph.specs.Graphs.{MixedGraph}
 use Rattle.hedge.specs.Entries.{HasEntries}
 use Rattle.hedge.specs.Hedges.{IsHedge}
@@ -9,9 +9,6 @@ use Rattle.counter_models.specs.declared.counter_pair.CounterPair.{CounterPair}
 use Rattle.identification_theory.specs.Procedure.{IsUnidentified}
 use Rattle.identify.specs.Answers.{IsRightHedge}
 use Rattle.identify.specs.Hedged.{IsHedgeOf}
-use Rattle.replies.specs.Told.{Told, answer_of}
-use Rattle.replies.specs.declared.format.Format.{Format}
-use Rattle.effect_answers.specs.Formats.{hedge_in}
 
 -- Its sets form a hedge for the effect of x on y, and its two models, which are positive and fit q, agree on all observations and differ on the
 -- effect under every value of x.
@@ -27,10 +24,3 @@ pub record IsFoundHedge (q : MixedGraph) (x y : ℕ) (hedge : Hedge) (pair : Cou
 pub record HasArrays (h : Hedge) : Type 0 where
   pub choice : length h.choice.next ≡ 64
   pub links : HasEntries h
-
--- No: what is told shows the hedge with its two models
-pub record ShowsHedge (format : Format) (q : MixedGraph) (names : List (List ℕ)) (x y : ℕ) (told : Told) : Type 0 where
-  pub hedge : Hedge
-  pub pair : CounterPair
-  pub found : IsFoundHedge q x y hedge pair
-  pub prints : told ≡ answer_of (hedge_in format names x y hedge pair)

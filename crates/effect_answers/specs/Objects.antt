@@ -1,19 +1,17 @@
 -- The objects of answers to the effect of x on y: what those of a formula and of a hedge have in common, and that of a hedge.
 use Rattle.std.specs.Prelude.{ℕ, List, [], ◌∷◌, ◌++◌, map, codes}
 use Rattle.json.specs.Json.{Json, string}
-use Rattle.prob_expr.specs.Tree.{PlainFormula, PlainTarget, effect_on, term_of}
+use Rattle.prob_expr.specs.Tree.{PlainFormula, PlainTarget, term_of}
 use Rattle.expr_text.specs.Write.{text_of, latex_of, formula_latex}
 use Rattle.hedge.specs.declared.hedge.Hedge.{Hedge}
 use Rattle.counter_models.specs.declared.counter_pair.CounterPair.{CounterPair}
 use Rattle.identify_text.specs.Answers.{free_beside}
-use Rattle.certificate.specs.Plain.{hedge_view}
-use Rattle.certificate.specs.Plain as plain
 use Rattle.answer_json.specs.Progress.{array_of, object_of}
 use Rattle.answer_json.specs.Values.{text_json, set_json}
 use Rattle.formula_json.specs.Trees.{tree_json, definitions_json}
 use Rattle.hedge_json.specs.Hedges.{hedge_json}
 use Rattle.hedge_json.specs.Models.{models_json}
-use Rattle.certificate_json.specs.Certificates.{expr_json, certificate_json}
+use Rattle.certificate_json.specs.Certificates.{expr_json}
 
 -- ---- what was asked for
 
@@ -56,12 +54,3 @@ hedge_members names t x y h pair =
     ∷ (codes "joint", joint_json names x y)
     ∷ (codes "hedge", hedge_json names h)
     ∷ (codes "models", models_json names pair) ∷ [])
-
--- that object
-unfoldable pub hedge_object : List (List ℕ) → PlainTarget → (x y : ℕ) → Hedge → CounterPair → Json
-hedge_object names t x y h pair = object_of (hedge_members names t x y h pair)
-
--- the same with the hedge's certificate
-unfoldable pub certified_hedge_object : List (List ℕ) → PlainTarget → (x y : ℕ) → Hedge → CounterPair → Json
-certified_hedge_object names t x y h pair =
-    object_of (hedge_members names t x y h pair ++ (codes "certificate", certificate_json names (plain.hedge (effect_on x y) (hedge_view h))) ∷ [])

@@ -3,14 +3,12 @@
 #![tactic(auto)]
 
 mod effects;
-mod formats;
 mod formulas;
 mod hedges;
 mod kept;
 pub mod objects;
 
 pub use effects::target_of;
-pub use formats::{hedge_in, joint_in};
 pub use formulas::EffectFormula;
 pub use hedges::{EffectHedge, has_arrays};
 pub use kept::has_short_steps;

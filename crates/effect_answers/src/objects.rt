@@ -4,9 +4,9 @@ ghost use Rattle.std.specs.Prelude.{◌≡◌, ◌++◌, codes, map, IfOk, OnOk}
 ghost use Rattle.prob_expr.specs.View.{view, formula_view, target_view};
 ghost use Rattle.identify_text.specs.Answers.{free_beside};
 ghost use Rattle.certificate_json.specs.Certificates.{expr_json};
-ghost use Rattle.answer_json.specs.Progress.{with_member, with_members, array_of, json_line};
+ghost use Rattle.answer_json.specs.Progress.{with_member, with_members, array_of};
 ghost use Rattle.answer_json.specs.Values.{text_json, set_json};
-ghost use Rattle.effect_answers.specs.Objects.{target_members, effect_json, joint_json, equation_latex, formula_members, hedge_members, hedge_object};
+ghost use Rattle.effect_answers.specs.Objects.{target_members, effect_json, joint_json, equation_latex, formula_members, hedge_members};
 
 use answer_json::Object;
 use answer_text::Notation;
@@ -153,20 +153,4 @@ pub fn push_hedge_answer(
     object.key("models")?;
     push_models(object, names, pair)?;
     Ok(())
-}
-
-/// The line of a hedge for the effect of x on y into which a target turns, with its two models.
-pub fn hedge_object(
-    alloc: Global,
-    names: &Names,
-    target: &Target,
-    sets: EffectSets,
-    hedge: &Hedge,
-    pair: &CounterPair,
-) -> Result<Vec<u8>, AllocError>
-    ensures { IfOk result (λ v. v.items ≡ json_line (hedge_object names.now (target_view target.now) sets.x.bits sets.y.bits hedge.now pair.now)) }
-{
-    let mut object = Object::new(alloc)?;
-    push_hedge_answer(&mut object, names, target, sets, hedge, pair)?;
-    object.line()
 }

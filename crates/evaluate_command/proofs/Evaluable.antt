@@ -30,7 +30,7 @@ used_some e some = elim (cases_lt 0 (used_in e)) [
 ]
 
 module _ (e : PlainEffect) (id : IsIdentified e) (t : Table) (counts : AreCounts t) (vertices : t.vertices ≡ members_below (has (used_in e)) 64) where
-  used : (v : ℕ) → has (used_in e) v ≡ true → is_used t v ≡ true
+  pub used : (v : ℕ) → has (used_in e) v ≡ true → is_used t v ≡ true
   used v h = (let low = id.used v h in let few = id.few in member_used t (has (used_in e)) vertices counts v (omega (arith, low, few)) h)
 
   pub table_below : (v : ℕ) → is_used t v ≡ true → v < e.graph.vertices

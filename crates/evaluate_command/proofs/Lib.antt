@@ -14,6 +14,5 @@ pub mod Adjusted
 pub mod OneEffect
 pub mod Exclusive
 pub mod Lawful
-pub mod EvaluateTold
 mod Replied
 pub mod OneText

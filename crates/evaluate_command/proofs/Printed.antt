@@ -1,27 +1,35 @@
 -- The values at cells: one list after another.
-use Rattle.std.proofs.Common.{◌≡◌, ℕ, ◌+◌, ◌-◌, ◌<◌, ◌≤◌, length, set, get_or, drop, inl, inr, List, [], ◌∷◌, ◌++◌, Ok, false, refl, sym, ap}
+use Rattle.std.proofs.Common.{◌≡◌, ℕ, ◌+◌, ◌-◌, ◌<◌, ◌≤◌, length, set, get_or, drop, inl, inr, List, [], ◌∷◌, ◌++◌, Ok, Bool, true, false, cond, eqb}
+use Rattle.std.proofs.Common.{eqb-true, ◌||◌, refl, sym, ap}
 use Rattle.std.proofs.Common.{subst, ◌∙◌, arith, append-nil, append_assoc}
 use Rattle.std.specs.List.{flat_map, range_with_len}
-use Rattle.std.proofs.lemmas.Bool.{cases_Bool}
+use Rattle.std.proofs.lemmas.Bool.{cases_Bool, or_cases}
 use Rattle.std.proofs.lemmas.List.Elements.{All-nil, All-cons, All-append}
-use Rattle.fractions.specs.Fractions.{Fraction}
+use Rattle.fractions.specs.Fractions.{Fraction, IsEqual}
+use Rattle.mixed_graph.specs.Bits.{has}
+use Rattle.mixed_graph.specs.Masks.{union}
 use Rattle.finite_models.specs.Models.{FiniteModel, Fits, IsAssignment}
+use Rattle.prob_expr.specs.Mentioned.{mentioned, mentioned_in}
+use Rattle.prob_expr.specs.Tree.{prob, product, no_trees, tree, PlainFormula, effect_on}
 use Rattle.prob_expr.specs.Values.{effect, weights_of, value_of}
+use Rattle.adjustment.specs.Formulas.{adjusted_sum, adjustment_formula}
+use Rattle.weak_adjustment.specs.Weakly.{AdmissibleAdjustsMatched}
 use Rattle.quantity.specs.Kinds.{Pair, Kind}
 use Rattle.count_eval.specs.Rules.{Rule}
 use Rattle.quantity.specs.Lawful.{IsLawful}
 use Rattle.count_rows.specs.Rows.{Table}
 use Rattle.count_table.specs.Cells.{total}
-use Rattle.count_eval.specs.Answers.{CoversCounts, CoversMatches}
+use Rattle.count_eval.specs.Answers.{CoversCounts, CoversWithZeros, CoversMatches}
+use Rattle.count_eval.specs.WithZeros.{value_of_with_zeros}
 use Rattle.count_eval.specs.Laws.{IsMatched}
 use Rattle.count_eval.specs.Programs.{weights_in, is_used, cell_of}
 use Rattle.count_eval.specs.Preparations.{Preparation}
 use Rattle.count_eval.specs.declared.failure.EvalFault.{EvalFault}
-use Rattle.evaluate_command.specs.Answers.{CoversEffect}
 use Rattle.evaluate_command.specs.Cells.{CellValue, IsCell, cells_along, level_count, printed_cells}
-use Rattle.evaluate_command.specs.Effects.{PlainEffect, target_of, IsIdentified}
+use Rattle.evaluate_command.specs.Effects.{PlainEffect, target_of, used_in, IsIdentified}
 use Rattle.evaluate_command.specs.Printing.{value_by, Appends, IsFaultAt}
-use Rattle.evaluate_command.specs.Right.{AreEvaluated, IsUnvalued}
+use Rattle.evaluate_command.specs.Right.{CoversEffect, CoversAdjusted, AreEvaluated, IsUnvalued}
+use Rattle.evaluate_command.proofs.Mentions.{in_left, in_right, in_none}
 use Rattle.evaluate_command.proofs.CellLists.{values_both, values_later, values_sooner, values_one, cells_at_first, numbers_more, numbers_around}
 
 -- ---- the theorem
@@ -44,15 +52,47 @@ covers_effect kind covers lawful e id t v is matches m fits positive matched =
     lawful.keeps.equal v.quantity (value_of (weights_of m) e.formula (cell_of v.cell)) (effect m (target_of e) (cell_of v.cell))
     (matches e.graph id.graph m fits positive matched at) (id.effect m fits positive (cell_of v.cell) at)
 
+-- the members of a set that may be adjusted for are mentioned by its formula
+set_mentioned : (x y z v : ℕ) → has z v ≡ true → has (mentioned (adjustment_formula x y z)) v ≡ true
+set_mentioned x y z v h = in_right 0 (mentioned_in (adjustment_formula x y z).main) v (go (eqb z 0) refl)
+  where
+    go : (b : Bool) → eqb z 0 ≡ b → has (mentioned_in (cond b (prob y 0 x) (adjusted_sum x y z))) v ≡ true
+    go true e = in_none (has (mentioned_in (prob y 0 x)) v ≡ true) v (sym (ap (λ k. has k v) (eqb-true z 0 e)) ∙ h)
+    go false e = in_left z (mentioned_in (product (tree (prob z 0 0) (tree (prob y 0 (union x z)) no_trees)))) v h
+
+-- what covers the formula's value with zeros covers the effect in a model that is positive where the formula needs it
+covers_adjusted : (kind : Kind) (covers : Pair → Fraction → Type 0) → IsLawful kind covers → AdmissibleAdjustsMatched
+    → (e : PlainEffect) → IsIdentified e → (t : Table) → ((v : ℕ) → has (used_in e) v ≡ true → is_used t v ≡ true)
+    → (v : CellValue) → IsCell e.graph.vertices t v.cell
+    → CoversWithZeros covers e.graph.vertices t e.formula (cell_of v.cell) v.quantity → CoversAdjusted covers e t v
+covers_adjusted kind covers lawful adjusts e id t used v is zeros z bare formula sets admissible m fits weak matched =
+    let s = cell_of v.cell in
+    let w = weights_in e.graph.vertices t in
+    let at = assigned e t v.cell is m fits matched in
+    let found = adjusts e.graph id.graph e.x e.y z sets admissible m fits weak (is_used t) w (total t.rows) matched
+    (λ u h. used u (elim (or_cases (has e.x u) (has e.y u || has z u) h) [
+      | inl i ↦ in_right (mentioned e.formula) (union e.x (union e.y e.given)) u (in_left e.x (union e.y e.given) u i)
+      | inr k ↦ elim (or_cases (has e.y u) (has z u) k) [
+        | inl i ↦ in_right (mentioned e.formula) (union e.x (union e.y e.given)) u
+            (in_right e.x (union e.y e.given) u (in_left e.y e.given u i))
+        | inr i ↦ in_left (mentioned e.formula) (union e.x (union e.y e.given)) u
+            (subst (λ (f : PlainFormula). has (mentioned f) u ≡ true) (sym formula) (set_mentioned e.x e.y z u i))
+      ]
+    ])) s at in
+    lawful.keeps.equal v.quantity (value_of_with_zeros w e.formula s) (effect m (target_of e) s) zeros.covered
+    (subst (λ k. IsEqual (value_of_with_zeros w e.formula s) (effect m (record { x = e.x; y = e.y; given = k }) s)) (sym bare)
+    (subst (λ (f : PlainFormula). IsEqual (value_of_with_zeros w f s) (effect m (effect_on e.x e.y) s)) (sym formula) found.equal))
+
 -- the formula of an effect over a table
 abbrev pub prepared_for : PlainEffect → Table → Preparation → Preparation
 prepared_for e t p = record { vertices = e.graph.vertices; counts = t; formula = e.formula; zero = p.zero }
 
 -- the values of a prepared formula at the printed cells are those of its effect
-pub all_evaluated : (rule : Rule) (covers : Pair → Fraction → Type 0) → IsLawful rule.kind covers → (e : PlainEffect) → IsIdentified e → (t : Table)
-    (p : Preparation) → prepared_for e t p ≡ p → (cells : List (List ℕ)) → cells ≡ printed_cells e t → (old new : List CellValue) → old ≡ []
+pub all_evaluated : (rule : Rule) (covers : Pair → Fraction → Type 0) → IsLawful rule.kind covers → AdmissibleAdjustsMatched
+    → (e : PlainEffect) → IsIdentified e → (t : Table) → ((v : ℕ) → has (used_in e) v ≡ true → is_used t v ≡ true) → (p : Preparation) → prepared_for e t p ≡ p
+    → (cells : List (List ℕ)) → cells ≡ printed_cells e t → (old new : List CellValue) → old ≡ []
     → Appends rule covers p cells old new → AreEvaluated rule covers e t new
-all_evaluated rule covers lawful e id t p is cells all old new none a =
+all_evaluated rule covers lawful adjusts e id t used p is cells all old new none a =
     let b = subst (λ (k : Preparation). Appends rule covers k (printed_cells e t) old new) (sym is)
     (subst (λ (cs : List (List ℕ)). Appends rule covers p cs old new) all a) in
     record {
@@ -60,6 +100,8 @@ all_evaluated rule covers lawful e id t p is cells all old new none a =
         values = b.values;
         evaluated = b.evaluated;
         counts = b.counts;
+        zeros = b.zeros;
+        adjusted = λ k d lt. covers_adjusted rule.kind covers lawful adjusts e id t used (get_or b.values k d) (b.each k d lt) (b.zeros k d lt);
         effects = λ k d lt. covers_effect rule.kind covers lawful e id t (get_or b.values k d) (b.each k d lt) (b.matches k d lt);
       };
       listed = b.list ∙ ap (λ (vs : List CellValue). vs ++ b.values) none;
@@ -79,6 +121,7 @@ module _ (rule : Rule) (covers : Pair → Fraction → Type 0) (p : Preparation)
     values = [];
     evaluated = refl;
     counts = λ first. All-nil _;
+    zeros = All-nil _;
     each = All-nil _;
     matches = All-nil _;
     list = sym (append-nil old);
@@ -86,15 +129,17 @@ module _ (rule : Rule) (covers : Pair → Fraction → Type 0) (p : Preparation)
 
   pub appends_one : (cell : List ℕ) (q : Pair) (old new : List CellValue) → value_by rule p cell ≡ Ok q
       → (rule.zero ≡ false → CoversCounts covers p.vertices p.counts p.formula (cell_of cell) q)
+      → CoversWithZeros covers p.vertices p.counts p.formula (cell_of cell) q
       → IsCell p.vertices p.counts cell → CoversMatches covers p.vertices p.counts p.formula (cell_of cell) q
       → new ≡ old ++ (record { cell = cell; quantity = q } ∷ []) → Appends rule covers p (cell ∷ []) old new
-  appends_one cell q old new is counts at matches list =
+  appends_one cell q old new is counts zeros at matches list =
       let v : CellValue = record { cell = cell; quantity = q } in
       record {
         values = v ∷ [];
         evaluated = values_one (value_by rule p) cell q is;
         counts = λ first. All-cons (λ (w : CellValue). CoversCounts covers p.vertices p.counts p.formula (cell_of w.cell) w.quantity) v [] (counts first)
             (All-nil _);
+        zeros = All-cons (λ (w : CellValue). CoversWithZeros covers p.vertices p.counts p.formula (cell_of w.cell) w.quantity) v [] zeros (All-nil _);
         each = All-cons (λ (w : CellValue). IsCell p.vertices p.counts w.cell) v [] at (All-nil _);
         matches = All-cons (λ (w : CellValue). CoversMatches covers p.vertices p.counts p.formula (cell_of w.cell) w.quantity) v [] matches (All-nil _);
         list = list;
@@ -107,6 +152,8 @@ module _ (rule : Rule) (covers : Pair → Fraction → Type 0) (p : Preparation)
     evaluated = values_both (value_by rule p) cs ds a.values b.values a.evaluated b.evaluated;
     counts = λ first. All-append (λ (w : CellValue). CoversCounts covers p.vertices p.counts p.formula (cell_of w.cell) w.quantity) a.values b.values
         (a.counts first) (b.counts first);
+    zeros = All-append (λ (w : CellValue). CoversWithZeros covers p.vertices p.counts p.formula (cell_of w.cell) w.quantity) a.values b.values a.zeros
+        b.zeros;
     each = All-append (λ (w : CellValue). IsCell p.vertices p.counts w.cell) a.values b.values a.each b.each;
     matches = All-append (λ (w : CellValue). CoversMatches covers p.vertices p.counts p.formula (cell_of w.cell) w.quantity) a.values b.values a.matches
         b.matches;

@@ -1,9 +1,14 @@
 -- The text of a stop, from the fault that says it.
-use Rattle.std.proofs.Common.{◌≡◌, ℕ, Bool, cond, List, ◌++◌, codes, sym, ap, ◌∙◌, append-nil}
+use Rattle.std.proofs.Common.{◌≡◌, ℕ, Bool, cond, List, [], ◌++◌, codes, sym, ap, ◌∙◌, append-nil}
 use Rattle.mixed_graph.specs.Names.{name_of}
+use Rattle.answer_text.specs.Lines.{line_of}
 use Rattle.answer_text.specs.Printing.{printed}
+use Rattle.answer_json.specs.Progress.{json_line}
+use Rattle.replies.specs.Told.{Told, refusal_of}
+use Rattle.count_json.specs.Stops.{stop_json}
 use Rattle.mixed_graph.specs.Bits.{members_below}
 use Rattle.prob_expr.specs.declared.expr.Place.{Place}
+use Rattle.quantity.specs.declared.fault.QuantityFault.{QuantityFault}
 use Rattle.quantity.specs.declared.fault.QuantityFault.TheVariants.{ZeroBelow, TooWide, TooFine}
 use Rattle.count_rows.specs.Rows.{Table}
 use Rattle.count_table.specs.Tables.{AreCounts}
@@ -13,11 +18,30 @@ use Rattle.count_eval.specs.Stops.{Stop}
 use Rattle.count_eval.specs.declared.failure.EvalFault.{EvalFault}
 use Rattle.count_eval.specs.declared.failure.EvalFault.TheVariants.{NoSupport, NoMemory}
 use Rattle.count_eval.specs.declared.failure.EvalFault.TheVariants as failure
-use Rattle.count_answers.specs.Lines.{with_commas, assignment, assignments, level_text}
+use Rattle.count_answers.specs.Lines.{with_commas, assignment, assignments, level_text, printed_level}
 use Rattle.count_answers.proofs.Texts.{same_texts}
-use Rattle.evaluate_command.specs.Answers.{why_digit, support_text, stop_text}
 use Rattle.evaluate_command.specs.Stopped.{place_text, stop_words}
 use Rattle.evaluate_command.proofs.Tables.{member_used}
+
+-- the digit of why there is no value
+abbrev pub why_digit : QuantityFault → List ℕ
+why_digit ZeroBelow = codes "1"
+why_digit TooWide = codes "2"
+why_digit TooFine = codes "3"
+
+-- the levels of all used vertices at a node where a denominator is 0
+abbrev pub support_text : QuantityFault → List (List ℕ) → Table → (ℕ → ℕ) → List ℕ
+support_text ZeroBelow names t cell = codes " at " ++ assignments names t cell t.vertices
+support_text TooWide names t cell = []
+support_text TooFine names t cell = []
+
+-- why there is no value, and at which node
+abbrev pub stop_text : List (List ℕ) → Table → Stop → List ℕ
+stop_text names t s = codes "evaluation fault " ++ (why_digit s.why ++ (codes ": " ++ (place_text s.def s.node ++ support_text s.why names t s.cell)))
+
+-- what is told of a stop: its line and its object
+abbrev pub stop_told : List (List ℕ) → Table → Stop → Told
+stop_told names t s = refusal_of (line_of (stop_text names t s)) (json_line (stop_json names t s))
 
 -- the place in a fault is that of the stop
 same_place : (place : Place) (s : Stop) → IsPlaceOf place s → place_text place.def place.node ≡ place_text s.def s.node
@@ -41,7 +65,7 @@ same_levels : (names : List (List ℕ)) (t : Table) (s : Stop) (cell : List ℕ)
     → assignments names t (cell_of cell) (members_below used 64) ≡ assignments names t s.cell t.vertices
 same_levels names t s cell used table is at =
     ap with_commas (same_texts (assignment names t (cell_of cell)) (assignment names t s.cell) used 64 (λ v lt h.
-    ap (λ k. printed (name_of names v) ++ (codes "=" ++ level_text t v k))
+    ap (λ k. printed (name_of names v) ++ (codes "=" ++ printed_level (level_text t v k)))
     (at v lt ∙ ap (λ (b : Bool). cond b (s.cell v) 0) (member_used t used is table v lt h))))
     ∙ ap (λ (vs : List ℕ). assignments names t s.cell vs) (sym is)
 

@@ -8,7 +8,6 @@ pub mod Stopped
 pub mod Listings
 pub mod Telling
 pub mod ValuesFaults
-pub mod Answers
 pub mod Printing
 pub mod Right
 pub mod First

@@ -3,7 +3,7 @@ use Rattle.std.specs.Prelude.{ℕ, ◌≡◌, false, List, All, ◌++◌, Result
 use Rattle.fractions.specs.Fractions.{Fraction}
 use Rattle.quantity.specs.Kinds.{Pair}
 use Rattle.count_eval.specs.Rules.{Rule}
-use Rattle.count_eval.specs.Answers.{IsEvaluationFault, CoversCounts, CoversMatches}
+use Rattle.count_eval.specs.Answers.{IsEvaluationFault, CoversCounts, CoversWithZeros, CoversMatches}
 use Rattle.count_eval.specs.Evaluated.{formula_value}
 use Rattle.count_eval.specs.Programs.{weights_in, is_used, cell_of}
 use Rattle.count_eval.specs.Stops.{Stop}
@@ -20,6 +20,7 @@ pub record Appends (rule : Rule) (covers : Pair → Fraction → Type 0) (p : Pr
   pub values : List CellValue
   pub evaluated : values_at (value_by rule p) cells ≡ Ok values
   pub counts : rule.zero ≡ false → All (λ v. CoversCounts covers p.vertices p.counts p.formula (cell_of v.cell) v.quantity) values
+  pub zeros : All (λ v. CoversWithZeros covers p.vertices p.counts p.formula (cell_of v.cell) v.quantity) values
   pub each : All (λ v. IsCell p.vertices p.counts v.cell) values
   pub matches : All (λ v. CoversMatches covers p.vertices p.counts p.formula (cell_of v.cell) v.quantity) values
   pub list : new ≡ old ++ values

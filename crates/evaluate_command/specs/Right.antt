@@ -1,6 +1,13 @@
 -- Which answers of `evaluate` are right over the bytes of counts, for an effect that has a formula.
-use Rattle.std.specs.Prelude.{ℕ, ◌≡◌, ◌≢◌, ◌<◌, ◌≤◌, Bool, true, false, List, length, Option, Some, Result, Ok, Err}
+use Rattle.std.specs.Prelude.{ℕ, ◌≡◌, ◌≢◌, ◌<◌, ◌≤◌, Bool, true, false, List, All, length, Option, Some, Result, Ok, Err}
 use Rattle.fractions.specs.Fractions.{Fraction}
+use Rattle.mixed_graph.specs.Bits.{has}
+use Rattle.finite_models.specs.Models.{FiniteModel, Fits, IsPositiveModel}
+use Rattle.do_rules.specs.Rules.{AreThreeSets}
+use Rattle.adjustment.specs.Criteria.{IsAdmissible}
+use Rattle.adjustment.specs.Formulas.{adjustment_formula}
+use Rattle.weak_adjustment.specs.Weakly.{IsWeaklyPositive}
+use Rattle.prob_expr.specs.Values.{effect}
 use Rattle.prob_expr.specs.View.{target_view}
 use Rattle.identify_text.specs.Answers.{free_beside}
 use Rattle.quantity.specs.Exacts.{exact, Equals}
@@ -12,13 +19,14 @@ use Rattle.count_rows.specs.declared.fault.CountFault.{CountFault}
 use Rattle.count_rows.specs.declared.fault.CountFault.TheVariants as counts
 use Rattle.count_table.specs.Reading.{text_fault}
 use Rattle.count_table.specs.Tables.{AreCounts}
-use Rattle.count_eval.specs.Answers.{IsEvaluationFault}
-use Rattle.count_eval.specs.Programs.{is_used}
+use Rattle.count_table.specs.Cells.{total}
+use Rattle.count_eval.specs.Answers.{CoversCounts, CoversWithZeros, IsEvaluationFault}
+use Rattle.count_eval.specs.Laws.{IsMatched}
+use Rattle.count_eval.specs.Programs.{weights_in, is_used, cell_of}
 use Rattle.count_eval.specs.Rules.{Rule, rule as rule_of}
 use Rattle.count_eval.specs.Stops.{Stop}
 use Rattle.count_eval.specs.declared.failure.EvalFault.{EvalFault}
 use Rattle.count_answers.specs.Reads.{HoldsCounts}
-use Rattle.evaluate_command.specs.Answers.{AreValues}
 use Rattle.evaluate_command.specs.Cells.{CellValue, value_in, values_at, printed_cells}
 use Rattle.evaluate_command.specs.Effects.{PlainEffect, target_of, used_in}
 use Rattle.evaluate_command.specs.Listed.{exact_numbers, bounds_numbers, plain_in}
@@ -31,6 +39,30 @@ use Rattle.evaluate_command.specs.declared.faults.ValuesFault.{ValuesFault}
 use Rattle.evaluate_command.specs.declared.faults.ValuesFault.TheVariants.{TooLong, Counts, NoValue, NoMemory}
 
 -- ---- over a table of counts
+
+-- The quantity covers P(y | do(x), given) at the cell in each positive model that fits the graph and whose observed weights are those of the counts,
+-- up to one factor.
+abbrev pub CoversEffect : (Pair → Fraction → Type 0) → PlainEffect → Table → CellValue → Type 0
+CoversEffect covers e t v = (m : FiniteModel) → Fits e.graph m → IsPositiveModel m → IsMatched (is_used t) (weights_in e.graph.vertices t) (total t.rows) m
+    → covers v.quantity (effect m (target_of e) (cell_of v.cell))
+
+-- Where the formula is the adjustment formula of an admissible set, the quantity covers the effect at the cell in each model that fits the graph and whose
+-- observed weights are those of the counts, up to one factor, positive or not, if only P(x given the set) is above 0 wherever the set's values are.
+abbrev pub CoversAdjusted : (Pair → Fraction → Type 0) → PlainEffect → Table → CellValue → Type 0
+CoversAdjusted covers e t v = (z : ℕ) → e.given ≡ 0 → e.formula ≡ adjustment_formula e.x e.y z → AreThreeSets e.graph.vertices (has e.x) (has e.y) (has z)
+    → IsAdmissible e.graph (has e.x) (has e.y) (has z) → (m : FiniteModel) → Fits e.graph m → IsWeaklyPositive m (has e.x) (has z)
+    → IsMatched (is_used t) (weights_in e.graph.vertices t) (total t.rows) m → covers v.quantity (effect m (target_of e) (cell_of v.cell))
+
+-- The cells have these values by the rule. By the first rule each quantity covers the formula's value over the counts, and by either rule its value by the
+-- rule that a product with a factor 0 is 0; and where a model of the graph has these counts, the effect in it: in a positive model, and for the formula of
+-- an admissible set in one that is positive where that formula needs it.
+pub record AreValues (rule : Rule) (covers : Pair → Fraction → Type 0) (e : PlainEffect) (t : Table) (cells : List (List ℕ)) : Type 0 where
+  pub values : List CellValue
+  pub evaluated : values_at (value_in rule e t) cells ≡ Ok values
+  pub counts : rule.zero ≡ false → All (λ v. CoversCounts covers e.graph.vertices t e.formula (cell_of v.cell) v.quantity) values
+  pub zeros : All (λ v. CoversWithZeros covers e.graph.vertices t e.formula (cell_of v.cell) v.quantity) values
+  pub effects : All (CoversEffect covers e t) values
+  pub adjusted : All (CoversAdjusted covers e t) values
 
 -- these are the values at the printed cells
 pub record AreEvaluated (rule : Rule) (covers : Pair → Fraction → Type 0) (e : PlainEffect) (t : Table) (list : List CellValue) : Type 0 where

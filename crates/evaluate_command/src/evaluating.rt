@@ -62,6 +62,7 @@ fn values_in<Q: Quantity>(
 {
     // The clause `table` of `used` is needed: each used vertex has a level, and none other.
     let _used = counts.used();
+    weak_adjustment::laws();
     let n = seen.graph.n;
     let target = found.target;
     let Ok(vertices) = varied(alloc, target.x, target.given, target.y) else {

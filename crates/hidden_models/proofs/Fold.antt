@@ -176,7 +176,8 @@ module _ (g p : MixedGraph) (l : ℕ → Bool) (m : FiniteModel) (r : ℕ → �
             go true e = rw (none v e, e) refl
             go false e = rw e (t_is v vl ∙ ap (λ x. cond (b v) (s v) x) (sym value))
 
-        same_agree : agree m.vertices a (solution (intervene m b s) u) s ≡ agree m.vertices a (solution (intervene (fold m l r) b s) u) s
+        -- the observed vertices have in each world the same values
+        pub same_agree : agree m.vertices a (solution (intervene m b s) u) s ≡ agree m.vertices a (solution (intervene (fold m l r) b s) u) s
         unfolding t hidden
         same_agree = agree_same m.vertices a a (solution (intervene m b s) u) (solution (intervene (fold m l r) b s) u) s
             (λ h v vl e. sym (at v vl (ao v e)) ∙ h v vl e) (λ h v vl e. at v vl (ao v e) ∙ h v vl e)

@@ -24,20 +24,20 @@ use Rattle.hidden_models.proofs.Renumber.{fits_kept, within}
 
 module _ (g p : MixedGraph) (l : ℕ → Bool) (m : FiniteModel) (r : ℕ → ℕ → Bool) (j : ℕ → Bool)
     (ok : IsMixedGraph g) (is : IsProjection g l p) (fit : Fits g m) (tells : TellsReached g l m r) (keeps : KeepsCauses (fold m l r) (λ v. not (l v)) j) where
-  p_ok : IsMixedGraph p
+  pub p_ok : IsMixedGraph p
   p_ok = IsMixedGraph-projection g p l ok is
 
-  p_fit : Follows p (fold m l r)
+  pub p_fit : Follows p (fold m l r)
   p_fit = fold_follows g p l m r ok (by_treks g p l is) (follows_of g m fit) tells
 
-  p_tail : (a b : ℕ) → p.arrow a b ≡ true → not (l a) ≡ true
+  pub p_tail : (a b : ℕ) → p.arrow a b ≡ true → not (l a) ≡ true
   p_tail a b e = not_from_false (l a) ((by_treks g p l is).tail_observed a b e)
 
   -- the folded model fits the observed graph
   pub by_fits : Fits (renumbered p (observed_below l m.vertices)) (folded_by m l r j)
   by_fits = fits_kept p (fold m l r) (λ v. not (l v)) j p_ok p_fit p_tail keeps fit.positive_weight
 
-  inside : (d : ℕ → Bool) → Apart (set_in (λ v. not (l v)) d) l
+  pub inside : (d : ℕ → Bool) → Apart (set_in (λ v. not (l v)) d) l
   inside d v e = observed_of (l v) (and_first (not (l v)) (d (position (λ v. not (l v)) v)) e)
 
   folds_new : (b a : ℕ → Bool) (s : ℕ → ℕ) → IsAssignment (folded_by m l r j).vertices (folded_by m l r j).size s

@@ -100,11 +100,11 @@ module _ (p : MixedGraph) (m : FiniteModel) (o j : ℕ → Bool) (ok : IsMixedGr
     (keeps : KeepsCauses m o j)
     (rank rank' : ℕ → ℕ) (ranked : IsRanked p rank) (ranked' : IsRanked (renumbered p (members_below o m.vertices)) rank') (b a : ℕ → Bool) (s : ℕ → ℕ)
     (hs : IsAssignment (position o m.vertices) (λ v. m.size (member o m.vertices v)) s) where
-  agreed : (ℕ → ℕ) → Bool
+  -- whether the event is there in a world
+  abbrev pub agreed : (ℕ → ℕ) → Bool
   agreed u = agree m.vertices (set_in o a) (solution (intervene m (set_in o b) (values_in o s)) u) (values_in o s)
 
-  agreed_ignores : Ignores m.causes (λ i. not (j i)) (λ u. number (agreed u))
-  unfolding agreed
+  pub agreed_ignores : Ignores m.causes (λ i. not (j i)) (λ u. number (agreed u))
   agreed_ignores u i x il e = ap number (agree_same m.vertices (set_in o a) (set_in o a)
       (solution (intervene m (set_in o b) (values_in o s)) (set_at u i x)) (solution (intervene m (set_in o b) (values_in o s)) u) (values_in o s)
       (λ h v vl f. sym (same v vl) ∙ h v vl f) (λ h v vl f. same v vl ∙ h v vl f))
@@ -114,7 +114,6 @@ module _ (p : MixedGraph) (m : FiniteModel) (o j : ℕ → Bool) (ok : IsMixedGr
       same v vl = round_ignores p m o j ok fit tail keeps rank rank' ranked ranked' b a s hs u i x il (untrue m o j (j i) e) m.vertices v vl
 
   pub kept_weight : weight_of m (set_in o b) (set_in o a) (values_in o s) ≡ weight_of (kept m o j) b a s * rest_total m o j
-  unfolding agreed
   kept_weight =
       over-congr (λ i. true) m.values m.causes (λ u. cond (agreed u) (world_weight m u) 0) (λ u. world_weight m u * number (agreed u)) (λ i. 0)
       (λ u. cond-number (agreed u) (world_weight m u))

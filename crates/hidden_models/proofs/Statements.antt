@@ -25,7 +25,7 @@ in_ratio a b c d a' b' c' d' t t' pos p q r s e =
     ∙ (let k : (c * t') * (d * t') ≡ (t' * t') * (c * d) = omega arith in k))
 
 -- fractions of such numbers are equal
-one_fraction : (a b a' b' t t' : ℕ) → 1 ≤ t → 1 ≤ t' → 1 ≤ b → 1 ≤ b' → a * t' ≡ a' * t → b * t' ≡ b' * t → IsEqual (over a b) (over a' b')
+pub one_fraction : (a b a' b' t t' : ℕ) → 1 ≤ t → 1 ≤ t' → 1 ≤ b → 1 ≤ b' → a * t' ≡ a' * t → b * t' ≡ b' * t → IsEqual (over a b) (over a' b')
 one_fraction a b a' b' t t' pos pos' left right p q = record {
   left_bottom = left;
   right_bottom = right;

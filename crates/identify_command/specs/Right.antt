@@ -12,7 +12,7 @@ use Rattle.identify.specs.Answers.{IsRightFormula}
 use Rattle.conditional_id.specs.Conditionals.{IsConditionalBySteps}
 use Rattle.conditional_id.specs.TurnLaws.{IsRightGiven}
 use Rattle.conditional_id.specs.Settled.{IsSettled}
-use Rattle.conditional_id.specs.HedgeLaws.{IsFixed}
+use Rattle.conditional_id.specs.HedgeLaws.{AreModelsOf}
 use Rattle.conditional_id.specs.Answers.{IsJointEffect}
 use Rattle.short_formulas.specs.Short.{IsOrShorter}
 use Rattle.certificate.specs.Plain as plain
@@ -53,12 +53,12 @@ pub record IsTargetFormula (short certified : Bool) (q : MixedGraph) (t : PlainT
 
 -- Observations turn the target into an effect of x on the target's y and what is left, which is equal to it in each positive model that fits q.
 -- For the joint effect of both there is a hedge, with two models that show that there is no formula for it.
--- The target itself isn't identifiable: two positive models that fit q and agree on all observations give it two values, so no formula without
--- interventions equals it in each such model. Where no observation is left, or those that are left have an effect that is known, it is settled by the
+-- The target itself isn't identifiable: two positive models that fit q and agree on all observations give it two values at some assignment, so no formula
+-- without interventions equals it in each such model. Where no observation is left, or those that are left have an effect that is known, it is settled by the
 -- very models of the hedge, which differ on the target too.
 pub record IsJointHedge (q : MixedGraph) (t : PlainTarget) (settled : Bool) (a : EffectHedge) : Type 0 where
   pub joint : IsJointEffect q t a.sets.x.bits a.sets.y.bits
-  pub not_fixed : IsFixed q t → ⊥
+  pub models : AreModelsOf q t
   pub no_formula : HasNoFormula q t
   pub settled_is : IsTrue settled ↔ IsSettled q a.sets.x.bits joint.left
   pub differs : IsTrue settled → DifferOnTarget (meaning q a.pair.first) (meaning q a.pair.second) t

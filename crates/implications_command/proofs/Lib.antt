@@ -6,5 +6,4 @@ mod OneList
 mod SameList
 pub mod Exclusive
 pub mod Lawful
-pub mod ImplicationsTold
 pub mod OneText

@@ -1,5 +1,5 @@
 -- Of the pairs of a graph one thing is told, and so it is of their differences over the bytes of counts.
-use Rattle.std.proofs.Common.{◌≡◌, ◌≢◌, ◌<◌, ◌*◌, ◌⊎◌, ℕ, Bool, List, [], ◌∷◌, ◌++◌, Option, Some, None, length, map, get_or, inl, inr, refl, sym, ap, ap₂}
+use Rattle.std.proofs.Common.{◌≡◌, ◌≢◌, ◌<◌, ◌≤◌, ◌*◌, ◌⊎◌, ℕ, Bool, List, [], ◌∷◌, ◌++◌, Option, Some, None, Ok, Err, length, map, get_or, inl, inr, refl, sym, ap, ap₂}
 use Rattle.std.proofs.Common.{◌∙◌, subst, arith}
 use mathlib.Core.Path.{fun_ext}
 use Rattle.std.specs.Prelude.{All, ℤ, pos, ◌-ℤ◌, slice_index_or, codes}
@@ -7,11 +7,15 @@ use Rattle.std.specs.Fmt.{signed_decimal}
 use Rattle.std.specs.Int.{abs_diff}
 use Rattle.std.specs.List.{flat_map, filter}
 use Rattle.std.proofs.lemmas.Bool.{cases_lt, cases_eq}
+use Rattle.std.proofs.lemmas.Option.{same_Some}
 use Rattle.std.proofs.lemmas.List.Elements.{All-nil, All-cons, All-head, All-tail}
 use Rattle.std.proofs.lemmas.List.Folds.{flat_map-map}
 use Rattle.std.proofs.lemmas.Simd.{map-map}
 use Rattle.mixed_graph.specs.Bits.{has}
 use Rattle.mixed_graph.specs.Graphs.{MixedGraph}
+use Rattle.mixed_graph.specs.Shown.{graph_of}
+use Rattle.dag_reader.specs.declared.graph.ReadGraph.{ReadGraph}
+use Rattle.implications.specs.Implications.{AreImplications}
 use Rattle.mixed_graph.specs.Names.{name_of}
 use Rattle.answer_text.specs.Printing.{printed}
 use Rattle.command_words.specs.Form.{Text}
@@ -22,11 +26,11 @@ use Rattle.count_table.specs.Cells.{IsCell}
 use Rattle.count_table.specs.Tables.{levels_in}
 use Rattle.count_table.proofs.Placing.{same_place}
 use Rattle.count_eval.specs.Programs.{cell_of}
-use Rattle.count_answers.specs.Lines.{with_commas}
+use Rattle.count_answers.specs.Lines.{printed_level, with_commas}
 use Rattle.count_answers.specs.Reads.{HoldsCounts}
 use Rattle.count_answers.proofs.OneReading.{AreAlike, one_table}
-use Rattle.count_json.specs.Refusals.{AreRefusedCounts}
-use Rattle.count_json.proofs.Refused.{one_line, one_object}
+use Rattle.count_rows.specs.declared.fault.CountFault.{CountFault}
+use Rattle.count_table.specs.Reading.{text_fault}
 use Rattle.implications.specs.declared.pairs.Implication.{Implication}
 use Rattle.implied_differences.specs.declared.largest.Difference.{Difference}
 use Rattle.implied_differences.specs.Differences.{IsLargest, axes_in, whole_of, first_of_pair, second_of_pair, distance, difference}
@@ -36,33 +40,66 @@ use Rattle.answer_json.specs.Values.{text_json, vertex_json, set_json}
 use Rattle.replies.specs.declared.format.Format.{Format}
 use Rattle.replies.specs.Told.{Told, answer_of, text_in}
 use Rattle.replies.specs.declared.outcome.Outcome.{Outcome}
-use Rattle.replies.specs.declared.outcome.Outcome.TheVariants.{Yes, No, Second}
-use Rattle.implications_command.specs.Answers.{ShowsPairs, FirstAnswer, CountsAnswer, DifferencesAnswer}
+use Rattle.replies.specs.Outcomes.{code_of}
+use Rattle.told.specs.Forms.{plain_form}
+use Rattle.told.specs.Refusals.{target_refusal}
+use Rattle.told.specs.Telling.{Tells, told_in}
+use Rattle.told.proofs.OneTold.{one_told}
+use Rattle.targets.specs.declared.fault.TargetFault.{TargetFault}
+use Rattle.implications_command.specs.CountsFaults.{counts_refusal}
+use Rattle.implications_command.specs.Right.{IsForGraph, IsForCounts}
+use Rattle.implications_command.specs.Telling.{implications_telling}
+use Rattle.implications_command.specs.declared.answer.Answer.{Answer}
+use Rattle.implications_command.specs.declared.answer.Answer.TheVariants.{NoPairs, Pairs, Differences}
+use Rattle.implications_command.specs.declared.fault.CountsFault.{CountsFault}
+use Rattle.implications_command.specs.declared.fault.CountsFault.TheVariants.{TooLong, Faulty, NoMemory}
 use Rattle.implications_command.specs.Lines.{pair_line, pair_lines, vertices_of, value_text, measured_lines}
 use Rattle.implications_command.specs.Objects.{pairs_json, listed_json, differences_json}
 use Rattle.implications_command.specs.declared.differences.Measured.{Measured}
-use Rattle.implications_command.specs.Pairs.{ArePairs, pairs_of}
+use Rattle.implications_command.specs.Pairs.{ArePairs, pairs_of, pairs_in}
 use Rattle.implications_command.specs.Used.{used_in}
 use Rattle.implications_command.proofs.SameList.{one_list}
+
+yes_or_no : (a : Answer) → code_of (implications_telling.outcome a) ≤ 1
+yes_or_no NoPairs = omega arith
+yes_or_no (Pairs list) = omega arith
+yes_or_no (Differences t measured) = omega arith
 
 -- ---- pairs
 
 -- of the pairs of a graph one thing is told, and so it is of there being none
-pairs_text : (format : Format) (q : MixedGraph) (names : List (List ℕ)) (told other : Told) → ShowsPairs format q names told
-    → ShowsPairs format q names other → other ≡ told
-pairs_text format q names told other a b =
-    b.prints
-    ∙ ap (λ (l : List Implication). answer_of (text_in format (pair_lines names l) (json_line (pairs_json names l))))
-    (one_list q a.list b.list a.are.implications b.are.implications)
-    ∙ sym a.prints
+module _ (format : Format) (g h : ReadGraph) (drawn : graph_of h.graph ≡ graph_of g.graph) (named : h.names ≡ g.names) where
+  pairs_same : (list others : List Implication) → ArePairs (pairs_in g list) → ArePairs (pairs_in h others)
+      → answer_of (text_in format (pair_lines h.names others) (json_line (pairs_json h.names others)))
+      ≡ answer_of (text_in format (pair_lines g.names list) (json_line (pairs_json g.names list)))
+  pairs_same list others a b =
+      let same : others ≡ list = one_list (graph_of g.graph) list others a.implications
+      (subst (λ (q : MixedGraph). AreImplications q others) drawn b.implications) in
+      λ i. answer_of (text_in format (pair_lines (named i) (same i)) (json_line (pairs_json (named i) (same i))))
 
-pub first_text : (format : Format) (counts : Option Text) (o : Outcome) (q : MixedGraph) (names : List (List ℕ)) (told other : Told)
-    → FirstAnswer format counts q names o told → FirstAnswer format counts q names o other → other ≡ told
-first_text format None Yes q names told other a b = pairs_text format q names told other a b
-first_text format None No q names told other a b = b.prints ∙ sym a.prints
-first_text format None o q names told other a b = absurd a
-first_text format (Some counts) No q names told other a b = b.prints ∙ sym a.prints
-first_text format (Some counts) o q names told other a b = absurd a
+  answers_same : (counts : Option Text) (a b : Answer) → IsForGraph counts g (Ok a) → IsForGraph counts h (Ok b)
+      → implications_telling.outcome b ≡ implications_telling.outcome a
+      → told_in implications_telling target_refusal (plain_form format) h.names (Ok b)
+      ≡ told_in implications_telling target_refusal (plain_form format) g.names (Ok a)
+  answers_same counts NoPairs NoPairs x y same = refl
+  answers_same None (Pairs list) (Pairs others) x y same = pairs_same list.items others.items x y
+  answers_same counts NoPairs (Pairs others) x y same = let c : 0 ≡ 1 = ap code_of same in absurd (omega (arith, c))
+  answers_same counts (Pairs list) NoPairs x y same = let c : 1 ≡ 0 = ap code_of same in absurd (omega (arith, c))
+  answers_same (Some counts) (Pairs list) b x y same = absurd x
+  answers_same None (Differences t measured) b x y same = absurd x
+  answers_same (Some counts) (Differences t measured) b x y same = absurd x
+  answers_same None a (Differences t measured) x y same = absurd y
+  answers_same (Some counts) a (Differences t measured) x y same = absurd y
+
+  no_fault : (counts : Option Text) (e k : TargetFault) → IsForGraph counts g (Err e) → target_refusal.told k ≡ target_refusal.told e
+  no_fault None e k x = absurd x
+  no_fault (Some counts) e k x = absurd x
+
+  pub one_listing : (counts : Option Text) (o : Outcome) (told other : Told)
+      → Tells implications_telling target_refusal (IsForGraph counts g) (plain_form format) g.names o told
+      → Tells implications_telling target_refusal (IsForGraph counts h) (plain_form format) h.names o other → other ≡ told
+  one_listing counts = one_told implications_telling target_refusal (record { answered = yes_or_no; refused = λ e. omega arith }) (plain_form format)
+      g.names h.names (IsForGraph counts g) (IsForGraph counts h) (answers_same counts) (λ e k x y. no_fault counts e k x)
 
 -- ---- differences
 
@@ -105,7 +142,7 @@ level_in s v = slice_index_or (levels_in s.vertices s.levels v) (s.cell v) []
 -- its lines
 abbrev lines_of : List (List ℕ) → Shown → List ℕ
 lines_of names s = pair_line names s.pair ++ (value_text s.value
-    ++ (with_commas (map (λ v. printed (name_of names v) ++ (codes "=" ++ level_in s v)) (vertices_of s.pair)) ++ codes "\n"))
+    ++ (with_commas (map (λ v. printed (name_of names v) ++ (codes "=" ++ printed_level (level_in s v))) (vertices_of s.pair)) ++ codes "\n"))
 
 -- its object
 abbrev object_in : List (List ℕ) → Shown → Json
@@ -203,6 +240,11 @@ all_shown t u same (m ∷ ms) (n ∷ ns) e a b =
     (all_shown t u same ms ns (ap tail_of e) (All-tail (λ (k : Measured). IsLargest t k.pair k.difference) m ms a)
     (All-tail (λ (k : Measured). IsLargest u k.pair k.difference) n ns b))
 
+-- the answer over counts in a graph that has pairs
+abbrev pub IsMeasured : Format → Option Field → (bytes : List ℕ) → Outcome → MixedGraph → (names : List (List ℕ)) → Told → Type 0
+IsMeasured format count bytes o q names told = (list : List Implication) × ArePairs (pairs_of q names list)
+    × Tells implications_telling counts_refusal (IsForCounts (pairs_of q names list) count bytes) (plain_form format) names o told
+
 module _ (format : Format) (q : MixedGraph) (names : List (List ℕ)) (list others : List Implication) (a : ArePairs (pairs_of q names list))
     (b : ArePairs (pairs_of q names others)) (count : Option Field) (bytes : List ℕ) where
   list_same : others ≡ list
@@ -212,23 +254,35 @@ module _ (format : Format) (q : MixedGraph) (names : List (List ℕ)) (list othe
   of_list : (P : ℕ → Type 0) → P (used_in others) → P (used_in list)
   of_list P x = subst (λ (l : List Implication). P (used_in l)) list_same x
 
-  counts_text : (o : Outcome) (told other : Told) → CountsAnswer format (pairs_of q names list) count bytes o told
-      → CountsAnswer format (pairs_of q names others) count bytes o other → other ≡ told
-  counts_text Yes told other x y =
-      let read = of_list (λ used. HoldsCounts names used count bytes y.0) y.1 in
-      let alike = one_table bytes names (used_in list) count x.0 y.0 x.1.reads read.reads in
-      let same = all_shown x.0 y.0 alike x.2.measured y.2.measured (y.2.are.pairs ∙ list_same ∙ sym x.2.are.pairs) x.2.are.largest y.2.are.largest in
-      y.2.prints ∙ told_is format names y.0 y.2.measured ∙ ap (told_of_shown format names) same ∙ sym (told_is format names x.0 x.2.measured) ∙ sym x.2.prints
-  counts_text Second told other x y =
-      let z = of_list (λ used. AreRefusedCounts names used count bytes other.text other.object) y in
-      let used = used_in list in
-      λ i. record {
-        text = one_line names used count bytes told.text told.object other.text other.object x z i;
-        object = one_object names used count bytes told.text told.object other.text other.object x z i;
-      }
-  counts_text o told other x y = absurd x
+  measured_same : (a b : Answer) → IsForCounts (pairs_of q names list) count bytes (Ok a) → IsForCounts (pairs_of q names others) count bytes (Ok b)
+      → told_in implications_telling counts_refusal (plain_form format) names (Ok b)
+      ≡ told_in implications_telling counts_refusal (plain_form format) names (Ok a)
+  measured_same (Differences t measured) (Differences u more) x y =
+      let read = of_list (λ used. HoldsCounts names used count bytes u) y.0 in
+      let alike = one_table bytes names (used_in list) count t u x.0.reads read.reads in
+      let same = all_shown t u alike measured.items more.items (y.1.pairs ∙ list_same ∙ sym x.1.pairs) x.1.largest y.1.largest in
+      told_is format names u more.items ∙ ap (told_of_shown format names) same ∙ sym (told_is format names t measured.items)
+  measured_same NoPairs b x y = absurd x
+  measured_same (Pairs l) b x y = absurd x
+  measured_same (Differences t measured) NoPairs x y = absurd y
+  measured_same (Differences t measured) (Pairs l) x y = absurd y
 
--- of the answer over counts one thing is told, whatever its outcome
-pub differences_text : (format : Format) (count : Option Field) (bytes : List ℕ) (o : Outcome) (q : MixedGraph) (names : List (List ℕ)) (told other : Told)
-    → DifferencesAnswer format q names count bytes o told → DifferencesAnswer format q names count bytes o other → other ≡ told
-differences_text format count bytes o q names told other a b = counts_text format q names a.0 b.0 a.1 b.1 count bytes o told other a.2 b.2
+  -- bytes have one fault
+  fault_same : (e k : CountsFault) → IsForCounts (pairs_of q names list) count bytes (Err e) → IsForCounts (pairs_of q names others) count bytes (Err k)
+      → counts_refusal.told k ≡ counts_refusal.told e
+  fault_same TooLong TooLong x y = refl
+  fault_same (Faulty e) (Faulty k) x y = ap (λ (f : CountFault). counts_refusal.told (Faulty f))
+      (same_Some k e (sym (of_list (λ used. text_fault bytes names used count ≡ Some k) y.found) ∙ x.found))
+  fault_same TooLong (Faulty k) x y = absurd (let s = y.small in omega (arith, x, s))
+  fault_same (Faulty e) TooLong x y = absurd (let s = x.small in omega (arith, y, s))
+  fault_same NoMemory k x y = absurd x
+  fault_same e NoMemory x y = absurd y
+
+-- of the pairs over counts one thing is told, whatever the outcome
+pub one_measuring : (format : Format) (count : Option Field) (bytes : List ℕ) (o : Outcome) (q : MixedGraph) (names : List (List ℕ)) (told other : Told)
+    → IsMeasured format count bytes o q names told → IsMeasured format count bytes o q names other → other ≡ told
+one_measuring format count bytes o q names told other a b =
+    one_told implications_telling counts_refusal (record { answered = yes_or_no; refused = λ e. omega arith }) (plain_form format) names names
+    (IsForCounts (pairs_of q names a.0) count bytes) (IsForCounts (pairs_of q names b.0) count bytes)
+    (λ x y f g same. measured_same format q names a.0 b.0 a.1 b.1 count bytes x y f g) (fault_same format q names a.0 b.0 a.1 b.1 count bytes)
+    o told other a.2 b.2

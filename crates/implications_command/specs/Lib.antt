@@ -3,7 +3,6 @@ pub mod Used
 pub mod Lines
 pub mod Objects
 pub mod Differences
-pub mod Answers
 pub mod Right
 pub mod Telling
 pub mod CountsFaults

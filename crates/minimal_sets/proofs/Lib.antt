@@ -12,3 +12,4 @@ pub mod SoFar
 pub mod Spreads
 pub mod Ordered
 pub mod Endings
+pub mod Smallest

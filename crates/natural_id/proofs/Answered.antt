@@ -1,5 +1,6 @@
 -- From what was found to the answer.
-use Rattle.std.proofs.Common.{ℕ, ◌*◌, ◌≡◌, ◌≢◌, ◌<◌, ◌^◌, ◌↔◌, Bool, true, false, sym, ap, ◌∙◌, ◌&&◌, subst, List, [], ◌∷◌, arith}
+use Rattle.std.proofs.Common.{ℕ, ◌*◌, ◌≡◌, ◌≢◌, ◌<◌, ◌^◌, ◌↔◌, Bool, true, false, sym, ap, ◌∙◌, ◌&&◌, subst, List, [], ◌∷◌, arith, suc, inl, inr}
+use Rattle.std.specs.Prelude.{All}
 use mathlib.Core.Path.{fun_ext}
 use Rattle.mixed_graph.specs.Bits.{has}
 use Rattle.mixed_graph.specs.Graphs.{MixedGraph, IsMixedGraph}
@@ -9,19 +10,21 @@ use Rattle.mixed_graph.proofs.MaskLaws.{has_join}
 use Rattle.finite_models.specs.Data.{meaning}
 use Rattle.finite_models.specs.Models.{weight_of, total}
 use Rattle.finite_models.proofs.Bools.{not_both}
-use Rattle.hedge.specs.Linked.{IsSetOf, IsMaximalJoined, AreDistrictsOf}
+use Rattle.hedge.specs.Linked.{IsSetOf, IsInOne, IsMaximalJoined, IsPartition, AreDistrictsOf}
+use Rattle.hedge.proofs.Collecting.{parts_from}
 use Rattle.hedge.specs.declared.hedge.Hedge.{Hedge}
 use Rattle.counter_models.specs.Events.{AreCounterModels}
 use Rattle.counter_models.specs.declared.counter_pair.CounterPair.{CounterPair}
 use Rattle.identification_theory.specs.Procedure.{AreAncestorsIn}
+use Rattle.identification_theory.proofs.Unique.{one_set}
 use Rattle.identify.specs.Answers.{IsRightHedge}
 use Rattle.nested_models.specs.Nested.{LeadsPast, LeadsThrough}
 use Rattle.nested_models.specs.NoFormula.{HasNoFormulaNested}
 use Rattle.nested_models.proofs.NoFormula.{effect_excludes_nested}
 use Rattle.natural_id.specs.declared.answers.Split.{Split}
 use Rattle.natural_id.specs.Parts.{PlainPart, IsNaturalTarget, EqualsNatural, AreRightParts, districts_of}
-use Rattle.natural_id.specs.Answers.{IsSplit, IsSplitIn, ArePartsWith}
-use Rattle.natural_id.proofs.Districts.{natural_formula_is_right}
+use Rattle.natural_id.specs.Answers.{IsSplit, IsSplitIn, ArePartsWith, ReadsBoth}
+use Rattle.natural_id.proofs.Districts.{natural_formula_is_right, d_low}
 use Rattle.natural_id.proofs.Leading.{child_past}
 
 -- nothing is in an empty meeting
@@ -79,6 +82,34 @@ module _ (g : MixedGraph) (ok : IsMixedGraph g) (x m y z : ℕ) (target : IsNatu
           districts = subst (AreDistrictsOf g d) (sym listed) districts;
           right = right_parts ps parts;
         }))
+
+    -- children of one district are alike
+    alike : (ps : List PlainPart) → ArePartsWith g children through ps → All (IsMaximalJoined g d) (districts_of ps) → (t : ℕ) → IsMaximalJoined g d t
+        → (v w : ℕ) → has t v ≡ true → has t w ≡ true → has children v ≡ true → has children w ≡ true → IsInOne (districts_of ps) v
+        → has through v ≡ has through w
+    alike [] h all t is v w tv tw cv cw one = absurd one
+    alike (p ∷ ps) h all t is v w tv tw cv cw (inl e) =
+        h.0.reads v cv e ∙ sym (h.0.reads w cw ((all 0 0 (omega arith)).most t v is.inside is.joined tv e w tw))
+    alike (p ∷ ps) h all t is v w tv tw cv cw (inr one) =
+        alike ps h.1 (λ i k l. all (suc i) k (omega (arith, l))) t is v w tv tw cv cw one
+
+    -- where no child of x leads to y both through m and past it, and each district reads one value of x, nothing reads both
+    pub formula_clear : ((p c : ℕ) → has x p ≡ true → g.arrow p c ≡ true → has through c ≡ true → has past c ≡ true → ⊥)
+        → (ts : List ℕ) → AreDistrictsOf g d ts → All (IsMaximalJoined g d) ts → (ps : List PlainPart) → districts_of ps ≡ ts → ArePartsWith g children through ps
+        → ReadsBoth g x m y z → ⊥
+    formula_clear none ts districts maximal ps listed parts (inl k) =
+        let w = k.1 in none k.0.treatment k.0.child w.from_x w.arrow (is_through.complete k.0.child w.through) (is_past.complete k.0.child w.past)
+    formula_clear none ts districts maximal ps listed parts (inr k) =
+        let s = k.0 in let is = k.1 in
+        let same_d : is.d ≡ d = one_set is.d d _ is.ancestors ancestors in
+        let whole : IsMaximalJoined g d s.district.bits = subst (λ e. IsMaximalJoined g e s.district.bits) same_d is.district in
+        let partition : IsPartition d ts = parts_from g ok d ts (λ v e. d_low g ok x m y z d target ancestors v e) districts in
+        let first = is.first_child in let second = is.second_child in
+        let same : has through s.first ≡ has through s.second =
+        alike ps parts (subst (All (IsMaximalJoined g d)) (sym listed) maximal) s.district.bits whole s.first s.second is.first_in is.second_in
+        ((are_children s.first).1 first) ((are_children s.second).1 second)
+        (subst (λ l. IsInOne l s.first) (sym listed) (partition.cover s.first (whole.inside s.first is.first_in))) in
+        none first.0 s.first first.1 first.2 (same ∙ is_through.complete s.second is.through) (is_past.complete s.first is.past)
 
     pub split_right : (s : Split) → IsMaximalJoined g d s.district.bits → IsSplitIn children through s → IsSplit g x m y z s
     split_right s maximal is =

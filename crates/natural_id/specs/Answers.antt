@@ -1,5 +1,5 @@
 -- Right answers to the question for P(y[x, m[x']] | z).
-use Rattle.std.specs.Prelude.{ℕ, ◌≡◌, Bool, true, false, List, [], ◌∷◌, map, Option, Some, None, IsTrue}
+use Rattle.std.specs.Prelude.{ℕ, ◌≡◌, ◌⊎◌, Bool, true, false, List, [], ◌∷◌, map, Option, Some, None, IsTrue}
 use Rattle.mixed_graph.specs.Bits.{has}
 use Rattle.mixed_graph.specs.Graphs.{MixedGraph}
 use Rattle.mixed_graph.specs.Masks.{union, minus, all}
@@ -56,10 +56,15 @@ pub record IsSplit (g : MixedGraph) (x m y z : ℕ) (s : Split) : Type 0 where
   pub second_child : IsChildOf g x s.second
   pub through : LeadsThrough g (has x) (has m) (has y) s.second
 
--- A right answer is a formula that equals P(y[x, m[x']] | z) in each positive model of the graph; a child of x that leads to y both through m and past
--- it; a district with children of x of both kinds; or a hedge for P(y, z | do(x)) with two models, so that no formula equals the nested effect.
+-- some vertex or district reads both values of x
+abbrev pub ReadsBoth : MixedGraph → (x m y z : ℕ) → Type 0
+ReadsBoth g x m y z = ((w : Witness) × IsWitness g x m y w) ⊎ ((s : Split) × IsSplit g x m y z s)
+
+-- A right answer is a formula that equals P(y[x, m[x']] | z) in each positive model of the graph, where nothing reads both values of x; a child of x that
+-- leads to y both through m and past it; a district with children of x of both kinds; or a hedge for P(y, z | do(x)) with two models, so that no formula
+-- equals the nested effect.
 abbrev pub IsRight : MixedGraph → (x m y z : ℕ) → Natural → Type 0
-IsRight g x m y z (answers.Formula f) = EqualsNatural g x m y z f.summed.bits (parts_view f.parts.items)
+IsRight g x m y z (answers.Formula f) = EqualsNatural g x m y z f.summed.bits (parts_view f.parts.items) × (ReadsBoth g x m y z → ⊥)
 IsRight g x m y z (answers.Witness w) = IsWitness g x m y w
 IsRight g x m y z (answers.Split s) = IsSplit g x m y z s
 IsRight g x m y z (answers.Hedge h pair) = IsRightHedge g x (union y z) h pair × HasNoFormulaNested g x m y z

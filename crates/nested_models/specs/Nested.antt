@@ -112,6 +112,7 @@ pub record Reader : Type 0 where
   pub set : ℕ
   pub second : Bool
 
+-- the sets of readers
 abbrev pub sets_of : List Reader → List ℕ
 sets_of [] = []
 sets_of (r ∷ rs) = r.set ∷ sets_of rs

@@ -1,4 +1,5 @@
 pub mod GraphObjects
+pub mod GraphLaws
 pub mod GraphTelling
 pub mod GraphRight
 pub mod GraphRequests

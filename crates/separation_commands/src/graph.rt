@@ -4,7 +4,9 @@ mod edges;
 mod objects;
 mod reply;
 mod request;
+mod round;
 
 pub use answer::Answer;
 pub use reply::{graph_answer, graph_reply};
 pub use request::{ROW, Request};
+pub use round::laws;

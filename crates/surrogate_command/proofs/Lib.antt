@@ -2,7 +2,6 @@ pub mod Walked
 mod Stops
 mod Replied
 pub mod Exclusive
-pub mod SurrogateTold
 pub mod Lawful
 mod OneDerivation
 pub mod OneText

@@ -1,68 +1,97 @@
--- A yes is told in one way, and so is a no.
-use Rattle.std.proofs.Common.{◌≡◌, ◌≤◌, ℕ, List, [], ◌∷◌, ◌++◌, Option, Some, None, refl, sym, ap, ap₂, ◌∙◌, subst}
+-- Of two answers over experiments that are right and end alike one thing is told.
+use Rattle.std.proofs.Common.{◌≡◌, ◌≤◌, ℕ, true, List, [], ◌∷◌, ◌++◌, Option, Some, None, Ok, refl, sym, ap, ◌∙◌, subst, arith}
 use Rattle.std.specs.Prelude.{◌↔◌, IsSome, IfSome, codes}
 use Rattle.std.proofs.lemmas.Bool.{false≢true}
+use Rattle.json.specs.Json.{Json, string}
 use Rattle.mixed_graph.specs.Graphs.{MixedGraph, IsMixedGraph}
 use Rattle.mixed_graph.specs.declared.sets.VSet.{VSet}
 use Rattle.hedge.specs.declared.hedge.Hedge.{Hedge}
 use Rattle.counter_models.specs.declared.counter_pair.CounterPair.{CounterPair}
-use Rattle.prob_expr.specs.Tree.{PlainFormula, PlainTarget, effect_on}
-use Rattle.do_derivation.specs.Plans.{PlainDerivation}
+use Rattle.prob_expr.specs.Listed.{masks_of}
+use Rattle.prob_expr.specs.Tree.{PlainTarget, effect_on}
+use Rattle.prob_expr.specs.View.{target_view, formula_view}
 use Rattle.identification_theory.specs.Procedure.{IsStopped}
 use Rattle.identification_theory.proofs.Unique.{one_set, stopped_one}
-use Rattle.identify_text.specs.PairLines.{models_text}
 use Rattle.surrogates.specs.Common.{around}
 use Rattle.surrogates.specs.Surrogates.{without, IsStoppedUnder}
-use Rattle.surrogates.specs.Answers.{IsStopShown, IsBlockShown}
+use Rattle.surrogates.specs.Answers.{IsStopShown, IsBlockShown, IsBlockedTogether}
 use Rattle.surrogates.specs.declared.answer.CommonHedge.{CommonHedge}
 use Rattle.surrogates.proofs.Answered.{one_surrogate, one_stop_with}
 use Rattle.experiment_lists.specs.Lines.{unidentifiable_with_line}
 use Rattle.experiment_lists.proofs.OneSet.{one_by_one}
-use Rattle.replies.specs.declared.outcome.Outcome.TheVariants.{Yes, No}
-use Rattle.replies.proofs.OneTarget.{same_two}
-use Rattle.replies.specs.Told.{Told, text_in, answer_of}
-use Rattle.json.specs.Json.{Json, string}
-use Rattle.certificate_json.specs.Certificates.{certificate_json}
+use Rattle.certificate_json.specs.Certificates.{certificate_line}
+use Rattle.certificate.specs.Plain.{hedge_view}
+use Rattle.certificate.specs.Plain as plain
 use Rattle.answer_json.specs.Progress.{object_of, json_line}
 use Rattle.answer_json.specs.Values.{set_json}
 use Rattle.effect_answers.specs.Objects.{effect_json}
+use Rattle.replies.proofs.OneTarget as targets
+use Rattle.replies.specs.Outcomes.{code_of}
+use Rattle.replies.specs.Told.{answer_of, text_in}
+use Rattle.told.specs.declared.form.Writing.{Writing as ToldWriting}
+use Rattle.told.specs.declared.form.Writing.TheVariants as told
+use Rattle.told.specs.Refusals.{target_refusal}
+use Rattle.told.specs.Telling.{told_in}
+use Rattle.effect_answers.specs.declared.formulas.EffectFormula.{EffectFormula}
+use Rattle.effect_answers.specs.Certificates.{member_in}
+use Rattle.effect_answers.specs.FormulaTelling.{formula_certificate}
 use Rattle.effect_answers.proofs.OneHedge.{AreAlike, hedges_alike}
 use Rattle.effect_answers.proofs.AlikePairs.{ArePairsAlike, pairs_alike}
 use Rattle.effect_answers.proofs.HedgeTexts.{sets_alike, models_alike}
 use Rattle.effect_answers.proofs.HedgeObjects as objects
 use Rattle.effect_answers.proofs.HedgeViews.{views_alike}
+use Rattle.effect_answers.proofs.Telling.{one_certificate, one_formula_text}
 use Rattle.effect_answers.specs.Hedges.{HasArrays}
-use Rattle.certificate_json.specs.Certificates.{certificate_line}
-use Rattle.certificate.specs.Plain.{PlainHedge, hedge_view}
-use Rattle.certificate.specs.Plain as plain
 use Rattle.surrogate_command.specs.declared.form.Form.{Form}
 use Rattle.surrogate_command.specs.declared.form.Writing.{Writing}
 use Rattle.surrogate_command.specs.declared.form.Writing.TheVariants.{Plain, Models, Certificate}
-use Rattle.surrogate_command.specs.Answers.{ShowsFormula, ShowsStop, ListsAnswer}
-use Rattle.surrogate_command.specs.Objects.{asked_members, stop_object, common_object, certified_common_object, stopped_json}
-use Rattle.surrogate_command.specs.Lines.{formula_shown, unfound_line, district_line, stop_answer, common_answer, stopped_text}
-use Rattle.surrogate_command.specs.Sets.{SurrogateLists}
+use Rattle.surrogate_command.specs.declared.sets.SurrogateSets.{SurrogateSets}
+use Rattle.surrogate_command.specs.declared.answer.Answer.{Answer}
+use Rattle.surrogate_command.specs.declared.answer.Answer.TheVariants.{Formula, Unfound, Blocked}
+use Rattle.surrogate_command.specs.Forms.{wants_common, told_writing, told_form}
+use Rattle.surrogate_command.specs.Objects.{formula_answer, asked_members}
+use Rattle.surrogate_command.specs.Lines.{unfound_line, district_line, common_answer}
+use Rattle.surrogate_command.specs.Right.{stop_shown, IsFormula, IsStop, IsForLists}
+use Rattle.surrogate_command.specs.Sets.{SurrogateLists, AreSurrogateSets}
+use Rattle.surrogate_command.specs.Telling.{surrogate_text, surrogate_object, surrogate_telling}
 use Rattle.surrogate_command.proofs.OneDerivation.{one_derivation_over}
+
+-- answers of which one thing is told
+record AreOne (w : ToldWriting) (names : List (List ℕ)) (a b : Answer) : Type 0 where
+  text : surrogate_text w names b ≡ surrogate_text w names a
+  object : surrogate_object w names b ≡ surrogate_object w names a
+
+-- sets that are the same, as far as they are told
+record AreSameSets (s t : SurrogateSets) : Type 0 where
+  x : t.x.bits ≡ s.x.bits
+  y : t.y.bits ≡ s.y.bits
+  experiments : masks_of t.experiments.items ≡ masks_of s.experiments.items
+
+-- what holds of sets holds of those that are the same
+moved : (P : List ℕ → ℕ → ℕ → Type 0) (s t : SurrogateSets) → AreSameSets s t → P (masks_of t.experiments.items) t.x.bits t.y.bits
+    → P (masks_of s.experiments.items) s.x.bits s.y.bits
+moved P s t same h =
+    subst (λ (zs : List ℕ). P zs s.x.bits s.y.bits) same.experiments
+    (subst (λ (x : ℕ). P (masks_of t.experiments.items) x s.y.bits) same.x (subst (λ (y : ℕ). P (masks_of t.experiments.items) t.x.bits y) same.y h))
 
 -- ---- yes
 
--- one formula over experiments with one derivation is told in one way
-over_experiments_once : (form : Form) (q : MixedGraph) (names : List (List ℕ)) (zs : List ℕ) (x y : ℕ) (told other : Told)
-    → ShowsFormula form q names zs x y told → ShowsFormula form q names zs x y other → other ≡ told
-over_experiments_once form q names zs x y told other a b =
-    let fs : b.formula ≡ a.formula = one_surrogate q zs x y b.formula a.formula b.stated a.stated in
-    let ds : b.derivation ≡ a.derivation = one_derivation_over q zs x y b.formula a.formula b.derivation a.derivation b.derived a.derived in
-    b.prints
-    ∙ ap (λ (f : PlainFormula). answer_of (formula_shown form names zs (effect_on x y) f b.derivation)) fs
-    ∙ ap (λ (d : PlainDerivation). answer_of (formula_shown form names zs (effect_on x y) a.formula d)) ds
-    ∙ sym a.prints
-
-pub surrogate_yes_once : (form : Form) (q : MixedGraph) (l : SurrogateLists) (told other : Told) → ListsAnswer form q l Yes told
-    → ListsAnswer form q l Yes other → other ≡ told
-surrogate_yes_once form q l told other a b = over_experiments_once form q l.effect.observed a.experiments a.x a.y told other a.answer
-    (subst (λ (zs : List ℕ). ShowsFormula form q l.effect.observed zs a.x a.y other)
-    (one_by_one l.effect.observed l.experiments a.experiments b.experiments a.sets.experiments b.sets.experiments)
-    (same_two (λ u v. ShowsFormula form q l.effect.observed b.experiments u v other) l.effect a.x a.y b.x b.y a.sets.effect b.sets.effect b.answer))
+-- a formula over experiments with its derivation
+formulas_one : (w : ToldWriting) (names : List (List ℕ)) (q : MixedGraph) (s t : SurrogateSets) (f g : EffectFormula) → AreSameSets s t
+    → IsFormula q (masks_of s.experiments.items) s.x.bits s.y.bits f → IsFormula q (masks_of t.experiments.items) t.x.bits t.y.bits g
+    → AreOne w names (Formula s f) (Formula t g)
+formulas_one w names q s t f g same a other =
+    let zs = masks_of s.experiments.items in
+    let b = moved (λ ks x y. IsFormula q ks x y g) s t same other in
+    let ts : target_view g.target ≡ target_view f.target = b.target ∙ sym a.target in
+    let fs : formula_view g.formula ≡ formula_view f.formula =
+    one_surrogate q zs s.x.bits s.y.bits (formula_view g.formula) (formula_view f.formula) b.stated a.stated in
+    let ds = one_derivation_over q zs s.x.bits s.y.bits (formula_view g.formula) (formula_view f.formula) b.derivation a.derivation b.derived a.derived in
+    let certificates : formula_certificate g ≡ formula_certificate f = one_certificate f g a.derivation b.derivation ts fs ds a.kept b.kept in
+    record {
+      text = one_formula_text names f g ts fs w (λ c. certificates);
+      object = λ i. formula_answer names (same.experiments i) (ts i) (fs i) ++ member_in w names (certificates i);
+    }
 
 -- ---- no
 
@@ -76,10 +105,6 @@ abbrev stop_with : (answer : List ℕ) → List (List ℕ) → List ℕ → Plai
 stop_with answer names zs t district hedge =
     (codes "answer", string answer) ∷ (asked_members names zs t
     ++ (codes "effect", effect_json names t) ∷ (codes "district", set_json names district) ∷ (codes "hedge", hedge) ∷ [])
-
--- and those of a common hedge
-abbrev common_with : List (List ℕ) → List ℕ → PlainTarget → (district : ℕ) → (hedge models : Json) → List (List ℕ × Json)
-common_with names zs t district hedge models = stop_with (codes "hedge") names zs t district hedge ++ (codes "models", models) ∷ []
 
 module _ (q : MixedGraph) (valid : IsMixedGraph q) (few : q.vertices ≤ 64) (zs : List ℕ) (x y : ℕ) where
   -- the districts at which the procedure stops are one
@@ -108,97 +133,129 @@ module _ (q : MixedGraph) (valid : IsMixedGraph q) (few : q.vertices ≤ 64) (zs
       let sets = a.hedge.sets in
       pairs_alike q valid few x y h k (blocks_alike d e h k pair other same a b) sets.low sets.small_inside sets.roots_inside pair other a.models b.models
 
-  common_same : (names : List (List ℕ)) (d e : VSet) (h k : Hedge) (pair other : CounterPair) → e.bits ≡ d.bits → IsBlockShown q zs x y d h pair
-      → IsBlockShown q zs x y e k other → common_answer names x y e.bits k other ≡ common_answer names x y d.bits h pair
-  common_same names d e h k pair other same a b =
-      let alike = blocks_alike d e h k pair other same a b in
-      let models : models_text names k other ≡ models_text names h pair = models_alike names h k pair other alike (pairs_same d e h k pair other same a b) in
-      ap₂ (λ (c : ℕ) (l : List ℕ). unidentifiable_with_line names x y ++ (district_line names c ++ l)) same
-      (ap₂ (λ (l m : List ℕ). l ++ m) (sets_alike names h k alike.big alike.small alike.roots) models)
-
   -- a common hedge of the district, which arrays hold
   abbrev IsHeldBlock : VSet → CommonHedge → Type 0
   IsHeldBlock d k = IsBlockShown q zs x y d k.hedge k.pair × HasArrays k.hedge
-
-  -- the text of a stop, where there is a common hedge and where there is none
-  stopped_same : (w : Writing) (names : List (List ℕ)) (d e : VSet) (h k : Hedge) (c m : Option CommonHedge) (P : Type 0)
-      → e.bits ≡ d.bits → stop_answer names x y e.bits k ≡ stop_answer names x y d.bits h → (IsSome c ↔ P) → (IsSome m ↔ P)
-      → IfSome c (IsHeldBlock d) → IfSome m (IsHeldBlock e)
-      → stopped_text w names x y e.bits k m ≡ stopped_text w names x y d.bits h c
-  stopped_same w names d e h k None None P same stop a b i j = stop
-  stopped_same w names d e h k None (Some m) P same stop a b i j = absurd (false≢true (a.1 (b.0 refl)))
-  stopped_same w names d e h k (Some c) None P same stop a b i j = absurd (false≢true (b.1 (a.0 refl)))
-  stopped_same Plain names d e h k (Some c) (Some m) P same stop a b i j = stop
-  stopped_same Models names d e h k (Some c) (Some m) P same stop a b i j = common_same names d e c.hedge m.hedge c.pair m.pair same i.0 j.0
-  stopped_same Certificate names d e h k (Some c) (Some m) P same stop a b i j =
-      ap (λ (v : PlainHedge). certificate_line names (plain.hedge (effect_on x y) v))
-      (views_alike c.hedge m.hedge (blocks_alike d e c.hedge m.hedge c.pair m.pair same i.0 j.0) i.1 j.1)
-
-  -- ---- objects
-
-  stop_objects : (names : List (List ℕ)) (d e : VSet) (h k : Hedge) → e.bits ≡ d.bits → AreAlike h k
-      → stop_object names zs (effect_on x y) e.bits k ≡ stop_object names zs (effect_on x y) d.bits h
-  unfolding stop_object
-  stop_objects names d e h k same alike =
-      let hedge = objects.hedges_alike names h k alike in λ i. object_of (stop_with (codes "not found") names zs (effect_on x y) (same i) (hedge i))
-
-  common_objects : (names : List (List ℕ)) (d e : VSet) (h k : Hedge) (pair other : CounterPair) → e.bits ≡ d.bits → AreAlike h k → ArePairsAlike pair other
-      → common_object names zs (effect_on x y) e.bits k other ≡ common_object names zs (effect_on x y) d.bits h pair
-  unfolding common_object
-  common_objects names d e h k pair other same alike pairs =
-      let hedge = objects.hedges_alike names h k alike in
-      let models = objects.models_alike names pair other pairs in
-      λ i. object_of (common_with names zs (effect_on x y) (same i) (hedge i) (models i))
-
-  certified_objects : (names : List (List ℕ)) (d e : VSet) (h k : Hedge) (pair other : CounterPair) → e.bits ≡ d.bits → AreAlike h k → ArePairsAlike pair other
-      → hedge_view k ≡ hedge_view h
-      → certified_common_object names zs (effect_on x y) e.bits k other ≡ certified_common_object names zs (effect_on x y) d.bits h pair
-  unfolding certified_common_object
-  certified_objects names d e h k pair other same alike pairs views =
-      let hedge = objects.hedges_alike names h k alike in
-      let models = objects.models_alike names pair other pairs in
-      λ i. object_of (common_with names zs (effect_on x y) (same i) (hedge i) (models i)
-      ++ (codes "certificate", certificate_json names (plain.hedge (effect_on x y) (views i))) ∷ [])
-
-  -- the object of a stop, where there is a common hedge and where there is none
-  objects_same : (w : Writing) (names : List (List ℕ)) (d e : VSet) (h k : Hedge) (c m : Option CommonHedge) (P : Type 0)
-      → e.bits ≡ d.bits → AreAlike h k → (IsSome c ↔ P) → (IsSome m ↔ P) → IfSome c (IsHeldBlock d) → IfSome m (IsHeldBlock e)
-      → stopped_json w names zs (effect_on x y) e.bits k m ≡ stopped_json w names zs (effect_on x y) d.bits h c
-  objects_same w names d e h k None None P same alike a b i j = stop_objects names d e h k same alike
-  objects_same w names d e h k None (Some m) P same alike a b i j = absurd (false≢true (a.1 (b.0 refl)))
-  objects_same w names d e h k (Some c) None P same alike a b i j = absurd (false≢true (b.1 (a.0 refl)))
-  objects_same Plain names d e h k (Some c) (Some m) P same alike a b i j = stop_objects names d e h k same alike
-  objects_same Models names d e h k (Some c) (Some m) P same alike a b i j = common_objects names d e c.hedge m.hedge c.pair m.pair same
-      (blocks_alike d e c.hedge m.hedge c.pair m.pair same i.0 j.0) (pairs_same d e c.hedge m.hedge c.pair m.pair same i.0 j.0)
-  objects_same Certificate names d e h k (Some c) (Some m) P same alike a b i j =
-      let blocks = blocks_alike d e c.hedge m.hedge c.pair m.pair same i.0 j.0 in
-      certified_objects names d e c.hedge m.hedge c.pair m.pair same blocks (pairs_same d e c.hedge m.hedge c.pair m.pair same i.0 j.0)
-      (views_alike c.hedge m.hedge blocks i.1 j.1)
 
   held : (d : VSet) (c : Option CommonHedge) → IfSome c (λ i. IsBlockShown q zs x y d i.hedge i.pair) → IfSome c (λ i. HasArrays i.hedge)
       → IfSome c (IsHeldBlock d)
   held d None i j = tt
   held d (Some c) i j = (i, j)
 
-  -- a stop is told in one way
-  stop_once : (form : Form) (names : List (List ℕ)) (told other : Told) → ShowsStop form q names zs x y told
-      → ShowsStop form q names zs x y other → other ≡ told
-  stop_once form names told other a b =
-      let same = district_same a.district b.district a.hedge b.hedge a.pair b.pair a.stop b.stop in
-      let alike = stops_alike a.district b.district a.hedge b.hedge a.pair b.pair a.stop b.stop in
-      let stop : stop_answer names x y b.district.bits b.hedge ≡ stop_answer names x y a.district.bits a.hedge =
-      ap₂ (λ (c : ℕ) (l : List ℕ). unfound_line names x y ++ (district_line names c ++ l)) same
-      (sets_alike names a.hedge b.hedge alike.big alike.small alike.roots) in
-      let blocks = held a.district a.common a.shown a.arrays in
-      let others = held b.district b.common b.shown b.arrays in
-      let text = stopped_same form.writing names a.district b.district a.hedge b.hedge a.common b.common _ same stop a.exact b.exact blocks others in
-      let object = objects_same form.writing names a.district b.district a.hedge b.hedge a.common b.common _ same alike a.exact b.exact blocks others in
-      b.prints ∙ ap₂ (λ (l m : List ℕ). answer_of (text_in form.format l m)) text (ap json_line object) ∙ sym a.prints
+-- stops of sets that are the same, at one district
+module _ (q : MixedGraph) (valid : IsMixedGraph q) (few : q.vertices ≤ 64) (names : List (List ℕ)) (s t : SurrogateSets) (same : AreSameSets s t) (d e : VSet)
+    (districts : e.bits ≡ d.bits) where
+  -- without a common hedge
+  unfound_one : (w : ToldWriting) (h k : Hedge) → AreAlike h k → AreOne w names (Unfound s d h) (Unfound t e k)
+  unfound_one w h k alike =
+      let sets = sets_alike names h k alike.big alike.small alike.roots in
+      let hedge = objects.hedges_alike names h k alike in
+      record {
+        text = λ i. unfound_line names (same.x i) (same.y i) ++ (district_line names (districts i) ++ sets i);
+        object = λ i. stop_with (codes "not found") names (same.experiments i) (effect_on (same.x i) (same.y i)) (districts i) (hedge i);
+      }
 
--- the answer for lists of names
-pub surrogate_no_once : (form : Form) (q : MixedGraph) → IsMixedGraph q → q.vertices ≤ 64 → (l : SurrogateLists)
-    (told other : Told) → ListsAnswer form q l No told → ListsAnswer form q l No other → other ≡ told
-surrogate_no_once form q valid few l told other a b = stop_once q valid few a.experiments a.x a.y form l.effect.observed told other a.answer
-    (subst (λ (zs : List ℕ). ShowsStop form q l.effect.observed zs a.x a.y other)
-    (one_by_one l.effect.observed l.experiments a.experiments b.experiments a.sets.experiments b.sets.experiments)
-    (same_two (λ u v. ShowsStop form q l.effect.observed b.experiments u v other) l.effect a.x a.y b.x b.y a.sets.effect b.sets.effect b.answer))
+  -- and with one
+  module _ (b c : CommonHedge) (here : IsHeldBlock q valid few (masks_of s.experiments.items) s.x.bits s.y.bits d b)
+      (there : IsHeldBlock q valid few (masks_of s.experiments.items) s.x.bits s.y.bits e c) where
+    alike : AreAlike b.hedge c.hedge
+    alike = blocks_alike q valid few (masks_of s.experiments.items) s.x.bits s.y.bits d e b.hedge c.hedge b.pair c.pair districts here.0 there.0
+
+    pairs : ArePairsAlike b.pair c.pair
+    pairs = pairs_same q valid few (masks_of s.experiments.items) s.x.bits s.y.bits d e b.hedge c.hedge b.pair c.pair districts here.0 there.0
+
+    certificate : plain.hedge (effect_on t.x.bits t.y.bits) (hedge_view c.hedge) ≡ plain.hedge (effect_on s.x.bits s.y.bits) (hedge_view b.hedge)
+    certificate = let views = views_alike b.hedge c.hedge alike here.1 there.1 in λ i. plain.hedge (effect_on (same.x i) (same.y i)) (views i)
+
+    lines : common_answer names t.x.bits t.y.bits e.bits c.hedge c.pair ≡ common_answer names s.x.bits s.y.bits d.bits b.hedge b.pair
+    lines =
+        let sets = sets_alike names b.hedge c.hedge alike.big alike.small alike.roots in
+        let models = models_alike names b.hedge c.hedge b.pair c.pair alike pairs in
+        λ i. unidentifiable_with_line names (same.x i) (same.y i) ++ (district_line names (districts i) ++ (sets i ++ models i))
+
+    block_text : (w : ToldWriting) → surrogate_text w names (stop_shown true t e c.hedge (Some c)) ≡ surrogate_text w names (stop_shown true s d b.hedge (Some b))
+    block_text told.Plain = lines
+    block_text told.Latex = lines
+    block_text told.Certificate = ap (certificate_line names) certificate
+
+    blocked_one : (w : ToldWriting) (h k : Hedge) → AreOne w names (stop_shown true s d h (Some b)) (stop_shown true t e k (Some c))
+    blocked_one w h k =
+        let hedge = objects.hedges_alike names b.hedge c.hedge alike in
+        let models = objects.models_alike names b.pair c.pair pairs in
+        record {
+          text = block_text w;
+          object = λ i. (stop_with (codes "hedge") names (same.experiments i) (effect_on (same.x i) (same.y i)) (districts i) (hedge i)
+              ++ (codes "models", models i) ∷ []) ++ member_in w names (Some (certificate i));
+        }
+
+-- ---- all
+
+-- the lists name sets that are the same
+same_sets : (l : SurrogateLists) (s t : SurrogateSets) → AreSurrogateSets l s.x.bits s.y.bits (masks_of s.experiments.items)
+    → AreSurrogateSets l t.x.bits t.y.bits (masks_of t.experiments.items) → AreSameSets s t
+same_sets l s t a b = record {
+  x = targets.one_set l.effect.observed l.effect.x s.x.bits t.x.bits a.effect.set_x b.effect.set_x;
+  y = targets.one_set l.effect.observed l.effect.y s.y.bits t.y.bits a.effect.set_y b.effect.set_y;
+  experiments = one_by_one l.effect.observed l.experiments (masks_of s.experiments.items) (masks_of t.experiments.items) a.experiments b.experiments;
+}
+
+module _ (w : Writing) (names : List (List ℕ)) (q : MixedGraph) (valid : IsMixedGraph q) (few : q.vertices ≤ 64) where
+  module _ (s t : SurrogateSets) (same : AreSameSets s t) (d e : VSet) (districts : e.bits ≡ d.bits) (h k : Hedge) (hedges : AreAlike h k) (P : Type 0) where
+    -- where there is a common hedge, and where there is none
+    shown_one : (c m : Option CommonHedge) → (IsSome c ↔ P) → (IsSome m ↔ P)
+        → IfSome c (IsHeldBlock q valid few (masks_of s.experiments.items) s.x.bits s.y.bits d)
+        → IfSome m (IsHeldBlock q valid few (masks_of s.experiments.items) s.x.bits s.y.bits e)
+        → AreOne (told_writing w) names (stop_shown (wants_common w) s d h c) (stop_shown (wants_common w) t e k m)
+    shown_one None None a b i j = unfound_one q valid few names s t same d e districts (told_writing w) h k hedges
+    shown_one None (Some m) a b i j = absurd (false≢true (a.1 (b.0 refl)))
+    shown_one (Some c) None a b i j = absurd (false≢true (b.1 (a.0 refl)))
+    shown_one (Some c) (Some m) a b i j = as_asked w
+      where
+        as_asked : (v : Writing) → AreOne (told_writing v) names (stop_shown (wants_common v) s d h (Some c)) (stop_shown (wants_common v) t e k (Some m))
+        as_asked Plain = unfound_one q valid few names s t same d e districts told.Plain h k hedges
+        as_asked Models = blocked_one q valid few names s t same d e districts c m i j told.Plain h k
+        as_asked Certificate = blocked_one q valid few names s t same d e districts c m i j told.Certificate h k
+
+  stops_one : (s t : SurrogateSets) → AreSameSets s t → (a b : Answer) → IsStop (wants_common w) q s a → IsStop (wants_common w) q t b
+      → AreOne (told_writing w) names a b
+  stops_one s t same a b f g =
+      let zs = masks_of s.experiments.items in
+      let stop = moved (λ ks x y. IsStopShown q ks x y g.district g.hedge g.pair) s t same g.stop in
+      let blocks = held q valid few zs s.x.bits s.y.bits f.district f.common f.shown f.arrays in
+      let shown = moved (λ ks x y. IfSome g.common (λ k. IsBlockShown q ks x y g.district k.hedge k.pair)) s t same g.shown in
+      let others = held q valid few zs s.x.bits s.y.bits g.district g.common shown g.arrays in
+      let exact = moved (λ ks x y. IsSome g.common ↔ IsBlockedTogether q ks x y) s t same g.exact in
+      let one = shown_one s t same f.district g.district
+      (district_same q valid few zs s.x.bits s.y.bits f.district g.district f.hedge g.hedge f.pair g.pair f.stop stop) f.hedge g.hedge
+      (stops_alike q valid few zs s.x.bits s.y.bits f.district g.district f.hedge g.hedge f.pair g.pair f.stop stop)
+      (IsBlockedTogether q zs s.x.bits s.y.bits) f.common g.common f.exact exact blocks others in
+      subst (λ (u : Answer). AreOne (told_writing w) names u b) (sym f.is)
+      (subst (λ (v : Answer). AreOne (told_writing w) names (stop_shown (wants_common w) s f.district f.hedge f.common) v) (sym g.is) one)
+
+  answers_one : (l : SurrogateLists) (a b : Answer) → IsForLists (wants_common w) q l a → IsForLists (wants_common w) q l b
+      → surrogate_telling.outcome b ≡ surrogate_telling.outcome a → AreOne (told_writing w) names a b
+  answers_one l (Formula s f) (Formula t g) a b ends =
+      subst (λ (u : SurrogateSets). AreOne (told_writing w) names (Formula u f) (Formula t g)) (sym a.decided.0)
+      (subst (λ (u : SurrogateSets). AreOne (told_writing w) names (Formula a.sets f) (Formula u g)) (sym b.decided.0)
+      (formulas_one (told_writing w) names q a.sets b.sets f g (same_sets l a.sets b.sets a.named b.named) a.decided.1 b.decided.1))
+  answers_one l (Formula s f) (Unfound t e k) a b ends = let c : 1 ≡ 0 = ap code_of ends in absurd (omega (arith, c))
+  answers_one l (Formula s f) (Blocked t e k) a b ends = let c : 1 ≡ 0 = ap code_of ends in absurd (omega (arith, c))
+  answers_one l (Unfound s d h) (Formula t g) a b ends = let c : 0 ≡ 1 = ap code_of ends in absurd (omega (arith, c))
+  answers_one l (Blocked s d h) (Formula t g) a b ends = let c : 0 ≡ 1 = ap code_of ends in absurd (omega (arith, c))
+  answers_one l (Unfound s d h) (Unfound t e k) a b ends =
+      stops_one a.sets b.sets (same_sets l a.sets b.sets a.named b.named) (Unfound s d h) (Unfound t e k) a.decided b.decided
+  answers_one l (Unfound s d h) (Blocked t e k) a b ends =
+      stops_one a.sets b.sets (same_sets l a.sets b.sets a.named b.named) (Unfound s d h) (Blocked t e k) a.decided b.decided
+  answers_one l (Blocked s d h) (Unfound t e k) a b ends =
+      stops_one a.sets b.sets (same_sets l a.sets b.sets a.named b.named) (Blocked s d h) (Unfound t e k) a.decided b.decided
+  answers_one l (Blocked s d h) (Blocked t e k) a b ends =
+      stops_one a.sets b.sets (same_sets l a.sets b.sets a.named b.named) (Blocked s d h) (Blocked t e k) a.decided b.decided
+
+-- of two right answers that end alike one thing is told
+pub one_over_experiments : (form : Form) (names : List (List ℕ)) (q : MixedGraph) → IsMixedGraph q → q.vertices ≤ 64 → (l : SurrogateLists) (a b : Answer)
+    → IsForLists (wants_common form.writing) q l a → IsForLists (wants_common form.writing) q l b
+    → surrogate_telling.outcome b ≡ surrogate_telling.outcome a
+    → told_in surrogate_telling target_refusal (told_form form) names (Ok b) ≡ told_in surrogate_telling target_refusal (told_form form) names (Ok a)
+one_over_experiments form names q valid few l a b x y ends =
+    let one = answers_one form.writing names q valid few l a b x y ends in
+    λ i. answer_of (text_in form.format (one.text i) (json_line (object_of (one.object i))))

@@ -26,12 +26,6 @@ wants_common Plain = false
 wants_common Models = true
 wants_common Certificate = true
 
--- whether the certificate is
-abbrev pub is_certified : Writing → Bool
-is_certified Plain = false
-is_certified Models = false
-is_certified Certificate = true
-
 -- how what is answered is told
 abbrev pub told_writing : Writing → ToldWriting
 told_writing Plain = told.Plain

@@ -1,3 +1,4 @@
 mod Members
 pub mod ToldOnce
 pub mod ToldOnBoth
+pub mod OneTold

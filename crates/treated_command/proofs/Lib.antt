@@ -1,4 +1,4 @@
 mod Pieces
 mod Replying
-mod Sets
+pub mod Sets
 pub mod Lawful

@@ -40,7 +40,7 @@ neither : (a b : Bool) → a ≡ false → b ≡ false → (a || b) ≡ false
 neither a b e f = rw (e, f) refl
 
 -- where the second isn't beside the first, the first isn't beside the second
-turned : (p q : Bool) → q ≡ true → (p ≡ true → q ≡ false) → p ≡ false
+pub turned : (p q : Bool) → q ≡ true → (p ≡ true → q ≡ false) → p ≡ false
 turned true q h k = absurd (not_both q h (k refl))
 turned false q h k = refl
 

@@ -10,3 +10,4 @@ pub mod Primes
 pub mod Joint
 pub mod NamedOnce
 pub mod NoFormula
+pub mod TwoValues

@@ -34,8 +34,19 @@ vertex_low n x k lt = go (nat_lt k n) refl
         let ge : n ≤ k = (let no : k < n → ⊥ = λ l. absurd (let t : nat_lt k n ≡ true = lt-ltb k n l in grind (arith, t, e)) in omega (arith, no)) in
         entry_low (has x) n (members_below (has x) n) (k - n) (members-are (has x) n) (omega (arith, lt, ge))
 
+-- values of names in one model are so in another of the same sizes
+module _ (m₁ m₂ : FiniteModel) (same : m₁.vertices ≡ m₂.vertices) (alike : (v : ℕ) → v < m₁.vertices → m₁.size v ≡ m₂.size v) (x : ℕ) where
+  pub name_sizes : (k : ℕ) → k < name_count m₁.vertices x → m₁.size (vertex_of m₁.vertices x k) ≡ m₂.size (vertex_of m₂.vertices x k)
+  name_sizes k lt = alike (vertex_of m₁.vertices x k) (vertex_low m₁.vertices x k lt) ∙ ap (λ n. m₂.size (vertex_of n x k)) same
+
+  pub names_in_second : (c : ℕ → ℕ) → IsAssignment (name_count m₁.vertices x) (λ k. m₁.size (vertex_of m₁.vertices x k)) c
+      → IsAssignment (name_count m₂.vertices x) (λ k. m₂.size (vertex_of m₂.vertices x k)) c
+  names_in_second c hc k lt =
+      let l : k < name_count m₁.vertices x = subst (λ n. k < name_count n x) (sym same) lt in
+      subst (λ n. c k < n) (name_sizes k l) (hc k l)
+
 -- ---- what such formulas ask for
-abbrev Once : (n x : ℕ) → Events
+abbrev pub Once : (n x : ℕ) → Events
 Once n x b a = (b ≡ 0) × IsSingle n x a
 
 given_single : (n x a c : ℕ) → IsSingle n x (λ v. has a v || has c v) → IsSingle n x (has c)
@@ -52,7 +63,7 @@ given_single n x a c single v e = less (has x v) (has a k) (has c k) (single v (
 
 module _ (n x : ℕ) where
   mutual
-    asks_once : (e : Tree) → NamesOnce n x e → Asks (Once n x) e
+    pub asks_once : (e : Tree) → NamesOnce n x e → Asks (Once n x) e
     asks_once (prob a b c) h = (h, (h.0, given_single n x a c h.1))
     asks_once (sum u e) h = asks_once e h
     asks_once (product ts) h = ask_once ts h
@@ -63,7 +74,7 @@ module _ (n x : ℕ) where
     ask_once no_trees h = tt
     ask_once (tree t ts) h = (asks_once t h.0, ask_once ts h.1)
 
-  all_ask_once : (ds : List Tree) → AllNameOnce n x ds → AllAsk (Once n x) ds
+  pub all_ask_once : (ds : List Tree) → AllNameOnce n x ds → AllAsk (Once n x) ds
   all_ask_once [] h = tt
   all_ask_once (d ∷ ds) h = (asks_once d h.0, all_ask_once ds h.1)
 
@@ -83,11 +94,12 @@ module _ (g : MixedGraph) (ok : IsMixedGraph g) (m : FiniteModel) (fit : Fits g 
       go true = observed_within m.vertices x m.size s within v il
       go false = plain_within m.vertices x m.size s within v il
 
-  weight_seen : (b : ℕ) → b ≡ 0 → (with_primes m x).weight (has b) a s ≡ event_weight m event point
+  -- the weight of such a set of names is that of an observed event
+  pub weight_seen : (b : ℕ) → b ≡ 0 → (with_primes m x).weight (has b) a s ≡ event_weight m event point
   weight_seen b e = ap (λ k. (with_primes m x).weight (has k) a s) e
       ∙ observed_weight g ok m fit x a single s (plain_within m.vertices x m.size s within)
 
-  weight_some : IsPositiveModel m → 1 ≤ event_weight m event point
+  pub weight_some : IsPositiveModel m → 1 ≤ event_weight m event point
   weight_some positive =
       let e = positive_weight g m ok (follows_of g m fit) positive (λ v. false) event point point_within in
       let is = weight_of-none m (λ v. false) event point (λ v. refl) in
@@ -95,7 +107,8 @@ module _ (g : MixedGraph) (ok : IsMixedGraph g) (m : FiniteModel) (fit : Fits g 
 
 pub observed_fixes_named : ObservedFixesNamed
 observed_fixes_named g ok m₁ m₂ f₁ f₂ p₁ p₂ agreed x f once s within =
-    formula_alike (with_primes m₁ x) (with_primes m₂ x) (ap (λ n. name_count n x) agreed.vertices) sizes
+    formula_alike (with_primes m₁ x) (with_primes m₂ x) (ap (λ n. name_count n x) agreed.vertices)
+    (name_sizes m₁ m₂ agreed.vertices agreed.sizes x)
     (λ k lt. f₁.positive_size (vertex_of m₁.vertices x k) (vertex_low m₁.vertices x k lt)) (total m₁) (total m₂)
     (mul-pos (total_positive g ok m₁ f₁ p₁ s (plain_within m₁.vertices x m₁.size s within))
     (total_positive g ok m₂ f₂ p₂ s (in_second m₁ m₂ agreed.vertices agreed.sizes s (plain_within m₁.vertices x m₁.size s within))))
@@ -105,15 +118,6 @@ observed_fixes_named g ok m₁ m₂ f₁ f₂ p₁ p₂ agreed x f once s within
     (all_ask_once m₁.vertices x f.defs (subst (λ n. AllNameOnce n x f.defs) (sym f₁.vertices) once.0))
     (asks_once m₁.vertices x f.main (subst (λ n. NamesOnce n x f.main) (sym f₁.vertices) once.1)) s within
   where
-    sizes : (k : ℕ) → k < name_count m₁.vertices x → m₁.size (vertex_of m₁.vertices x k) ≡ m₂.size (vertex_of m₂.vertices x k)
-    sizes k lt = agreed.sizes (vertex_of m₁.vertices x k) (vertex_low m₁.vertices x k lt) ∙ ap (λ n. m₂.size (vertex_of n x k)) agreed.vertices
-
-    into : (c : ℕ → ℕ) → IsAssignment (name_count m₁.vertices x) (λ k. m₁.size (vertex_of m₁.vertices x k)) c
-        → IsAssignment (name_count m₂.vertices x) (λ k. m₂.size (vertex_of m₂.vertices x k)) c
-    into c hc k lt =
-        let l : k < name_count m₁.vertices x = subst (λ n. k < name_count n x) (sym agreed.vertices) lt in
-        subst (λ n. c k < n) (sizes k l) (hc k l)
-
     alike : (b : ℕ) (a : ℕ → Bool) → Once m₁.vertices x b a → (c : ℕ → ℕ) → IsAssignment (with_primes m₁ x).vertices (with_primes m₁ x).size c
         → (with_primes m₁ x).weight (has b) a c * total m₂ ≡ (with_primes m₂ x).weight (has b) a c * total m₁
     alike b a k c hc =
@@ -123,4 +127,5 @@ observed_fixes_named g ok m₁ m₂ f₁ f₂ p₁ p₂ agreed x f once s within
         (point_within g ok m₁ f₁ x a k.1 c hc)
         ∙ ap (λ w. w * total m₁) (weight_of-none m₂ (λ v. false) (event g ok m₁ f₁ x a k.1 c hc) (point g ok m₁ f₁ x a k.1 c hc) (λ v. refl)
         ∙ ap (λ n. event_weight m₂ (λ v. plain_in n a v || primed_in n x a v) (joined (primed_in n x a) c (as_observed n x c))) agreed.vertices
-        ∙ sym (weight_seen g ok m₂ f₂ x a (subst (λ n. IsSingle n x a) agreed.vertices k.1) c (into c hc) b k.0))
+        ∙ sym (weight_seen g ok m₂ f₂ x a (subst (λ n. IsSingle n x a) agreed.vertices k.1) c
+        (names_in_second m₁ m₂ agreed.vertices agreed.sizes x c hc) b k.0))

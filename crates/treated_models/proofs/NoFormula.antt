@@ -1,21 +1,22 @@
 -- Two models that differ on the joint effect leave no formula for the effect among the treated.
-use Rattle.std.proofs.Common.{ℕ, ◌≡◌, ◌<◌, Bool, true, false, cond, refl, sym, ap, ap₂, ◌∙◌, ◌||◌, ◌&&◌, subst, nat_lt, ltb-true}
+use Rattle.std.proofs.Common.{ℕ, ◌*◌, ◌≡◌, ◌<◌, Bool, true, false, cond, refl, sym, ap, ap₂, ◌∙◌, ◌||◌, ◌&&◌, subst, nat_lt, ltb-true}
 use Rattle.std.proofs.lemmas.Bool.{lt-ltb, le-ltb}
 use Rattle.mixed_graph.specs.Bits.{has}
-use Rattle.fractions.specs.Fractions.{IsEqual, over}
+use Rattle.mixed_graph.specs.Graphs.{MixedGraph, IsMixedGraph}
+use Rattle.fractions.specs.Fractions.{Fraction, IsEqual, over}
 use Rattle.fractions.proofs.FractionLaws.{equal_sym, equal_trans}
-use Rattle.finite_models.specs.Models.{FiniteModel, IsAssignment, solution, agree, intervene, world_weight}
+use Rattle.finite_models.specs.Agreement.{AgreeObserved}
+use Rattle.finite_models.specs.Models.{FiniteModel, Fits, IsAssignment, solution, agree, intervene, weight_of, world_weight, total}
 use Rattle.finite_models.proofs.Bools.{same_truth}
 use Rattle.finite_models.proofs.Following.{intervene_alike}
 use Rattle.finite_models.proofs.Solutions.{agree_from, agree_gives}
 use Rattle.finite_models.proofs.SumLaws.{over-congr}
-use Rattle.prob_expr.proofs.Allowed.{in_second}
 use Rattle.prob_expr.specs.Values.{value_of}
 use Rattle.treated_models.specs.NoFormula.{DifferenceExcludesAmong}
 use Rattle.treated_models.specs.Primes.{name_count, prime_of, vertex_of, as_observed, with_primes}
-use Rattle.treated_models.specs.Treated.{is_both, effect_among}
+use Rattle.treated_models.specs.Treated.{is_both, effect_among, IsBefore}
 use Rattle.treated_models.proofs.Joint.{among_fixes_joint}
-use Rattle.treated_models.proofs.NamedOnce.{vertex_low, observed_fixes_named}
+use Rattle.treated_models.proofs.NamedOnce.{vertex_low, names_in_second, observed_fixes_named}
 use Rattle.treated_models.proofs.Primes.{vertex_plain, vertex_primed, prime_behind}
 
 -- ---- effects read the values of vertices alone
@@ -61,31 +62,40 @@ module _ (n x : ℕ) (s t : ℕ → ℕ) where
           ∙ ap t (vertex_primed n x v il e)
       go false e = named_own v il ∙ sym (same v e)
 
+-- the effect among those whose x was observed, at values of names
+abbrev pub among : FiniteModel → (x y z : ℕ) → (ℕ → ℕ) → Fraction
+among m x y z c = effect_among m (has x) (has y) (λ v. has x v || has z v) c (as_observed m.vertices x c)
+
+module _ (g : MixedGraph) (ok : IsMixedGraph g) (m₁ m₂ : FiniteModel) (f₁ : Fits g m₁) (f₂ : Fits g m₂) (agreed : AgreeObserved m₁ m₂) (x y z : ℕ)
+    (before : IsBefore g (has x) (λ v. has x v || has z v)) (x_low : (v : ℕ) → has x v ≡ true → v < g.vertices)
+    (y_off_x : (v : ℕ) → has y v ≡ true → has x v ≡ false) (y_off_z : (v : ℕ) → has y v ≡ true → has z v ≡ false)
+    (z_off_x : (v : ℕ) → has z v ≡ true → has x v ≡ false) where
+  effect_at : (m : FiniteModel) → m.vertices ≡ g.vertices → (s t : ℕ → ℕ) → ((v : ℕ) → has x v ≡ false → t v ≡ s v)
+      → among m x y z (named m.vertices x s t) ≡ effect_among m (has x) (has y) (λ v. has x v || has z v) s t
+  effect_at m same s t elsewhere =
+      among_reads m (has x) (has y) (λ v. has x v || has z v) (named m.vertices x s t) s (as_observed m.vertices x (named m.vertices x s t)) t
+      (λ v e. rw same (x_low v e)) (named_own m.vertices x s t) (named_observed m.vertices x s t elsewhere)
+
+  -- where two models have one effect among the observed, at all values of names, they have one joint effect
+  pub names_fix_joint : ((c : ℕ → ℕ) → IsAssignment (with_primes m₁ x).vertices (with_primes m₁ x).size c → IsEqual (among m₁ x y z c) (among m₂ x y z c))
+      → (s : ℕ → ℕ) → IsAssignment m₁.vertices m₁.size s
+      → weight_of m₁ (has x) (λ v. has y v || has z v) s * total m₂ ≡ weight_of m₂ (has x) (λ v. has y v || has z v) s * total m₁
+  names_fix_joint equal s within =
+      among_fixes_joint g ok m₁ m₂ f₁ f₂ agreed (has x) (has y) (has z) before y_off_x y_off_z z_off_x s within
+      (λ t inside elsewhere.
+      subst (λ k. IsEqual (effect_among m₁ (has x) (has y) (λ v. has x v || has z v) s t) k)
+      (ap (λ n. among m₂ x y z (named n x s t)) agreed.vertices ∙ effect_at m₂ f₂.vertices s t elsewhere)
+      (subst (λ k. IsEqual k (among m₂ x y z (named m₁.vertices x s t))) (effect_at m₁ f₁.vertices s t elsewhere)
+      (equal (named m₁.vertices x s t) (named_within m₁.vertices x s t m₁.size within inside))))
+
 pub difference_excludes_among : DifferenceExcludesAmong
 difference_excludes_among g ok m₁ m₂ f₁ f₂ p₁ p₂ agreed x y z before x_low y_off_x y_off_z z_off_x s within differ f once equals =
-    differ (among_fixes_joint g ok m₁ m₂ f₁ f₂ agreed (has x) (has y) (has z) before y_off_x y_off_z z_off_x s within one_effect)
+    differ (names_fix_joint g ok m₁ m₂ f₁ f₂ agreed x y z before x_low y_off_x y_off_z z_off_x one_effect s within)
   where
-    effect_at : (m : FiniteModel) → m.vertices ≡ g.vertices → (t : ℕ → ℕ) → ((v : ℕ) → has x v ≡ false → t v ≡ s v)
-        → effect_among m (has x) (has y) (λ v. has x v || has z v) (named m.vertices x s t) (as_observed m.vertices x (named m.vertices x s t))
-        ≡ effect_among m (has x) (has y) (λ v. has x v || has z v) s t
-    effect_at m same t elsewhere =
-        among_reads m (has x) (has y) (λ v. has x v || has z v) (named m.vertices x s t) s (as_observed m.vertices x (named m.vertices x s t)) t
-        (λ v e. rw same (x_low v e)) (named_own m.vertices x s t) (named_observed m.vertices x s t elsewhere)
-
-    one_effect : (t : ℕ → ℕ) → IsAssignment m₁.vertices m₁.size t → ((v : ℕ) → has x v ≡ false → t v ≡ s v)
-        → IsEqual (effect_among m₁ (has x) (has y) (λ v. has x v || has z v) s t) (effect_among m₂ (has x) (has y) (λ v. has x v || has z v) s t)
-    one_effect t inside elsewhere =
-        let in₁ = named_within m₁.vertices x s t m₁.size within inside in
-        let in₂ = named_within m₂.vertices x s t m₂.size (in_second m₁ m₂ agreed.vertices agreed.sizes s within)
-        (in_second m₁ m₂ agreed.vertices agreed.sizes t inside) in
-        let first = subst (λ k. IsEqual (value_of (with_primes m₁ x) f (named m₁.vertices x s t)) k) (effect_at m₁ f₁.vertices t elsewhere)
-        (equals m₁ f₁ p₁ (named m₁.vertices x s t) in₁) in
-        let second = subst (λ k. IsEqual (value_of (with_primes m₂ x) f (named m₂.vertices x s t)) k) (effect_at m₂ f₂.vertices t elsewhere)
-        (equals m₂ f₂ p₂ (named m₂.vertices x s t) in₂) in
-        let both = subst (λ n. IsEqual (value_of (with_primes m₁ x) f (named m₁.vertices x s t)) (value_of (with_primes m₂ x) f (named n x s t)))
-        agreed.vertices (observed_fixes_named g ok m₁ m₂ f₁ f₂ p₁ p₂ agreed x f once (named m₁.vertices x s t) in₁) in
-        equal_trans (effect_among m₁ (has x) (has y) (λ v. has x v || has z v) s t) (value_of (with_primes m₁ x) f (named m₁.vertices x s t))
-        (effect_among m₂ (has x) (has y) (λ v. has x v || has z v) s t)
-        (equal_sym (value_of (with_primes m₁ x) f (named m₁.vertices x s t)) (effect_among m₁ (has x) (has y) (λ v. has x v || has z v) s t) first)
-        (equal_trans (value_of (with_primes m₁ x) f (named m₁.vertices x s t)) (value_of (with_primes m₂ x) f (named m₂.vertices x s t))
-        (effect_among m₂ (has x) (has y) (λ v. has x v || has z v) s t) both second)
+    one_effect : (c : ℕ → ℕ) → IsAssignment (with_primes m₁ x).vertices (with_primes m₁ x).size c → IsEqual (among m₁ x y z c) (among m₂ x y z c)
+    one_effect c hc =
+        equal_trans (among m₁ x y z c) (value_of (with_primes m₁ x) f c) (among m₂ x y z c)
+        (equal_sym (value_of (with_primes m₁ x) f c) (among m₁ x y z c) (equals m₁ f₁ p₁ c hc))
+        (equal_trans (value_of (with_primes m₁ x) f c) (value_of (with_primes m₂ x) f c) (among m₂ x y z c)
+        (observed_fixes_named g ok m₁ m₂ f₁ f₂ p₁ p₂ agreed x f once c hc)
+        (equals m₂ f₂ p₂ c (names_in_second m₁ m₂ agreed.vertices agreed.sizes x c hc)))

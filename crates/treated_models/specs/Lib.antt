@@ -4,3 +4,4 @@ pub mod Primes
 pub mod Differences
 pub mod NamedOnce
 pub mod NoFormula
+pub mod TwoValues

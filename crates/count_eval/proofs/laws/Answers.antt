@@ -1,16 +1,19 @@
 use Rattle.std.proofs.Common.{sym, ◌∙◌}
 use Rattle.prob_expr.specs.Values.{value_of, weights_of, effect}
-use Rattle.count_eval.proofs.Covered.{formula_good}
+use Rattle.count_eval.proofs.Covered.{formula_good, zeros_are_covered}
 use Rattle.count_eval.proofs.Matched.{matched_has_value}
 use Rattle.count_eval.proofs.Zeros.{zero_keeps_values, matched_is_same, either_rule}
 use Rattle.count_eval.proofs.laws.Goals as goal
 
 pub returns-clause-covered : goal.returns-clause-covered
 returns-clause-covered g c = λ w f s. let k = formula_good g.Q.Quantity.kind g.Q.Quantity.covers g.met.Q.Quantity.lawful w f s in
-    record { found = k.found; none = k.none }
+    record { found = k.found; none = k.none tt }
 
 pub returns-clause-matched : goal.returns-clause-matched
 returns-clause-matched g c = matched_has_value
+
+pub returns-clause-zeros : goal.returns-clause-zeros
+returns-clause-zeros g c = zeros_are_covered g.Q.Quantity.kind g.Q.Quantity.covers g.met.Q.Quantity.lawful
 
 pub returns-clause-keeps : goal.returns-clause-keeps
 returns-clause-keeps g c = zero_keeps_values g.Q.Quantity.kind

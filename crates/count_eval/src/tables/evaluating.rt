@@ -6,7 +6,7 @@ ghost use Rattle.count_table.specs.Tables.{HasLevels};
 ghost use Rattle.count_eval.specs.Evaluated.{formula_value};
 ghost use Rattle.count_eval.specs.Rules.{rule};
 ghost use Rattle.count_eval.specs.Programs.{weights_in, is_used, cell_of};
-ghost use Rattle.count_eval.specs.Answers.{IsEvaluable, CoversCounts, CoversMatches, DeniesMatches};
+ghost use Rattle.count_eval.specs.Answers.{IsEvaluable, CoversCounts, CoversWithZeros, CoversMatches, DeniesMatches};
 ghost use Rattle.count_eval.specs.Values.{AnswersIfRoom};
 
 use crate::EvalFault;
@@ -34,6 +34,7 @@ pub fn value<Q: Quantity>(
     requires levels { HasLevels c.now (is_used c.now) at.now }
     ensures value { AnswersIfRoom Q.numbers c.now (formula_value (rule Q.kind zero) (weights_in (length at.now) c.now) (formula_view f.now) (cell_of at.now)) result }
     ensures counts { zero ≡ false → IfOk result (λ q. CoversCounts Q.covers (length at.now) c.now (formula_view f.now) (cell_of at.now) (Q.numbers q)) }
+    ensures zeros { IfOk result (λ q. CoversWithZeros Q.covers (length at.now) c.now (formula_view f.now) (cell_of at.now) (Q.numbers q)) }
     ensures matches { IfOk result (λ q. CoversMatches Q.covers (length at.now) c.now (formula_view f.now) (cell_of at.now) (Q.numbers q)) }
     ensures support { IfErr result (DeniesMatches (length at.now) c.now (cell_of at.now)) }
 {

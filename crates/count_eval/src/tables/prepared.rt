@@ -6,7 +6,7 @@ ghost use Rattle.prob_expr.specs.View.{formula_view};
 ghost use Rattle.count_table.specs.Tables.{HasLevels};
 ghost use Rattle.count_eval.specs.Evaluated.{formula_value};
 ghost use Rattle.count_eval.specs.Programs.{weights_in, is_used, cell_of};
-ghost use Rattle.count_eval.specs.Answers.{IsEvaluable, Answers, CoversCounts, CoversMatches, DeniesMatches};
+ghost use Rattle.count_eval.specs.Answers.{IsEvaluable, Answers, CoversCounts, CoversWithZeros, CoversMatches, DeniesMatches};
 
 use crate::tables::table::DefinitionTable;
 use crate::tables::tables::{MOST_CELLS, Tables, tables_of};
@@ -89,6 +89,7 @@ impl<'a, Q: Quantity> Prepared<'a, Q> {
         requires levels { HasLevels self.now.counts (is_used self.now.counts) at.now }
         ensures value { Answers Q.numbers self.now.counts (formula_value (rule Q.kind self.now.zero) (weights_in self.now.vertices self.now.counts) self.now.formula (cell_of at.now)) result }
         ensures counts { self.now.zero ≡ false → IfOk result (λ q. CoversCounts Q.covers self.now.vertices self.now.counts self.now.formula (cell_of at.now) (Q.numbers q)) }
+        ensures zeros { IfOk result (λ q. CoversWithZeros Q.covers self.now.vertices self.now.counts self.now.formula (cell_of at.now) (Q.numbers q)) }
         ensures matches { IfOk result (λ q. CoversMatches Q.covers self.now.vertices self.now.counts self.now.formula (cell_of at.now) (Q.numbers q)) }
         ensures support { IfErr result (DeniesMatches self.now.vertices self.now.counts (cell_of at.now)) }
         ensures memory { IfErr result (λ e. e ≢ EvalFault.NoMemory) }

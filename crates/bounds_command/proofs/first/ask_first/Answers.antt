@@ -1,39 +1,20 @@
-use Rattle.std.proofs.Common.{◌≡◌, ap, subst}
-use Rattle.mixed_graph.specs.Names.{texts}
-use Rattle.targets.specs.Targets.{OrMemory}
-use Rattle.diagram.specs.Sets.{lent}
-use Rattle.diagram.proofs.Lent.{lent_owned}
-use Rattle.bounds_command.specs.Asking.{BoundLists, bound_lists, AreNamed, IsBoundFault}
+use Rattle.std.proofs.Common.{◌∙◌, ap}
+use Rattle.mixed_graph.specs.Shown.{graph_of}
+use Rattle.told.specs.declared.form.Form.{Form}
+use Rattle.told.specs.Refusals.{target_refusal}
+use Rattle.told.specs.Telling.{told_in}
 use Rattle.bounds_command.specs.Requests.{request_of}
-use Rattle.bounds_command.specs.First.{lists_of}
-use Rattle.bounds_command.proofs.AskedSets.{four_sets}
-use Rattle.bounds_command.proofs.FirstReplies.{decided, faulted}
+use Rattle.bounds_command.specs.First.{lists_of, unmet_telling}
+use Rattle.bounds_command.proofs.FirstReplies.{right_answer}
 use Rattle.bounds_command.proofs.first.ask_first.Goals as goal
-use Rattle.bounds_command.proofs.first.ask_first.Goals.{After-question_of}
 
--- the lists that are lent are those of the request
-as_asked : (c : After-question_of) → bound_lists c.args.diagram.now (lent c.as_deref-x.result) (lent c.as_deref-y.result) (texts c.deref.result.now)
-    (texts c.deref-2.result.now) (texts c.deref-3.result.now) ≡ lists_of (request_of c.args.asked.now) c.args.diagram.now
-as_asked c = λ i. bound_lists c.args.diagram.now (lent_owned c.as_deref-x.result c.args.asked.now.x c.as_deref-x.ensures.value i)
-    (lent_owned c.as_deref-y.result c.args.asked.now.y c.as_deref-y.ensures.value i) (ap texts c.deref.ensures.value i) (ap texts c.deref-2.ensures.value i)
-    (ap texts c.deref-3.ensures.value i)
-
-pub by_instrument-requires : goal.by_instrument-requires
-by_instrument-requires c =
-    let at = (goal.at.by_instrument-requires c).After-question_of in
-    four_sets (lists_of (request_of c.args.asked.now) c.args.diagram.now) c.in-Ok.question
-    (subst (λ (l : BoundLists). AreNamed l c.in-Ok.question) (as_asked at) c.in-Ok.ensures.question)
-    c.args.diagram.now.observed.graph.n c.args.diagram.now.observed.sized
-
-pub returns-in-Ok : goal.returns-in-Ok
-returns-in-Ok c =
-    let at = (goal.at.returns-in-Ok c).After-question_of in
-    decided c.args.diagram.now (request_of c.args.asked.now) c.in-Ok.question
-    (subst (λ (l : BoundLists). AreNamed l c.in-Ok.question) (as_asked at) c.in-Ok.ensures.question) c.by_instrument.result
-    c.by_instrument.ensures
-
-pub returns-in-Err : goal.returns-in-Err
-returns-in-Err c =
-    let at = (goal.at.returns-in-Err c).After-question_of in
-    faulted c.args.diagram.now (request_of c.args.asked.now) c.in-Err.fault
-    (subst (λ (l : BoundLists). OrMemory (IsBoundFault l) c.in-Err.fault) (as_asked at) c.in-Err.ensures.fault) c.replied.result c.replied.ensures
+pub returns-in_ok-reply-in-Answered : goal.returns-in_ok-reply-in-Answered
+returns-in_ok-reply-in-Answered c =
+    let d = c.args.diagram.now in let q = request_of c.args.asked.now in let a = c.in-Answered.answer in
+    record {
+      answer = a;
+      right = right_answer (graph_of d.observed.graph) (lists_of q d) a (rw c.in-Answered.is at c.first_of.ensures) c.in_ok-reply-in-Answered.ensures.memory;
+      ends = c.in_ok-reply-in-Answered.ensures.outcome;
+      prints = c.in_ok-reply-in-Answered.ensures.told
+          ∙ ap (λ (form : Form). told_in unmet_telling target_refusal form d.observed.names a) c.plain-form.ensures;
+    }

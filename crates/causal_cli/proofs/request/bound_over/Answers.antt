@@ -1,6 +1,5 @@
 use Rattle.bounds_command.proofs.Known.{is_known}
 use Rattle.bounds_command.proofs.Lawful.{bounds_is_left}
-use Rattle.bounds_command.specs.First.{lists_of}
 use Rattle.bounds_command.specs.Requests.{request_of}
 use Rattle.causal_cli.proofs.request.bound_over.Goals as goal
 
@@ -9,4 +8,4 @@ returns c =
     let d = c.args.diagram.now in
     let q = request_of c.args.asked in
     let asked = rw c.in-Asked.is at c.in_ok-reply.ensures in
-    bounds_is_left q d c.in-Asked.question (is_known d.observed (lists_of q d) c.in-Asked.question d.observed.graph.valid d.observed.graph.small d.observed.sized asked) asked
+    bounds_is_left q d c.in-Asked.question (is_known d q c.in-Asked.question asked) asked

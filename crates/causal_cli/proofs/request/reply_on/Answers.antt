@@ -1,7 +1,7 @@
 use Rattle.std.proofs.Common.{IfOk, sym, subst}
 use Rattle.command_run.specs.Answers.{GivesOn}
 use Rattle.causal_cli.specs.Commands.{commands, request_of, left_of}
-use Rattle.causal_cli.specs.declared.request.Request.TheVariants.{Graph, Separate, Rule, Identify, Adjust, Surrogate, Treated}
+use Rattle.causal_cli.specs.declared.request.Request.TheVariants.{Graph, Separate, Rule, Identify, Adjust, Surrogate, Treated, Instruments, Natural}
 use Rattle.causal_cli.proofs.request.reply_on.Goals as goal
 
 pub returns-in-Graph : goal.returns-in-Graph
@@ -37,3 +37,13 @@ pub returns-in-Treated : goal.returns-in-Treated
 returns-in-Treated c = subst (λ q. IfOk c.replied-in-Treated.result
     (GivesOn (left_of c.args.diagram.now) commands (request_of q) c.args.diagram.now)) (sym c.in-Treated.is)
     (c.replied-in-Treated.ensures (request_of (Treated c.in-Treated.asked)) c.args.diagram.now c.treated_reply.ensures)
+
+pub returns-in-Instruments : goal.returns-in-Instruments
+returns-in-Instruments c = subst (λ q. IfOk c.replied-in-Instruments.result
+    (GivesOn (left_of c.args.diagram.now) commands (request_of q) c.args.diagram.now)) (sym c.in-Instruments.is)
+    (c.replied-in-Instruments.ensures (request_of (Instruments c.in-Instruments.asked)) c.args.diagram.now c.instruments_reply.ensures)
+
+pub returns-in-Natural : goal.returns-in-Natural
+returns-in-Natural c = subst (λ q. IfOk c.replied-in-Natural.result
+    (GivesOn (left_of c.args.diagram.now) commands (request_of q) c.args.diagram.now)) (sym c.in-Natural.is)
+    (c.replied-in-Natural.ensures (request_of (Natural c.in-Natural.asked)) c.args.diagram.now c.natural_reply.ensures)

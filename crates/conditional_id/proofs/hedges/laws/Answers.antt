@@ -2,6 +2,7 @@ use Rattle.conditional_id.proofs.hedges.laws.Goals as goal
 use Rattle.conditional_id.proofs.Excluding.{leaf_pairs_exclude}
 use Rattle.conditional_id.proofs.Given.{hedges_exclude_given, hedges_exclude_turned, hedges_exclude_formula}
 use Rattle.conditional_id.proofs.Models.{hedges_give_models}
+use Rattle.conditional_id.proofs.TurnedModels.{hedges_give_models_turned}
 use Rattle.conditional_id.proofs.Odds.{odds_fix_weights}
 
 pub returns-clause-odds : goal.returns-clause-odds
@@ -21,3 +22,6 @@ returns-clause-formula c = hedges_exclude_formula
 
 pub returns-clause-models : goal.returns-clause-models
 returns-clause-models c = hedges_give_models
+
+pub returns-clause-models_turned : goal.returns-clause-models_turned
+returns-clause-models_turned c = hedges_give_models_turned

@@ -3,7 +3,7 @@ use Rattle.prob_expr.specs.View.{target_view}
 use Rattle.identify.proofs.RightAnswers.{if_ok}
 use Rattle.conditional_id.proofs.Answered.{conditional_is_right, conditional_is_shallow, derived_is_conditional}
 use Rattle.conditional_id.specs.Answers.{IsAnswerGiven}
-use Rattle.conditional_id.proofs.RightAnswers.{right, exact_formula, joint_effect, joint_not_fixed, joint_no_formula, plain_of, plain_sets}
+use Rattle.conditional_id.proofs.RightAnswers.{right, exact_formula, joint_effect, joint_models, joint_no_formula, plain_of, plain_sets}
 use Rattle.conditional_id.proofs.RightAnswers.{if_formula, if_joint}
 use Rattle.conditional_id.proofs.identifying.identify_given.Goals as goal
 
@@ -34,6 +34,6 @@ returns c =
       shown = if_joint g t r _ (λ x y b h pair i is. i) found;
       plain_joint = λ e. if_joint g t r _ (λ x y b h pair i is. plain_sets g t e x y b h pair i) found;
       counter = if_joint g t r _ (λ x y b h pair i is. is.counter) found;
-      not_fixed = if_joint g t r _ (λ x y b h pair i is. joint_not_fixed g valid t k few x y b h pair i is.counter) found;
+      models = if_joint g t r _ (λ x y b h pair i is. joint_models g valid t k few x y b h pair i is.counter) found;
       no_formula = if_joint g t r _ (λ x y b h pair i is. joint_no_formula g valid t k few x y b h pair i is.counter) found;
     }

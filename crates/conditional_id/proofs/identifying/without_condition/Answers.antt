@@ -26,6 +26,7 @@ returns-in-Hedge-clause-answer c =
         joint = sym (join-zero y);
         settled_is = (λ e. inl refl, λ i. refl);
         unsettled = λ e. absurd (clash true refl e);
+        walks = λ e. absurd (clash true refl e);
         stop = subst (λ a. IfHedge a (λ h pair. IsUnidentified g x y h.small.bits h.big.bits)) c.in-Hedge.is c.in_ok-formula.ensures.stop;
         built = subst (λ a. IfHedge a (λ h pair. IsHedgeOf g h)) c.in-Hedge.is c.in_ok-formula.ensures.data;
         hedge = subst (λ a. IfHedge a (λ h pair. IsHedge g x y h)) c.in-Hedge.is c.in_ok-formula.ensures.hedge;

@@ -6,7 +6,7 @@ use Rattle.count_eval.specs.Laws.{AllUsed}
 use Rattle.count_eval.specs.Rules.{rule}
 use Rattle.count_eval.specs.Programs.{weights_in, is_used, cell_of, stop_of, AreValues, IsBelow, AreOrdered}
 use Rattle.count_eval.proofs.Accepted.{accepted_below, accepted_ordered}
-use Rattle.count_eval.proofs.WholeValues.{main_value, fault_over, covers_counts, covers_matches, denies_matches, needs_no_memory}
+use Rattle.count_eval.proofs.WholeValues.{main_value, fault_over, covers_counts, covers_with_zeros, covers_matches, denies_matches, needs_no_memory}
 use Rattle.count_eval.proofs.values.value_by.Goals as goal
 
 pub value_at-requires-clause-scope : goal.value_at-requires-clause-scope
@@ -35,6 +35,14 @@ returns-in-Ok-clause-counts g c = λ first.
     let k = g.Q.Quantity.kind in let t = g.L.Lookup.counts c.args.lookup.now in let f = c.args.f.now in let s = cell_of c.args.at.now in let p =
     g.Q.Quantity.numbers c.in-Ok.q in
     covers_counts k g.Q.Quantity.covers g.met.Q.Quantity.lawful c.args.zero first c.args.n t (formula_view f) s p
+    (main_value (rule k c.args.zero) (weights_in c.args.n t) f c.deref.result.now c.array_of.result s (Ok p)
+    c.deref.ensures.value c.array_of.ensures c.in-Ok.ensures)
+
+pub returns-in-Ok-clause-zeros : goal.returns-in-Ok-clause-zeros
+returns-in-Ok-clause-zeros g c =
+    let k = g.Q.Quantity.kind in let t = g.L.Lookup.counts c.args.lookup.now in let f = c.args.f.now in let s = cell_of c.args.at.now in let p =
+    g.Q.Quantity.numbers c.in-Ok.q in
+    covers_with_zeros k g.Q.Quantity.covers g.met.Q.Quantity.lawful c.args.zero c.args.n t (formula_view f) s p
     (main_value (rule k c.args.zero) (weights_in c.args.n t) f c.deref.result.now c.array_of.result s (Ok p)
     c.deref.ensures.value c.array_of.ensures c.in-Ok.ensures)
 

@@ -47,7 +47,7 @@ returns-in-Joint c = λ x y given asked.
       asked,
       record {
         joint = right.effect;
-        not_fixed = right.not_fixed;
+        models = right.models;
         no_formula = right.no_formula;
         settled_is = right.settled_is;
         differs = right.target;

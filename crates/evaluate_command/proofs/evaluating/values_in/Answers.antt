@@ -5,7 +5,7 @@ use Rattle.evaluate_command.specs.Cells.{cells_along, IsCell}
 use Rattle.evaluate_command.specs.Effects.{effect_in}
 use Rattle.evaluate_command.specs.Listed.{plain_in}
 use Rattle.evaluate_command.specs.Printing.{Appends, IsFaultAt}
-use Rattle.evaluate_command.proofs.Evaluable.{evaluable, varied_used, table_below}
+use Rattle.evaluate_command.proofs.Evaluable.{evaluable, used, varied_used, table_below}
 use Rattle.evaluate_command.proofs.Printed.{all_evaluated, all_unvalued}
 use Rattle.evaluate_command.proofs.Tables.{first_is_cell}
 use Rattle.evaluate_command.proofs.evaluating.values_in.Goals as goal
@@ -34,7 +34,8 @@ returns-in-Ok-push_cells-clause-values g c =
     let p = c.in-Ok-prepare.prepared in let made = c.in-Ok-prepare.ensures in
     let first = c.deref_mut.ensures.value ∙ c.in-Ok-vec.ensures.items_if_clones_equal (λ y h. h) in
     let all = c.deref.ensures.value ∙ c.in-Ok.ensures in
-    all_evaluated (rule kind c.args.zero) covers g.met.Q.Quantity.lawful e c.requires.identified t p
+    all_evaluated (rule kind c.args.zero) covers g.met.Q.Quantity.lawful c.laws.ensures.matched e c.requires.identified t
+    (used e c.requires.identified t c.used-used.ensures.table c.requires.used) p
     (λ i. record { vertices = sym made.vertices i; counts = sym made.counts i; formula = sym made.formula i; zero = p.zero })
     (cells_along t c.deref_mut.result.now c.deref.result.now) (λ i. cells_along t (first i) (all i))
     (plain_in numbers c.new-values.result.items) (plain_in numbers c.push_cells.new.out.items) (ap (plain_in numbers) c.new-values.ensures.items)

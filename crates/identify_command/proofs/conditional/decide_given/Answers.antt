@@ -53,7 +53,7 @@ returns-in-Joint c =
       refl,
       record {
         joint = right.effect;
-        not_fixed = right.not_fixed;
+        models = right.models;
         no_formula = right.no_formula;
         settled_is = right.settled_is;
         differs = right.target;

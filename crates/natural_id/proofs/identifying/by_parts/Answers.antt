@@ -3,9 +3,11 @@ use Rattle.mixed_graph.specs.Shown.{graph_of}
 use Rattle.mixed_graph.specs.Masks.{union}
 use Rattle.hedge.specs.Listed.{first_masks}
 use Rattle.natural_id.specs.Answers.{parts_view, ArePartsOrSplit}
-use Rattle.natural_id.proofs.Answered.{formula_right, split_right}
+use Rattle.natural_id.specs.declared.parts.Parted.TheVariants as parted
+use Rattle.natural_id.proofs.Answered.{formula_right, formula_clear, split_right}
 use Rattle.natural_id.proofs.Found.{districts_found}
 use Rattle.natural_id.proofs.identifying.by_parts.Goals as goal
+use Rattle.natural_id.proofs.identifying.by_parts.Goals.{In-Parts}
 
 pub parts_of-requires-clause-found : goal.parts_of-requires-clause-found
 parts_of-requires-clause-found c = districts_found (graph_of c.args.g.now) c.args.g.now.valid c.args.x.bits (union c.args.y.bits c.args.z.bits)
@@ -13,18 +15,28 @@ parts_of-requires-clause-found c = districts_found (graph_of c.args.g.now) c.arg
     (first_masks c.districts-parts.result.sets c.districts-parts.result.count) c.districts-parts.ensures.districts c.districts-parts.ensures.maximal
     c.requires.found.0 c.requires.found.1
 
+-- what was found of the parts
+found : (c : In-Parts) → ArePartsOrSplit (graph_of c.args.g.now) c.joined-children.result.bits c.leading_through-through.result.bits
+    c.ancestors_outside-d.result.bits (first_masks c.districts-parts.result.sets c.districts-parts.result.count) (parted.Parts c.in-Parts.parts)
+found c = subst (ArePartsOrSplit (graph_of c.args.g.now) c.joined-children.result.bits c.leading_through-through.result.bits
+    c.ancestors_outside-d.result.bits (first_masks c.districts-parts.result.sets c.districts-parts.result.count)) c.in-Parts.is c.in_ok-parts.ensures
+
 pub returns-in-Parts : goal.returns-in-Parts
 returns-in-Parts c = (
-  formula_right (graph_of c.args.g.now) c.args.g.now.valid c.args.x.bits c.args.m.bits c.args.y.bits c.args.z.bits c.requires.target
-      c.ancestors_outside-d.result.bits c.union-joint.result.bits c.union-joint.ensures.mask c.ancestors_outside-d.ensures
-      c.leading_past-past.result.bits c.leading_through-through.result.bits c.joined-children.result.bits c.leading_past-past.ensures
-      c.leading_through-through.ensures c.joined-children.ensures c.difference.result.bits c.difference.ensures.mask c.in_default.ensures
-      (first_masks c.districts-parts.result.sets c.districts-parts.result.count) c.districts-parts.ensures.districts
-      (parts_view c.in-Parts.parts.items)
-      (subst (ArePartsOrSplit (graph_of c.args.g.now) c.joined-children.result.bits c.leading_through-through.result.bits c.ancestors_outside-d.result.bits
-      (first_masks c.districts-parts.result.sets c.districts-parts.result.count)) c.in-Parts.is c.in_ok-parts.ensures).0
-      (subst (ArePartsOrSplit (graph_of c.args.g.now) c.joined-children.result.bits c.leading_through-through.result.bits c.ancestors_outside-d.result.bits
-      (first_masks c.districts-parts.result.sets c.districts-parts.result.count)) c.in-Parts.is c.in_ok-parts.ensures).1,
+  (
+    formula_right (graph_of c.args.g.now) c.args.g.now.valid c.args.x.bits c.args.m.bits c.args.y.bits c.args.z.bits c.requires.target
+        c.ancestors_outside-d.result.bits c.union-joint.result.bits c.union-joint.ensures.mask c.ancestors_outside-d.ensures
+        c.leading_past-past.result.bits c.leading_through-through.result.bits c.joined-children.result.bits c.leading_past-past.ensures
+        c.leading_through-through.ensures c.joined-children.ensures c.difference.result.bits c.difference.ensures.mask c.in_default.ensures
+        (first_masks c.districts-parts.result.sets c.districts-parts.result.count) c.districts-parts.ensures.districts
+        (parts_view c.in-Parts.parts.items) (found (goal.at.returns-in-Parts c).In-Parts).0 (found (goal.at.returns-in-Parts c).In-Parts).1,
+    formula_clear (graph_of c.args.g.now) c.args.g.now.valid c.args.x.bits c.args.m.bits c.args.y.bits c.args.z.bits c.requires.target
+        c.ancestors_outside-d.result.bits c.union-joint.result.bits c.union-joint.ensures.mask c.ancestors_outside-d.ensures
+        c.leading_past-past.result.bits c.leading_through-through.result.bits c.joined-children.result.bits c.leading_past-past.ensures
+        c.leading_through-through.ensures c.joined-children.ensures c.in_default.ensures
+        (first_masks c.districts-parts.result.sets c.districts-parts.result.count) c.districts-parts.ensures.districts c.districts-parts.ensures.maximal
+        (parts_view c.in-Parts.parts.items) (found (goal.at.returns-in-Parts c).In-Parts).0 (found (goal.at.returns-in-Parts c).In-Parts).1,
+  ),
   refl,
 )
 

@@ -1,3 +1,4 @@
+use Rattle.treated_models.proofs.TwoValues.{two_values_split}
 use Rattle.treated_models.proofs.theory.laws.Goals as goal
 use Rattle.treated_models.proofs.Held.{treated_is_held, untouched_factors}
 use Rattle.treated_models.proofs.Sum.{effect_is_sum}
@@ -55,3 +56,6 @@ returns-clause-observed c = observed_fixes_named
 
 pub returns-clause-excludes : goal.returns-clause-excludes
 returns-clause-excludes c = difference_excludes_among
+
+pub returns-clause-two : goal.returns-clause-two
+returns-clause-two c = two_values_split

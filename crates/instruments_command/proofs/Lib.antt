@@ -1,0 +1,3 @@
+mod Sets
+pub mod NoStrata
+pub mod Lawful

@@ -1,0 +1,25 @@
+-- Numbers of names, and members of two sets.
+use Rattle.std.proofs.Common.{◌≡◌, ◌≤◌, ◌+◌, ◌&&◌, ℕ, Bool, true, length, sym, ap, arith, inl, inr}
+use Rattle.std.specs.Prelude.{nat_lt}
+use Rattle.std.proofs.lemmas.Bool.{cases_Bool}
+use Rattle.mixed_graph.specs.Bits.{has, members_below}
+use Rattle.mixed_graph.specs.Sets.{Within}
+use Rattle.latent_projection.proofs.Numbering.{length-members-cut}
+use Rattle.treated_models.specs.Primes.{name_count}
+
+-- so many names there are with the primed ones
+pub counted_names : (n x : ℕ) → n ≤ 64 → Within n (has x) → name_count n x ≡ n + length (members_below (has x) 64)
+counted_names n x few within = ap (λ k. n + k) (sym (length-members-cut (has x) (has x) n 64 few cut))
+  where
+    cut : (v : ℕ) → has x v ≡ (nat_lt v n && has x v)
+    cut v = elim (cases_Bool (has x v)) [
+      | inl e ↦ let l = within v e in rw e (grind (arith, l))
+      | inr e ↦ rw e (grind arith)
+    ]
+
+-- a member of both is a member of each, and the other way round
+pub pair_of : (a b c : Bool) → c ≡ (a && b) → c ≡ true → (a ≡ true) × (b ≡ true)
+pair_of a b c h i = (grind (arith, h, i), grind (arith, h, i))
+
+pub pair_from : (a b c : Bool) → c ≡ (a && b) → a ≡ true → b ≡ true → c ≡ true
+pair_from a b c h i j = grind (arith, h, i, j)

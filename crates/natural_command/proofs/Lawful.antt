@@ -1,0 +1,180 @@
+-- The command's words ask for one request, and its right answers end alike.
+use Rattle.std.proofs.Common.{◌≡◌, Bool, true, false, List, Some, Result, Ok, Err, refl, sym, ◌∙◌, subst, arith, inl, inr}
+use Rattle.std.specs.Prelude.{codes, ◌⊎◌}
+use Rattle.std.proofs.lemmas.Option.{same_Some}
+use Rattle.mixed_graph.specs.Graphs.{MixedGraph}
+use Rattle.mixed_graph.specs.Masks.{union}
+use Rattle.mixed_graph.specs.Shown.{graph_of}
+use Rattle.mixed_graph.specs.declared.sets.VSet.{VSet}
+use Rattle.hedge.specs.Hedges.{IsHedge}
+use Rattle.hedge.specs.declared.hedge.Hedge.{Hedge}
+use Rattle.command_words.specs.Form.{Use, value_of, has_flag}
+use Rattle.command_words.proofs.OneValue.{one_listed, one_listed_or_empty, one_needed_list}
+use Rattle.targets.specs.declared.fault.TargetFault.{TargetFault}
+use Rattle.diagram.specs.declared.diagram.Diagram.{Diagram}
+use Rattle.diagram.proofs.OneDiagram.{AreSameDiagrams, same_drawing, same_query_lists}
+use Rattle.replies.specs.declared.outcome.Outcome.{Outcome}
+use Rattle.replies.specs.declared.outcome.Outcome.TheVariants.{Yes, No}
+use Rattle.replies.specs.Outcomes.{IsAnswered}
+use Rattle.replies.specs.Told.{Told}
+use Rattle.replies.proofs.Commands.{IsLawful, lawful_on_file}
+use Rattle.replies.proofs.OneOutcome.{one_on_diagram}
+use Rattle.replies.proofs.OneTarget.{one_set, no_fault_of}
+use Rattle.told.specs.declared.form.Form.{Form}
+use Rattle.told.specs.declared.form.Writing.{Writing}
+use Rattle.told.specs.Telling.{Tells}
+use Rattle.told.proofs.ToldOnce.{EndAlike, told_answered}
+use Rattle.natural_id.specs.Answers.{ReadsBoth}
+use Rattle.natural_command.specs.declared.asking.Question.{Question}
+use Rattle.natural_command.specs.declared.answer.Answer.{Answer}
+use Rattle.natural_command.specs.declared.answer.Answer.TheVariants.{Formula, Excluded, Witness, Split}
+use Rattle.natural_command.specs.declared.fault.NaturalFault.{NaturalFault}
+use Rattle.natural_command.specs.declared.fault.NaturalFault.TheVariants.{Listed, NoMediator, After, TooMany, NoMemory}
+use Rattle.natural_command.specs.Asking.{NaturalLists, natural_lists, through_fault, AreNamed, IsNamesFault}
+use Rattle.natural_command.specs.Faults.{natural_refusal}
+use Rattle.natural_command.specs.Right.{Decides, IsForQuestion, IsOfQuestion, IsFaultOfQuestion, IsFault, IsForNames}
+use Rattle.natural_command.specs.Telling.{natural_telling}
+use Rattle.natural_command.specs.Requests.{Request, IsRequest, IsForm, IsWriting}
+use Rattle.natural_command.specs.Command.{natural_command}
+
+one_writing : (latex json : Bool) (v w : Writing) → IsWriting latex json v → IsWriting latex json w → w ≡ v
+one_writing false json v w a b = b ∙ sym a
+one_writing true false v w a b = b ∙ sym a
+one_writing true true v w a b = absurd a
+
+one_form : (latex json : Bool) (f h : Form) → IsForm latex json f → IsForm latex json h → h ≡ f
+one_form latex json f h a b = λ i. record {
+  format = (b.format ∙ sym a.format) i;
+  writing = one_writing latex json f.writing h.writing a.writing b.writing i;
+}
+
+-- the uses ask for one request
+one_request : (uses : List Use) (q r : Request) → IsRequest uses q → IsRequest uses r → r ≡ q
+one_request uses q r a b = λ i. record {
+  file = same_Some r.file q.file (sym b.file ∙ a.file) i;
+  x = one_listed (value_of uses (codes "x")) q.x r.x a.x b.x i;
+  y = one_listed (value_of uses (codes "y")) q.y r.y a.y b.y i;
+  through = one_needed_list (value_of uses (codes "through")) q.through r.through a.through b.through i;
+  given = one_listed_or_empty (value_of uses (codes "given")) q.given r.given a.given b.given i;
+  form = one_form (has_flag uses (codes "latex")) (has_flag uses (codes "json")) q.form r.form a.form b.form i;
+}
+
+-- whether something reads both values of x, or the joint effect has a hedge, settles how an answer ends
+abbrev IsHindered : MixedGraph → Question → Type 0
+IsHindered g q = ReadsBoth g q.x.bits q.through.bits q.y.bits q.given.bits ⊎ ((h : Hedge) × IsHedge g q.x.bits (union q.y.bits q.given.bits) h)
+
+abbrev IsSettled : MixedGraph → Question → Answer → Type 0
+IsSettled g q (Formula a f) = IsHindered g q → ⊥
+IsSettled g q (Excluded a h pair) = IsHindered g q
+IsSettled g q (Witness a w) = IsHindered g q
+IsSettled g q (Split a s) = IsHindered g q
+
+neither : {A B : Type 0} → (A → ⊥) → (B → ⊥) → (A ⊎ B) → ⊥
+neither a b (inl h) = a h
+neither a b (inr h) = b h
+
+settled : (g : MixedGraph) (q : Question) (a : Answer) → Decides g q a → IsSettled g q a
+settled g q (Formula a f) d = neither d.1.clear (λ h. d.1.no_hedge h.0 h.1)
+settled g q (Excluded a h pair) d = inr d.1.evidence
+settled g q (Witness a w) d = inl (inl (w, d.1.witness))
+settled g q (Split a s) d = inl (inr (s, d.1.split))
+
+-- a formula is the one answer that ends well
+abbrev HasKind : (hindered : Type 0) → Outcome → Type 0
+HasKind hindered o = ((hindered → ⊥) × (o ≡ Yes)) ⊎ (hindered × (o ≡ No))
+
+kind : (g : MixedGraph) (q : Question) (a : Answer) → IsSettled g q a → HasKind (IsHindered g q) (natural_telling.outcome a)
+kind g q (Formula a f) h = inl (h, refl)
+kind g q (Excluded a k pair) h = inr (h, refl)
+kind g q (Witness a w) h = inr (h, refl)
+kind g q (Split a s) h = inr (h, refl)
+
+same_kinds : {P : Type 0} (o p : Outcome) → HasKind P o → HasKind P p → o ≡ p
+same_kinds o p (inl a) (inl b) = a.1 ∙ sym b.1
+same_kinds o p (inl a) (inr b) = absurd (a.0 b.0)
+same_kinds o p (inr a) (inl b) = absurd (b.0 a.0)
+same_kinds o p (inr a) (inr b) = a.1 ∙ sym b.1
+
+vertex_set : (a b : VSet) → b.bits ≡ a.bits → b ≡ a
+vertex_set a b e = λ i. record { bits = e i }
+
+module _ (g : MixedGraph) (l : NaturalLists) where
+  -- lists ask for one question
+  one_question : (a b : Question) → AreNamed l a → AreNamed l b → b ≡ a
+  one_question a b s t = λ i. record {
+    x = vertex_set a.x b.x (one_set l.query.observed l.query.x a.x.bits b.x.bits s.query.set_x t.query.set_x) i;
+    through = vertex_set a.through b.through (one_set l.query.observed l.through a.through.bits b.through.bits s.through t.through) i;
+    y = vertex_set a.y b.y (one_set l.query.observed l.query.y a.y.bits b.y.bits s.query.set_y t.query.set_y) i;
+    given = vertex_set a.given b.given (one_set l.query.observed l.query.given a.given.bits b.given.bits s.query.set_given t.query.set_given) i;
+  }
+
+  same_question : (P : Question → Type 0) (f h : IsOfQuestion l P) → P f.question
+  same_question P f h = subst P (one_question f.question h.question f.named h.named) h.is
+
+  -- right answers end alike
+  same_outcome : (a b : Answer) → IsOfQuestion l (λ q. IsForQuestion g q a) → IsOfQuestion l (λ q. IsForQuestion g q b)
+      → natural_telling.outcome a ≡ natural_telling.outcome b
+  same_outcome a b f h = same_kinds (natural_telling.outcome a) (natural_telling.outcome b)
+      (kind g f.question a (settled g f.question a f.is.decided))
+      (kind g f.question b (settled g f.question b (subst (λ q. IsForQuestion g q b) (one_question f.question h.question f.named h.named) h.is).decided))
+
+  -- a question that is answered has no fault
+  question_no_fault : (q : Question) (a : Answer) (fault : NaturalFault) → IsForQuestion g q a → IsFaultOfQuestion g l.query.observed q fault → ⊥
+  question_no_fault q a (Listed fault) f h = h
+  question_no_fault q a NoMediator f h = h
+  question_no_fault q a (After name) f h = f.before h.vertex h.lowest.member h.lowest.after
+  question_no_fault q a TooMany f h = let few = f.few in let many = h.many in absurd (omega (arith, few, many))
+  question_no_fault q a NoMemory f h = h
+
+  -- lists that name a question have no fault of a name
+  named_no_fault : (q : Question) (fault : TargetFault) → AreNamed l q → IsNamesFault l fault → ⊥
+  named_no_fault q fault s (inl h) = no_fault_of _ l.query.y l.query.x fault s.query.no_fault s.query.some_y s.query.some_x h
+  named_no_fault q fault s (inr h) = no_fault_of (through_fault l) l.query.y l.query.x fault s.no_fault s.query.some_y s.query.some_x h.named
+
+  of_question : (a : Answer) (fault : NaturalFault) → IsOfQuestion l (λ q. IsForQuestion g q a)
+      → IsOfQuestion l (λ q. IsFaultOfQuestion g l.query.observed q fault) → ⊥
+  of_question a fault f h = question_no_fault f.question a fault f.is
+      (subst (λ q. IsFaultOfQuestion g l.query.observed q fault) (one_question f.question h.question f.named h.named) h.is)
+
+  answered_no_fault : (a : Answer) (fault : NaturalFault) → IsOfQuestion l (λ q. IsForQuestion g q a) → IsFault g l fault → ⊥
+  answered_no_fault a (Listed fault) f h = named_no_fault f.question fault f.named h
+  answered_no_fault a NoMediator f h = f.named.some h.none
+  answered_no_fault a (After name) f h = of_question a (After name) f h
+  answered_no_fault a TooMany f h = of_question a TooMany f h
+  answered_no_fault a NoMemory f h = of_question a NoMemory f h
+
+alike : EndAlike natural_telling natural_refusal IsForNames
+alike g l (Ok a) (Ok b) f h = same_outcome g l a b f h
+alike g l (Ok a) (Err fault) f h = absurd (answered_no_fault g l a fault f h)
+alike g l (Err fault) (Ok b) f h = absurd (answered_no_fault g l b fault h f)
+alike g l (Err fault) (Err other) f h = refl
+
+answered : (a : Answer) → IsAnswered (natural_telling.outcome a)
+answered (Formula a f) = tt
+answered (Excluded a h pair) = tt
+answered (Witness a w) = tt
+answered (Split a s) = tt
+
+-- what holds of each command holds of it
+pub natural_lawful : IsLawful natural_command
+natural_lawful = lawful_on_file one_request
+    (λ q d o told h. told_answered natural_telling natural_refusal answered (λ e. tt) (right q d) q.form d.observed.names o told h)
+    (λ q bytes. one_on_diagram bytes (λ d. Tells natural_telling natural_refusal (right q d) q.form d.observed.names) (once q))
+  where
+    lists : Request → Diagram → NaturalLists
+    lists q d = natural_lists d q.x q.y q.through q.given
+
+    right : Request → Diagram → Result Answer NaturalFault → Type 0
+    right q d = IsForNames (graph_of d.observed.graph) (lists q d)
+
+    same_lists : (q : Request) (d e : Diagram) → AreSameDiagrams d e → lists q e ≡ lists q d
+    same_lists q d e s = λ i. record { query = same_query_lists q.x q.y (Some q.given) d e s i; through = q.through }
+
+    once : (q : Request) (d e : Diagram) → AreSameDiagrams d e → (o p : Outcome) (told other : Told)
+        → Tells natural_telling natural_refusal (right q d) q.form d.observed.names o told
+        → Tells natural_telling natural_refusal (right q e) q.form e.observed.names p other → o ≡ p
+    once q d e s o p told other a b =
+        a.ends ∙ alike (graph_of d.observed.graph) (lists q d) a.answer b.answer a.right
+        (subst (λ (l : NaturalLists). IsForNames (graph_of d.observed.graph) l b.answer) (same_lists q d e s)
+        (subst (λ (g : MixedGraph). IsForNames g (lists q e) b.answer) (sym (same_drawing d e s)) b.right))
+        ∙ sym b.ends

@@ -1,0 +1,44 @@
+use Rattle.std.proofs.Common.{◌≡◌, false, ap, subst}
+use Rattle.mixed_graph.specs.Shown.{graph_of}
+use Rattle.finite_models.proofs.Bools.{not_both}
+use Rattle.natural_id.specs.declared.answers.Natural.{Natural}
+use Rattle.natural_id.specs.Answers.{IsRight, is_hedge}
+use Rattle.natural_command.specs.Right.{HasNoHedge}
+use Rattle.natural_command.proofs.Ways.{target_of}
+use Rattle.natural_command.proofs.reply.identified.Goals as goal
+use Rattle.natural_command.proofs.reply.identified.Goals.{In_ok-formula}
+
+pub natural-requires-clause-target : goal.natural-requires-clause-target
+natural-requires-clause-target c = target_of (graph_of c.args.g.now) c.args.question c.requires.sets c.requires.before
+
+-- the answer is right
+right : (c : In_ok-formula) (a : Natural) → c.in_ok-formula.field-0 ≡ a
+    → (let q = c.args.question in IsRight (graph_of c.args.g.now) q.x.bits q.through.bits q.y.bits q.given.bits a)
+right c a is = let q = c.args.question in
+    subst (IsRight (graph_of c.args.g.now) q.x.bits q.through.bits q.y.bits q.given.bits) is c.in_ok-formula.ensures.right
+
+-- where no hedge is answered, there is none
+no_hedge : (c : In_ok-formula) → is_hedge c.in_ok-formula.field-0 ≡ false → HasNoHedge (graph_of c.args.g.now) c.args.question
+no_hedge c e h is = not_both (is_hedge c.in_ok-formula.field-0) (c.in_ok-formula.ensures.exact.1 (h, is)) e
+
+pub returns-in-Formula : goal.returns-in-Formula
+returns-in-Formula c =
+    let at = (goal.at.returns-in-Formula c).In_ok-formula in
+    let r = right at _ c.in-Formula.is in
+    (c.asked_of-asked.ensures, record { equals = r.0; clear = r.1; no_hedge = no_hedge at (ap is_hedge c.in-Formula.is) })
+
+pub returns-in-Hedge : goal.returns-in-Hedge
+returns-in-Hedge c =
+    let at = (goal.at.returns-in-Hedge c).In_ok-formula in
+    let r = right at _ c.in-Hedge.is in
+    (c.asked_of-asked.ensures, record { right = r.0; evidence = c.in_ok-formula.ensures.exact.0 (ap is_hedge c.in-Hedge.is); no_formula = r.1 })
+
+pub returns-in-Witness : goal.returns-in-Witness
+returns-in-Witness c =
+    let at = (goal.at.returns-in-Witness c).In_ok-formula in
+    (c.asked_of-asked.ensures, record { witness = right at _ c.in-Witness.is; no_hedge = no_hedge at (ap is_hedge c.in-Witness.is) })
+
+pub returns-in-Split : goal.returns-in-Split
+returns-in-Split c =
+    let at = (goal.at.returns-in-Split c).In_ok-formula in
+    (c.asked_of-asked.ensures, record { split = right at _ c.in-Split.is; no_hedge = no_hedge at (ap is_hedge c.in-Split.is) })

@@ -1,0 +1,9 @@
+pub mod Requests
+pub mod Asking
+pub mod Faults
+pub mod Second
+pub mod Sentences
+pub mod Objects
+pub mod Telling
+pub mod Right
+pub mod Command

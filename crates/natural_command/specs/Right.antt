@@ -1,0 +1,157 @@
+-- Which answers of `natural` are right: what y would be under do(x), were the mediators as under another value of x; in the observed graph.
+use Rattle.std.specs.Prelude.{ℕ, ◌≡◌, ◌<◌, ◌≤◌, ◌||◌, true, false, List, Result, Ok, Err, IsTrue}
+use Rattle.mixed_graph.specs.Bits.{has}
+use Rattle.mixed_graph.specs.Graphs.{MixedGraph, IsDescendant}
+use Rattle.mixed_graph.specs.Masks.{union}
+use Rattle.mixed_graph.specs.Names.{name_of}
+use Rattle.mixed_graph.specs.Shown.{graph_of}
+use Rattle.finite_models.specs.Models.{FiniteModel, Fits, IsAssignment, weight_of}
+use Rattle.hedge.specs.Hedges.{IsHedge}
+use Rattle.hedge.specs.declared.hedge.Hedge.{Hedge}
+use Rattle.counter_models.specs.declared.counter_pair.CounterPair.{CounterPair}
+use Rattle.diagram.specs.declared.diagram.Diagram.{Diagram}
+use Rattle.diagram.specs.Sets.{Names}
+use Rattle.identify.specs.Answers.{IsRightHedge}
+use Rattle.treated_models.specs.Treated.{joined}
+use Rattle.treated_models.specs.Primes.{name_count}
+use Rattle.treated_id.specs.Terms.{AreNames}
+use Rattle.nested_models.specs.Nested.{weight_of_nested, HasNoIndirectPath, HasNoDirectPath}
+use Rattle.nested_models.specs.NoFormula.{HasNoFormulaNested}
+use Rattle.natural_id.specs.declared.answers.NaturalFormula.{NaturalFormula}
+use Rattle.natural_id.specs.declared.answers.Witness.{Witness as Recanting}
+use Rattle.natural_id.specs.declared.answers.Split.{Split as Parted}
+use Rattle.natural_id.specs.Parts.{EqualsNatural}
+use Rattle.natural_id.specs.Answers.{parts_view, IsWitness, IsSplit, ReadsBoth}
+use Rattle.targets.specs.Targets.{OrMemory}
+use Rattle.natural_command.specs.Asking.{NaturalLists, natural_lists, AreNamed, IsNamesFault, IsListsFault}
+use Rattle.natural_command.specs.declared.asking.Question.{Question}
+use Rattle.natural_command.specs.declared.answer.Asked.{Asked}
+use Rattle.natural_command.specs.declared.answer.Answer.{Answer}
+use Rattle.natural_command.specs.declared.answer.Answer.TheVariants.{Formula, Excluded, Witness, Split}
+use Rattle.natural_command.specs.declared.fault.NaturalFault.{NaturalFault}
+use Rattle.natural_command.specs.declared.fault.NaturalFault.TheVariants.{Listed, NoMediator, After, TooMany, NoMemory}
+
+-- in each model of the graph the nested effect is that of x on y and z, whatever the second value of x is
+abbrev pub IsIndirectNil : MixedGraph → (x m y z : ℕ) → Type 0
+IsIndirectNil g x m y z = (w : FiniteModel) → Fits g w → (s t : ℕ → ℕ) → IsAssignment w.vertices w.size s → IsAssignment w.vertices w.size t
+    → weight_of_nested w (has x) (has m) (has y) (has z) s t ≡ weight_of w (has x) (λ v. has y v || has z v) s
+
+-- in each model of the graph the nested effect is that of x at its second value on y and z, whatever the first is
+abbrev pub IsDirectNil : MixedGraph → (x m y z : ℕ) → Type 0
+IsDirectNil g x m y z = (w : FiniteModel) → Fits g w → (s t : ℕ → ℕ) → IsAssignment w.vertices w.size s → IsAssignment w.vertices w.size t
+    → weight_of_nested w (has x) (has m) (has y) (has z) s t ≡ weight_of w (has x) (λ v. has y v || has z v) (joined (has x) s t)
+
+-- this question is asked, with the primed names of x, and with whether directed paths lead from x to y through the mediators and past them; where none
+-- does, the indirect effect or the direct one is nil
+pub record IsAskedFor (g : MixedGraph) (q : Question) (a : Asked) : Type 0 where
+  pub question : a.question ≡ q
+  pub primes : AreNames g.vertices q.x.bits q.x.bits q.x.bits a.primes.bits
+  pub some_indirect : a.indirect ≡ true → HasNoIndirectPath g (has q.x.bits) (has q.through.bits) (has q.y.bits) → ⊥
+  pub no_indirect : a.indirect ≡ false → HasNoIndirectPath g (has q.x.bits) (has q.through.bits) (has q.y.bits)
+  pub some_direct : a.direct ≡ true → HasNoDirectPath g (has q.x.bits) (has q.through.bits) (has q.y.bits) → ⊥
+  pub no_direct : a.direct ≡ false → HasNoDirectPath g (has q.x.bits) (has q.through.bits) (has q.y.bits)
+  pub indirect_nil : a.indirect ≡ false → IsIndirectNil g q.x.bits q.through.bits q.y.bits q.given.bits
+  pub direct_nil : a.direct ≡ false → IsDirectNil g q.x.bits q.through.bits q.y.bits q.given.bits
+
+-- the joint effect has no hedge
+abbrev pub HasNoHedge : MixedGraph → Question → Type 0
+HasNoHedge g q = (h : Hedge) → IsHedge g q.x.bits (union q.y.bits q.given.bits) h → ⊥
+
+-- nothing reads both values of x, the joint effect has no hedge, and the formula equals P(y[x, m[x']] | z) in each positive model of g, at each assignment
+pub record IsFormulaFor (g : MixedGraph) (q : Question) (f : NaturalFormula) : Type 0 where
+  pub equals : EqualsNatural g q.x.bits q.through.bits q.y.bits q.given.bits f.summed.bits (parts_view f.parts.items)
+  pub clear : ReadsBoth g q.x.bits q.through.bits q.y.bits q.given.bits → ⊥
+  pub no_hedge : HasNoHedge g q
+
+-- this is a hedge for the joint effect of x on y and what is given, whose two models show that no formula equals the nested effect
+pub record IsExcluded (g : MixedGraph) (q : Question) (h : Hedge) (pair : CounterPair) : Type 0 where
+  pub right : IsRightHedge g q.x.bits (union q.y.bits q.given.bits) h pair
+  pub evidence : (k : Hedge) × IsHedge g q.x.bits (union q.y.bits q.given.bits) k
+  pub no_formula : HasNoFormulaNested g q.x.bits q.through.bits q.y.bits q.given.bits
+
+-- a child of x leads to y both through the mediators and past them, and there is no hedge: whether there is a formula is left open
+pub record IsWitnessed (g : MixedGraph) (q : Question) (w : Recanting) : Type 0 where
+  pub witness : IsWitness g q.x.bits q.through.bits q.y.bits w
+  pub no_hedge : HasNoHedge g q
+
+-- a district has children of x of both kinds, and there is no hedge: whether there is a formula is left open
+pub record IsParted (g : MixedGraph) (q : Question) (s : Parted) : Type 0 where
+  pub split : IsSplit g q.x.bits q.through.bits q.y.bits q.given.bits s
+  pub no_hedge : HasNoHedge g q
+
+-- the answer to this question in the observed graph g
+abbrev pub Decides : MixedGraph → Question → Answer → Type 0
+Decides g q (Formula a f) = IsAskedFor g q a × IsFormulaFor g q f
+Decides g q (Excluded a h pair) = IsAskedFor g q a × IsExcluded g q h pair
+Decides g q (Witness a w) = IsAskedFor g q a × IsWitnessed g q w
+Decides g q (Split a s) = IsAskedFor g q a × IsParted g q s
+
+-- x acts on none of what is given
+abbrev pub AreBefore : MixedGraph → Question → Type 0
+AreBefore g q = (v : ℕ) → IsTrue (has q.given.bits v) → IsDescendant g (has q.x.bits) v → ⊥
+
+-- the answer where x acts on none of what is given, and there are at most 64 names with the second names of x
+pub record IsForQuestion (g : MixedGraph) (q : Question) (a : Answer) : Type 0 where
+  pub before : AreBefore g q
+  pub few : name_count g.vertices q.x.bits ≤ 64
+  pub decided : Decides g q a
+
+-- v is the lowest member of what is given that comes after a member of x
+pub record IsLowestAfter (g : MixedGraph) (q : Question) (v : ℕ) : Type 0 where
+  pub member : IsTrue (has q.given.bits v)
+  pub after : IsDescendant g (has q.x.bits) v
+  pub least : (u : ℕ) → IsTrue (has q.given.bits u) → IsDescendant g (has q.x.bits) u → v ≤ u
+
+-- such a member has this name
+pub record IsAfterNamed (g : MixedGraph) (names : List (List ℕ)) (q : Question) (name : List ℕ) : Type 0 where
+  pub vertex : ℕ
+  pub lowest : IsLowestAfter g q vertex
+  pub is : name ≡ name_of names vertex
+
+-- there is none, and with the second names of x there are more than 64
+pub record AreMany (g : MixedGraph) (q : Question) : Type 0 where
+  pub before : AreBefore g q
+  pub many : 64 < name_count g.vertices q.x.bits
+
+-- the fault of this question, whose vertices have these names
+abbrev pub IsFaultOfQuestion : MixedGraph → List (List ℕ) → Question → NaturalFault → Type 0
+IsFaultOfQuestion g names q (Listed fault) = ⊥
+IsFaultOfQuestion g names q NoMediator = ⊥
+IsFaultOfQuestion g names q (After name) = IsAfterNamed g names q name
+IsFaultOfQuestion g names q TooMany = AreMany g q
+IsFaultOfQuestion g names q NoMemory = ⊥
+
+-- this is so of the question that lists ask
+pub record IsOfQuestion (l : NaturalLists) (is_so : Question → Type 0) : Type 0 where
+  pub question : Question
+  pub named : AreNamed l question
+  pub is : is_so question
+
+-- the fault of lists of names
+abbrev pub IsFault : MixedGraph → NaturalLists → NaturalFault → Type 0
+IsFault g l (Listed fault) = IsListsFault l (Listed fault)
+IsFault g l NoMediator = IsListsFault l NoMediator
+IsFault g l fault = IsOfQuestion l (λ q. IsFaultOfQuestion g l.query.observed q fault)
+
+-- the answer for lists of names, or the fault of these
+abbrev pub IsForNames : MixedGraph → NaturalLists → Result Answer NaturalFault → Type 0
+IsForNames g l (Ok a) = IsOfQuestion l (λ q. IsForQuestion g q a)
+IsForNames g l (Err fault) = IsFault g l fault
+
+-- the answer on a diagram, in its observed graph: x and y are those that are listed, or else the exposures and the outcomes
+abbrev pub IsNaturalAnswer : Diagram → (x y : Names) → (through given : List (List ℕ)) → Result Answer NaturalFault → Type 0
+IsNaturalAnswer d x y through given = IsForNames (graph_of d.observed.graph) (natural_lists d x y through given)
+
+-- ---- with want of memory
+
+-- a fault of a question, or want of memory
+abbrev pub IsQuestionFaultOrMemory : MixedGraph → List (List ℕ) → Question → NaturalFault → Type 0
+IsQuestionFaultOrMemory g names q NoMemory = Unit {0}
+IsQuestionFaultOrMemory g names q fault = IsFaultOfQuestion g names q fault
+
+-- a fault of lists, or want of memory
+abbrev pub IsFaultOrMemory : MixedGraph → NaturalLists → NaturalFault → Type 0
+IsFaultOrMemory g l (Listed fault) = OrMemory (IsNamesFault l) fault
+IsFaultOrMemory g l NoMediator = IsListsFault l NoMediator
+IsFaultOrMemory g l NoMemory = Unit {0}
+IsFaultOrMemory g l fault = IsOfQuestion l (λ q. IsFaultOfQuestion g l.query.observed q fault)

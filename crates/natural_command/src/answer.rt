@@ -1,0 +1,74 @@
+//! What is answered of a nested effect.
+
+use crate::asking::Question;
+use crate::objects::{push_excluded, push_formula_of, push_split, push_witness};
+use crate::texts::{excluded_text, formula_text, split_text, witness_text};
+use answer_json::Object;
+use counter_models::CounterPair;
+use hedge::Hedge;
+use mixed_graph::{Names, VSet};
+use natural_id::{NaturalFormula, Split, Witness};
+use replies::Outcome;
+use std::alloc::{AllocError, Global};
+use told::{Told, Writing};
+
+/// What is asked for: the sets, the primed names of x by their numbers, and whether directed paths lead from x to y through the mediators and
+/// past them. Where none leads through them the indirect effect is nil, and where none leads past them the direct one.
+#[derive(Clone, Copy)]
+pub struct Asked {
+    pub question: Question,
+    pub primes: VSet,
+    pub indirect: bool,
+    pub direct: bool,
+}
+
+/// What is answered of a nested effect.
+#[derive(Drop)]
+pub enum Answer {
+    /// A formula.
+    Formula(Asked, NaturalFormula),
+    /// There is none: two models of a hedge for the joint effect on y and what is given show it.
+    Excluded(Asked, Hedge, CounterPair),
+    /// A vertex reads both values of x, and the joint effect has a formula.
+    Witness(Asked, Witness),
+    /// A district reads both values of x, and the joint effect has a formula.
+    Split(Asked, Split),
+}
+
+impl Told for Answer {
+    ghost use Rattle.natural_command.specs.Telling.{natural_telling};
+
+    ghost telling = { natural_telling };
+
+    fn outcome(&self) -> Outcome {
+        match self {
+            Answer::Formula(_, _) => Outcome::Yes,
+            Answer::Excluded(_, _, _) => Outcome::No,
+            Answer::Witness(_, _) => Outcome::No,
+            Answer::Split(_, _) => Outcome::No,
+        }
+    }
+
+    fn text(&self, alloc: Global, names: &Names, writing: Writing) -> Result<Vec<u8>, AllocError> {
+        match self {
+            Answer::Formula(asked, f) => formula_text(alloc, names, *asked, f, writing),
+            Answer::Excluded(asked, h, pair) => excluded_text(alloc, names, *asked, h, pair),
+            Answer::Witness(asked, w) => witness_text(alloc, names, *asked, *w),
+            Answer::Split(asked, s) => split_text(alloc, names, *asked, *s),
+        }
+    }
+
+    fn push_members(
+        &self,
+        object: &mut Object,
+        names: &Names,
+        _: Writing,
+    ) -> Result<(), AllocError> {
+        match self {
+            Answer::Formula(asked, f) => push_formula_of(object, names, *asked, f),
+            Answer::Excluded(asked, h, pair) => push_excluded(object, names, *asked, h, pair),
+            Answer::Witness(asked, w) => push_witness(object, names, *asked, *w),
+            Answer::Split(asked, s) => push_split(object, names, *asked, *s),
+        }
+    }
+}
