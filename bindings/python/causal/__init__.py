@@ -50,8 +50,11 @@ if TYPE_CHECKING:
     from causal.forms import read
     from causal.implications import Difference, Implication, Implications
     from causal.independence import IndependenceTest, IndependenceTests
+    from causal.instruments import Instrument, Instruments
     from causal.intervals import Interval
+    from causal.mediation import Mediation
     from causal.models import Fit
+    from causal.natural import NaturalFormula, NoNaturalFormula
     from causal.queries import counts_query
     from causal.report import Report
     from causal.sensitivity import EValue, e_value
@@ -84,11 +87,16 @@ _LATER = {
     "Implications": "causal.implications",
     "IndependenceTest": "causal.independence",
     "IndependenceTests": "causal.independence",
+    "Instrument": "causal.instruments",
+    "Instruments": "causal.instruments",
     "Interval": "causal.intervals",
     "Mean": "causal.effects",
     "MeanInterval": "causal.bootstrap",
+    "Mediation": "causal.mediation",
+    "NaturalFormula": "causal.natural",
     "NoInstrument": "causal.bounds",
     "NoModel": "causal.bounds",
+    "NoNaturalFormula": "causal.natural",
     "Paths": "causal.walks",
     "Report": "causal.report",
     "Spread": "causal.effects",
@@ -139,13 +147,18 @@ __all__ = [
     "Implications",
     "IndependenceTest",
     "IndependenceTests",
+    "Instrument",
+    "Instruments",
     "Interval",
     "LibraryMissing",
     "Mean",
     "MeanInterval",
+    "Mediation",
     "MissingValues",
+    "NaturalFormula",
     "NoInstrument",
     "NoModel",
+    "NoNaturalFormula",
     "NotIdentifiable",
     "PackageMissing",
     "Path",

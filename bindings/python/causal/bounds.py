@@ -5,7 +5,7 @@ from dataclasses import dataclass, field
 from fractions import Fraction
 from typing import TYPE_CHECKING, Any, Dict, Iterator, List, Mapping, Optional, Sequence, Tuple, Union, overload
 
-from causal.answers import Path
+from causal.answers import Adjustment, Path
 from causal.columns import Data, path_of
 from causal.display import Printed, html_table
 from causal.effects import Level, LevelOf, Value, cell_text, digits, levels_at, typed_order
@@ -14,6 +14,7 @@ from causal.files import read_bytes
 from causal.framed import Shown
 from causal.names import Names, list_word, names_of, printed_name, printed_set
 from causal.objects import Told, name_in
+from causal.reading import read_adjustment
 from causal.tables import Table, check_request, table_of, table_of_file
 from causal.vocabulary import needed
 
@@ -74,6 +75,8 @@ class AskedBounds:
     given: Tuple[str, ...] = ()
     instrument: Tuple[str, ...] = ()
     strata: Tuple[str, ...] = ()
+    # The set to adjust for, where bounds are asked for by one.
+    set: Optional[Tuple[str, ...]] = None
 
 
 @dataclass(frozen=True)
@@ -227,7 +230,7 @@ class NoModel(Shown):
         return f"no model of this diagram has these counts\n{self.crossed.cell} at least {self.ends[0]}, at most {self.ends[1]}"
 
 
-Bounded = Union[EffectBounds, NoInstrument, NoModel]
+Bounded = Union[EffectBounds, NoInstrument, NoModel, Adjustment]
 
 
 class BoundsQuestion:
@@ -243,10 +246,13 @@ class BoundsQuestion:
         strata: Optional[Names] = None,
         count: Optional[str] = None,
         exact: bool = False,
+        set: Optional[Names] = None,
     ) -> None:
+        if set is not None and any(it is not None for it in (given, instrument, strata)):
+            raise RequestError("bounds are asked for by a set to adjust for, or under a condition or by an instrument, and not both")
         if strata is not None and instrument is None:
             raise RequestError("strata are those of an instrument: instrument names it")
-        listed = (("given", given), ("instrument", instrument), ("strata", strata))
+        listed = (("given", given), ("instrument", instrument), ("strata", strata), ("set", set))
         sets: Dict[str, Optional[Tuple[str, ...]]] = {"x": None if x is None else names_of(x), "y": None if y is None else names_of(y)}
         sets.update({name: names_of(it) for name, it in listed if it is not None})
         self.diagram, self.count = diagram, count
@@ -321,7 +327,10 @@ def read_bounds(
         ends = Fraction(cell["at_least"]), Fraction(cell["at_most"])
         return EffectBound(levels(cell["y"]), levels(cell["x"]), levels([*cell["given"], *cell.get("strata", ())]), *ends, exact)
 
-    asked = AskedBounds(*(tuple(told[name]) for name in ("x", "y", "given", "instrument", "strata")))
+    if told["answer"] == "not admissible":
+        return read_adjustment(told)
+    sets = {name: tuple(told[name]) for name in ("x", "y", "given", "instrument", "strata", "set") if name in told}
+    asked = AskedBounds(**sets)
     if told["answer"] == "bounds":
         return EffectBounds(asked, tuple(bound(cell, told["exact"]) for cell in told["cells"]), told["exact"], dropped, typed)
     if told["answer"] == "no model":

@@ -21,6 +21,7 @@ if TYPE_CHECKING:
     from causal.evaluation import Given
     from causal.implications import Implications
     from causal.independence import IndependenceTests
+    from causal.mediation import Mediation
     from causal.report import Report
     from causal.support import SupportTable
 
@@ -129,7 +130,7 @@ class DataQuestions:
         frequencies, how many records a row stands for; without it each row is a record. It isn't for the weights of a survey: `weights`
         names a column of those, whose sums are rounded to parts of a million of a million. Values are bounds of 18 digits, or with
         `exact` fractions. Each value is proved to be the formula's value over the counts, where the formula has one
-        without `zero`; where it hasn't, it is the formula's by the rule of `zero`, and no more is proved of it. In each positive model
+        without `zero`; where it hasn't, it is the formula's value by the rule of `zero`. In each positive model
         that fits the diagram and that the counts match, it covers the effect. That the counts are those of the data is tested: Python counts the
         records, but those of a plain file, which the library reads itself. Nothing is said of sampling error: see `bootstrap`.
 
@@ -142,6 +143,8 @@ class DataQuestions:
         that have a record. With `short=False` it is the procedure's own: in the population it has the same value, over a sample it may
         have another, and one may have a value where the other has none. With `zero` a product with a factor 0 is 0 whatever its other
         factors are, also where one of them has a condition that no record has; where there is a value with `zero=False`, it is the same.
+        By that rule a sum over a set is one over its strata that occur: where all combinations of levels are more than a formula reads
+        (2^20), the set is one variable with these strata as levels, which a note tells. What is proved then is of that variable's formula.
 
         With `set` the formula is that of a set to adjust for, which has to be admissible, or with `back_door` to meet the back-door
         criterion: see `adjusts`. With `given` the effect is that among those with the same values of these variables,
@@ -183,6 +186,7 @@ class DataQuestions:
         given: Optional[Names] = None,
         instrument: Optional[Names] = None,
         strata: Optional[Names] = None,
+        set: Optional[Names] = None,
         count: Optional[str] = None,
         exact: bool = False,
         missing: str = "error",
@@ -191,11 +195,13 @@ class DataQuestions:
 
         Without `instrument` these are the natural bounds (Robins 1989; Manski 1990). An instrument, alone or in `strata` of further
         variables over which the bounds are summed, makes them narrower, as the arm that was assigned does in a trial in which some don't
-        comply (Balke and Pearl 1997). With `given` they are those of `P(y | do(x), given)`. The data, `count` and `missing` are as in
-        `effects`.
+        comply (Balke and Pearl 1997). With `given` they are those of `P(y | do(x), given)`. With `set`, which has to be admissible, a stratum
+        that has records of an arm counts as the adjustment has it, and one that lacks some leaves open what would have been seen there:
+        `effects` has no value then. The data, `count` and `missing` are as in `effects`.
 
-        `EffectBounds` says what is proved. The answer counts as false where the set is no instrument (`NoInstrument`, with the reason), and
-        where no model of the diagram has these counts (`NoModel`): both are proved too.
+        `EffectBounds` says what is proved. The answer counts as false where the set is no instrument (`NoInstrument`, with the reason), where
+        it can't be adjusted for (`Adjustment`, with the reason), and where no model of the diagram has these counts (`NoModel`): all are
+        proved too.
 
         >>> from causal import Diagram
         >>> study = {"X": [0, 0, 0, 1, 1, 1], "Y": [0, 0, 1, 0, 1, 1]}
@@ -204,7 +210,7 @@ class DataQuestions:
         """
         from causal.bounds import BoundsQuestion
 
-        return BoundsQuestion(self._diagram, x, y, given, instrument, strata, count, exact).over(data, missing)
+        return BoundsQuestion(self._diagram, x, y, given, instrument, strata, count, exact, set).over(data, missing)
 
     def pin_spread(
         self,
@@ -457,6 +463,46 @@ class DataQuestions:
 
         return support_table(self._diagram, data, x, y, set, count, missing)
 
+    def mediate(
+        self,
+        data: Data,
+        x: Optional[Names] = None,
+        y: Optional[Names] = None,
+        *,
+        through: Names,
+        treated: Any,
+        control: Any,
+        outcome: Any = None,
+        count: Optional[str] = None,
+        missing: str = "error",
+        resamples: int = 1000,
+        level: float = 0.95,
+        seed: Optional[int] = 0,
+        progress: Optional[Progress] = None,
+    ) -> Mediation:
+        """How much of the effect of x on y goes through the mediators `through`, and how much past them: the natural direct and indirect
+        effect, whose sum is the total one, in the data.
+
+        `outcome` is the level of y whose risk is compared; without it means are, of a numeric y. The arms, `count` and `missing` are as in
+        `contrast`, and intervals are percentiles of `resamples` bootstrap draws.
+
+        The formula of `natural` is proved; its values over the counts are computed, and a term without records leaves none.
+        The proportion mediated means little where the two effects have opposite signs or the total may be near 0, and says so. A natural
+        effect speaks of two values of x in one person, which no experiment shows: that of X and M together (`contrast` with both as x)
+        asks for less.
+
+        >>> from causal import Diagram
+        >>> data = {"X": [0] * 8 + [1] * 8, "M": ([0] * 3 + [1]) * 2 + [0, 1, 1, 1] * 2, "Y": [0, 0, 1, 1, 0, 0, 0, 1] * 2}
+        >>> found = Diagram("dag { X -> M -> Y X -> Y }").mediate(data, "X", "Y", through="M", treated=1, control=0, outcome=1, resamples=50)
+        >>> round(float(found.direct) + float(found.indirect) - float(found.total), 12), found.direct.interval is not None
+        (0.0, True)
+        """
+        from causal.mediation import mediated
+
+        asked: Dict[str, Any] = {"treated": treated, "control": control, "outcome": outcome, "count": count, "missing": missing}
+        asked.update(resamples=resamples, level=level, seed=seed, progress=progress)
+        return mediated(self._diagram, data, x, y, through, **asked)
+
     def estimate(
         self,
         data: Optional[Data],
@@ -508,7 +554,7 @@ class DataQuestions:
         read from the records that they are of, and each source is drawn anew by itself.
 
         Intervals are by influence functions, with what the models' fits add, or with `interval="percentile"` by the bootstrap, where the
-        models are fitted anew `resamples` times; those are taken where the models are the user's own, or the formula isn't that of a set.
+        models are fitted anew `resamples` times; those are taken where a model is the user's own, a table, or a number that is summed over.
         `weights`, `clusters` and `strata` are as in `bootstrap`. What is wrong with a fit (it didn't converge, records are told apart
         perfectly, weights are extreme) is told beside the numbers, and warned of.
 

@@ -27,6 +27,8 @@ if TYPE_CHECKING:
     import pandas
 
     from causal.effects import Level
+    from causal.instruments import Instruments
+    from causal.natural import Natural
     from causal.treated import Treated
 
 
@@ -38,6 +40,19 @@ def options(**lists: Optional[Names]) -> List[Text]:
     ['--x', '"A"', '--given', '{}']
     """
     return [word for name, names in lists.items() if names is not None for word in (f"--{name}", list_word(names))]
+
+
+def limit_words(most: Optional[int]) -> List[Text]:
+    """The words of the option `most`, where it is given.
+
+    >>> from causal.diagram import limit_words
+    >>> limit_words(3), limit_words(None)
+    (['--most', '3'], [])
+    """
+    if most is None:
+        return []
+    check_whole("most", most)
+    return ["--most", str(most)]
 
 
 class Diagram(DataQuestions, GraphQuestions):
@@ -458,6 +473,26 @@ class Diagram(DataQuestions, GraphQuestions):
         self._need_exposure(x)
         return self._ask(read_treated, "treated", *options(x=x, y=y, given=given))
 
+    def natural(
+        self, x: Optional[Names] = None, y: Optional[Names] = None, through: Names = (), given: Optional[Names] = None
+    ) -> Natural:
+        """A formula for the effect of x on y were the mediators `through` as they would be under other values of x; or why none was found,
+        which counts as false.
+
+        `P(Y[X,M[X']])` is the probability of Y had X been done, and M been what it would have been under `X'`. With P(Y|do(X)) and
+        P(Y|do(X')) it gives the natural direct and indirect effect: `mediate` has them over data. It is proved that a formula equals this
+        at any two values of x in every positive finite model that fits the diagram's observed graph; `NoNaturalFormula` says what is proved
+        otherwise.
+
+        >>> from causal import Diagram
+        >>> print(Diagram("dag { X -> M -> Y X -> Y }").natural("X", "Y", through="M"))
+        P(Y[X,M[X']]) = sum{M} P(M|X') * P(Y|X,M)
+        """
+        from causal.natural import read_natural
+
+        self._need_exposure(x)
+        return self._ask(read_natural, "natural", *options(through=through, x=x, y=y, given=given))
+
     def surrogate(
         self,
         x: Optional[Names] = None,
@@ -522,10 +557,23 @@ class Diagram(DataQuestions, GraphQuestions):
         >>> list(Diagram("dag { Z -> X Z -> Y X -> Y }").adjustment_sets("X", "Y"))
         [('Z',)]
         """
-        if most is not None:
-            check_whole("most", most)
-        limit = [] if most is None else ["--most", str(most)]
-        return self._ask(reading.read_sets, "adjust", *options(x=x, y=y), *limit)
+        return self._ask(reading.read_sets, "adjust", *options(x=x, y=y), *limit_words(most))
+
+    def instruments(self, x: Optional[Names] = None, y: Optional[Names] = None, most: Optional[int] = None) -> Instruments:
+        """The vertices that are instruments for the effect of x on y, each with the minimal sets of strata in which it is one: all, or as
+        many of each as `most` says (100 unless given). No instrument counts as false.
+
+        `bounds` takes one with one of its sets, as `instrument` and `strata`.
+
+        >>> from causal import Diagram
+        >>> print(Diagram("dag { A -> Z A -> B -> Y Z -> X -> Y X <-> Y }").instruments("X", "Y"))
+        A given {B}
+        Z given {A}
+        Z given {B}
+        """
+        from causal.instruments import read_instruments
+
+        return self._ask(read_instruments, "instruments", *options(x=x, y=y), *limit_words(most))
 
     @renamed(members="set")
     def adjusts(

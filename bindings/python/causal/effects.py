@@ -12,7 +12,7 @@ from typing import TYPE_CHECKING, AbstractSet, Any, Callable, Dict, Hashable, It
 from causal.display import Printed, html_table
 from causal.errors import RequestError
 from causal.formula import Formula
-from causal.names import Names, names_of, printed_name
+from causal.names import Names, names_of, printed_level, printed_name
 from causal.objects import Told, name_in
 from causal.vocabulary import Renamed, meant, needed
 
@@ -193,7 +193,7 @@ def level_text(level: Level) -> str:
     >>> level_text(datetime.datetime(2020, 4, 3)), level_text(1.5)
     ('2020-04-03', '1.5')
     """
-    text = str(level)
+    text = printed_level(str(level))
     return text[:10] if isinstance(level, datetime.datetime) and text.endswith(" 00:00:00") else text
 
 
@@ -254,8 +254,8 @@ class Effects(Sequence[Effect]):
     """The effects of a formula over counts, at each level of the exposures and the outcomes.
 
     Each value is proved to be the formula's value over the counts, exactly or within the bounds, where the formula has one without
-    `zero`; where it hasn't, it is the formula's by that rule, and no more is proved of it. It covers the effect in each positive
-    model that fits the diagram and that the counts match. That the counts are those of the data is tested. How far
+    `zero`; where it hasn't, it is the formula's value by that rule, in which a product with a factor 0 is 0. It covers the effect in each
+    positive model that fits the diagram and that the counts match. That the counts are those of the data is tested. How far
     the counts of a sample are from those of the population isn't in it: see `Diagram.bootstrap`.
 
     `formula` is the formula; `pinned` has the level at which each variable stands that the formula reads beside the target's

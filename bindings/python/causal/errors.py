@@ -157,7 +157,7 @@ class EvaluationError(CausalError):
     ...     Diagram("dag { S -> T S -> R T -> R }").effects(data, "T", "R")
     ... except EvaluationError as error:
     ...     print(error)
-    evaluation fault 1: no record has S=t, T=b, which P(R|S,T) is given; support(data) shows the combinations that lack records, estimate(data, ..) gives a value by models, and bounds(data) what it is at least and at most
+    evaluation fault 1: no record has S=t, T=b, which P(R|S,T) is given; support(data) shows the combinations that lack records, estimate(data, ..) gives a value by models, and bounds(data, set=['S']) what it is at least and at most
     """
 
     stage = "evaluation"

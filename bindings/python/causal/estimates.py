@@ -236,7 +236,7 @@ def estimated_by(
     estimator.examine()
     kind = interval or ("influence" if estimator.has_moves else "percentile")
     if kind == "influence" and not estimator.has_moves:
-        raise RequestError("influence functions are known of the package's own models over a set; interval='percentile' draws records anew")
+        raise RequestError("influence functions are known of the package's own models, of few coefficients; interval='percentile' draws records anew")
     numbers = estimator.numbers(rows.weights)
     if not all(map(math.isfinite, numbers)):
         raise RequestError("by these models there is no value: no record has some condition; give smoothing, or another model")
@@ -244,7 +244,7 @@ def estimated_by(
     weighting = weighting_of(estimator, members) if isinstance(estimator, Weighted) else None
     kept: Dict[str, int] = {}
     if kind == "influence":
-        intervals = by_influence(estimator.rows, estimator, numbers, level, told is None)
+        intervals = by_influence(rows, estimator, numbers, level, told is None)
     else:
         first = seed_of(seed)
         drawn = by_draws(rows, estimator, resamples, first, progress)
@@ -476,7 +476,7 @@ def values_of(numbers: Tuple[float, float], is_mean: bool) -> List[Optional[floa
     return found
 
 
-def by_influence(rows: Rows, estimator: Estimator, numbers: Tuple[float, float], level: float, is_mean: bool) -> List[Optional[Interval]]:
+def by_influence(rows: Union[Rows, Joined], estimator: Estimator, numbers: Tuple[float, float], level: float, is_mean: bool) -> List[Optional[Interval]]:
     """Intervals by how the numbers move with each record: of risks on the scale of the logit, of ratios on that of the logarithm."""
     width = NormalDist().inv_cdf((1 + level) / 2)
     (first, second), (a, b) = estimator.moves(rows.weights), numbers

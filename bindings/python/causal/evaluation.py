@@ -9,16 +9,19 @@ from typing import TYPE_CHECKING, Any, Dict, Iterable, Iterator, List, Mapping, 
 
 from causal._library import Text
 from causal.bootstrap import Bootstrap, Progress
+from causal.columnwise import ColumnEvaluator
 from causal.columns import Data, in_order, may_have_blanks, path_of
 from causal.draws import drawn_numbers, seed_of
 from causal.effects import Effect, Effects, Level, LevelOf, Spread, read_effects, typed_order
 from causal.errors import CausalError, DataWarning, EvaluationError, NotIdentifiable, RequestError, WrongType
+from causal.estimators import pattern_of
 from causal.events import Support
 from causal.files import read_bytes
 from causal.formula import Formula, Hedge
 from causal.intervals import check_asked
 from causal.names import Names, list_word
 from causal.objects import Told
+from causal.occurring import Occurring, occurring_in
 from causal.samples import Design, Sample, sample_of
 from causal.tables import Cell, Table, check_request, table_of, table_of_file
 from causal.values import Evaluator, evaluator_of
@@ -34,7 +37,7 @@ Values = Optional[Tuple[float, ...]]
 # So many of the minimal sets are tried where a formula has no value.
 MOST_TRIED = 12
 OTHERWISE = (
-    "support(data) shows the combinations that lack records, estimate(data, ..) gives a value by models, and bounds(data) what it is at"
+    "support(data) shows the combinations that lack records, estimate(data, ..) gives a value by models, and bounds(data{}) what it is at"
     " least and at most"
 )
 
@@ -149,15 +152,34 @@ class Evaluation:
             raise RequestError("with weights, clusters or strata intervals are percentiles: interval='percentile'")
         sample = self.sample(data) if self.design else None
         table = self.pinned(sample.table if sample else self.table(data), at)
+        narrow = self.narrowed(table)
+        inner, own = (self, table) if narrow is None else (narrow[0], narrow[1].table)
+        if narrow is not None and sample is not None:
+            sample = narrow[1].sample(sample, table)
         try:
-            whole = self.over_table(table, exact)
+            found = inner.bootstrap_over(own, sample, resamples, level, seed, kind, progress, exact)
         except EvaluationError as error:
             raise self.remedied(error, data) from None
+        return told_doubts(found if narrow is None else replace(found, effects=narrow[1].told(found.effects, self.formula)))
+
+    def bootstrap_over(
+        self,
+        table: Table,
+        sample: Optional[Sample],
+        resamples: int,
+        level: float,
+        seed: int,
+        kind: str,
+        progress: Optional[Progress],
+        exact: bool,
+    ) -> Bootstrap:
+        """The effects over a table, with intervals of its resamples, or of those of the sample that it is of."""
+        whole = self.over_table(table, exact)
         estimate = self.wanted(whole)
         if sample is not None:
             draws = self.over_sample(sample, table, estimate, resamples, seed, progress)
             support = support_of(estimate, table, sample.records_in(table))
-            return told_doubts(Bootstrap(estimate, draws, level, seed, kind, (), support, f"; {self.design}"))
+            return Bootstrap(estimate, draws, level, seed, kind, (), support, f"; {self.design}")
         counted = "" if self.count is None else f"{self.count} holds frequencies: {sum(table.counts.values())} records"
         cells = [place for place, count in enumerate(table.counts.values()) if count] if kind == "bca" else []
         counts, source = list(table.counts.values()), random.Random(seed)
@@ -165,7 +187,7 @@ class Evaluation:
         values = tuple(self.over_numbers(table, whole, estimate, numbers, resamples + len(cells), progress))
         left_out = tuple((counts[place], value) for place, value in zip(cells, values[resamples:]))
         support = support_of(estimate, table, table.counts)
-        return told_doubts(Bootstrap(estimate, values[:resamples], level, seed, kind, left_out, support, counted=counted))
+        return Bootstrap(estimate, values[:resamples], level, seed, kind, left_out, support, counted=counted)
 
     # How data is read.
 
@@ -233,9 +255,23 @@ class Evaluation:
 
     def over_table(self, table: Table, exact: bool, text: Optional[bytes] = None) -> Effects:
         """The effects over a table, or over another text of counts with the same levels."""
+        narrow = self.narrowed(table)
+        if narrow is not None:
+            return narrow[1].told(narrow[0].over_table(narrow[1].table, exact), self.formula)
         table.check_size()
         words = [f"--count={table.count_column}", *(["--exact"] if exact else [])]
         return self.over_text(table.text() if text is None else text, words, table.level, table.dropped, table.orders)
+
+    def narrowed(self, table: Table) -> Optional[Tuple["Evaluation", Occurring]]:
+        """The same question over the strata that occur, where the table has more combinations of levels than a formula reads; None where it
+        hasn't, or the formula is no sum over a set."""
+        found = occurring_in(self.formula, table, self.zero) if table.is_wide else None
+        if found is None:
+            return None
+        target = self.formula.target
+        inner = Evaluation(type(self.diagram).from_edges(found.edges), target.x, target.y, self.count, set=[found.name])
+        inner.typed, inner.design = self.typed, self.design
+        return inner, found
 
     def over_text(
         self, text: bytes, words: Sequence[Text], level_of: LevelOf, dropped: int = 0, orders: Mapping[str, Sequence[Level]] = {}
@@ -268,12 +304,13 @@ class Evaluation:
     ) -> Iterator[Values]:
         """The wanted values over other counts of a table, each in turn: many at once where that can be, and else by the library."""
         evaluator = self.evaluator(table, wanted)
+        cells = [place_in(cell, table) for cell in table.counts]
         places = [whole.effects.index(effect) for effect in wanted] if evaluator is None and len(wanted) < len(whole) else None
         done = 0
         while done < total:
             some = list(islice(numbers, evaluator.at_once if evaluator else 1))
             if evaluator is not None:
-                found = over_many(evaluator, table, some)
+                found = evaluator.over(cells, some)
             else:
                 other = self.over_counts(table, some[0])
                 values = None if other is None else [float(effect.value) for effect in other]
@@ -284,24 +321,17 @@ class Evaluation:
                     progress(done, total)
                 yield value
 
-    def evaluator(self, table: Table, effects: Effects) -> Optional[Evaluator]:
+    def evaluator(self, table: Table, effects: Effects) -> Union[Evaluator, ColumnEvaluator, None]:
         """What evaluates many tables at once; None where that can't be."""
-        size = 1
-        for levels in table.levels:
-            size *= max(len(levels), 1)
-        if size > 1 << 14:
-            return None
-        dense = [0.0] * size
-        for cell, count in table.counts.items():
-            dense[place_in(cell, table)] += count
-        return evaluator_of(effects, table.names, table.levels, dense, self.zero)
+        counts = {place_in(cell, table): count for cell, count in table.counts.items()}
+        return evaluator_of(effects, table.names, table.levels, counts, self.zero)
 
     def over_sample(
         self, sample: Sample, table: Table, effects: Effects, resamples: int, seed: int, progress: Optional[Progress]
     ) -> Tuple[Values, ...]:
         """The values over records that are drawn anew with their weights."""
         evaluator = self.evaluator(table, effects)
-        if evaluator is None:
+        if not isinstance(evaluator, Evaluator):
             raise RequestError("an interval with weights, clusters or strata needs numpy, and at most 2^14 combinations of levels")
         found: List[Values] = []
         for counts in sample.draws(table, resamples, seed, evaluator.at_once):
@@ -319,8 +349,18 @@ class Evaluation:
         if error.number != 1:
             return error
         hint = next((words for words, way in self.other_ways() if self.answers(way, data)), None)
-        sentence = f"{error.sentence}; {OTHERWISE if hint is None else f'{hint} gives a value'}"
+        members = self.set_of_formula()
+        otherwise = OTHERWISE.format("" if members is None else f", set={list(members)}")
+        sentence = f"{error.sentence}; {otherwise if hint is None else f'{hint} gives a value'}"
         return EvaluationError(sentence, error.number, error.place, error.excerpt, error.printed)
+
+    def set_of_formula(self) -> Optional[Tuple[str, ...]]:
+        """The set to adjust for that the formula sums over, where it does."""
+        target, given = self.formula.target, pattern_of(self.formula)
+        if self.members is not None or given is None or target.given or not target.x:
+            return self.members
+        members = tuple(name for name in given if name not in target.x)
+        return members if self.diagram.adjusts(members, target.x, target.y) else None
 
     def other_ways(self) -> Iterator[Tuple[str, Dict[str, Any]]]:
         """Other ways to ask for the effect."""
@@ -374,15 +414,6 @@ def place_in(cell: Cell, table: Table) -> int:
     for code, levels in zip(cell, table.levels):
         place = place * max(len(levels), 1) + code
     return place
-
-
-def over_many(evaluator: Evaluator, table: Table, numbers: Sequence[Sequence[int]]) -> List[Values]:
-    """The values over several lists of counts of a table's cells."""
-    numpy = evaluator.numpy
-    dense = numpy.zeros((len(numbers), int(numpy.prod(evaluator.sizes))))
-    dense[:, [place_in(cell, table) for cell in table.counts]] = numbers
-    values, known = evaluator.values(dense)
-    return [tuple(row) if is_known else None for row, is_known in zip(values.tolist(), known.all(axis=1).tolist())]
 
 
 def support_of(effects: Effects, table: Table, records: Mapping[Cell, int]) -> Tuple[Support, ...]:

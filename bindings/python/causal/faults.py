@@ -17,6 +17,7 @@ from causal.errors import (
     caret_under,
 )
 from causal.formula import Formula
+from causal.names import printed_level
 from causal.objects import Told, name_in, read_line
 from causal.vocabulary import meant
 
@@ -111,7 +112,7 @@ def _evaluation_error(fault: Told, sources: Sources) -> CausalError:
 
 
 def _told(cell: Dict[str, Any]) -> str:
-    return ", ".join(f"{name}={level}" for name, level in cell.items())
+    return ", ".join(f"{name}={printed_level(str(level))}" for name, level in cell.items())
 
 
 def as_text(word: object) -> str:

@@ -9,6 +9,7 @@ from causal.errors import RequestError
 from causal.framed import Framed, Shown
 from causal.names import printed_name, printed_set
 from causal.objects import Told
+from causal.vocabulary import Renamed
 
 if TYPE_CHECKING:
     from fractions import Fraction
@@ -93,8 +94,10 @@ class Formula(Framed):
     >>> formula = Diagram("dag{ X -> M -> Y  X <-> Y }").identify("X", "Y")
     >>> print(formula)
     P(Y|do(X)) = sum{M} P(M|X) * (sum{X} P(X) * P(Y|X,M))
-    >>> formula.latex
-    'P(Y \\\\mid \\\\mathrm{do}(X)) = \\\\sum_{M} P(M \\\\mid X) \\\\left( \\\\sum_{X} P(X) P(Y \\\\mid X, M) \\\\right)'
+    >>> print(formula.latex)
+    \\begin{aligned}
+    P(Y \\mid \\mathrm{do}(X)) ={}& \\sum_{M} P(M \\mid X) \\left( \\sum_{X} P(X) P(Y \\mid X, M) \\right)
+    \\end{aligned}
     """
 
     target: Term
@@ -176,20 +179,30 @@ class Formula(Framed):
 
     @property
     def latex(self) -> Optional[str]:
-        """The answer in LaTeX, where a diagram gave it, and else None."""
-        return f"{self._latex}\nfree {printed_set(self.free)}" if self._latex and self.free else self._latex
-
-    @property
-    def display_latex(self) -> str:
-        """The formula for a paper: made from its parts, with names of more than one letter as text, in lines that fit. It needs amsmath.
+        """The formula for a paper, where a diagram gave it, and else None: made from its parts, with names of more than one letter as text, in
+        lines that fit. It needs amsmath.
 
         >>> from causal import Diagram
-        >>> Diagram("dag{ dose -> Y }").identify("dose", "Y").display_latex
-        '\\\\begin{aligned}\\nP(Y \\\\mid \\\\mathrm{do}(\\\\text{dose})) ={}& P(Y \\\\mid \\\\text{dose})\\n\\\\end{aligned}'
+        >>> print(Diagram("dag{ dose -> Y }").identify("dose", "Y").latex)
+        \\begin{aligned}
+        P(Y \\mid \\mathrm{do}(\\text{dose})) ={}& P(Y \\mid \\text{dose})
+        \\end{aligned}
         """
         from causal.typeset import latex_of
 
-        return latex_of(self)
+        return latex_of(self) if self._trees else None
+
+    display_latex = Renamed("latex")
+
+    @property
+    def printed_latex(self) -> Optional[str]:
+        """The lines that `causal identify --latex` prints, where a diagram gave the formula, and else None.
+
+        >>> from causal import Diagram
+        >>> print(Diagram("dag{ X -> Y }").identify("X", "Y").printed_latex)
+        P(Y \\mid \\mathrm{do}(X)) = P(Y \\mid X)
+        """
+        return f"{self._latex}\nfree {printed_set(self.free)}" if self._latex and self.free else self._latex
 
     @property
     def certificate(self) -> Optional[str]:
@@ -218,7 +231,7 @@ class Formula(Framed):
 
     def _repr_latex_(self) -> Optional[str]:
         """What notebooks show: the formula and its definitions, without the free variables."""
-        return f"$$\n{self.display_latex}\n$$" if self._trees else None
+        return f"$$\n{self.latex}\n$$" if self._trees else None
 
 
 @dataclass(frozen=True)
@@ -341,7 +354,7 @@ class Hedge(HedgeSets):
     @property
     def settled(self) -> Optional[bool]:
         """Where a condition was given: whether it is proved that the very two models differ on the conditional effect too. Else it is
-        proved that no formula is that effect in all models, and no two that differ on it are shown. None where no condition was given, and where the library is of a version that doesn't tell it.
+        proved that two other models do, which aren't shown. None where no condition was given, and where the library is of a version that doesn't tell it.
 
         >>> from causal import Diagram
         >>> Diagram("dag{ X -> Y X <-> Y Z -> Y Z <-> Y }").identify("X", "Y", given="Z").settled

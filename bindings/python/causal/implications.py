@@ -6,7 +6,7 @@ from typing import TYPE_CHECKING, Dict, Iterator, Optional, Sequence, Tuple, Uni
 
 from causal.columns import Data, may_have_blanks, path_of
 from causal.display import Printed, html_table
-from causal.effects import Level, LevelOf
+from causal.effects import Level, LevelOf, levels_text
 from causal.files import read_bytes
 from causal.names import printed_name, printed_set
 from causal.objects import Told, name_in
@@ -36,7 +36,7 @@ class Difference(Printed):
     @property
     def place(self) -> str:
         """The levels, as they are printed."""
-        return ",".join(f"{printed_name(name)}={level}" for name, level in self.cell.items())
+        return levels_text(self.cell)
 
     def __str__(self) -> str:
         return f"largest difference {self.value} at {self.place}"

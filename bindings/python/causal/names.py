@@ -1,4 +1,4 @@
-"""Names as the program prints and reads them."""
+"""Names and levels as the program prints and reads them."""
 from __future__ import annotations
 
 import re
@@ -62,6 +62,21 @@ def printed_set(names: Iterable[str]) -> str:
     '{A,"B C"}'
     """
     return "{" + ",".join(map(printed_name, names)) + "}"
+
+
+# What would break the line of a level, and how it is printed between quotation marks.
+_BREAKS = frozenset('\n\r"')
+_ESCAPES = str.maketrans({"\n": "\\n", "\r": "\\r", '"': '\\"', "\\": "\\\\"})
+
+
+def printed_level(level: str) -> str:
+    """The level as it is printed: between quotation marks where it has one, or a line break.
+
+    >>> from causal.names import printed_level
+    >>> print(printed_level('a\\nb "c"'), printed_level("a\\\\b"))
+    "a\\nb \\"c\\"" a\\b
+    """
+    return level if _BREAKS.isdisjoint(level) else f'"{level.translate(_ESCAPES)}"'
 
 
 def quoted(name: str) -> str:

@@ -34,8 +34,10 @@ Answers questions about causal diagrams with hidden confounders, by a proved pro
     survey N [--json]
     implications FILE [COUNTS] [--count NAME] [--json]
     surrogate FILE [--x L] [--y L] --experiments E [--models] [--certificate] [--json]
-    bounds FILE COUNTS [--x L] [--y L] [--given L] [--instrument L [--strata L]] [--count NAME] [--exact] [--json]
+    bounds FILE COUNTS [--x L] [--y L] [[--given L] [--instrument L [--strata L]] | --set L] [--count NAME] [--exact] [--json]
     treated FILE [--x L] [--y L] [--given L] [--latex] [--json]
+    instruments FILE [--x L] [--y L] [--most N] [--json]
+    natural FILE --through L [--x L] [--y L] [--given L] [--latex] [--json]
 
 FILE is a graph text, in the form of DAGitty; - is standard input. A list L is names joined by
 commas, {} for none. Where x and y aren't listed, they are the vertices marked exposure and

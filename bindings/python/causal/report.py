@@ -211,7 +211,7 @@ def report_on(
 
 PROVED = (
     "The answers on the diagram, and each value over the counts, are proved to be what they are said to be, on the premise that the diagram"
-    " is right. Of a value that the formula has only where a factor 0 makes its product 0 (`zero`) no more is proved. Intervals, tests and estimates by models are computed, and nothing about them is proved."
+    " is right. A value that the formula has only where a factor 0 makes its product 0 (`zero`) is its value by that rule. Intervals, tests and estimates by models are computed, and nothing about them is proved."
 )
 IMPLIED = "If the diagram is right, each of these is independent, and data can speak against it:"
 

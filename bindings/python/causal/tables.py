@@ -40,10 +40,15 @@ class Table:
     dropped: int = 0
     orders: Mapping[str, Sequence[Hashable]] = field(default_factory=dict)
 
+    @property
+    def is_wide(self) -> bool:
+        """Whether there are more combinations of levels than a formula reads."""
+        return math.prod(map(len, self.levels)) > MOST_ROWS
+
     def check_size(self) -> None:
         """Refuses more combinations of levels than a formula reads."""
         sizes = {name: len(levels) for name, levels in zip(self.names, self.levels)}
-        if math.prod(sizes.values()) > MOST_ROWS:
+        if self.is_wide:
             told = ", ".join(f"{name} {size}" for name, size in sorted(sizes.items(), key=lambda pair: -pair[1]))
             raise CountsError(
                 f"the used columns have {math.prod(sizes.values())} combinations of levels, more than 2^20 (levels: {told}); group levels,"

@@ -21,6 +21,10 @@ from causal.rows import MOST_ARMS, Rows
 MOST_CELLS, AT_ONCE = 1 << 22, 1 << 20
 # A sum over more combinations of levels than this is an average over records, where it can be.
 MANY_CELLS = 1 << 12
+# With more groups of records that are read off than this, or more coefficients, it isn't told how a number moves with each.
+MOST_MOVED = 1000
+# By how much a group's weight and a coefficient are changed for that.
+PART, STEP = 1e-3, 1e-5
 Names = Tuple[str, ...]
 # A term: what it is of, what is done, and what is given.
 Key = Tuple[Names, Names, Names]
@@ -78,6 +82,13 @@ class Joined:
     def drawn(self, source: Any, members: Sequence[Any]) -> Tuple[Any, ...]:
         """The weights of records that are drawn anew."""
         return tuple(part.drawn(source, own) for part, own in zip(self.parts, members))
+
+    def variance(self, moves: Any) -> float:
+        """The variance of a number, by how it moves with the weight of each row; the rows of the sources stand one behind the other."""
+        ends = [0]
+        for part in self.parts:
+            ends.append(ends[-1] + len(part.weights))
+        return sum(part.variance(moves[start:end]) for part, start, end in zip(self.parts, ends, ends[1:]))
 
 
 @dataclass(frozen=True)
@@ -181,7 +192,66 @@ class ByTree(Estimator):
 
     @property
     def has_moves(self) -> bool:
-        return False
+        groups = self._groups()
+        moved = sum(model.parameters or 0 for model in self.models) + (0 if groups is None else int(groups.max()) + 1)
+        return moved <= MOST_MOVED and all(model.has_scores for model in self.models)
+
+    def _groups(self) -> Optional[Any]:
+        """Which observed rows are alike in all that is read off them; None where nothing is."""
+        keys = {key_of(node) for tree in self.trees for node in nodes_of(tree) if "term" in node} - set(self.chains)
+        names = sorted({name for of, _, given in keys for name in (*of, *given)})
+        if not names:
+            return None
+        codes = self.sources[frozenset()].codes
+        return self.numpy.unique(self.numpy.stack([codes[name] for name in names]), axis=1, return_inverse=True)[1].reshape(-1)
+
+    def moves(self, weights: Any) -> List[Any]:
+        """How the number of each arm moves with the weight of each row, also by way of the models: the rows of the sources stand one
+        behind the other. It is computed by small changes of the weights of rows that are alike, and of each coefficient."""
+        numpy = self.numpy
+        found = [{done: numpy.zeros(len(own)) for done, own in self.weights.items()} for _ in self.asked.arms]
+        self.evaluated({})
+        base = self.found
+        self._moved_by_weights({key: value for key, value in base.items() if key in self.chains}, found)
+        for key in self.chains:
+            self._moved_by_models(key, {other: value for other, value in base.items() if other != key}, found)
+        return [numpy.concatenate([own[done] for done in self.sources]) for own in found]
+
+    def _moved_by_weights(self, kept: Mapping[Key, Any], found: List[Dict[FrozenSet[str], Any]]) -> None:
+        """Adds how the numbers move with the weights of what is read off the observed rows."""
+        groups, numpy, observed = self._groups(), self.numpy, frozenset[str]()
+        if groups is None:
+            return
+        weights = self.weights[observed]
+        for group in range(int(groups.max()) + 1):
+            inside = groups == group
+            ends = []
+            for sign in (1, -1):
+                self.weights[observed] = numpy.where(inside, weights * (1 + sign * PART), weights)
+                ends.append(self.evaluated(kept))
+            for arm, own in enumerate(found):
+                own[observed][inside] += (ends[0][arm] - ends[1][arm]) / (2 * PART * float(weights[inside].sum()))
+        self.weights[observed] = weights
+
+    def _moved_by_models(self, key: Key, kept: Mapping[Key, Any], found: List[Dict[FrozenSet[str], Any]]) -> None:
+        """Adds how the numbers move with the rows that the models of a term are fitted to."""
+        done, chain = frozenset(key[1]), self.chains[key]
+        for place, model in enumerate(chain):
+            values = model.values  # type: ignore[attr-defined]
+            slopes = self.numpy.zeros((len(found), len(values)))
+            for k in range(len(values)):
+                step = self.numpy.zeros(len(values))
+                step[k] = STEP * max(1.0, abs(float(values[k])))
+                ends = []
+                for sign in (1, -1):
+                    other = model.at(values + sign * step)  # type: ignore[attr-defined]
+                    self.chains[key] = [*chain[:place], other, *chain[place + 1 :]]
+                    ends.append(self.evaluated(kept))
+                slopes[:, k] = [(ends[0][arm] - ends[1][arm]) / (2 * float(step[k])) for arm in range(len(found))]
+            self.chains[key] = chain
+            moved = model.moves(self._rows(key).codes, self.weights[done])  # type: ignore[attr-defined]
+            for arm, own in enumerate(found):
+                own[done] += moved @ slopes[arm]
 
     def fit(self, weights: Any) -> None:
         held = weights if isinstance(weights, tuple) else (weights,)
@@ -196,7 +266,11 @@ class ByTree(Estimator):
                 model.examine(self._rows(key).codes, self._rows(key).weights)
 
     def numbers(self, weights: Any) -> Tuple[float, float]:
-        self.found: Dict[Key, Any] = {}
+        return self.evaluated({})
+
+    def evaluated(self, kept: Mapping[Key, Any]) -> Tuple[float, float]:
+        """The number of each arm, where the values of some terms are kept."""
+        self.found: Dict[Key, Any] = dict(kept)
         self.known: Dict[int, Any] = {}
         with self.numpy.errstate(divide="ignore", invalid="ignore"):
             whole = self._value(self.trees[-1], None)

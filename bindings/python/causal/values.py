@@ -5,7 +5,9 @@ what the program gives.
 """
 from __future__ import annotations
 
-from typing import TYPE_CHECKING, Any, Dict, List, Optional, Sequence, Tuple
+from typing import TYPE_CHECKING, Any, Dict, List, Mapping, Optional, Sequence, Tuple, Union
+
+from causal.columnwise import ColumnEvaluator
 
 if TYPE_CHECKING:
     from causal.effects import Effects
@@ -13,6 +15,8 @@ if TYPE_CHECKING:
 
 # Tables of more cells are asked of the library one by one; and as many numbers are held at once.
 MOST_CELLS, AT_ONCE = 1 << 14, 1 << 21
+# And without numpy.
+MOST_PLAIN = 1 << 11
 # How far what is computed may be from what the program says.
 NEAR = 1e-9
 
@@ -130,26 +134,36 @@ class Evaluator:
         value, known = (numpy.broadcast_to(it, (len(counts), *shape[1:]))[rows] for it in (found.value, found.known))
         return value, known
 
-    def agrees(self, counts: Any, effects: "Effects") -> bool:
-        """Whether it gives on a table what the program gives there."""
-        value, known = self.values(counts.reshape((1, -1)))
-        wanted = self.numpy.array([float(effect.value) for effect in effects])
-        return bool(known.all()) and bool((abs(value[0] - wanted) <= NEAR * (1 + abs(wanted))).all())
+    def over(self, places: Sequence[int], numbers: Sequence[Sequence[int]]) -> List[Optional[Tuple[float, ...]]]:
+        """The values over tables that have these numbers at some places, and else 0; None where one is unknown."""
+        numpy = self.numpy
+        dense = numpy.zeros((len(numbers), int(numpy.prod(self.sizes))))
+        dense[:, list(places)] = numbers
+        values, known = self.values(dense)
+        return [tuple(row) if is_known else None for row, is_known in zip(values.tolist(), known.all(axis=1).tolist())]
 
 
 def evaluator_of(
-    effects: "Effects", names: Sequence[str], levels: Sequence[Sequence[Any]], dense: Sequence[float], zero: bool
-) -> Optional[Evaluator]:
-    """What evaluates many tables of a formula at once, where numpy is there, the table isn't large, and it gives for the counts of the
-    table itself what the program gave."""
+    effects: "Effects", names: Sequence[str], levels: Sequence[Sequence[Any]], counts: Mapping[int, int], zero: bool
+) -> Union[Evaluator, ColumnEvaluator, None]:
+    """What evaluates many tables of a formula at once, by numpy where that is there; None where the table is large, or it doesn't give
+    for the counts of the table itself, by their places, what the program gave."""
     size = 1
     for held in levels:
         size *= max(len(held), 1)
     if size > MOST_CELLS:
         return None
+    evaluator: Union[Evaluator, ColumnEvaluator]
     try:
         import numpy
     except ImportError:
+        if size > MOST_PLAIN:
+            return None
+        evaluator = ColumnEvaluator(effects, names, levels, zero)
+    else:
+        evaluator = Evaluator(numpy, effects, names, levels, zero)
+    (found,) = evaluator.over(list(counts), [list(counts.values())])
+    wanted = [float(effect.value) for effect in effects]
+    if found is None or any(abs(a - b) > NEAR * (1 + abs(b)) for a, b in zip(found, wanted)):
         return None
-    evaluator = Evaluator(numpy, effects, names, levels, zero)
-    return evaluator if evaluator.agrees(numpy.array(dense, dtype=float), effects) else None
+    return evaluator

@@ -10,7 +10,9 @@ from causal.bounds import read_bounds
 from causal.evaluation import Evaluation
 from causal.formula import Formula, Term
 from causal.implications import read_implications
+from causal.instruments import read_instruments
 from causal.objects import read_line, text_in
+from causal.natural import read_natural
 from causal.treated import read_treated
 
 TERM = {"term": ["Y"], "do": [], "given": []}
@@ -42,6 +44,8 @@ def read(words, told, inputs):
         "surrogate": reading.read_surrogate,
         "bounds": read_bounds,
         "treated": read_treated,
+        "natural": read_natural,
+        "instruments": read_instruments,
     }
     return readers[command](told)
 
@@ -55,7 +59,7 @@ class PrintedAgain(unittest.TestCase):
         if "certificate" in told:
             return text_in(told["certificate"])
         answer = read(words, told, inputs)
-        return answer.latex if "--latex" in words and answer else str(answer)
+        return answer.printed_latex if "--latex" in words and answer else str(answer)
 
     def test_answers(self):
         forms = set()
@@ -196,8 +200,8 @@ class OddNames(unittest.TestCase):
         told.update(formula="q0 / (sum{q1} q0)", definitions=["P(W)", "q0 * P(q1|free)"], free=["free"])
         found = reading.read_formula(told)
         self.assertEqual(found.text, "P(q1) = q0 / (sum{q1} q0)\nq0 = P(W)\nq1 = q0 * P(q1|free)\nfree {free}")
-        self.assertEqual(found.latex, "P = \\frac{a}{b}\nq_{0} = c\nfree {free}")
-        self.assertEqual(found._repr_latex_(), f"$$\n{found.display_latex}\n$$")
+        self.assertEqual(found.printed_latex, "P = \\frac{a}{b}\nq_{0} = c\nfree {free}")
+        self.assertEqual(found._repr_latex_(), f"$$\n{found.latex}\n$$")
 
     def test_refusals(self):
         hedge, steps = {"answer": "refused", "of": "hedge"}, {"answer": "refused", "of": "formula"}
@@ -249,6 +253,17 @@ class OddNames(unittest.TestCase):
         self.assertEqual((list(sets), sets.more), ([(), ("A", "b, c")], True))
         self.assertEqual(str(sets), '{}\n{A,"b, c"}\nmore')
 
+    def test_instruments(self):
+        told = [{"vertex": "a b", "strata": [[], ["A", "b, c"]], "more": True}, {"vertex": "W", "strata": [], "more": False}]
+        found = read_instruments({"answer": "instruments", "x": ["X"], "y": ["Y"], "instruments": told})
+        self.assertEqual((len(found), found[0].vertex, found[0].strata, found[0].more), (1, "a b", ((), ("A", "b, c")), True))
+        self.assertEqual(str(found), '"a b" given {}\n"a b" given {A,"b, c"}\nmore of "a b"')
+        self.assertEqual(str(found[0]), str(found))
+        self.assertIn("<p>there are more of &quot;a b&quot;</p>", found._repr_html_())
+        none = read_instruments({"answer": "none", "x": ["X"], "y": ["Y"], "instruments": []})
+        self.assertEqual((bool(none), str(none), list(none)), (False, "none", []))
+        self.assertIn("<p>no vertex is an instrument</p>", none._repr_html_())
+
     def test_what_is_no_answer(self):
         sets = {"x": ["A"], "y": ["B"], "given": []}
         formula = {"formula": "P(B)", "definitions": [], "free": []}
@@ -268,6 +283,8 @@ class OddNames(unittest.TestCase):
             (lambda told: reading.read_rule(told, "AB"), {**rule, "answer": "does not hold"}),
             (reading.read_graph, {"vertices": [{"name": "A", "role": None}], "directed": [["A"]], "bidirected": []}),
             (reading.read_sets, {"sets": 3, "more": False}),
+            (read_instruments, {"answer": "none"}),
+            (read_instruments, {"instruments": [{"vertex": "Z", "more": False}]}),
             (reading.read_effect, {"answer": "formula", "y": [], "x": []}),
             (reading.read_surrogate, {"answer": "another"}),
             (lambda told: reading.read_check(told, False), {"answer": "refused"}),
@@ -292,9 +309,19 @@ class Levels(unittest.TestCase):
         return effects.read_effects({"exact": "value" in value, "pinned": [], "cells": [cell]}, self.FORMULA)[0]
 
     def test_marks_in_levels(self):
-        for level in ("a,b", "a,Z=b", "a\nP(Y=b", "1)) = 1/3", ""):
+        for level, printed in (
+            ("a,b", "a,b"),
+            ("a,Z=b", "a,Z=b"),
+            ("a\nP(Y=b", '"a\\nP(Y=b"'),
+            ("a\r", '"a\\r"'),
+            ('"\\', '"\\"\\\\"'),
+            ("\\n", "\\n"),
+            ("1)) = 1/3", "1)) = 1/3"),
+            ("", ""),
+        ):
             effect = self.effect(level, "1", "c", value="1/2")
             self.assertEqual((effect.y, effect.x), ({"Y": level, "Z": "1"}, {"x y": "c"}))
+            self.assertEqual(str(effect), f'P(Y={printed},Z=1|do("x y"=c)) = 1/2')
 
     def test_bytes_that_are_no_text(self):
         effect = self.effect([99, 97, 102, 233], "1", "c", **{"from": "0.250000000000000000", "to": "0.250000000000000001"})
@@ -392,6 +419,7 @@ class Frames(unittest.TestCase):
             (bow.identify("X", "Y"), ["big", "X"]),
             (napkin.identify("X", "Y"), ["P(Y|do(X))", "q0 / (sum{Y} q0)"]),
             (diagram.adjustment_sets("X", "Y"), [1, "Z"]),
+            (Diagram("dag { W -> Z -> X -> Y W -> Y X <-> Y }").instruments("X", "Y"), ["Z", "{W}"]),
             (Diagram("dag { A -> B }").equivalent(Diagram("dag { A <- B }")), [True, None]),
             (contrast, [1, 0]),
         ):

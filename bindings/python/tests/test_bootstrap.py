@@ -1,6 +1,8 @@
 """The bootstrap: its draws, and that its interval covers the truth on data drawn from a model of the napkin."""
 import random
 import unittest
+import unittest.mock
+import warnings
 from collections import Counter
 from statistics import NormalDist
 
@@ -95,6 +97,43 @@ class Coverage(unittest.TestCase):
         self.assertTrue(contrast.difference.lower <= 0.3 <= contrast.difference.upper)
         self.assertTrue(contrast.ratio.lower <= 0.65 / 0.35 <= contrast.ratio.upper)
         self.assertGreater(contrast.difference.lower, 0)
+
+    def test_ways_to_the_values_are_one(self):
+        # by numpy, by lists, and by the library for each resample
+        source, data = random.Random(4), {name: [] for name in "WZXMY"}
+        for _ in range(120):
+            w, u = source.randrange(3), source.random()
+            z = int(source.random() < 0.2 + 0.2 * w)
+            x = int(source.random() < 0.2 + 0.4 * z + 0.2 * u)
+            m = int(source.random() < 0.2 + 0.6 * x)
+            for name, value in zip("WZXMY", (w, z, x, m, int(source.random() < 0.1 + 0.4 * m + 0.4 * u))):
+                data[name].append(value)
+        few = {name: held[:25] for name, held in data.items()}
+        for text, given, held in (
+            ("dag { Z -> X -> Y <- Z }", None, data),
+            ("dag { W -> X -> Y <- W W -> Z Z -> Y }", "Z", few),
+            (read_example("front_door.dag").decode(), None, few),
+            (read_example("napkin.dag").decode(), None, data),
+        ):
+            for zero in (True, False):
+                found = []
+                for hidden in (set(), {"numpy"}, {"numpy", "values"}):
+                    none = {"numpy": None} if "numpy" in hidden else {}
+                    with unittest.mock.patch.dict("sys.modules", none), warnings.catch_warnings():
+                        warnings.simplefilter("ignore")
+                        most = 0 if "values" in hidden else 1 << 11
+                        with unittest.mock.patch("causal.values.MOST_PLAIN", most):
+                            diagram = Diagram(text)
+                            try:
+                                found.append(diagram.bootstrap(held, "X", "Y", resamples=40, seed=2, given=given, zero=zero).draws)
+                            except causal.EvaluationError:
+                                found.append(None)
+                for other in found[1:]:
+                    self.assertEqual(found[0] is None, other is None)
+                    for a, b in zip(found[0] or (), other or ()):
+                        self.assertEqual(a is None, b is None)
+                        for one, two in zip(a or (), b or ()):
+                            self.assertAlmostEqual(one, two, places=12)
 
     def test_a_seed_gives_the_same(self):
         data = napkin_data(random.Random(1), 500)

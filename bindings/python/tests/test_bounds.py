@@ -2,6 +2,8 @@
 import unittest
 from fractions import Fraction
 
+from test_commands import answering
+
 import causal
 from causal import Confounded, Diagram, EffectBounds, NoInstrument, NoModel
 
@@ -52,6 +54,30 @@ class Bounds(unittest.TestCase):
         answer = DIAGRAM.bounds(broken, count="n", instrument="assigned")
         self.assertIsInstance(answer, NoModel)
         self.assertGreater(answer.crossed.at_least, answer.crossed.at_most)
+
+    def test_by_a_set(self):
+        kidney = Diagram("dag { S -> T -> R <- S }")
+        data = {"S": ["small"] * 4 + ["large"] * 2, "T": ["A", "A", "B", "B", "A", "A"], "R": [1, 0] * 3, "n": [81, 6, 234, 36, 192, 71]}
+        cell = {"y": [["R", "0"]], "given": []}
+        told = {"answer": "bounds", "exact": True, "x": ["T"], "y": ["R"], "given": [], "set": ["S"]}
+        told["cells"] = [
+            {**cell, "x": [["T", "0"]], "at_least": "15207/17980", "at_most": "15207/17980"},
+            {**cell, "x": [["T", "1"]], "at_least": "1547/3100", "at_most": "1431/1550"},
+        ]
+        with answering(told) as library:
+            bounds = kidney.bounds(data, "T", "R", set="S", count="n", exact=True)
+        self.assertEqual(library.words, [["bounds", "diagram", "second", "--x", '"T"', "--y", '"R"', "--set", '"S"', "--count=count", "--exact", "--json"]])
+        self.assertEqual((bounds.asked.set, bounds.asked.instrument), (("S",), ()))
+        self.assertEqual([(it.x["T"], it.y["R"]) for it in bounds], [("A", 0), ("B", 0)])
+        self.assertLess(bounds[1].at_least, bounds[1].at_most)
+        refused = {"answer": "not admissible", "x": ["T"], "y": ["R"], "set": [], "open": {"vertices": ["R", "S", "T"], "marks": ["<-", "->"]}}
+        with answering((1, refused, "")):
+            found = kidney.bounds(data, "T", "R", set=[], count="n")
+        self.assertIsInstance(found, causal.Adjustment)
+        self.assertFalse(found)
+        self.assertEqual(str(found), "not admissible: {}\nopen: R <- S -> T")
+        with self.assertRaisesRegex(causal.RequestError, "and not both"):
+            kidney.bounds(data, "T", "R", set="S", given="S", count="n")
 
     def test_refusals(self):
         with self.assertRaises(causal.RequestError):

@@ -11,7 +11,7 @@ import causal
 from causal.bounds import BoundsQuestion
 from causal.evaluation import Evaluation
 
-LISTS = ("x", "y", "z", "do", "given", "set", "instrument", "strata")
+LISTS = ("x", "y", "z", "do", "given", "set", "instrument", "strata", "through")
 
 
 def names_of(word):
@@ -43,6 +43,11 @@ def options_of(words):
     if "experiments" in options:
         options["experiments"] = experiments_of(options["experiments"])
     return places, {name: names_of(value) if name in LISTS else value for name, value in options.items()}
+
+
+def with_number(options):
+    """The options, with how many sets are wanted as a number."""
+    return {name: int(value) if name == "most" else value for name, value in options.items()}
 
 
 class Words(unittest.TestCase):
@@ -104,14 +109,15 @@ class Questions(unittest.TestCase):
     def ask_identify(self, diagram, second, options, folder):
         form = [options.pop(name) and name for name in ("latex", "certificate") if name in options]
         answer = diagram.identify(**self.with_exposures(diagram, options))
-        return getattr(answer, form[0]) if form and hasattr(answer, form[0]) else answer
+        name = {"latex": "printed_latex"}.get(form[0], form[0]) if form else ""
+        return getattr(answer, name) if form and hasattr(answer, name) else answer
 
     def ask_check(self, diagram, second, options, folder):
         return diagram.check_certificate(second, **options)
 
     def ask_adjust(self, diagram, second, options, folder):
         if "set" not in options:
-            return diagram.adjustment_sets(**{name: int(value) if name == "most" else value for name, value in options.items()})
+            return diagram.adjustment_sets(**with_number(options))
         options.pop("most", None)
         back_door = options.pop("back-door", False)
         return diagram.adjusts(options.pop("set"), back_door=back_door, **options)
@@ -130,7 +136,15 @@ class Questions(unittest.TestCase):
     def ask_treated(self, diagram, second, options, folder):
         is_latex = options.pop("latex", False)
         answer = diagram.treated(**self.with_exposures(diagram, options))
-        return answer.latex if is_latex and answer else answer
+        return answer.printed_latex if is_latex and answer else answer
+
+    def ask_natural(self, diagram, second, options, folder):
+        is_latex = options.pop("latex", False)
+        answer = diagram.natural(**self.with_exposures(diagram, options))
+        return answer.printed_latex if is_latex and answer else answer
+
+    def ask_instruments(self, diagram, second, options, folder):
+        return diagram.instruments(**with_number(options))
 
     def ask_bounds(self, diagram, second, options, folder):
         return BoundsQuestion(diagram, **self.with_exposures(diagram, options)).over_file(second or b"")

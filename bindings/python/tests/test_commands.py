@@ -183,7 +183,7 @@ class Experiments(unittest.TestCase):
         self.assertEqual(library.words, [["surrogate", "diagram", "--x", '"X"', "--y", '"Y"', "--experiments", '"Z"', "--json"]])
         self.assertTrue(found)
         self.assertEqual((found.expression, found.free, found.variables), ("P(Y|do(Z),X)", ("Z",), {"X", "Y", "Z"}))
-        self.assertEqual((found.latex, found.experiments), ("LATEX\nfree {Z}", {("Z",)}))
+        self.assertEqual((found.printed_latex, found.experiments), ("LATEX\nfree {Z}", {("Z",)}))
         self.assertEqual(str(found), "P(Y|do(X)) = P(Y|do(Z),X)\nfree {Z}")
 
     def test_certificates(self):
@@ -306,7 +306,7 @@ class AskedOnce(unittest.TestCase):
     def test_what_comes_with_a_formula(self):
         with answering(formula_told("P(Y|Z,X)")) as library:
             found = Diagram(self.DIAGRAM).identify("X", "Y")
-            self.assertEqual((found.latex, found._repr_latex_()), ("LATEX", f"$$\n{found.display_latex}\n$$"))
+            self.assertEqual((found.printed_latex, found._repr_latex_()), ("LATEX", f"$$\n{found.latex}\n$$"))
             self.assertEqual((found.text, found.variables), ("P(Y|do(X)) = P(Y|Z,X)", {"X", "Y", "Z"}))
         self.assertEqual(len(library.calls), 1)
 
@@ -344,7 +344,7 @@ class AskedOnce(unittest.TestCase):
             adjusted = Diagram(self.DIAGRAM).adjusts("Z", "X", "Y")
             checked = Diagram(self.DIAGRAM).check_certificate(b"{}")
         for formula in (adjusted.formula, checked.formula):
-            self.assertEqual((formula.latex, formula.certificate, formula.variables), ("LATEX", None, {"X", "Y", "Z"}))
+            self.assertEqual((formula.printed_latex, formula.certificate, formula.variables), ("LATEX", None, {"X", "Y", "Z"}))
         self.assertEqual(len(library.calls), 2)
 
     def test_as_the_library_has_it(self):

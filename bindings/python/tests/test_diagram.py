@@ -4,6 +4,7 @@ import functools
 import json
 import os
 import pickle
+import shutil
 import subprocess
 import sys
 import tempfile
@@ -238,8 +239,38 @@ class Answers(unittest.TestCase):
         formula = Diagram(read_example("napkin.dag")).identify()
         self.assertEqual((formula.free, len(formula.definitions), formula.variables), (("Z",), 1, {"W", "X", "Y", "Z"}))
         self.assertIn(r"\frac", formula.latex)
+        self.assertNotIn("free", formula.latex)
+        self.assertEqual(formula.printed_latex.splitlines()[-1], "free {Z}")
+        with self.assertWarnsRegex(DeprecationWarning, "display_latex is named latex"):
+            self.assertEqual(formula.display_latex, formula.latex)
         self.assertTrue(formula._repr_latex_().startswith("$$\n\\begin{aligned}\nP(Y \\mid"))
         self.assertNotIn("free", formula._repr_latex_())
+
+    @unittest.skipIf(shutil.which("pdflatex") is None, "no pdflatex")
+    def test_latex_compiles_and_fits(self):
+        odd, many = "a_%&#$~^{b}\\", [f"confounder {k}" for k in range(1, 11)]
+        arms = ("statin", "infarction")
+        wide = [(name, arm) for name in many for arm in arms]
+        door = [*wide, *((name, "blood pressure") for name in many), ("statin", "blood pressure"), ("blood pressure", "infarction")]
+        formulas = [
+            Diagram('dag { "age (years)" -> "décès à 30 jours" <- x_1 "age (years)" -> x_1 }').identify("x_1", "décès à 30 jours"),
+            Diagram(read_example("napkin.dag")).identify(),
+            Diagram.from_edges([(odd, "Y")]).identify(odd, "Y"),
+            *(Diagram.from_edges([*wide, arms]).identify(*arms, short=short) for short in (False, True)),
+            *(Diagram.from_edges(door, bidirected=[arms]).identify(*arms, short=short) for short in (False, True)),
+        ]
+        head = r"\documentclass{article}\usepackage[utf8]{inputenc}\usepackage[T1]{fontenc}\usepackage{amsmath}\begin{document}"
+        text = "\n\n".join([head, *(f"\\[\n{formula.latex}\n\\]" for formula in formulas), r"\end{document}"])
+        with tempfile.TemporaryDirectory() as folder:
+            with open(os.path.join(folder, "formulas.tex"), "w", encoding="utf-8") as file:
+                file.write(text)
+            words = ["pdflatex", "-interaction=nonstopmode", "formulas.tex"]
+            done = subprocess.run(words, cwd=folder, stdout=subprocess.PIPE, stderr=subprocess.DEVNULL, stdin=subprocess.DEVNULL)
+            log = done.stdout.decode("utf-8", "replace")
+            if ".sty' not found" in log:
+                raise unittest.SkipTest("pdflatex without its packages")
+            self.assertEqual([line for line in log.splitlines() if line.startswith(("!", "Overfull"))], [])
+            self.assertTrue(os.path.isfile(os.path.join(folder, "formulas.pdf")))
 
     def test_certificates(self):
         for name in ("napkin.dag", "front_door.dag", "bow.dag"):

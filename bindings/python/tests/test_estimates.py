@@ -3,12 +3,14 @@ import os
 import random
 import tempfile
 import unittest
+import unittest.mock
 import warnings
 
 from worked import read_example
 
 import causal
 from causal import Diagram
+from causal.estimates import by_influence
 
 try:
     import numpy
@@ -219,6 +221,53 @@ class Intervals(unittest.TestCase):
             for a, b in zip(plain.rows[:3], drawn.rows[:3]):
                 widths = [it.interval.upper - it.interval.lower for it in (a, b)]
                 self.assertLess(abs(widths[0] / widths[1] - 1), 0.35)
+
+    def test_of_trees(self):
+        # how a number moves with a record's weight, against the models fitted anew to other weights
+        source, held = random.Random(5), {name: [] for name in "WZXYM"}
+        for _ in range(300):
+            w, u = source.randrange(3), source.random()
+            z = int(source.random() < 0.3 + 0.2 * w)
+            x = int(source.random() < 0.2 + 0.5 * z)
+            m = int(source.random() < 0.2 + 0.6 * x)
+            for name, value in zip("WZXMY", (w, z, x, m, int(source.random() < 0.2 + 0.4 * m + 0.3 * u))):
+                held[name].append(value)
+        trial = {"X": [0, 1] * 40, "M": [int(source.random() < 0.2 + 0.6 * (k % 2)) for k in range(80)]}
+        parts = Diagram("dag { X [exposure] Y [outcome] X -> M -> Y X <-> M W -> Y W -> X }")
+        for name, diagram, more in (
+            ("front door", Diagram(read_example("front_door.dag")), {}),
+            ("napkin", Diagram(read_example("napkin.dag")), {}),
+            ("the treated", Diagram("dag { X [exposure] Y [outcome] W -> X -> Y <- W }"), {"observed": 1}),
+            ("a trial", parts, {"trials": {"X": trial}}),
+        ):
+            with self.subTest(name):
+                kept = {}
+
+                def spied(rows, estimator, *others):
+                    kept.update(rows=rows, estimator=estimator)
+                    return by_influence(rows, estimator, *others)
+
+                with unittest.mock.patch("causal.estimates.by_influence", spied):
+                    found = diagram.estimate(held, **ARMS, **more)
+                self.assertEqual(found.interval_kind, "influence")
+                weights, estimator = kept["rows"].weights, kept["estimator"]
+                sources = weights if isinstance(weights, tuple) else (weights,)
+                moves, place = estimator.moves(weights), 0
+                for k, own in enumerate(sources):
+                    for row in range(0, len(own), 3):
+                        ends = []
+                        for sign in (1, -1):
+                            changed = [it.copy() for it in sources]
+                            changed[k][row] *= 1 + sign * 1e-3
+                            estimator.fit(tuple(changed) if isinstance(weights, tuple) else changed[0])
+                            ends.append(estimator.numbers(None))
+                        for arm in (0, 1):
+                            slope = (ends[0][arm] - ends[1][arm]) / (2e-3 * own[row])
+                            self.assertAlmostEqual(slope, moves[arm][place + row], delta=1e-4 * abs(slope) + 1e-8)
+                    place += len(own)
+                drawn = diagram.estimate(held, **ARMS, **more, interval="percentile", resamples=60)
+                widths = [it.difference.interval.upper - it.difference.interval.lower for it in (found, drawn)]
+                self.assertLess(abs(widths[0] / widths[1] - 1), 0.5)
 
     def test_a_survey(self):
         data = study(300)

@@ -37,7 +37,7 @@ class Answers(unittest.TestCase):
     def test_formula(self):
         formula = KIDNEY.identify()
         other = self.again(formula)
-        self.assertEqual((other.latex, other.certificate), (formula.latex, formula.certificate))
+        self.assertEqual((other.latex, other.printed_latex, other.certificate), (formula.latex, formula.printed_latex, formula.certificate))
         self.assertTrue(KIDNEY.check_certificate(other))
 
     def test_hedge(self):
@@ -57,6 +57,7 @@ class Answers(unittest.TestCase):
         self.again(napkin.separated())
         self.again(napkin.rule_holds(2, "Y", "X"))
         self.again(napkin.adjustment_sets())
+        self.again(napkin.instruments())
         self.again(napkin.adjusts("W"))
         self.again(napkin.check_certificate(napkin.identify()))
         self.again(napkin.implications())

@@ -3,6 +3,7 @@ import datetime
 import random
 import unittest
 import warnings
+from fractions import Fraction
 
 from worked import read_example
 
@@ -302,7 +303,51 @@ class Records(unittest.TestCase):
         text = "dag { " + " ".join(f"{name} -> X {name} -> Y" for name in names) + " X -> Y }"
         data = {name: [source.randrange(4) for _ in range(100)] for name in [*names, "X", "Y"]}
         with self.assertRaisesRegex(causal.CountsError, r"67108864 combinations of levels.*\(levels: .*c0 4"):
-            Diagram(text).effects(data, "X", "Y")
+            Diagram(text).effects(data, "X", "Y", zero=False)
+        front = "dag { X -> M -> Y X <-> Y " + " ".join(f"{name} -> X {name} -> M {name} -> Y" for name in names) + " }"
+        with self.assertRaisesRegex(causal.CountsError, "268435456 combinations of levels"):
+            Diagram(front).effects({**data, "M": data["X"]}, "X", "Y")
+
+    def test_strata_that_occur(self):
+        source = random.Random(2)
+        names = [f"c{k}" for k in range(10)]
+        diagram = Diagram("dag { " + " ".join(f"{name} -> X {name} -> Y" for name in names) + " X -> Y }")
+        # 40 strata of 4^10, each with records of both arms
+        strata = [[source.randrange(4) for _ in names] for _ in range(40)]
+        rows = [(*source.choice(strata), source.randrange(2), source.randrange(2)) for _ in range(2000)]
+        data = dict(zip([*names, "X", "Y"], zip(*rows)))
+        # by hand
+        wanted, total = {0: Fraction(0), 1: Fraction(0)}, len(rows)
+        for stratum in set(row[:10] for row in rows):
+            own = [row[10:] for row in rows if row[:10] == stratum]
+            for x in wanted:
+                inside = [y for arm, y in own if arm == x]
+                wanted[x] += Fraction(len(own), total) * Fraction(sum(inside), len(inside))
+        found = diagram.effects(data, "X", "Y")
+        for x, value in wanted.items():
+            self.assertAlmostEqual(float(found.at(1, x)), float(value), places=15)
+        self.assertEqual(found.formula, diagram.identify("X", "Y", short=True))
+        self.assertIn("over the 40 strata of {c0,c1,c2,c3,c4,c5,c6,c7,c8,c9} that occur, of 1048576 combinations", found.notes)
+        drawn = diagram.bootstrap(data, "X", "Y", resamples=50, seed=1)
+        self.assertLess(drawn.intervals[1].lower, float(wanted[0]))
+        self.assertIn("that occur", str(drawn))
+        contrast = diagram.contrast(data, "X", "Y", treated=1, control=0, outcome=1, resamples=50)
+        self.assertAlmostEqual(float(contrast.difference), float(wanted[1] - wanted[0]), places=12)
+        try:
+            import numpy  # noqa: F401
+        except ImportError:
+            pass
+        else:
+            weighted = {**data, "w": [1 + k % 3 for k in range(2000)], "v": [3.0] * 2000}
+            by_weight = diagram.contrast(weighted, "X", "Y", treated=1, control=0, outcome=1, resamples=50, weights="v")
+            self.assertAlmostEqual(float(by_weight.difference), float(wanted[1] - wanted[0]), places=9)
+            drawn = diagram.contrast(weighted, "X", "Y", treated=1, control=0, outcome=1, resamples=50, weights="w", clusters="c0")
+            self.assertIsNotNone(drawn.interval.difference)
+            self.assertIn("that occur", str(drawn))
+        # a stratum without one arm has no value, and is named
+        thin = {name: [*held, *([3] * 2 if name not in "XY" else [1, 1])] for name, held in data.items()}
+        with self.assertRaisesRegex(causal.EvaluationError, "c0=3,c1=3"):
+            diagram.effects(thin, "X", "Y")
 
 
 class Refusals(unittest.TestCase):
@@ -315,6 +360,7 @@ class Refusals(unittest.TestCase):
             lambda: edge.contrast(data, "X", "Y", treated=1, control=0, outcome=1, given="C"),
             lambda: edge.rule_holds(4, "Y", "X"),
             lambda: edge.adjustment_sets("X", "Y", most=0),
+            lambda: edge.instruments("X", "Y", most=True),
             lambda: edge.surrogate("X", "Y"),
             lambda: edge.bootstrap(data, "X", "Y", resamples=1.5),
             lambda: edge.bootstrap(data, "X", "Y", seed="x"),

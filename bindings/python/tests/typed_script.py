@@ -26,6 +26,8 @@ else:
 separated: bool = bool(diagram.separated("S", "R", given="T")) or diagram.is_separated(["S"], "R")
 first_set: Tuple[str, ...] = diagram.adjustment_sets()[0]
 some_sets: Tuple[Tuple[str, ...], ...] = diagram.adjustment_sets()[:2]
+instruments: causal.Instruments = diagram.instruments(most=3)
+strata: List[Tuple[Tuple[str, ...], ...]] = [it.strata for it in instruments]
 
 effects: Effects = diagram.effects(data, exact=True)
 first: Effect = effects[0]
@@ -74,4 +76,4 @@ one: causal.Contrast = diagram.contrast(data, treated=1, control=0, outcome=1, g
 walks: causal.Paths = diagram.paths("S", "R")
 print(table, estimate_of, groups, one, walks, diagram.parents("R"), causal.e_value(2.0).value)
 print(query, counted, at_level, by_set, in_stratum, size, from_file)
-print(numbers, separated, first_set, some_sets, exact, some, risk, ratio, given, lower, status, written, width(effects))
+print(numbers, separated, first_set, some_sets, strata, exact, some, risk, ratio, given, lower, status, written, width(effects))

@@ -1,16 +1,21 @@
 # What effects are at least and at most over a table of counts. Each end is the library's; what is made of it as a number of R is rounded.
 
 bounds_effect <- function(diagram, data, x = NULL, y = NULL, given = NULL, instrument = NULL, strata = NULL, count = NULL, exact = FALSE,
-                          missing = c("error", "drop", "level"), treated = NULL, control = NULL, outcome = NULL) {
+                          missing = c("error", "drop", "level"), treated = NULL, control = NULL, outcome = NULL, set = NULL) {
   diagram <- as_causal_diagram(diagram)
   check_exposures(diagram, x)
   if (is.null(instrument) && !is.null(strata)) refuse("`strata` are those of an instrument, which `instrument` names")
-  words <- c(option("x", x), option("y", y), option("given", given), option("instrument", instrument), option("strata", strata))
+  if (!is.null(set) && !all(is.null(given), is.null(instrument), is.null(strata)))
+    refuse("bounds are asked for by a `set` to adjust for, or under a condition or by an instrument, and not both")
+  words <- c(option("x", x), option("y", y), option("given", given), option("instrument", instrument), option("strata", strata),
+             option("set", if (!is.null(set)) as.character(set)))
   outcomes <- if (is.null(y)) diagram$vertices$name[diagram$vertices$role == "outcome"] else enc2utf8(as.character(y))
   table <- count_table(diagram, words, data, count, one_of(missing), "bounds", keeps = outcomes)
   asked <- if (is.null(table)) words else c(words, "--count", count_name(table), flag("exact", exact))
   told <- if (is.null(table)) ask_counts(diagram, asked, "", command = "bounds") else ask_table(diagram, asked, table, "bounds")
-  read <- read_bounds(object_of(told))
+  object <- object_of(told)
+  if (object$answer == "not admissible") return(new_answer("causal_adjustment", read_adjustment(object), told, diagram))
+  read <- read_bounds(object)
   if (read$answer == "bounds") {
     if (is.null(treated) && is.null(control)) return(bounds_frame(read, table, outcome))
     return(compared_bounds(read, table, x, treated, control, outcome))

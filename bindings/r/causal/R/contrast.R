@@ -15,7 +15,9 @@ contrast <- function(diagram, data, x = NULL, y = NULL, treated = NULL, control 
 bootstrapped <- function(asked, data, count, missing, at, level, resamples, seed, kind, progress, design = NULL) {
   check_numbers(level, resamples)
   if (kind == "bca" && !is.null(design)) refuse("the interval \"bca\" isn't there for weights, clusters and strata; \"percentile\" is")
-  table <- table_for(asked, data, count, missing, at, design)
+  narrow <- narrowed(asked, table_for(asked, data, count, missing, at, design))
+  asked <- narrow$asked
+  table <- narrow$table
   effects <- effects_of(asked, table)
   seed <- seed_or_drawn(seed)
   cells <- if (kind == "bca" && resamples > 0) which(table$counts > 0)
@@ -139,7 +141,8 @@ contrast_frame <- function(drawn, arms) {
             interval = drawn$kind, without_value = sum(is.na(drawn$drawn[, 1])), without_ratio = computed$ratio$without, seed = drawn$seed,
             outcomes = c(names(effects$given[[1]]), names(effects$y[[1]])), exposures = names(effects$x[[1]]),
             treated = levels_at(table, effects$x[[arms$treated[1]]]), control = levels_at(table, effects$x[[arms$control[1]]]),
-            pinned = levels_at(table, effects$pinned), dropped = table$dropped, weighted = !is.null(table$survey), frequencies = frequency_note(table))
+            pinned = levels_at(table, effects$pinned), dropped = table$dropped, weighted = !is.null(table$survey), frequencies = frequency_note(table),
+            strata = table$strata)
 }
 
 # The level of one exposure, or those of several with their names.

@@ -5,8 +5,9 @@ evaluate <- function(diagram, data, x = NULL, y = NULL, count = NULL, exact = FA
   asked <- asked_of(diagram, x, y, set, given, back_door, zero, short)
   table <- table_for(asked, data, count, one_of(missing), at, design_of(weights, NULL, NULL))
   if (isTRUE(exact) && !is.null(table$survey)) refuse("a weighted value is no exact fraction of counts: exact = FALSE")
-  effects <- effects_of(asked, table, exact)
-  effects_frame(chosen_cells(effects, wanted_cells(effects, table, asked)), table)
+  narrow <- narrowed(asked, table)
+  effects <- effects_of(narrow$asked, narrow$table, exact)
+  effects_frame(chosen_cells(effects, wanted_cells(effects, narrow$table, narrow$asked)), narrow$table)
 }
 
 # The table of counts that an effect is computed over, with the free variables at their level.
@@ -124,7 +125,14 @@ remedies <- function(asked, set = NULL) {
   tried <- c(if (!asked$zero) "zero = TRUE", if (is.null(asked$set) && !asked$short) "short = TRUE")
   other <- if (is.null(set)) "another `set` of adjustment_sets()" else paste0("set = ", paste(deparse(set, width.cutoff = 500), collapse = " "), " (it has a value)")
   paste0("What may help: ", if (length(tried)) paste0(paste(tried, collapse = ", "), ", "), other, ", fewer classes; ",
-         "support() shows where records lack, estimate() fills in by models, and bounds_effect() says what the effect is at least and at most")
+         "support() shows where records lack, estimate() fills in by models, and bounds_effect(", bounds_words(asked), ") says what the effect is at least and at most")
+}
+
+# The set to adjust for that the formula sums over, as `bounds_effect` takes it.
+bounds_words <- function(asked) {
+  set <- if (!is.null(asked$set)) as.character(asked$set) else if (!length(asked$given) && length(asked$x)) summed_set(asked)
+  if (is.null(asked$set) && !is.null(set) && !adjusts(asked$diagram, set, asked$x, asked$y)$holds) set <- NULL
+  if (is.null(set)) "" else paste0("set = ", paste(deparse(set, width.cutoff = 500), collapse = " "))
 }
 
 level_of <- function(table, name, code) table$levels[[name]][as.integer(code)]
@@ -146,7 +154,7 @@ effects_frame <- function(effects, table) {
   columns <- c(columns_of(effects$x, table), columns_of(effects$given, table), columns_of(effects$y, table))
   columns <- c(columns, list(estimate = values_of(effects)), effects[names(effects) %in% c("fraction", "from", "to")])
   structure(frame_of(columns), class = c("causal_effects", "data.frame"), pinned = levels_at(table, effects$pinned), dropped = table$dropped,
-            weighted = !is.null(table$survey))
+            weighted = !is.null(table$survey), strata = table$strata)
 }
 
 columns_of <- function(cells, table) {

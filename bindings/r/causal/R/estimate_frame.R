@@ -39,7 +39,7 @@ mean_measures <- list(
 # By influence functions where they are known and no resamples are asked for; else by resamples, unless there are to be none.
 interval_kind <- function(interval, resamples, has_moves) {
   if (identical(interval, "influence") && !has_moves)
-    refuse("influence functions are known of the package's own regressions over a set; interval = \"percentile\" draws the records anew")
+    refuse("influence functions are known of the package's own regressions with few coefficients; interval = \"percentile\" draws the records anew")
   if (!is.null(interval)) return(if (interval == "percentile" && identical(as.numeric(resamples), 0)) "none" else interval)
   if (has_moves && (is.null(resamples) || resamples == 0)) "influence" else if (identical(as.numeric(resamples), 0)) "none" else "percentile"
 }
@@ -106,8 +106,10 @@ measure_row <- function(measure, name, values, draws, shares, table, level) {
 # The variance of a weighted mean of numbers, one for each row of the table: between the clusters of each stratum.
 design_variance <- function(share, table) {
   if (is.null(table$survey)) {
-    size <- sum(table$counts)
-    return(sum(table$counts * share^2) / (size * (size - 1)))
+    # (of several studies each by itself)
+    of <- if (is.null(table$source_of)) rep(1L, length(share)) else table$source_of
+    sums <- rowsum(cbind(table$counts * (share / sum(table$counts))^2, table$counts), of)
+    return(sum(sums[, 1] * sums[, 2] / (sums[, 2] - 1)))
   }
   units <- design_units(table$survey)
   weights <- if (is.null(table$survey$weights)) rep(1, length(table$survey$row)) else table$survey$weights

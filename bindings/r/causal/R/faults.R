@@ -98,5 +98,5 @@ sentence_text <- function(fault) {
 
 cell_text <- function(fault) {
   at <- if (is.null(fault$condition)) fault$cell else fault$condition
-  if (!is.null(at)) paste0(": ", fault$expression, " node ", fault$node, " at ", paste0(names(at), "=", at, collapse = ", "))
+  if (!is.null(at)) paste0(": ", fault$expression, " node ", fault$node, " at ", paste0(names(at), "=", printed_level(as.character(at)), collapse = ", "))
 }

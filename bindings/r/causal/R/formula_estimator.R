@@ -24,18 +24,77 @@ formula_estimator <- function(asked, table, arms, targets, options) {
   cells <- lapply(arms, cells_of)
   answer <- function(weights) {
     fits <- lapply(scope$models, function(model) model$fit(if (is.null(table$source_of)) weights else weights * (table$source_of == model$source)))
-    values <- if (length(drawn)) simulated_values(scope, fits, weights, cells) else summed_values(scope, fits, cells)
+    values <- if (length(drawn)) simulated_values(scope, fits, weights, cells)
+              else lapply(summed_values(scope, lapply(predicted_tables(scope, fits), `[[`, "values"), cells), function(values) values[, 1])
     list(values = values, fits = fits)
   }
-  list(answer = answer, models = scope$models, conditions = conditions, has_moves = function(point) FALSE, drawn = drawn)
+  has_moves <- function(point) !length(drawn) && all(vapply(point$fits, function(fit) is.function(fit$moves), NA)) && predicted_size(scope) <= 4000
+  list(answer = answer, models = scope$models, conditions = conditions, has_moves = has_moves, drawn = drawn,
+       moves = function(weights, point) tree_moves(scope, point$fits, weights, cells))
 }
 
-# The values of both arms by the arithmetic of tables.
-summed_values <- function(scope, fits, cells) {
-  evaluator <- list(sizes = scope$sizes, tables = 1, zero = TRUE, present = function(name) NULL,
-                    term = function(of, given, do) term_by_models(of, given, do, scope, fits))
+# The rows at which a model is asked: each combination of levels of what it is given.
+rows_of_step <- function(model, scope) {
+  grid <- as.matrix(expand.grid(lapply(scope$sizes[model$order], seq_len)))
+  if (!length(model$order)) grid <- matrix(0L, 1, 0)
+  colnames(grid) <- model$order
+  if (isTRUE(model$by_codes)) model$rows(grid) else model$rows(model_rows(scope$table, grid))
+}
+
+# What each model says there: a column for each level, or one for a mean.
+predicted_tables <- function(scope, fits) {
+  keys <- names(scope$models)
+  lapply(stats::setNames(keys, keys), function(key) {
+    rows <- rows_of_step(scope$models[[key]], scope)
+    list(rows = rows, values = fits[[key]]$predict(rows))
+  })
+}
+
+# How many numbers these are at most.
+predicted_size <- function(scope) sum(vapply(scope$models, function(model) prod(scope$sizes[c(model$order, model$name)]), 0))
+
+# The values of both arms by the arithmetic of tables, a column for each of `columns` tables. `values` are what the models say, each a
+# matrix of one table, or a row for each number of it and a column for each table.
+summed_values <- function(scope, values, cells, columns = 1) {
+  evaluator <- list(sizes = scope$sizes, tables = columns, zero = TRUE, present = function(name) NULL,
+                    term = function(of, given, do) term_by_models(of, given, do, scope, values, columns))
   factor <- trees_factor(scope$asked$trees, evaluator)
-  lapply(cells, function(cells) at_cells(factor, cells, scope$sizes)[, 1])
+  lapply(cells, function(cells) at_cells(factor, cells, scope$sizes))
+}
+
+# How the value of each arm moves with the weight of each row, times the sum of the weights: by what each model says at each combination of
+# levels, which is changed a little, all at once, and by how that moves with the model's coefficients, and these with the weights.
+tree_moves <- function(scope, fits, weights, cells) {
+  predicted <- predicted_tables(scope, fits)
+  found <- lapply(cells, function(cells) matrix(0, length(weights), nrow(cells)))
+  for (key in names(predicted)) {
+    slopes <- slopes_at(scope, lapply(predicted, `[[`, "values"), key, cells)
+    moved <- fits[[key]]$moves()
+    if (!is.null(scope$table$source_of)) moved <- moved * (scope$table$source_of == scope$models[[key]]$source)
+    for (arm in names(cells)) for (cell in seq_len(ncol(found[[arm]]))) {
+      own <- matrix(slopes[[arm]][cell, ], nrow(predicted[[key]]$values))
+      slope <- Reduce(`+`, lapply(seq_len(ncol(own)), function(k) fits[[key]]$slope(predicted[[key]]$rows, own[, k], k)))
+      found[[arm]][, cell] <- found[[arm]][, cell] + sum(weights) * drop(moved %*% slope)
+    }
+  }
+  found
+}
+
+# How the values of both arms move with each number that one model says.
+slopes_at <- function(scope, values, key, cells) {
+  numbers <- as.vector(values[[key]])
+  step <- 1e-5
+  room <- max(1, floor(1e6 / largest_node(scope$asked$trees, scope$sizes)))
+  blocks <- split(seq_along(numbers), (seq_along(numbers) - 1) %/% room)
+  parts <- lapply(blocks, function(block) {
+    changed <- function(by) {
+      own <- matrix(numbers, length(numbers), length(block))
+      own[cbind(block, seq_along(block))] <- numbers[block] + by
+      summed_values(scope, replace(values, key, list(own)), cells, length(block))
+    }
+    Map(function(above, below) (above - below) / (2 * step), changed(step), changed(-step))
+  })
+  lapply(stats::setNames(names(cells), names(cells)), function(arm) do.call(cbind, lapply(parts, `[[`, arm)))
 }
 
 # The models of all terms, by their keys. What is drawn has its own.
@@ -115,19 +174,15 @@ condition_cells <- function(asked, table) {
 # The names that a tree sums over, or gives.
 summed_or_given <- function(tree) c(texts(tree$sum), texts(tree$given), unlist(lapply(inner_trees(tree), summed_or_given)))
 
-term_by_models <- function(of, given, do, scope, fits) {
-  product <- new_factor(character(), matrix(1, 1, 1))
+term_by_models <- function(of, given, do, scope, values, columns) {
+  product <- new_factor(character(), matrix(1, 1, columns))
   arithmetic <- list(sizes = scope$sizes, zero = TRUE)
   for (step in steps_of(list(of = of, given = given, do = do), scope)) {
-    model <- scope$models[[step$key]]
-    wide <- model$order
-    grid <- as.matrix(expand.grid(lapply(scope$sizes[wide], seq_len)))
-    if (!length(wide)) grid <- matrix(0L, 1, 0)
-    colnames(grid) <- wide
-    rows <- if (isTRUE(model$by_codes)) model$rows(grid) else model$rows(model_rows(scope$table, grid))
-    values <- fits[[step$key]]$predict(rows)
+    wide <- scope$models[[step$key]]$order
     is_mean <- scope$targets$mean && step$name == scope$asked$y
-    product <- product_factor(product, new_factor(if (is_mean) wide else c(wide, step$name), matrix(as.vector(values))), arithmetic)
+    own <- as.vector(values[[step$key]])
+    rows <- prod(scope$sizes[if (is_mean) wide else c(wide, step$name)])
+    product <- product_factor(product, new_factor(if (is_mean) wide else c(wide, step$name), matrix(own, rows, columns)), arithmetic)
   }
   product
 }

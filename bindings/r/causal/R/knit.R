@@ -31,6 +31,6 @@ knit_methods <- c(
   list(causal_formula = knit_formula),
   sapply(c("causal_answer", "causal_diagram", "causal_path"), function(class) knit_text, simplify = FALSE),
   sapply(c("causal_effects", "causal_contrast", "causal_means", "causal_spread", "causal_implications", "causal_tests",
-           "causal_estimate", "causal_support", "causal_comparison", "causal_paths", "causal_bounds"),
+           "causal_estimate", "causal_mediation", "causal_support", "causal_comparison", "causal_paths", "causal_bounds"),
          function(class) knit_table, simplify = FALSE)
 )

@@ -31,13 +31,19 @@ latex_sum <- function(names) {
   paste0("\\sum_{", if (length(lines) > 1) paste0("\\substack{", paste(lines, collapse = " \\\\ "), "}") else lines, "} ")
 }
 
-# A term, in pieces where its condition is long.
+# A term, in pieces where it is long.
 term_pieces <- function(of, do, given) {
   whole <- latex_term(of, do, given)
-  if (latex_width(whole) <= 50 || length(given) < 2) return(whole)
-  lines <- names_in_lines(given, 40)
-  lines[1] <- paste0("P(", latex_names(of), " \\mid ", if (length(do)) paste0("\\mathrm{do}(", latex_names(do), "), "), lines[1])
-  replace(lines, length(lines), paste0(lines[length(lines)], ")"))
+  if (latex_width(whole) <= 50) return(whole)
+  pieces <- names_in_lines(of, 40)
+  last <- length(pieces)
+  if (length(do) || length(given)) {
+    done <- if (length(do)) paste0(" \\mathrm{do}(", latex_names(do), ")", if (length(given)) ",")
+    pieces[last] <- paste0(pieces[last], " \\mid", done)
+    if (length(given)) pieces <- c(pieces, names_in_lines(given, 40))
+  }
+  pieces[1] <- paste0("P(", pieces[1])
+  replace(pieces, length(pieces), paste0(pieces[length(pieces)], ")"))
 }
 
 # The pieces of a tree, between which a line may be broken.
@@ -71,7 +77,7 @@ latex_lines <- function(pieces, width, used = 0) {
   lines <- character()
   at <- ""
   for (piece in pieces) {
-    if (nzchar(at) && latex_width(at) + latex_width(piece) > width - if (length(lines)) 0 else used) {
+    if ((nzchar(at) || used > 0 && !length(lines)) && latex_width(at) + latex_width(piece) > width - if (length(lines)) 0 else used) {
       lines <- c(lines, at)
       at <- piece
     } else at <- trimws(paste(at, piece))
@@ -79,16 +85,16 @@ latex_lines <- function(pieces, width, used = 0) {
   c(lines, at)
 }
 
-# The equations of a formula: the effect, then the definitions, as lines of an environment `aligned`.
+# The equations of a formula: the effect, then the definitions, as lines of an environment `aligned`: at the signs of equality, or where some
+# equation has more lines at the left.
 latex_equations <- function(formula, width = 55) {
   trees <- formula$trees
   last <- length(trees)
   left <- c(latex_term(formula$parts$y, formula$parts$x, formula$parts$given), paste0("q_{", seq_len(last - 1) - 1, "}", recycle0 = TRUE))
-  equation <- function(left, tree) {
-    lines <- latex_lines(latex_pieces(tree), width, latex_width(left))
-    c(paste0(left, " &= ", lines[1]), paste0("&\\quad ", lines[-1], recycle0 = TRUE))
-  }
-  rows <- unlist(mapply(equation, left, trees[c(last, seq_len(last - 1))], SIMPLIFY = FALSE), use.names = FALSE)
+  sides <- mapply(function(left, tree) latex_lines(latex_pieces(tree), width, latex_width(left)), left, trees[c(last, seq_len(last - 1))], SIMPLIFY = FALSE)
+  rows <- if (all(lengths(sides) == 1)) paste0(left, " &= ", unlist(sides))
+          else unlist(Map(function(left, lines) c(trimws(paste0("&", left, " = ", lines[1]), "right"), paste0("&\\quad ", lines[-1], recycle0 = TRUE)), left, sides))
+  rows <- unname(rows)
   c("\\begin{aligned}", paste0(rows, ifelse(seq_along(rows) < length(rows), " \\\\", "")), "\\end{aligned}")
 }
 

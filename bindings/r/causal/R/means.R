@@ -37,7 +37,7 @@ means_frame <- function(drawn, control) {
   structure(frame_of(columns), class = c("causal_means", "causal_rows", "data.frame"), outcome = outcome, level = drawn$level,
             resamples = nrow(drawn$drawn), interval = drawn$kind, without_value = lost, seed = drawn$seed,
             control = levels_at(table, effects$x[[rows[reference[1]]]]), pinned = levels_at(table, effects$pinned), dropped = table$dropped,
-            weighted = !is.null(table$survey), frequencies = frequency_note(table))
+            weighted = !is.null(table$survey), frequencies = frequency_note(table), strata = table$strata)
 }
 
 # The difference of an arm from itself has no interval, and nothing is said of it.

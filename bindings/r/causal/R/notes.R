@@ -4,7 +4,7 @@
 head_notes <- function(x) {
   pinned <- attr(x, "pinned")
   c(character(), if (length(pinned)) paste0("pinned: ", level_text(pinned), " (in the population every level gives the same)"),
-    if (isTRUE(attr(x, "weighted"))) "weighted; the value is that of the weights, rounded to some 12 digits of their sum",
+    attr(x, "strata"), if (isTRUE(attr(x, "weighted"))) "weighted; the value is that of the weights, rounded to some 12 digits of their sum",
     if (isTRUE(attr(x, "dropped") > 0)) paste("records left out for missing values:", format(attr(x, "dropped"), big.mark = ",")))
 }
 
@@ -54,7 +54,10 @@ interval_note <- function(x) {
          " had no value", if (!is.null(attr(x, "seed"))) paste0("; seed ", attr(x, "seed")))
 }
 
-level_text <- function(levels) paste0(names(levels), "=", vapply(levels, function(level) replace(as.character(level), is.na(level), "NA"), ""), collapse = ", ")
+level_text <- function(levels) {
+  texts <- vapply(levels, function(level) replace(as.character(level), is.na(level), "NA"), "")
+  paste0(names(levels), "=", printed_level(texts), collapse = ", ")
+}
 
 # Columns whose levels print alike, as texts that don't.
 shown_levels <- function(x) {

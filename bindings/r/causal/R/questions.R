@@ -143,6 +143,21 @@ adjusts <- function(diagram, set, x = NULL, y = NULL, back_door = FALSE) {
   new_answer("causal_adjustment", read_adjustment(object_of(told)), told, diagram)
 }
 
+instruments <- function(diagram, x = NULL, y = NULL, most = 100) {
+  diagram <- as_causal_diagram(diagram)
+  check_whole("most", most, 1, 10000)
+  told <- ask("instruments", diagram, c(option("x", x), option("y", y), "--most", format(most, scientific = FALSE)))
+  new_answer("causal_instruments", read_instruments(object_of(told)), told, diagram)
+}
+
+as.list.causal_instruments <- function(x, ...) x$strata
+
+# A row for each vertex and set; the empty set is one too.
+as.data.frame.causal_instruments <- function(x, ...) {
+  sets <- unlist(unname(x$strata), recursive = FALSE)
+  frame_of(list(instrument = rep(names(x$strata), lengths(x$strata)), strata = vapply(sets, cell_or_set, "")))
+}
+
 equivalent <- function(diagram, other, x = NULL, y = NULL, given = NULL) {
   diagram <- as_causal_diagram(diagram)
   other <- as_causal_diagram(other)

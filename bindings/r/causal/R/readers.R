@@ -100,6 +100,15 @@ printed <- function(names) {
   replace(names, is_quoted, paste0("\"", names[is_quoted], "\"", recycle0 = TRUE))
 }
 
+# Levels as the library prints them: between quotation marks where they have one, or a line break.
+printed_level <- function(levels) {
+  breaks <- grep("[\n\r\"]", levels)
+  texts <- levels[breaks]
+  for (sign in c("\\", "\"")) texts <- gsub(sign, paste0("\\", sign), texts, fixed = TRUE)
+  texts <- gsub("\r", "\\r", gsub("\n", "\\n", texts, fixed = TRUE), fixed = TRUE)
+  replace(levels, breaks, paste0("\"", texts, "\"", recycle0 = TRUE))
+}
+
 # P(of|do(do),given) as the library prints it.
 term_text <- function(of, do = character(), given = character()) {
   several <- function(names) paste(printed(names), collapse = ",")
@@ -133,10 +142,12 @@ read_rule <- function(object) {
        path = read_path(object$open))
 }
 
-# A formula: the effect, the main expression, the definitions, the free variables, and all that in LaTeX.
+# A formula: the effect, the main expression, the definitions, the free variables, and all that in LaTeX: by its trees, and as the library
+# prints it.
 read_formula <- function(object) {
+  parts <- list(y = texts(object$y), x = texts(object$x), given = c(texts(object$given), texts(object$observed)))
   list(target = object$effect, expression = object$formula, definitions = texts(object$definitions), free = texts(object$free),
-       latex = lines_of(object$latex))
+       latex = latex_equations(list(trees = read_trees(object), parts = parts)), printed_latex = lines_of(object$latex))
 }
 
 # The trees of the same, that of the main expression last.
@@ -211,6 +222,13 @@ read_adjustment <- function(object) {
   answer$path <- read_path(object$open)
   answer$forbidden <- text_in(object$forbidden)
   answer
+}
+
+# The instruments with their sets of strata, and those of which there are more. The object also has the vertices without a set.
+read_instruments <- function(object) {
+  found <- Filter(function(it) length(it$strata) > 0, object$instruments)
+  names <- texts(lapply(found, `[[`, "vertex"))
+  list(strata = stats::setNames(lapply(found, function(it) lapply(it$strata, texts)), names), more = names[vapply(found, function(it) it$more, NA)])
 }
 
 # Whether two graphs are equivalent, with what both say of the sets that were asked about; or the first difference with its

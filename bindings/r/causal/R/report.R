@@ -63,7 +63,7 @@ report_parts <- function(diagram, data, x, y, treated, control, outcome, set, co
     part("Support", support_part(diagram, data, x, y, set, count, missing)),
     part("Crude comparison", list(compare(crude, character()))),
     part("Effect", list(adjusted(), paste("Each value of a probability is proved to be that of the formula over the counts,",
-                                          "where the formula has one without 'zero'.",
+                                          "or where it has none without 'zero', its value by that rule.",
                                           "Differences, ratios and intervals are computed."))),
     part("By models", models_part(diagram, data, x, y, treated, control, outcome, set, count, missing)),
     part("Bounds", list(bounds(), told_bounds)),

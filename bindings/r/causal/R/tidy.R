@@ -17,6 +17,7 @@ tidy_methods <- list(
     frame_of(list(set = rep(names(sets), lengths(sets)), term = unlist(sets, use.names = FALSE)))
   },
   causal_sets = function(x, ...) stats::setNames(as.data.frame(x), c("set", "term")),
+  causal_instruments = function(x, ...) as.data.frame(x),
   causal_implications = function(x, ...) as.data.frame(x),
   causal_tests = function(x, ...) {
     frame_of(list(a = x$a, b = x$b, given = as.character(x$given), estimate = x$effect_size, statistic = x$statistic, parameter = x$df,
@@ -29,6 +30,7 @@ tidy_methods <- list(
   causal_contrast = function(x, ...) broom_names(x),
   causal_means = function(x, ...) broom_names(x),
   causal_estimate = function(x, ...) broom_names(x),
+  causal_mediation = function(x, ...) broom_names(x),
   causal_support = function(x, ...) as.data.frame(x),
   causal_bounds = function(x, ...) as.data.frame(x),
   causal_comparison = function(x, ...) broom_names(x),
@@ -50,6 +52,7 @@ glance_methods <- list(
   },
   causal_stopped = function(x, ...) frame_of(list(target = x$target, identifiable = FALSE, district = cell_or_set(x$district))),
   causal_sets = function(x, ...) frame_of(list(sets = length(x$sets), complete = !x$more)),
+  causal_instruments = function(x, ...) frame_of(list(instruments = length(x$strata), complete = !length(x$more))),
   causal_implications = function(x, ...) {
     frame_of(list(pairs = nrow(x), nonzero = if (is.null(x$exact)) NA_integer_ else sum(x$exact != "0"), dropped = dropped_from(x)))
   },
@@ -72,6 +75,7 @@ glance_methods <- list(
                   models = paste(attr(x, "models")$model, collapse = "; "), conf.level = attr(x, "level"), conf.method = attr(x, "interval"),
                   resamples = attr(x, "resamples"), without_value = attr(x, "lost"), nobs = attr(x, "records"), dropped = dropped_from(x)))
   },
+  causal_mediation = function(x, ...) frame_of(c(list(outcome = attr(x, "outcome"), through = cell_or_set(attr(x, "through"))), of_intervals(x))),
   causal_support = function(x, ...) frame_of(c(lacking_support(x), list(dropped = dropped_from(x)))),
   causal_bounds = function(x, ...) frame_of(list(cells = nrow(x), widest = max(x$at_most - x$at_least), dropped = dropped_from(x))),
   causal_comparison = function(x, ...) frame_of(list(ways = nrow(x), agree = !length(apart_sets(x)), complete = !isTRUE(attr(x, "more"))))

@@ -11,7 +11,7 @@
 bounds_effect(diagram, data, x = NULL, y = NULL, given = NULL,
               instrument = NULL, strata = NULL, count = NULL,
               exact = FALSE, missing = c("error", "drop", "level"),
-              treated = NULL, control = NULL, outcome = NULL)
+              treated = NULL, control = NULL, outcome = NULL, set = NULL)
 
 \method{print}{causal_bounds}(x, ...)
 \method{as.data.frame}{causal_bounds}(x, ...)
@@ -25,6 +25,9 @@ bounds_effect(diagram, data, x = NULL, y = NULL, given = NULL,
   \item{instrument}{names of variables on which the exposures don't act, and that go with the outcomes through the exposures alone, as the
     arm that was assigned in a trial; \code{NULL} for the natural bounds.}
   \item{strata}{names of variables in whose strata the instrument is one; the bounds are summed over them.}
+  \item{set}{names of a set to adjust for, which has to be admissible: a stratum that has records of an arm counts as the adjustment has
+    it, and one that lacks some leaves open what would have been seen there (\code{\link{evaluate}} has no value then). It goes with no
+    \code{given} and no \code{instrument}.}
   \item{count, exact, missing}{as in \code{\link{evaluate}}.}
   \item{treated, control, outcome}{as in \code{\link{contrast}}: with both arms the answer has a row for the risk in each and one for their
     difference, which is at least what the ends leave that are nearest, and at most those that are farthest apart.}
@@ -48,7 +51,7 @@ bounds_effect(diagram, data, x = NULL, y = NULL, given = NULL,
   \code{causal_no_model}, with the bounds that cross in \code{crossed}. Both are proved; in a sample small strata can make bounds cross by
   chance alone.
 }
-\seealso{\code{\link{identify_effect}}, \code{\link{evaluate}}}
+\seealso{\code{\link{instruments}}, \code{\link{identify_effect}}, \code{\link{evaluate}}}
 \examples{
 trial <- data.frame(assigned = rep(c("no", "yes"), c(2, 4)),
                     taken = rep(c("no", "yes"), c(4, 2)),

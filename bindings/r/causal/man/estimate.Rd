@@ -37,7 +37,7 @@ estimate(diagram, data, x = NULL, y = NULL, treated = NULL, control = NULL,
   \item{resamples}{how many resamples are drawn for percentile intervals: 200 by default, 0 for none.}
   \item{interval}{\code{"influence"} for intervals by influence functions, also by way of the models' fits: of risks on their logit, of
     ratios on their logarithm; or \code{"percentile"} for the bootstrap, in which the models are fitted anew. By default the first, where it
-    is there (regressions over a set) and no \code{resamples} are asked for.}
+    is there (models of the package's own with few coefficients, and no number that is drawn) and no \code{resamples} are asked for.}
   \item{factors}{names of numbers that are categories. Exposures with three to ten levels are so too, but in formulas that are given.}
   \item{smoothing}{for a \code{"table"}: how many records are added to each combination of what is given, with all levels alike.}
   \item{observed}{a level of the exposure: the effect among those for whom it was observed, by the formula of

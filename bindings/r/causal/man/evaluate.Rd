@@ -59,9 +59,12 @@ evaluate(diagram, data, x = NULL, y = NULL, count = NULL, exact = FALSE,
   With \code{short} the formula often reads fewer columns, and asks for fewer combinations of levels that have a record. In the
   population its value is the same; over a sample it may be another, and one formula may have a value where the other has none.
 
+  With \code{zero} a sum over a set is one over its strata that occur. Where all combinations of levels are more than a formula reads
+  (2^20), the set is one variable with these strata as its levels, and a note says so; what is proved then is of that variable's formula.
+
   \strong{What is proved}, of each value: it is the value of the formula of \code{\link{identify_effect}}, or of that of the set,
-  over the counts that the library was given (the fraction exactly; the bounds enclose it), where the formula has one without \code{zero}; where it hasn't, it is the formula's by
-  that rule, and no more is proved of it. And it equals the effect, or its bounds enclose it, in each
+  over the counts that the library was given (the fraction exactly; the bounds enclose it), where the formula has one without \code{zero}; where it hasn't, it is the formula's
+  value by that rule. And it equals the effect, or its bounds enclose it, in each
   positive model that fits the diagram and that the counts match. \strong{What is only computed} or tested: that the data frame
   became these counts, and \code{estimate}, the nearest number of R.
 

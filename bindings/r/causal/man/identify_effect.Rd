@@ -42,7 +42,7 @@ is_identifiable(diagram, x, y)
 
   With \code{given} the formula is one for the conditional effect. Where there is none, the hedge is one of a joint effect, by
   which that can't be computed from observations; and no formula over observations equals the conditional effect in every model.
-  Where the answer is \code{settled}, the two printed models differ on the conditional effect too; else no two that do are shown.
+  Where the answer is \code{settled}, the two printed models differ on the conditional effect too; else two other models do, which aren't shown.
 
   \code{is_identifiable} gives \code{TRUE} or \code{FALSE} alone, and so is the fastest for many questions about one diagram.
   Proved: \code{TRUE} comes exactly where a formula equals the effect in every positive finite model of the observed graph, and
@@ -52,7 +52,8 @@ is_identifiable(diagram, x, y)
 }
 \value{
   For a formula a list of the class \code{causal_formula}: \code{identifiable} (\code{TRUE}), \code{target},
-  \code{expression}, \code{definitions}, \code{free}, \code{latex} (lines; \code{toLatex} gives them too), \code{certificate}
+  \code{expression}, \code{definitions}, \code{free}, \code{latex} (lines of the environment \code{aligned} of amsmath; \code{toLatex}
+  displays them), \code{printed_latex} (the lines of \code{causal identify --latex}), \code{certificate}
   and the printed \code{text}.
 
   For a hedge a list of the class \code{causal_hedge}: \code{identifiable} (\code{FALSE}), \code{target}, the sets \code{big},

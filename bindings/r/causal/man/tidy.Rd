@@ -19,7 +19,8 @@
     \item of \code{\link{test_implications}}: \code{a}, \code{b}, \code{given}, \code{estimate} (Cramer's V), \code{statistic},
       \code{parameter} (the degrees of freedom), \code{p.value}, \code{adj.p.value} (after Holm), \code{method}, \code{largest},
       and \code{rmsea} with \code{rmsea.low} and \code{rmsea.high};
-    \item of \code{\link{implications}}, \code{\link{support}}, \code{\link{bounds_effect}} and \code{\link{paths}}: its plain data frame;
+    \item of \code{\link{implications}}, \code{\link{instruments}}, \code{\link{support}}, \code{\link{bounds_effect}} and
+      \code{\link{paths}}: its plain data frame;
     \item of a formula: \code{term} (the effect, then \code{q0}, \code{q1} and so on) and \code{expression}; of a hedge: \code{set}
       and \code{term}, a row for each vertex of each of its sets; of \code{\link{adjustment_sets}}: \code{set} and \code{term};
     \item of any other answer: \code{holds} (\code{NA} where it isn't yes or no), the open \code{path} that shows it, or \code{NA},

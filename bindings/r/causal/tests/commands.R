@@ -135,7 +135,7 @@ formula <- identify_effect("dag { Z -> X Z -> Y X -> Y }", "X", "Y", given = "Z"
 words <- c("identify", "diagram", "--x", "\"X\"", "--y", "\"Y\"", "--given", "\"Z\"")
 same(asked[[1]]$words, c(words, "--certificate", "--json"))
 same(length(asked), 1L)
-same(c(formula$target, formula$expression, formula$latex), c("P(Y|do(X),Z)", "P(Y|Z,X)", "P(Y) = q_0", "q_0 = P(Y \\mid X)"))
+same(c(formula$target, formula$expression, formula$printed_latex), c("P(Y|do(X),Z)", "P(Y|Z,X)", "P(Y) = q_0", "q_0 = P(Y \\mid X)"))
 same(formula$certificate, "{\"answer\":\"formula\"}")
 hedge_of <- function(given, effect, y) no('{"answer":"hedge","y":["Y"],"x":["X"],"given":', given, ',"effect":"', effect, '","joint":{"y":', y, ',"x":["X"]},', sets, ",", models)
 answering(hedge_of("[\"Z\"]", "P(Y|do(X),Z)", "[\"Y\",\"Z\"]"), "P(Y|do(X),Z) not identified; P(Y,Z|do(X)) is not identifiable\nhedge {X,Y} over {Y} with roots {Y}\ncause 0")
@@ -161,7 +161,7 @@ answering(by_set, by_set)
 answer <- adjusts("dag { D -> \"X 1\" -> Y }", "D", "X 1", "Y")
 words <- c("adjust", "diagram", "--x", "\"X 1\"", "--y", "\"Y\"", "--set", "\"D\"", "--json")
 same(asked[[1]]$words, words)
-same(c(answer$target, answer$expression, answer$latex), c("P(Y|do(\"X 1\"))", "sum{D} P(D) * P(Y|\"X 1\",D)", "P"))
+same(c(answer$target, answer$expression, answer$printed_latex), c("P(Y|do(\"X 1\"))", "sum{D} P(D) * P(Y|\"X 1\",D)", "P"))
 same(list(answer$definitions, answer$free), list(character(), character()))
 asked_of <- getFromNamespace("asked_of", "causal")
 found <- asked_of("dag { D -> \"X 1\" -> Y }", "X 1", "Y", set = "D")
@@ -177,3 +177,19 @@ same(c(conditionMessage(caught), caught$hedge$certificate, caught$hedge$text),
               "bounds_effect() says what the effect is at least and at most"), "{\"answer\":\"hedge\"}", "a text"))
 same(lapply(asked, `[[`, "words"), list(c("identify", "diagram", "--x", "\"X\"", "--y", "\"Y\"", "--certificate", "--json"),
                                         c("identify", "diagram", "--x", "\"X\"", "--y", "\"Y\"")))
+
+# Bounds by a set
+stones <- data.frame(S = rep(c("small", "large"), c(4, 2)), T = c("A", "A", "B", "B", "A", "A"), R = rep(1:0, 3), n = c(81, 6, 234, 36, 192, 71))
+bound <- function(arm, low, high) paste0('{"x":[["T","', arm, '"]],"y":[["R","1"]],"given":[],"at_least":"', low, '","at_most":"', high, '"}')
+answering(lacks("S"), lacks("T"), lacks("R"), empty, empty,
+          paste0('{"answer":"bounds","exact":true,"x":["T"],"y":["R"],"given":[],"set":["S"],"cells":[', bound(1, "15207/17980", "15207/17980"), ",",
+                 bound(2, "1547/3100", "1431/1550"), "]}"))
+found <- bounds_effect("dag { S -> T S -> R T -> R }", stones, "T", "R", set = "S", count = "n", exact = TRUE)
+same(asked[[6]]$words, c("bounds", "diagram", "counts", "--x", "\"T\"", "--y", "\"R\"", "--set", "\"S\"", "--count", "count", "--exact", "--json"))
+same(found$at_least_exact, c("15207/17980", "1547/3100"))
+stopifnot(found$at_least[2] < found$at_most[2])
+answering(lacks("T"), lacks("R"), empty, empty,
+          no('{"answer":"not admissible","x":["T"],"y":["R"],"set":[],"open":{"vertices":["R","S","T"],"marks":["<-","->"]}}'))
+found <- bounds_effect("dag { S -> T S -> R T -> R }", stones, "T", "R", set = character(), count = "n")
+stopifnot(inherits(found, "causal_adjustment"), !found$holds, found$path$text == "R <- S -> T")
+stopifnot(refused(bounds_effect("dag { S -> T S -> R T -> R }", stones, "T", "R", set = "S", given = "S", count = "n")))

@@ -13,6 +13,7 @@ surrogate <- surrogate("dag { X [exposure] Y [outcome] Z -> X -> Y Z <-> X Z <->
 stopifnot(grepl("P(Y \\mid \\mathrm{do}(X)) &= P(Y \\mid \\mathrm{do}(Z), X)", methods$causal_formula(surrogate), fixed = TRUE))
 stopifnot(grepl("```\ncausal diagram of 3 vertices\ndag {", methods$causal_diagram(stones), fixed = TRUE))
 stopifnot(grepl("not separated: {T} from {S} given {}", methods$causal_answer(separated(stones, "T", "S")), fixed = TRUE))
+stopifnot(grepl("```\nZ given {}\n```", methods$causal_answer(instruments("dag { Z -> X -> Y X <-> Y }", "X", "Y")), fixed = TRUE))
 
 table <- strsplit(methods$causal_contrast(contrast(stones, kidney_stones, treated = "A", control = "B", count = "count", resamples = 9, seed = 1)), "\n")[[1]]
 stopifnot(startsWith(table[2], "| R | treated | control | measure | estimate |"), table[3] == paste0("|", strrep("---|", 8)))

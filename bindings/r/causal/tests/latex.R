@@ -10,6 +10,8 @@ diagrams <- list(
   identify_effect("dag { X -> M -> Y X <-> Y }", "X", "Y"),
   identify_effect(paste0("dag { \"", odd, "\" -> Y }"), odd, "Y"),
   identify_effect(paste("dag { statin [exposure] infarction [outcome] statin -> infarction", paste0('"', names, '" -> statin "', names, '" -> infarction', collapse = " "), "}")),
+  identify_effect(paste("dag { statin [exposure] infarction [outcome] statin -> infarction", paste0('"', names, '" -> statin "', names, '" -> infarction', collapse = " "), "}"), short = TRUE),
+  identify_effect(paste("dag { statin [exposure] infarction [outcome] statin -> pressure -> infarction statin <-> infarction", paste0('"', names, '" -> statin "', names, '" -> infarction "', names, '" -> pressure', collapse = " "), "}"), short = TRUE),
   identify_effect("dag { X -> Y -> Z }", "X", "Y", given = "Z"),
   surrogate("dag { X [exposure] Y [outcome] Z -> X -> Y Z <-> X Z <-> Y }", experiments = "Z"))
 lines <- lapply(diagrams, toLatex)

@@ -86,7 +86,8 @@ same(unclass(toLatex(formula)), c("\\[", "\\begin{aligned}", "P(Y \\mid \\mathrm
 napkin <- identify_effect("dag { W -> Z -> X -> Y W <-> X W <-> Y }", x = "X", y = "Y")
 same(napkin$free, "Z")
 same(napkin$definitions, "sum{W} P(W) * P(X|W,Z) * P(Y|W,Z,X)")
-same(length(napkin$latex), 2L)
+same(length(napkin$printed_latex), 2L)
+same(napkin$latex[c(1, 4)], c("\\begin{aligned}", "\\end{aligned}"))
 hedge <- identify_effect("dag { X [exposure] Y [outcome] X -> Y X <-> Y }")
 stopifnot(inherits(hedge, "causal_hedge"), !hedge$identifiable, startsWith(hedge$certificate, "{\"answer\":\"hedge\""))
 same(hedge$difference, 0.125)
@@ -150,6 +151,18 @@ answer <- adjusts("dag { X -> Y X -> D }", "D", "X", "Y", back_door = TRUE)
 same(answer$forbidden, "D")
 answer <- adjusts("dag { X -> Y X -> D }", character(), "X", "Y")
 same(answer$expression, "P(Y|X)")
+
+# Instruments
+found <- instruments("dag { A -> Z A -> B -> Y Z -> X -> Y X <-> Y }", "X", "Y")
+same(found$text, "A given {B}\nZ given {A}\nZ given {B}")
+same(as.list(found), list(A = list("B"), Z = list("A", "B")))
+same(found$more, character())
+same(as.list(as.data.frame(found)), list(instrument = c("A", "Z", "Z"), strata = c("{B}", "{A}", "{B}")))
+same(instruments(found$diagram, "X", "Y", most = 1)$more, "Z")
+same(as.data.frame(instruments("dag { \"a b\" -> X -> Y X <-> Y }", "X", "Y"))$strata, "{}")
+none <- instruments("dag { X -> Y X <-> Y }", "X", "Y")
+same(list(none$text, length(none$strata), nrow(as.data.frame(none))), list("none", 0L, 0L))
+stopifnot(inherits(try(instruments("dag { X -> Y }", "X", "Y", most = 0), silent = TRUE), "try-error"))
 
 # Equivalence
 stopifnot(equivalent("dag{A->B->C}", fork)$holds)

@@ -35,7 +35,7 @@ check_effect <- function(diagram, names, x, y) {
   stopifnot(judged$accepted)
   if (answer$identifiable) {
     stopifnot(identical(judged$formula$expression, answer$expression), identical(judged$formula$free, answer$free))
-    stopifnot(length(answer$latex) == 1 + length(answer$definitions), all(answer$free %in% names))
+    stopifnot(length(answer$printed_latex) == 1 + length(answer$definitions), all(answer$free %in% names))
   } else {
     stopifnot(startsWith(answer$text, paste0(getFromNamespace("term_text", "causal")(y, x), " is not identifiable\n")))
     stopifnot(all(answer$big %in% names), all(answer$small %in% answer$big), all(answer$roots %in% answer$small), x %in% answer$big)

@@ -72,7 +72,8 @@ formula <- read("read_formula", '{"answer":"formula","y":["Y"],"x":["X"],"given"
                 '"definitions":["sum{W} P(W) * P(X|W,Z) * P(Y|W,Z,X)"],"free":["Z","v w"],"latex":"P(Y \\\\mid X) = q_{0}\\nq_{0} = P(Y)",',
                 '"tree":{"definition":0},"definition_trees":[]}')
 same(formula, list(target = "P(Y|do(X))", expression = "q0 / (sum{Y} q0)", definitions = "sum{W} P(W) * P(X|W,Z) * P(Y|W,Z,X)",
-                   free = c("Z", "v w"), latex = c("P(Y \\mid X) = q_{0}", "q_{0} = P(Y)")))
+                   free = c("Z", "v w"), latex = c("\\begin{aligned}", "P(Y \\mid \\mathrm{do}(X)) &= q_{0}", "\\end{aligned}"),
+                   printed_latex = c("P(Y \\mid X) = q_{0}", "q_{0} = P(Y)")))
 trees <- read("read_trees", '{"tree":{"definition":0},"definition_trees":[{"term":["A"],"do":[],"given":[]}]}')
 same(trees, list(list(term = list("A"), do = list(), given = list()), list(definition = 0)))
 
@@ -107,7 +108,8 @@ same(common[c("target", "district", "big", "difference")], list(target = "P(Y|do
 # check
 plain <- paste0('"effect":"P(Y|do(X))","formula":"P(Y|X)","definitions":[],"free":[],"latex":"P(Y \\\\mid X)",',
                 '"tree":{"term":["Y"],"do":[],"given":["X"]},"definition_trees":[]}')
-plain_formula <- list(target = "P(Y|do(X))", expression = "P(Y|X)", definitions = character(), free = character(), latex = "P(Y \\mid X)")
+plain_formula <- list(target = "P(Y|do(X))", expression = "P(Y|X)", definitions = character(), free = character(),
+                      latex = c("\\begin{aligned}", "P(Y \\mid \\mathrm{do}(X)) &= P(Y \\mid X)", "\\end{aligned}"), printed_latex = "P(Y \\mid X)")
 judged <- read("read_judgement", '{"answer":"accepted","of":"formula","y":["Y"],"x":["X"],"given":[],', plain)
 same(judged, list(accepted = TRUE, formula = plain_formula))
 judged <- read("read_judgement", '{"answer":"accepted","of":"hedge","y":["Y"],"x":["X"],"effect":"P(Y|do(X))",', sets, "}")
@@ -135,6 +137,17 @@ adjusted <- read("read_adjustment", '{"answer":"not admissible","x":["X"],"y":["
                  '"open":{"vertices":["X","A","M","B","Y"],"marks":["<-","->","<-","->"]}}')
 same(names(adjusted), c("holds", "set", "path"))
 same(adjusted$path$vertices, c("X", "A", "M", "B", "Y"))
+
+# instruments
+found <- read("read_instruments", '{"answer":"instruments","x":["X"],"y":["Y"],"instruments":[{"vertex":"W","strata":[],"more":false},',
+              '{"vertex":"a b","strata":[[],["W","c,d"]],"more":true}]}')
+same(found, list(strata = list("a b" = list(character(), c("W", "c,d"))), more = "a b"))
+none <- read("read_instruments", '{"answer":"none","x":["X"],"y":["Y"],"instruments":[]}')
+same(list(length(none$strata), none$more), list(0L, character()))
+
+# levels in a line
+same(own("printed_level")(c("a\nb", "\r", "a \"c\" \\", "\\n", "plain", "")), c('"a\\nb"', '"\\r"', '"a \\"c\\" \\\\"', "\\n", "plain", ""))
+same(own("level_text")(list(A = "a\nb", B = 1)), 'A="a\\nb", B=1')
 
 # equivalent
 same(read("read_equivalence", '{"answer":"equivalent"}'), list(holds = TRUE))

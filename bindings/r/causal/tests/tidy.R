@@ -81,6 +81,9 @@ same(tidy(stopped)$holds, FALSE)
 sets <- adjustment_sets("dag { A B D [outcome] E [exposure] Z A -> E A -> Z B -> D B -> Z E -> D Z -> D Z -> E }")
 same(as.list(tidy(sets)), list(set = c(1L, 1L, 2L, 2L), term = c("A", "Z", "B", "Z")))
 same(as.list(glance(sets)), list(sets = 2L, complete = TRUE))
+found <- instruments("dag { A -> Z A -> B -> Y Z -> X -> Y X <-> Y }", "X", "Y", most = 1)
+same(as.list(tidy(found)), list(instrument = c("A", "Z"), strata = c("{B}", "{B}")))
+same(as.list(glance(found)), list(instruments = 2L, complete = FALSE))
 separation <- separated("dag { A -> B }", "A", "B", character())
 same(as.list(tidy(separation)), list(holds = FALSE, path = "A -> B", text = separation$text))
 same(as.list(glance(separation)), list(holds = FALSE))
@@ -92,7 +95,7 @@ same(as.list(glance(stones)), list(vertices = 3L, directed = 3L, bidirected = 0L
 
 # Where the package generics is there, its generics find them, though it is loaded only now
 if (nzchar(system.file(package = "generics"))) {
-  for (it in list(answer, means, exact, spread, tests, implications(chain), formula, hedge, stopped, sets, separation, stones)) {
+  for (it in list(answer, means, exact, spread, tests, implications(chain), formula, hedge, stopped, sets, found, separation, stones)) {
     same(getExportedValue("generics", "tidy")(it), tidy(it))
     same(getExportedValue("generics", "glance")(it), glance(it))
   }

@@ -139,11 +139,11 @@ refused(adjusts("dag { X -> Y }", character(), "X", "Y", back_door = NA), "argum
 sparse <- data.frame(A = rep(0:1, each = 20), B = c(rep(0, 38), 1, 1), X = c(rep(0:1, 19), 1, 1), Y = rep(c(0, 0, 1, 1, 1), 8))
 both <- causal_diagram("dag { X [exposure] Y [outcome] A -> X A -> B -> Y X -> Y }")
 refused(evaluate(both, sparse, set = "B"), "evaluation_fault", "set = \"A\" (it has a value)")
-refused(evaluate(both, sparse, set = "B"), "evaluation_fault", "bounds_effect() says what the effect is at least and at most")
+refused(evaluate(both, sparse, set = "B"), "evaluation_fault", "bounds_effect(set = \"B\") says what the effect is at least and at most")
 refused(evaluate("dag { X -> Y X <-> Y }", sparse, "X", "Y"), "not_identifiable", "bounds_effect()")
 wide <- as.data.frame(lapply(stats::setNames(1:10, LETTERS[1:10]), function(k) (seq_len(60) * k) %/% 7 %% 4))
 confounders <- paste("dag { X [exposure] Y [outcome] X -> Y", paste(LETTERS[1:10], "-> X", LETTERS[1:10], "-> Y", collapse = " "), "}")
-refused(evaluate(confounders, cbind(wide, X = 0:1, Y = c(0, 1, 1))), "counts_fault", "A 4, B 4, C 4")
+refused(evaluate(confounders, cbind(wide, X = 0:1, Y = c(0, 1, 1)), zero = FALSE), "counts_fault", "A 4, B 4, C 4")
 
 # Old words warn, and are what they were
 answer <- contrast("dag { X -> Y }", none, "X", "Y", resamples = 20)
@@ -177,6 +177,7 @@ for (call in list(quote(causal_diagram("dag {")), quote(read_diagram("no such fi
                   quote(separated("dag { X -> Y }", "X", 'a"b', character())), quote(surrogate("dag { X -> Y }", "X", "Y")),
                   quote(contrast("dag { X -> Y X <-> Y }", none, "X", "Y")), quote(rule_holds("dag { X -> Y }", 4, "X", "Y")),
                   quote(contrast("dag { X -> Y }", none, "X", "Y", interval = "t")), quote(adjustment_sets("dag { X -> Y }", "X", "Y", most = 0)),
+                  quote(instruments("dag { X -> Y }", "X", "Y", most = 0)),
                   quote(contrast("dag { X -> Y }", none, "X", "Y", seed = "a")), quote(paths("dag { X -> Y }", "X", "Q")),
                   quote(equivalent("dag { X -> Y }", 3))))
   if (!inherits(tryCatch(eval(call), error = identity), "causal_refusal")) stop("no refusal: ", deparse(call))

@@ -1,0 +1,370 @@
+"""How much of an effect goes through mediators, and how much past them, in data: natural effects, with intervals by the bootstrap.
+
+The formula is proved; its values are computed of the counts, and so are the intervals: nothing about them is proved.
+"""
+from __future__ import annotations
+
+import random
+from dataclasses import dataclass, field
+from fractions import Fraction
+from itertools import islice
+from typing import TYPE_CHECKING, Any, Callable, Dict, Iterator, List, Mapping, Optional, Sequence, Tuple
+
+from causal.bootstrap import Progress, beside
+from causal.columnwise import Columns, Factor, Numbers
+from causal.columns import Data
+from causal.contrasts import arm_level
+from causal.display import Printed, html_table
+from causal.draws import drawn_numbers, seed_of
+from causal.effects import Level, check_arms, levels_at, levels_text, typed_order
+from causal.errors import DataWarning, EvaluationError, NotIdentifiable, RequestError, WrongType
+from causal.events import lost_text, many_lost
+from causal.framed import Framed
+from causal.intervals import Interval, check_asked, interval_of
+from causal.names import Names, printed_set
+from causal.natural import NaturalFormula
+from causal.objects import Told
+from causal.tables import Table, check_request, table_of
+from causal.vocabulary import check_progress, warn
+
+if TYPE_CHECKING:
+    from causal.diagram import Diagram
+
+MEASURES = ("treated", "control", "between", "total", "direct", "indirect", "proportion")
+TEXTS = {
+    "treated": "under treated",
+    "control": "under control",
+    "between": "under treated, the mediators as under control",
+    "total": "total effect",
+    "direct": "natural direct effect",
+    "indirect": "natural indirect effect",
+    "proportion": "proportion mediated",
+}
+CAUTION = "the proportion says little: the direct and the indirect effect have opposite signs, or the total may be near 0"
+# A world: the arm of the exposures, and that of the exposures as the mediators have them.
+WORLDS = ((0, 0), (1, 1), (0, 1))
+
+
+@dataclass(frozen=True)
+class MediatedNumber(Printed):
+    """A number of a mediation, with its interval."""
+
+    measure: str
+    estimate: Optional[float]
+    interval: Optional[Interval] = None
+    note: str = ""
+
+    def __float__(self) -> float:
+        if self.estimate is None:
+            raise RequestError(f"there is no {TEXTS[self.measure]}")
+        return self.estimate
+
+    def __str__(self) -> str:
+        value = "none" if self.estimate is None else f"{self.estimate:.6g}"
+        return beside(f"{TEXTS[self.measure]}: {value}" + (f" {self.interval}" if self.interval else ""), self.note)
+
+
+@dataclass(frozen=True)
+class Mediation(Framed):
+    """Two arms compared, through mediators and past them: the risks (or means), the total effect, and its natural parts.
+
+    `between` is the risk were x as treated, and the mediators as they would be under control. The direct effect is that less the risk under
+    control, the indirect one the risk under treated less that; they add up to the total. **Computed**: the values of `formula`, which is
+    proved to be the effect, over the counts. A natural effect speaks of two values of x in one person, which no experiment shows.
+    """
+
+    formula: NaturalFormula
+    arms: Tuple[Dict[str, Level], Dict[str, Level]]
+    outcome: Dict[str, Level]
+    rows: Tuple[MediatedNumber, ...]
+    level: float
+    resamples: int
+    without_value: int
+    seed: int
+    dropped: int = 0
+    pinned: Dict[str, Level] = field(default_factory=dict)
+
+    def number(self, measure: str) -> MediatedNumber:
+        """One of the numbers, by its name."""
+        return self.rows[MEASURES.index(measure)]
+
+    @property
+    def total(self) -> MediatedNumber:
+        """The total effect: the risk under treated less that under control."""
+        return self.number("total")
+
+    @property
+    def direct(self) -> MediatedNumber:
+        """The natural direct effect: with the mediators as under control."""
+        return self.number("direct")
+
+    @property
+    def indirect(self) -> MediatedNumber:
+        """The natural indirect effect: of the mediators' change alone, with x as treated."""
+        return self.number("indirect")
+
+    @property
+    def proportion(self) -> MediatedNumber:
+        """The indirect effect over the total one; it means something where both effects have one sign and the total isn't near 0."""
+        return self.number("proportion")
+
+    @property
+    def head(self) -> str:
+        """What is compared, in words."""
+        target = f"; outcome: {levels_text(self.outcome)}" if self.outcome else f"; mean of {self.formula.sets.y[0]}"
+        arms = f"treated: {levels_text(self.arms[0])}; control: {levels_text(self.arms[1])}"
+        return f"{arms}{target}; through {printed_set(self.formula.sets.through)}"
+
+    @property
+    def notes(self) -> Tuple[str, ...]:
+        """What the numbers rest on."""
+        found = [f"computed: {self.formula.sets.effect} = {self.formula.expression}", *self.formula.sets.nil]
+        found += [f"pinned {levels_text(self.pinned)}"] if self.pinned else []
+        if self.resamples:
+            drawn = f"{self.resamples} resamples, of which {self.without_value} had no value; seed {self.seed}"
+            found += [f"{100 * self.level:g}% percentile intervals of {drawn}"]
+        found += [f"{self.dropped} records left out that lack a value"] if self.dropped else []
+        return (*found, *many_lost(self.without_value, self.resamples))
+
+    HEADS = ("treated", "control", "measure", "estimate", "conf_low", "conf_high", "note")
+
+    def _table(self) -> Tuple[Sequence[str], List[List[Any]]]:
+        ends = [(it.interval.lower, it.interval.upper) if it.interval else (None, None) for it in self.rows]
+        return self.HEADS, [[*map(arm_level, self.arms), it.measure, it.estimate, *end, it.note] for it, end in zip(self.rows, ends)]
+
+    def __str__(self) -> str:
+        return "\n".join([self.head, *map(str, self.rows), *self.notes])
+
+    def _repr_html_(self) -> str:
+        return html_table(self.HEADS[2:], [row[2:] for row in self._table()[1]], [self.head, *self.notes])
+
+
+class Worlds:
+    """The values of a natural effect's formula over many tables at once, in three worlds: both arms, and x as treated where the mediators
+    are as under control."""
+
+    def __init__(
+        self, formula: NaturalFormula, table: Table, arms: Sequence[Mapping[str, int]], weights: Sequence[float], exact: bool = False
+    ) -> None:
+        sets = formula.sets
+        self.formula, self.arms, self.weights, self.exact = formula, arms, weights, exact
+        first = dict(zip(sets.second, sets.x))
+        sizes = {name: len(levels) for name, levels in zip(table.names, table.levels)}
+        free = [name for factor in formula.factors for name in factor.free]
+        self.kept = [*sets.x, *sets.y, *free]
+        self.parts = []
+        for factor in formula.factors:
+            reads_second = factor.reads == sets.second
+            trees = [in_first(tree, first) for tree in factor.trees] if reads_second else factor.trees
+            self.parts.append((Columns(trees, sizes, self.kept, True), reads_second))
+        self.size = 1
+        for size in sizes.values():
+            self.size *= size
+
+    def over(self, counts: Sequence[Numbers]) -> List[Optional[Tuple[Any, ...]]]:
+        """The values in the three worlds for each table; None where one is unknown."""
+        found = [(columns, columns.over(counts), reads_second) for columns, reads_second in self.parts]
+        worlds = []
+        for arm, through in WORLDS:
+            whole: Optional[Factor] = None
+            for columns, factor, reads_second in found:
+                own = at_levels(factor, self.arms[through if reads_second else arm])
+                whole = own if whole is None else columns.multiplied(whole, own)
+            if whole is None:
+                raise RequestError("the formula has no factor")
+            worlds.append(self._of_outcome(found[0][0].summed(whole, self.formula.summed)))
+        return [row if all(value == value for value in row) else None for row in zip(*worlds)]
+
+    def _of_outcome(self, factor: Factor) -> Numbers:
+        """The chance of the outcome's level, or its mean: what each level weighs is told. What is free is at its first level."""
+        name = self.formula.sets.y[0]
+        total: Optional[Numbers] = None
+        for level, weight in enumerate(self.weights):
+            if weight:
+                own = factor.cells[tuple(level if it == name else 0 for it in factor.names)]
+                part = [number * weight for number in own]
+                total = part if total is None else [a + b for a, b in zip(total, part)]
+        return total if total is not None else [0.0] * len(next(iter(factor.cells.values())))
+
+
+def in_first(tree: Told, first: Mapping[str, str]) -> Told:
+    """A tree with the first names of x in place of the second ones.
+
+    >>> from causal.mediation import in_first
+    >>> in_first({"sum": ["X'"], "of": {"term": ["M"], "do": [], "given": ["X'"]}}, {"X'": "X"})
+    {'sum': ['X'], 'of': {'term': ['M'], 'do': [], 'given': ['X']}}
+    """
+    found: Dict[str, Any] = {}
+    for key, held in tree.items():
+        if key in ("term", "do", "given", "sum"):
+            found[key] = [first.get(name, name) for name in held]
+        elif key == "of":
+            found[key] = in_first(held, first)
+        else:
+            found[key] = [in_first(part, first) for part in held] if isinstance(held, list) else held
+    return found
+
+
+def at_levels(factor: Factor, levels: Mapping[str, int]) -> Factor:
+    """A factor at levels of some of its names.
+
+    >>> from causal.columnwise import Factor
+    >>> from causal.mediation import at_levels
+    >>> at_levels(Factor(("X", "M"), {(0, 0): [0.1], (1, 0): [0.2]}), {"X": 1})
+    Factor(names=('M',), cells={(0,): [0.2]})
+    """
+    kept = [place for place, name in enumerate(factor.names) if name not in levels]
+    wanted = [(place, levels[name]) for place, name in enumerate(factor.names) if name in levels]
+    cells = {
+        tuple(at[place] for place in kept): numbers
+        for at, numbers in factor.cells.items()
+        if all(at[place] == level for place, level in wanted)
+    }
+    return Factor(tuple(factor.names[place] for place in kept), cells)
+
+
+def numbers_of(treated: Any, control: Any, between: Any) -> List[Optional[float]]:
+    """The measures, of the values in the three worlds.
+
+    >>> from causal.mediation import numbers_of
+    >>> numbers_of(0.75, 0.25, 0.5)
+    [0.75, 0.25, 0.5, 0.5, 0.25, 0.25, 0.5]
+    """
+    total, direct, indirect = treated - control, between - control, treated - between
+    return [*map(float, (treated, control, between, total, direct, indirect)), float(indirect / total) if total else None]
+
+
+def mediated(
+    diagram: "Diagram",
+    data: Data,
+    x: Optional[Names],
+    y: Optional[Names],
+    through: Names,
+    *,
+    treated: Any,
+    control: Any,
+    outcome: Any,
+    count: Optional[str],
+    missing: str,
+    resamples: int,
+    level: float,
+    seed: Optional[int],
+    progress: Optional[Progress],
+) -> Mediation:
+    """The effect of two arms in its natural parts: see `Diagram.mediate`."""
+    check_asked(resamples, level, "percentile", least=0)
+    check_progress(progress)
+    formula = diagram.natural(x, y, through)
+    if not isinstance(formula, NaturalFormula):
+        raise NotIdentifiable(str(formula).partition("\n")[0], place=formula)
+    sets = formula.sets
+    if len(sets.y) != 1:
+        raise RequestError("a mediation is of one outcome")
+    arms = levels_at(sets.x, treated, typed_order(x)), levels_at(sets.x, control, typed_order(x))
+    check_arms(*arms)
+    table = mediation_table(diagram, formula, data, count, missing)
+    coded = [{name: place_of(table, name, held) for name, held in arm.items()} for arm in arms]
+    told, weights = outcome_weights(table, sets.y[0], outcome)
+    worlds = Worlds(formula, table, coded, weights)
+    (own,) = worlds.over(dense(table, worlds.size, [list(table.counts.values())]))
+    if own is None:
+        raise EvaluationError("no record has some condition of the formula, so that the natural effects have no value over these data", 1)
+    seed = seed_of(seed)
+    draws = resampled(worlds, table, resamples, random.Random(seed), progress)
+    rows = told_numbers(own, draws, level)
+    pinned = {name: table.levels_of(name)[0] for factor in formula.factors for name in factor.free if name not in (*sets.x, *formula.summed)}
+    without = sum(it is None for it in draws)
+    found = Mediation(formula, arms, told, rows, level, resamples, without, seed, table.dropped, pinned)
+    for doubt in many_lost(without, resamples):
+        warn(doubt, DataWarning)
+    return found
+
+
+def mediation_table(diagram: "Diagram", formula: NaturalFormula, data: Data, count: Optional[str], missing: str) -> Table:
+    """The table of what the formula reads."""
+    first = dict(zip(formula.sets.second, formula.sets.x))
+    read = {*formula.sets.x, *formula.sets.y}
+    for factor in formula.factors:
+        for tree in factor.trees:
+            read |= names_in(tree)
+    names = {first.get(name, name) for name in read}
+    used = [name for name in diagram.vertices if name in names]
+    check_request(used, count, missing)
+    table = table_of(data, used, count, missing, formula.sets.y).ordered()
+    table.check_size()
+    return table
+
+
+def names_in(tree: Told) -> "set[str]":
+    """The names of a tree.
+
+    >>> from causal.mediation import names_in
+    >>> sorted(names_in({"product": [{"term": ["M"], "do": [], "given": ["X"]}, {"term": ["Y"], "do": [], "given": ["M"]}]}))
+    ['M', 'X', 'Y']
+    """
+    found = {name for key in ("term", "given", "sum") for name in tree.get(key, ())}
+    parts = [*([tree["of"]] if "of" in tree else []), *tree.get("product", ()), *tree.get("quotient", ())]
+    return found.union(*map(names_in, parts))
+
+
+def place_of(table: Table, name: str, level: Level) -> int:
+    """The place of a level of the data."""
+    levels = table.levels_of(name)
+    if level not in levels:
+        raise RequestError(f"{name} has no level {level!r} in the data; it has {', '.join(map(repr, levels))}")
+    return levels.index(level)
+
+
+def outcome_weights(table: Table, name: str, outcome: Any) -> Tuple[Dict[str, Level], List[float]]:
+    """What each level of the outcome weighs: 1 for the one that is asked for, or its number, for a mean."""
+    levels = table.levels_of(name)
+    if outcome is not None:
+        level = levels_at((name,), outcome, None)[name]
+        place = place_of(table, name, level)
+        return {name: level}, [float(k == place) for k in range(len(levels))]
+    try:
+        return {}, [float(level) for level in levels]  # type: ignore[arg-type]
+    except (TypeError, ValueError):
+        raise WrongType(f"{name} has levels that are no numbers: outcome names the one whose chance is wanted") from None
+
+
+def dense(table: Table, size: int, numbers: Sequence[Sequence[int]]) -> List[Numbers]:
+    """The numbers of each combination of levels, a list for each with a number for each table."""
+    found: List[Numbers] = [[0.0] * len(numbers)] * size
+    for cell, own in zip(table.counts, zip(*numbers)):
+        place = 0
+        for code, levels in zip(cell, table.levels):
+            place = place * len(levels) + code
+        found[place] = list(own)
+    return found
+
+
+def resampled(
+    worlds: Worlds, table: Table, resamples: int, source: random.Random, progress: Optional[Progress]
+) -> List[Optional[Tuple[float, ...]]]:
+    """The values over resamples."""
+    counts = list(table.counts.values())
+    numbers: Iterator[List[int]] = (drawn_numbers(source, counts) for _ in range(resamples))
+    at_once, found = max(1, (1 << 20) // worlds.size), []  # type: int, List[Optional[Tuple[float, ...]]]
+    while len(found) < resamples:
+        found += worlds.over(dense(table, worlds.size, list(islice(numbers, at_once))))
+        if progress is not None:
+            progress(len(found), resamples)
+    return found
+
+
+def told_numbers(own: Tuple[Any, ...], draws: Sequence[Optional[Tuple[float, ...]]], level: float) -> Tuple[MediatedNumber, ...]:
+    """The measures with their intervals, and with what has to be known beside them."""
+    columns = list(zip(*(numbers_of(*draw) for draw in draws if draw is not None)))
+    lost = lost_text(sum(it is None for it in draws), len(draws))
+    found = []
+    values = numbers_of(*own)
+    for place, (measure, value) in enumerate(zip(MEASURES, values)):
+        interval = interval_of([it for it in columns[place] if it is not None], level) if columns else None
+        found.append(MediatedNumber(measure, value, interval, lost))
+    total, direct, indirect = (found[MEASURES.index(measure)] for measure in ("total", "direct", "indirect"))
+    is_open = total.interval is not None and total.interval.lower <= 0 <= total.interval.upper
+    if float(direct) * float(indirect) < 0 or is_open or not float(total):
+        last = found[-1]
+        found[-1] = MediatedNumber(last.measure, last.estimate, last.interval, "; ".join(filter(None, [lost, CAUTION])))
+    return tuple(found)

@@ -1,0 +1,156 @@
+"""Natural effects: an effect were the mediators as they would be under another value of the exposures."""
+from __future__ import annotations
+
+from dataclasses import dataclass, field
+from typing import Any, List, Optional, Sequence, Tuple, Union
+
+from causal import reading
+from causal.formula import Hedge, Term
+from causal.framed import Framed, Shown
+from causal.names import printed_name, printed_set
+from causal.objects import Told
+
+
+@dataclass(frozen=True)
+class NaturalSets:
+    """What a natural effect is asked for; `second` has the second names of x, as `X'`. `has_indirect` and `has_direct` say whether a
+    directed path leads from x to y through a mediator, and past all of them: where none does, that effect is nil."""
+
+    y: Tuple[str, ...]
+    x: Tuple[str, ...]
+    through: Tuple[str, ...]
+    given: Tuple[str, ...]
+    second: Tuple[str, ...]
+    has_indirect: bool
+    has_direct: bool
+    effect: str
+
+    @property
+    def nil(self) -> List[str]:
+        """What is nil, whatever the values and the model are."""
+        head, tail = f"no directed path leads from {printed_set(self.x)}", f"to {printed_set(self.y)}"
+        found = [] if self.has_indirect else [f"{head} through {printed_set(self.through)} {tail}: the indirect effect is nil"]
+        return found + ([] if self.has_direct else [f"{head} past {printed_set(self.through)} {tail}: the direct effect is nil"])
+
+
+@dataclass(frozen=True)
+class District:
+    """A factor of a natural effect's formula: that of a district, which reads x by the names `reads`."""
+
+    members: Tuple[str, ...]
+    reads: Tuple[str, ...]
+    effect: str
+    expression: str
+    definitions: Tuple[str, ...] = ()
+    free: Tuple[str, ...] = ()
+    trees: Tuple[Told, ...] = field(default=(), repr=False, compare=False)
+    latex: str = field(default="", repr=False, compare=False)
+
+    @property
+    def lines(self) -> List[str]:
+        """Its formula and definitions, where it has some."""
+        if not self.definitions:
+            return []
+        return [f"{self.effect} = {self.expression}", *(f"q{k} = {it}" for k, it in enumerate(self.definitions)), *self.free_line]
+
+    @property
+    def latex_lines(self) -> List[str]:
+        """The same in LaTeX, as the program prints it."""
+        return [self.latex, *self.free_line] if self.definitions else []
+
+    @property
+    def free_line(self) -> List[str]:
+        """What its formula reads beside the vertices of its effect."""
+        return [f"free {printed_set(self.free)}"] if self.free else []
+
+
+@dataclass(frozen=True)
+class NaturalFormula(Framed):
+    """A formula for a natural effect: a sum over `summed` of the product of the `factors`, over the probability of what is given.
+
+    It is proved that the formula equals the effect at any two values of x in every positive finite model that fits the diagram's observed
+    graph.
+    """
+
+    sets: NaturalSets
+    expression: str
+    summed: Tuple[str, ...]
+    factors: Tuple[District, ...]
+    _latex: str = field(default="", repr=False, compare=False)
+
+    identifiable = True
+
+    @property
+    def text(self) -> str:
+        """The answer as it is printed."""
+        lines = [line for factor in self.factors for line in factor.lines]
+        return "\n".join([f"{self.sets.effect} = {self.expression}", *lines, *self.sets.nil])
+
+    def __str__(self) -> str:
+        return self.text
+
+    @property
+    def printed_latex(self) -> str:
+        """The lines that `causal natural --latex` prints."""
+        return "\n".join([self._latex, *(line for factor in self.factors for line in factor.latex_lines), *self.sets.nil])
+
+    def _table(self) -> Tuple[Sequence[str], List[List[Any]]]:
+        return ("term", "expression"), [[self.sets.effect, self.expression], *([it.effect, it.expression] for it in self.factors)]
+
+
+@dataclass(frozen=True)
+class NoNaturalFormula(Shown):
+    """Why no formula for a natural effect was found; it counts as false.
+
+    Where `hedge` is there, its two models show that the joint effect has no formula, nor has this one. Else the question is left open:
+    `witness` is a child of x that leads to y both through a mediator and past all of them, or the vertices of `district` read both values.
+    """
+
+    sets: NaturalSets
+    joint: Term
+    hedge: Optional[Hedge] = None
+    witness: Optional[str] = None
+    district: Tuple[str, ...] = ()
+
+    identifiable = False
+
+    def __bool__(self) -> bool:
+        return False
+
+    def __str__(self) -> str:
+        if self.hedge is not None:
+            return "\n".join([f"{self.sets.effect} is not identifiable", str(self.hedge), *self.sets.nil])
+        both = " and ".join(", ".join(map(printed_name, names)) for names in (self.sets.x, self.sets.second))
+        reader = printed_name(self.witness) if self.witness is not None else f"district {printed_set(self.district)}"
+        return "\n".join([f"{self.sets.effect} is left open: {self.joint} is identifiable", f"{reader} reads {both}", *self.sets.nil])
+
+
+Natural = Union[NaturalFormula, NoNaturalFormula]
+
+
+def read_natural(told: Told) -> Natural:
+    """Reads the answer of `natural`.
+
+    >>> from causal.natural import read_natural
+    >>> sets = {"y": ["Y"], "x": ["X"], "through": ["M"], "given": [], "second": ["X'"], "effect": "P(Y[X,M[X']])"}
+    >>> sets.update(indirect=True, direct=False, joint={"y": ["Y"], "x": ["X"]})
+    >>> print(read_natural({"answer": "open", **sets, "witness": "L"}))
+    P(Y[X,M[X']]) is left open: P(Y|do(X)) is identifiable
+    L reads X and X'
+    no directed path leads from {X} past {M} to {Y}: the direct effect is nil
+    """
+    y, x, through, given, second = (tuple(told[name]) for name in ("y", "x", "through", "given", "second"))
+    sets = NaturalSets(y, x, through, given, second, told["indirect"], told["direct"], told["effect"])
+    if told["answer"] == "formula":
+        return NaturalFormula(sets, told["formula"], tuple(told["summed"]), tuple(map(_district, told["factors"])), told["latex"])
+    joint = told["joint"]
+    term = Term(tuple(joint["y"]), tuple(joint["x"]))
+    if told["answer"] == "hedge":
+        return NoNaturalFormula(sets, term, Hedge(**reading.hedge_parts({**told, "given": []}, None)))
+    return NoNaturalFormula(sets, term, None, told.get("witness"), tuple(told.get("district", ())))
+
+
+def _district(told: Told) -> District:
+    lists = {name: tuple(told[name]) for name in ("definitions", "free")}
+    trees = (*told["definition_trees"], told["tree"])
+    return District(tuple(told["district"]), tuple(told["reads"]), told["effect"], told["formula"], trees=trees, latex=told["latex"], **lists)

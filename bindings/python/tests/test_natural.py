@@ -1,0 +1,200 @@
+"""Natural effects, and how much of an effect goes through mediators."""
+import random
+import unittest
+from fractions import Fraction
+
+from test_commands import answering
+
+import causal
+from causal import Diagram, Mediation, NaturalFormula, NoNaturalFormula
+
+SETS = {"y": ["Y"], "x": ["X"], "through": ["M"], "given": [], "second": ["X'"], "indirect": True, "direct": True, "effect": "P(Y[X,M[X']])"}
+MEDIATED = Diagram("dag { C -> X C -> M C -> Y X -> M -> Y X -> Y }")
+
+
+def term(of, *given):
+    return {"term": list(of), "do": [], "given": list(given)}
+
+
+def factor(district, reads, effect, formula, tree, definitions=(), trees=(), free=()):
+    lists = {"definitions": list(definitions), "free": list(free), "definition_trees": list(trees)}
+    return {"district": list(district), "reads": [reads], "effect": effect, "formula": formula, "latex": "..", "tree": tree, **lists}
+
+
+FORMULA = {
+    "answer": "formula",
+    **SETS,
+    "formula": "sum{C,M} P(C) * P(M|C,X') * P(Y|C,X,M)",
+    "summed": ["C", "M"],
+    "factors": [
+        factor("C", "X", "P(C|do(X,M,Y))", "P(C)", term("C")),
+        factor("M", "X'", "P(M|do(C,X',Y))", "P(M|C,X')", term("M", "C", "X'")),
+        factor("Y", "X", "P(Y|do(C,X,M))", "P(Y|C,X,M)", term("Y", "C", "X", "M")),
+    ],
+    "latex": "..",
+}
+DOOR = {
+    "answer": "formula",
+    **SETS,
+    "direct": False,
+    "formula": "sum{M} P(M|X') * (sum{X} P(X) * P(Y|X,M))",
+    "summed": ["M"],
+    "factors": [
+        factor("M", "X'", "P(M|do(X',Y))", "P(M|X')", term("M", "X'")),
+        factor("Y", "X", "P(Y|do(X,M))", "sum{X} P(X) * P(Y|X,M)", {"sum": ["X"], "of": {"product": [term("X"), term("Y", "X", "M")]}}),
+    ],
+    "latex": "..",
+}
+NAPKIN = {
+    "answer": "formula",
+    **SETS,
+    "formula": "sum{M} P(M|do(W,Z,X',Y)) * P(Y|X,M)",
+    "summed": ["M"],
+    "factors": [
+        factor(
+            "M", "X'", "P(M|do(W,Z,X',Y))", "q0 / (sum{M} q0)", {"quotient": [{"definition": 0}, {"sum": ["M"], "of": {"definition": 0}}]},
+            ["sum{W} P(W) * P(X'|W,Z) * P(M|W,Z,X')"],
+            [{"sum": ["W"], "of": {"product": [term("W"), term(["X'"], "W", "Z"), term("M", "W", "Z", "X'")]}}],
+            ["Z"],
+        ),
+        factor("Y", "X", "P(Y|do(W,Z,X,M))", "P(Y|X,M)", term("Y", "X", "M")),
+    ],
+    "latex": "..",
+}  # fmt: skip
+
+
+def drawn(size, seed=1):
+    source, data = random.Random(seed), {name: [] for name in "CXMY"}
+    for _ in range(size):
+        c = int(source.random() < 0.5)
+        x = int(source.random() < 0.3 + 0.4 * c)
+        m = int(source.random() < 0.2 + 0.4 * x + 0.2 * c)
+        for name, value in zip("CXMY", (c, x, m, int(source.random() < 0.1 + 0.1 * x + 0.3 * m + 0.2 * c + 0.1 * x * m))):
+            data[name].append(value)
+    return data
+
+
+def share(data, wanted, given):
+    """A share of the records, by hand."""
+    rows = range(len(data["X"]))
+    inside = [row for row in rows if all(data[name][row] == level for name, level in given.items())]
+    return Fraction(sum(all(data[name][row] == level for name, level in wanted.items()) for row in inside), len(inside))
+
+
+class Answers(unittest.TestCase):
+    def test_a_formula(self):
+        with answering(FORMULA) as library:
+            found = MEDIATED.natural("X", "Y", through="M")
+        self.assertEqual(library.words, [["natural", "diagram", "--through", '"M"', "--x", '"X"', "--y", '"Y"', "--json"]])
+        self.assertIsInstance(found, NaturalFormula)
+        self.assertEqual(str(found), "P(Y[X,M[X']]) = sum{C,M} P(C) * P(M|C,X') * P(Y|C,X,M)")
+        self.assertTrue(found)
+
+    def test_lines_of_their_own(self):
+        with answering(NAPKIN):
+            found = Diagram("dag { W -> Z -> X -> M -> Y X -> Y W <-> X W <-> M }").natural("X", "Y", through="M")
+        self.assertEqual(
+            str(found).splitlines(),
+            [
+                "P(Y[X,M[X']]) = sum{M} P(M|do(W,Z,X',Y)) * P(Y|X,M)", "P(M|do(W,Z,X',Y)) = q0 / (sum{M} q0)",
+                "q0 = sum{W} P(W) * P(X'|W,Z) * P(M|W,Z,X')", "free {Z}",
+            ],
+        )  # fmt: skip
+        with answering(DOOR):
+            found = Diagram("dag { X -> M -> Y X <-> Y }").natural("X", "Y", through="M")
+        self.assertEqual(str(found).splitlines()[1:], ["no directed path leads from {X} past {M} to {Y}: the direct effect is nil"])
+
+    def test_left_open(self):
+        told = {"answer": "open", **SETS, "joint": {"y": ["Y"], "x": ["X"]}}
+        with answering((1, {**told, "witness": "L"}, ""), (1, {**told, "district": ["M", "Y"], "direct_child": "Y", "indirect_child": "M"}, "")):
+            diagram = Diagram("dag { X -> L -> M -> Y X -> Y L -> Y }")
+            first, second = (diagram.natural("X", "Y", through="M") for _ in range(2))
+        self.assertIsInstance(first, NoNaturalFormula)
+        self.assertFalse(first)
+        self.assertEqual(str(first), "P(Y[X,M[X']]) is left open: P(Y|do(X)) is identifiable\nL reads X and X'")
+        self.assertEqual(str(second).splitlines()[1], "district {M,Y} reads X and X'")
+        with answering((1, {**told, "witness": "L"}, "")), self.assertRaisesRegex(causal.NotIdentifiable, "is left open") as refused:
+            diagram.mediate(drawn(20), "X", "Y", through="M", treated=1, control=0, outcome=1)
+        self.assertEqual(refused.exception.place.witness, "L")
+
+
+class Values(unittest.TestCase):
+    ARMS = {"through": "M", "treated": 1, "control": 0, "outcome": 1}
+
+    def asked(self, told, diagram, data, **more):
+        with answering(told):
+            return diagram.mediate(data, "X", "Y", **{**self.ARMS, **more})
+
+    def test_against_hand(self):
+        data = drawn(400)
+        found = self.asked(FORMULA, MEDIATED, data, resamples=200, seed=1)
+        self.assertIsInstance(found, Mediation)
+
+        def world(arm, through):
+            total = Fraction(0)
+            for c in (0, 1):
+                for m in (0, 1):
+                    weight = share(data, {"C": c}, {}) * share(data, {"M": m}, {"C": c, "X": through})
+                    total += weight * share(data, {"Y": 1}, {"C": c, "X": arm, "M": m})
+            return float(total)
+
+        for measure, value in (("treated", world(1, 1)), ("control", world(0, 0)), ("between", world(1, 0))):
+            self.assertAlmostEqual(float(found.number(measure)), value, places=12)
+        self.assertAlmostEqual(float(found.direct), world(1, 0) - world(0, 0), places=12)
+        self.assertAlmostEqual(float(found.indirect), world(1, 1) - world(1, 0), places=12)
+        self.assertAlmostEqual(float(found.proportion), float(found.indirect) / float(found.total), places=12)
+        for row in found.rows[:6]:
+            self.assertTrue(row.interval.lower < float(row) < row.interval.upper)
+        self.assertIn("natural indirect effect: 0.", str(found))
+        self.assertIn("200 resamples, of which 0 had no value; seed 1", str(found))
+        self.assertEqual([row[2] for row in found._table()[1]], ["treated", "control", "between", "total", "direct", "indirect", "proportion"])
+
+    def test_the_truth(self):
+        found = self.asked(FORMULA, MEDIATED, drawn(20_000), resamples=0)
+        # P(M=1) is 0.3 without x and 0.7 with it; x adds 0.1 where M is 0 and 0.2 where it is 1
+        self.assertAlmostEqual(float(found.direct), 0.1 + 0.1 * 0.3, delta=0.02)
+        self.assertAlmostEqual(float(found.indirect), 0.4 * 0.4, delta=0.02)
+        self.assertIsNone(found.direct.interval)
+
+    def test_what_is_nil(self):
+        found = self.asked(DOOR, Diagram("dag { X -> M -> Y X <-> Y }"), drawn(400), resamples=20)
+        self.assertEqual(float(found.direct), 0)
+        self.assertIn("the direct effect is nil", str(found))
+        self.assertEqual((found.direct.interval.lower, found.direct.interval.upper), (0, 0))
+
+    def test_what_is_pinned(self):
+        source, data = random.Random(2), drawn(300)
+        data.update(W=[source.randrange(2) for _ in range(300)], Z=[source.randrange(2) for _ in range(300)])
+        diagram = Diagram("dag { W -> Z -> X -> M -> Y X -> Y W <-> X W <-> M }")
+        found = self.asked(NAPKIN, diagram, data, resamples=0)
+        self.assertEqual(found.pinned, {"Z": 0})
+
+        def part(m, x):
+            return sum(share(data, {"W": w}, {}) * share(data, {"X": x}, {"W": w, "Z": 0}) * share(data, {"M": m}, {"W": w, "Z": 0, "X": x}) for w in (0, 1))
+
+        between = sum(part(m, 0) / (part(0, 0) + part(1, 0)) * share(data, {"Y": 1}, {"X": 1, "M": m}) for m in (0, 1))
+        self.assertAlmostEqual(float(found.number("between")), float(between), places=12)
+
+    def test_a_mean_and_its_caution(self):
+        data = drawn(400)
+        data["Y"] = [y + 2 * m - 3 * x for x, m, y in zip(data["X"], data["M"], data["Y"])]
+        found = self.asked(FORMULA, MEDIATED, data, outcome=None, resamples=20)
+        self.assertLess(float(found.direct), 0)
+        self.assertGreater(float(found.indirect), 0)
+        self.assertIn("opposite signs", str(found.proportion))
+        self.assertNotIn("opposite signs", str(found.total))
+
+    def test_refusals(self):
+        data = drawn(60)
+        with self.assertRaisesRegex(causal.RequestError, "X has no level 3"):
+            self.asked(FORMULA, MEDIATED, data, treated=3)
+        with self.assertRaisesRegex(causal.RequestError, "one arm"):
+            self.asked(FORMULA, MEDIATED, data, treated=0)
+        with self.assertRaisesRegex(causal.EvaluationError, "no record has some condition"):
+            self.asked(FORMULA, MEDIATED, {name: held[:6] for name, held in data.items()})
+        with self.assertRaisesRegex(causal.WrongType, "no numbers"):
+            self.asked(FORMULA, MEDIATED, {**data, "Y": ["no" if y else "yes" for y in data["Y"]]}, outcome=None)
+
+
+if __name__ == "__main__":
+    unittest.main()
