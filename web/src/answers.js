@@ -74,9 +74,9 @@ export class Answers {
   /** Forgets what was chosen for another diagram: the way to the formula and its form, the condition of the effect, and the trials. */
   forgetChoices() {
     const { sets } = this.#memory;
-    Object.assign(this.#memory, { by: "", procedure: false, zero: false, kind: "total", wish: {} });
+    Object.assign(this.#memory, { by: "", boundSet: "", procedure: false, zero: false, kind: "total", wish: {} });
     if (this.#memory.secondIs === "chosen") this.#memory.secondIs = null;
-    for (const key of Object.keys(sets)) if (/^(condition|also set|instrument|strata|experiment \d+)$/.test(key)) delete sets[key];
+    for (const key of Object.keys(sets)) if (/^(condition|also set|through|instrument|strata|experiment \d+)$/.test(key)) delete sets[key];
     this.#memory.experiments = 1;
   }
 

@@ -40,8 +40,8 @@ function nice(tex) {
 }
 
 /** The parts of a list of names or conditions. */
-const PIECES = /"[^"]*"|, | \\mid |\\mathrm\{do\}\(|\)|[^\s",()]+/g;
-const isName = (piece) => !/^(, | \\mid |\\mathrm\{do\}\(|\))$/.test(piece);
+const PIECES = /"[^"]*"|, | \\mid |\\mathrm\{do\}\(|\)|\}_\{|[{}]|[^\s",(){}]+/g; // braces are those of a natural effect; a name has them between quotes
+const isName = (piece) => !/^(, | \\mid |\\mathrm\{do\}\(|\)|\}_\{|[{}])$/.test(piece);
 
 const PARTS = /\\left\( |\\right\)|\\sum_\{((?:\\.|[^\\}])*)\} |q_\{\d+\}|P\(|\\frac\{|\}\{|\}|[^]/g;
 

@@ -33,7 +33,7 @@ export const edgesOf = ({ vertices, marks }) => marks.map((mark, i) => {
 // ---- Formulas
 
 /** A formula as the program prints it: its equation, and a line for each definition. @returns {string[]} */
-export const linesOf = ({ effect, formula, definitions }) =>
+export const linesOf = ({ effect, formula, definitions = [] }) =>
   [`${effect} = ${formula}`, ...definitions.map((text, i) => `q${i} = ${text}`)];
 
 /** All that it prints of a formula. */
@@ -99,3 +99,16 @@ function fraction(text) {
 /** The pairs, and their largest differences where counts were given. @returns {Implication[]} */
 export const impliedBy = ({ pairs }) =>
   pairs.map(({ x, y, given, difference, cell }) => ({ a: x, b: y, given, ...(cell ? { difference, cell: levelsIn(cell) } : {}) }));
+
+// ---- Instruments
+
+/** @typedef {{name: string, strata: string[]}} Instrument */
+
+/** The instruments of an object, the variables that have more strata than it lists, and those that have none. @returns {{instruments: Instrument[], more: string[], none: string[]}} */
+export function instrumentsIn({ instruments }) {
+  const names = (list) => list.map(({ vertex }) => vertex);
+  return {
+    instruments: instruments.flatMap(({ vertex: name, strata }) => strata.map((set) => ({ name, strata: set }))),
+    more: names(instruments.filter(({ more }) => more)), none: names(instruments.filter(({ strata }) => !strata.length)),
+  };
+}

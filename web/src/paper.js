@@ -1,5 +1,5 @@
 // Formulas and texts for a paper: LaTeX that compiles by itself, with amsmath, and looks as the page does.
-import { latex } from "./expression.js";
+import { latex, parse } from "./expression.js";
 
 const SIGNS = {
   "\\": "\\textbackslash{}", "^": "\\textasciicircum{}", "~": "\\textasciitilde{}", "<": "\\textless{}", ">": "\\textgreater{}", "|": "\\textbar{}",
@@ -27,8 +27,17 @@ export function formulaLines({ y, x, given = [], observed = [], tree, definition
 }
 
 /** The same as one formula. */
-export function formulaTex(formula) {
-  const lines = formulaLines(formula);
+export const formulaTex = (formula) => aligned(formulaLines(formula));
+
+function aligned(lines) {
   if (lines.length === 1) return lines[0];
   return `\\begin{aligned}\n${lines.map((line) => line.replace(" = ", " &= ")).join(" \\\\\n")}\n\\end{aligned}`;
+}
+
+/** The formula of a natural effect, and behind it the factors that stand there as effects, with their parts. @param {any} object of `natural` */
+export function naturalTex({ y, x, through, second, given, formula, factors }) {
+  const list = (names) => names.map(nameTex).join(", "), group = (names) => `{${list(names)}}`, line = (left, right) => `${left} = ${exprTex(right)}`;
+  const effect = `P(${group(y)}_{${group(x)}, ${group(through)}_{${list(second)}}}${given.length ? ` \\mid ${list(given)}` : ""})`;
+  const named = factors.filter(({ definitions }) => definitions.length);
+  return aligned([line(effect, parse(formula)), ...named.flatMap((one) => [line(exprTex(parse(one.effect)), one.tree), ...one.definition_trees.map((part, i) => line(`q_{${i}}`, part))])]);
 }

@@ -29,11 +29,12 @@ def reads_a_formula(s):
 
 
 def chooses_a_form(s):
-    """A short form comes first, and the procedure's beside it where it is another."""
+    """A short formula comes first, and the one that the algorithm builds beside it where it is another."""
     s.example("napkin")
     s.tab("effect")
     is_ticked = lambda: s.run("return document.getElementById('procedure').checked")
-    s.check("a short form first", not is_ticked() and "A short form (--short)" in s.panel(), s.panel())
+    s.check("a short form first", not is_ticked() and "A short formula (--short)" in s.panel(), s.panel())
+    s.check("and what the other is", "the full formula, built step by step" in s.panel() and "identification algorithm builds step by step from the diagram" in s.panel(), s.panel())
     s.one("#procedure").click()
     s.soon("as the procedure gives it", lambda: s.printed() == "P(Y|do(X)) = q0 / (sum{Y} q0)\n"
            "q0 = sum{W} P(W) * P(X|W,Z) * P(Y|X,W,Z)\nfree {Z}", s.printed)
@@ -238,7 +239,7 @@ def asks_under_a_condition(s):
     s.soon("check accepts", lambda: "accepted" in s.one(".checked").text, lambda: s.one(".checked").text)
     s.write("dag { X [exposure] Y [outcome] X -> Y X <-> Y Y -> Z }")
     s.soon("not identified", lambda: "P(Y|do(X),Z) not identified" in s.printed(), s.panel)
-    s.check("without models of its own", "no two models that differ on it are shown" in s.panel(), s.panel())
+    s.check("without models of its own", "two other models differ on it, which aren't shown" in s.panel(), s.panel())
     s.write("dag { X [exposure] Y [outcome] X -> Y X <-> Y Z -> Y Z <-> Y }")
     s.soon("by the same models", lambda: "the same two models differ on it too" in s.panel(), s.panel)
     s.keys(Keys.ESCAPE)
@@ -313,6 +314,58 @@ def asks_among_the_treated(s):
     s.soon("a treatment that acts on another", lambda: "Mark one exposure at a time" in s.panel(), s.panel)
     s.one("#panel [data-key='total']").click()
     s.soon("and back", lambda: s.command().startswith("$ causal identify diagram.dag"), s.command)
+
+
+def asks_through_mediators(s):
+    """Natural effects: mediators by clicks, the formula in its factors, and what stands in the way."""
+    s.tab("effect")
+    s.example("kidney_stones")
+    s.write("dag { X [exposure] M N Y [outcome] X -> M -> Y X -> N -> Y X -> Y }")
+    s.one("#panel [data-key='through']").click()
+    s.soon("what is on the way is taken", lambda: s.command() == "$ causal natural diagram.dag --through M,N", s.command)
+    s.one("[data-key='through N']").click()
+    s.soon("one is left out", lambda: s.command() == "$ causal natural diagram.dag --through M", s.command)
+    s.soon("its formula", lambda: s.printed() == "P(Y[X,M[X']]) = sum{M,N} P(M|X') * P(N|X) * P(Y|X,M,N)", s.printed)
+    labels = [el.get_attribute("aria-label") for el in s.all(".formula [role=math]")]
+    s.check("typeset, and so are its factors", labels == [
+        s.printed(), "P(M|do(X',N,Y)) = P(M|X')", "P(N|do(X,M,Y)) = P(N|X)", "P(Y|do(X,M,N)) = P(Y|X,M,N)"], labels)
+    s.check("each with the value that it reads", "{M} reads X'" in s.panel() and "{Y} reads X" in s.panel(), s.panel())
+    s.check("without a fault of the typesetting", not s.all("#panel .katex-error") and s.all("#panel .formula .katex"))
+    s.check("which contrasts they are", "natural direct effect is P(Y[X,M[X']]) compared with P(Y|do(X'))" in s.panel()
+            and "natural indirect effect is P(Y|do(X)) compared with P(Y[X,M[X']])" in s.panel(), s.panel())
+    s.check("the mediator is marked", s.marked("chosen") == ["M"], s.marked("chosen"))
+    copied = leaves_the_page.copied(s)
+    s.check("what is copied is what is shown", copied == r"P({Y}_{{X}, {M}_{X'}}) = \sum_{M, N} P(M \mid X') P(N \mid X) P(Y \mid X, M, N)", copied)
+    s.one("[data-key='arm through']").click()
+    s.click("N")
+    s.soon("mediators by clicks", lambda: s.command() == "$ causal natural diagram.dag --through M,N", s.command)
+    s.click("M")
+    s.click("N")
+    s.soon("without a mediator", lambda: "There is no mediator" in s.panel() and "click the mediators in the drawing" in s.panel(), s.panel)
+    s.click("M")
+    s.soon("and with one", lambda: s.command() == "$ causal natural diagram.dag --through M", s.command)
+    s.keys(Keys.ESCAPE)
+    s.write("dag { X [exposure] Y [outcome] X -> L -> M -> Y L -> Y X -> Y }")
+    s.soon("a recanting witness", lambda: "Left open" in s.panel() and "L is a recanting witness" in s.panel(), s.panel)
+    s.check("is marked", s.marked("witness") == ["L"] and len(s.all("#drawing .over path.open")) == 1, s.marked("witness"))
+    s.check("and printed", s.printed() == "P(Y[X,M[X']]) is left open: P(Y|do(X)) is identifiable\nL reads X and X'", s.printed())
+    s.check("that says neither yes nor no", not {"yes", "no"} & set(s.one("#tab-effect .dot").get_attribute("class").split()))
+    s.write("dag { X [exposure] Y [outcome] U [latent] X -> M -> Y X -> Y U -> M U -> Y }")
+    s.soon("a district that reads both values", lambda: "Common hidden causes join Y and M" in s.panel(), s.panel)
+    s.check("is marked", sorted(s.marked("witness")) == ["M", "Y"] and len(s.all("#drawing .over path.open")) == 4, len(s.all("#drawing .over path.open")))
+    fold(s, "next")
+    s.soon("what would help", lambda: "Measure one of these" in s.one("#what-next").text and "U" in s.one("#what-next").text, s.panel)
+    fold(s, "next", is_open=False)
+    s.write("dag { X [exposure] Y [outcome] X -> M -> Y X -> Y X <-> Y }")
+    s.soon("a hedge", lambda: "Not identifiable" in s.panel() and s.all("#drawing .hedge-small") and len(s.all("#drawing .over path.hedge")) == 2, s.panel)
+    s.check("with its two models", len(s.all(".models tbody tr")) == 3, s.panel())
+    s.write("dag { X [exposure] Y [outcome] X -> Y M -> Y }")
+    s.soon("what is nil", lambda: "No directed path leads from X through M to Y: the indirect effect is nil." in s.panel(), s.panel)
+    s.tab("adjustment")
+    s.soon("Adjust has sets for the effect alone", lambda: s.command() == "$ causal adjust diagram.dag", s.command)
+    s.tab("effect")
+    s.example("napkin")
+    s.soon("another diagram begins with the whole effect", lambda: s.command() == "$ causal identify diagram.dag --short", s.command)
 
 
 def adjusts_with_what_is_marked(s):
@@ -465,6 +518,7 @@ def lists_instruments(s):
     fold(s, "instruments")
     chips = lambda: [el.text for el in s.all("#instruments .chip")]
     s.soon("one, in strata", lambda: chips() == ["Z given W"], s.panel)
+    s.check("as the program lists them", s.command(1) == "$ causal instruments diagram.dag --most 8" and s.printed(1) == "Z given {W}", s.panel())
     fold(s, "no instruments")
     others = lambda: [el.text for el in s.all("#instruments li")]
     s.soon("the others aren't, each for its reason", lambda: len(others()) == 2 and "D: the exposure acts on it" in " ".join(others())
@@ -472,6 +526,9 @@ def lists_instruments(s):
     fold(s, "no instruments", is_open=False)
     s.write("dag { Z X [exposure] Y [outcome] U [latent] A Z -> X -> Y U -> X U -> Y }")
     s.soon("one alone, and none that has nothing to do with the exposure", lambda: chips() == ["Z"], s.panel)
+    fold(s, "no instruments")
+    s.soon("which is told", lambda: others() == ["A: it doesn't go with the exposure."], others)
+    fold(s, "no instruments", is_open=False)
     s.tab("data")
     over_tables.drop(s, "lots.csv", "Z,X,Y,count\n0,0,0,40\n0,1,1,10\n1,0,0,20\n1,1,1,25\n1,1,0,5\n")
     s.tab("effect")
@@ -504,6 +561,6 @@ def compares_your_diagrams(s):
 
 PARTS = [
     reads_a_formula, chooses_a_form, chooses_sets, saves_a_certificate, adjusts_and_compares, shows_a_hedge, lists_what_is_implied, takes_trials,
-    asks_under_a_condition, asks_for_a_direct_effect, asks_among_the_treated, adjusts_with_what_is_marked, lists_separating_sets, colours_paths,
+    asks_under_a_condition, asks_for_a_direct_effect, asks_among_the_treated, asks_through_mediators, adjusts_with_what_is_marked, lists_separating_sets, colours_paths,
     tells_paths_apart, shows_other_views, tells_what_would_help, lists_instruments, compares_your_diagrams,
 ]

@@ -181,6 +181,13 @@ def names_diagrams(s):
     row.find_elements(By.CSS_SELECTOR, "button")[0].click()
     s.soon("it is opened", lambda: s.names() == ["Mine"], s.text)
     s.check("by its name", s.one("#diagrams .name").get_attribute("textContent") == "Sports: injuries", s.one("#diagrams").text)
+    s.one("#new").click()
+    s.write("dag { Twin }")
+    s.one("#diagrams").click()
+    s.one("#diagram-name").send_keys("Sports: injuries", Keys.TAB)
+    s.soon("a name that another has gets a number", lambda: s.one("#diagrams .name").get_attribute("textContent") == "Sports: injuries 2", lambda: s.one("#diagrams").text)
+    s.check("and that is said", "Another of your diagrams is called Sports: injuries, so this one is Sports: injuries 2." in s.one("#diagram-taken").text, s.one("#diagram-taken").text)
+    s.keys(Keys.ESCAPE)
 
 
 def keeps_tabs_apart(s):

@@ -297,6 +297,30 @@ def gives_bounds(s):
     s.soon("and the formula again", lambda: values(s), s.panel)
 
 
+def gives_bounds_by_a_set(s):
+    """Where a stratum has no record of an arm, the others still say something: bounds by the set that is adjusted for."""
+    s.tab("data")
+    s.example("kidney_stones")
+    lines = (EXAMPLES / "kidney_stones.csv").read_text().split("\n")
+    drop(s, "lost.csv", "\n".join(line for line in lines if not line.startswith("large,B")))
+    s.soon("no value", lambda: s.one("#panel .verdict").text.startswith("No value"), s.panel)
+    wanted = "$ causal bounds diagram.dag lost.csv --set S --count=count --exact"
+    s.soon("but bounds by the set", lambda: s.all("#instead") and s.command(1) == wanted, s.panel)
+    b = ["T=B", "R=success", "0.49901547/3100", "between 0.4990 and 0.9233", "0.92331431/1550"]
+    s.check("which are these", b in bounded(s) and len(bounded(s)) == 4, bounded(s))
+    s.check("and why", "Strata of S that have records of a value of the exposure count as usual" in s.one("#instead").text, s.one("#instead").text)
+    s.check("the set is marked", s.marked("chosen") == ["S"], s.marked("chosen"))
+    by(s, "bounds")
+    s.soon("without a set", lambda: s.command() == "$ causal bounds diagram.dag lost.csv --count=count --exact", s.command)
+    sets = "const el = document.getElementById('bound-set'); el.value = arguments[0]; el.dispatchEvent(new Event('change'))"
+    s.run(sets, "{S}")
+    s.soon("or by choice", lambda: s.command() == wanted and b in bounded(s), s.panel)
+    s.run(sets, "")
+    s.soon("and without again", lambda: s.command() == "$ causal bounds diagram.dag lost.csv --count=count --exact", s.command)
+    by(s, "")
+    s.tab("effect")
+
+
 SMOKING = "dag { Smoking [exposure] Cancer [outcome] Age -> Smoking Age -> Cancer Smoking -> Tar -> Cancer }"
 
 
@@ -425,4 +449,5 @@ def stops_the_draws(s):
 PARTS = [
     cleans_a_table, matches_columns, tells_what_is_rejected, stops_the_draws, drops_a_table, reads_other_tables, contrasts_with_intervals, adjusts_for_less, counts_zero_cells_for_nothing,
     evaluates_under_a_condition, evaluates_the_marked_set, gives_bounds,
+    gives_bounds_by_a_set,
 ]

@@ -1,4 +1,7 @@
 // What the page does without the program: fitting of places, layouts.
+import katex from "katex";
+import { naturalMarks } from "../src/diagram/marks.js";
+import { instrumentsIn } from "../src/objects.js";
 import { apart, circle, scaleFor } from "../src/diagram/fitting.js";
 import { arrange } from "../src/layout.js";
 import { markOf, readRows, written } from "../src/text/csv.js";
@@ -6,12 +9,13 @@ import { columnsOf, prepared } from "../src/text/prepare.js";
 import { annotate, annotatePieces } from "../src/latex.js";
 import { codeOfR } from "../src/diagram/code.js";
 import { bend, curve, freePlace, halfHeight, linesOf } from "../src/diagram/geometry.js";
-import { fileName, Kept, titleOf } from "../src/page/kept.js";
-import { nameTex } from "../src/paper.js";
+import { fileName, freeName, Kept, titleOf, whichOf } from "../src/page/kept.js";
+import { naturalTex, nameTex } from "../src/paper.js";
 import { intervalOf } from "../src/statistics/bootstrap.js";
 import { digitsAbove, digitsBelow, fractionOf, minus, nearly } from "../src/statistics/fraction.js";
 import { chiSquaredTail, deviance, holm, testOf } from "../src/statistics/independence.js";
 import { csvOf, tableOf } from "../src/statistics/table.js";
+import { levelsText } from "../src/text/printed.js";
 import { taken } from "../src/text/taken.js";
 import { warningsOf } from "../src/text/warnings.js";
 
@@ -141,6 +145,16 @@ function testKept() {
   check("one is taken out", entry.name === "A name" && !kept.list().some(({ id }) => id === entry.id), kept.list());
   kept.restore(entry);
   check("and put back", kept.list()[0].name === "A name", kept.list());
+  kept.begin({ text: "another" });
+  check("a name that is taken gets a number", kept.rename("A name") === "A name 2" && kept.rename("A name 2") === "A name 2" && kept.list()[0].name === "A name 2", kept.list()[0]);
+  kept.begin({ text: "example", name: "Napkin" });
+  kept.keep("example changed once more");
+  check("so does an example that is changed again", /^Napkin \d$/.test(kept.shown.name) && kept.list()[0].name === kept.shown.name, kept.shown);
+  const names = kept.list().map(({ name }) => name).filter(Boolean);
+  check("no two have one name", new Set(names).size === names.length, names);
+  const twins = [{ id: "b", name: "N", at: 2 }, { id: "a", name: "N", at: 1 }, { id: "c", name: "M", at: 3 }, { id: "d", name: "", at: 4 }, { id: "e", name: "", at: 5 }];
+  check("of those that an earlier page kept it is told which is which", twins.map((one) => whichOf(one, twins)).join("; ") === "2 of 2 with this name; 1 of 2 with this name; ; ; ", twins);
+  check("numbers go on", freeName("N 2", [{ name: "N 2" }, { name: "N 3" }]) === "N 4" && freeName("", [{ name: "" }]) === "", freeName("N 2", [{ name: "N 2" }]));
   store.memory.set("causal.named", "no list");
   check("what can't be read is none", !kept.list().length && new Kept(undefined, undefined).list().length === 0, kept.list());
   const old = memoryStore();
@@ -248,6 +262,47 @@ function testNames() {
   check("and on the page", shown === "P(R \\mid \\mathrm{do}(\\text{my drug}), \\text{my drug}', T', \\text{“a,b”}')", shown);
 }
 
+/** Instruments as the program lists them. */
+function testInstruments() {
+  const found = instrumentsIn({ instruments: [{ vertex: "W", strata: [], more: false }, { vertex: "Z", strata: [["W"], ["A", "B"]], more: true }, { vertex: "V", strata: [[]], more: false }] });
+  check("instruments", JSON.stringify(found) === JSON.stringify({
+    instruments: [{ name: "Z", strata: ["W"] }, { name: "Z", strata: ["A", "B"] }, { name: "V", strata: [] }], more: ["Z"], none: ["W"] }), found);
+}
+
+/** Answers of `natural`, as docs/formats-counterfactuals.md has them: their LaTeX, and what the drawing shows of them. */
+function testNatural() {
+  const about = { y: ["Y"], x: ["X"], through: ["M"], given: [], second: ["X'"] }, edge = (a, b, both = false) => ({ a, b, both });
+  const graph = { vertices: [], edges: [edge("X", "L"), edge("X", "M"), edge("X", "Y"), edge("M", "Y"), edge("L", "M"), edge("M", "Y", true), edge("X", "A", true)] };
+  const one = annotate("P({Y}_{{X}, {M}_{X'}} \\mid {C}) = \\sum_{M} P(M \\mid X') P(Y \\mid X, M)");
+  check("a natural effect is typeset", one === "P({Y}_{{X}, {M}_{X'}} \\mid {C}) = \\sum_{\\htmlClass{bound}{M}} P(\\htmlClass{bound}{M} \\mid X') P(Y \\mid X, \\htmlClass{bound}{M})", one);
+  const wide = annotate("P({Death, \"my y\"}_{{X}, {\"M, N\", K}_{\"my x'\"}}) = P(Death)");
+  check("with names as words", wide === "P({\\text{Death}, \\text{my y}}_{{X}, {\\text{“M, N”}, K}_{\\text{my x}'}}) = P(\\text{Death})", wide);
+  for (const tex of [one, wide]) check("KaTeX takes it", katex.renderToString(tex, { trust: true, strict: "ignore" }).includes("katex"), tex);
+  const copied = naturalTex({ ...about, given: ["C"], factors: [], formula: "(sum{M} P(C) * P(M|C,X') * P(Y|C,X,M)) / P(C)" });
+  check("what is copied", copied === "P({Y}_{{X}, {M}_{X'}} \\mid C) = \\frac{\\sum_{M} P(C) P(M \\mid C, X') P(Y \\mid C, X, M)}{P(C)}", copied);
+  const part = { effect: "P(M|do(W,X',Y))", definitions: ["P(M|W,X')"], tree: { quotient: [{ definition: 0 }, { sum: ["M"], of: { definition: 0 } }] }, definition_trees: [{ term: ["M"], do: [], given: ["W", "X'"] }] };
+  const parts = naturalTex({ ...about, formula: "sum{M} P(M|do(W,X',Y)) * P(Y|X,M)", factors: [part, { ...part, definitions: [], definition_trees: [] }] }).split("\n");
+  check("with the parts of its factors", parts.length === 5 && parts[2] === "P(M \\mid \\mathrm{do}(W, X', Y)) &= \\frac{q_{0}}{\\sum_{M} q_{0}} \\\\" && parts[3] === "q_{0} &= P(M \\mid W, X')", parts);
+  const shown = (object) => {
+    const { vertices, edges = [] } = naturalMarks({ ...about, ...object }, graph);
+    return [[...vertices].map((pair) => pair.join(":")), edges.map(({ a, b, both, cls }) => `${a}${both ? "<->" : "->"}${b} ${cls}`)].map((list) => list.join(", ")).join(" | ");
+  };
+  check("a formula marks the mediators", shown({}) === "M:chosen | ", shown({}));
+  check("a recanting witness", shown({ witness: "L" }) === "M:chosen, L:witness | X->L open", shown({ witness: "L" }));
+  const district = shown({ district: ["M", "Y"], direct_child: "Y", indirect_child: "M" });
+  check("a district that reads both values", district === "M:witness, Y:witness | X->M open, X->Y open, M<->Y open", district);
+  const hedge = shown({ hedge: { larger: ["X", "Y"], smaller: ["Y"], choices: [{ vertex: "X", child: "Y" }], links: [["X", "Y"]] } });
+  check("a hedge", hedge === "M:chosen, X:hedge-big, Y:hedge-small | X->Y hedge, X<->Y hedge", hedge);
+}
+
+function testLevels() {
+  const shown = levelsText([{ name: "A", level: "a\\b" }, { name: "B", level: 'x"\n\\' }, { name: "C", level: "1, 2" }]);
+  check("levels that would break a line", shown === 'A=a\\b,B="x\\"\\n\\\\",C=1, 2', shown);
+}
+
+testLevels();
+testInstruments();
+testNatural();
 testLines();
 testSigns();
 testTaken();

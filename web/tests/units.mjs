@@ -8,8 +8,9 @@ import { faultOf, placesOf } from "../src/faults.js";
 import { annotate, annotatePieces } from "../src/latex.js";
 import { latex, parse } from "../src/expression.js";
 import { keyOf } from "../src/diagram/geometry.js";
-import { bitsOf, boundIn, boundsOf, edgesOf, graphOf as graphIn, impliedBy, nodesIn, saidOf, sumText, textOf, valuesOf } from "../src/objects.js";
+import { bitsOf, boundIn, boundsOf, edgesOf, graphOf as graphIn, impliedBy, instrumentsIn, nodesIn, saidOf, sumText, textOf, valuesOf } from "../src/objects.js";
 import { digitsAbove, digitsBelow, nearly } from "../src/statistics/fraction.js";
+import { naturalTex } from "../src/paper.js";
 import { readSteps } from "../src/steps.js";
 import { missingOf } from "../src/support.js";
 import { levelsOf, readRows } from "../src/text/csv.js";
@@ -180,10 +181,13 @@ function testAnswers(text, graph) {
   if (KNOWN.surrogate) testSurrogate(text, order, sets, identified);
   testTreated(text, sets);
   testBounds(text, order, sets, [x, y]);
+  if (KNOWN.natural) testNatural(text, order, sets, [x, y]);
+  if (KNOWN.instruments) testInstruments(text, sets);
   const ask = ["separate", "g", ...sets, "--given", "{}"], separated = read(ask, text);
   if (separated.status === 1) testPath(separated.object.open, run(ask, text).out, x, y, graph, text);
   const adjusted = read(["adjust", "g", ...sets], text).object.sets;
   for (const set of adjusted) testMinimalSet(text, sets, set);
+  for (const set of KNOWN.boundsBySet ? adjusted.slice(0, 2) : []) testBoundsBySet(text, order, sets, set);
   testOtherSet(text, order, sets, [x, y]);
   testAnyRule(text, order);
   testValues(text, order, x, y, adjusted);
@@ -300,7 +304,8 @@ function testMissing(fault, formula, records, about) {
 const knows = (words) => run(words, "dag{A [exposure] B [outcome] A->B}").status !== 2;
 const KNOWN = {
   given: knows(["identify", "g", "--given", "{}"]), implications: knows(["implications", "g"]),
-  surrogate: knows(["surrogate", "g", "--experiments", "A"]),
+  surrogate: knows(["surrogate", "g", "--experiments", "A"]), natural: knows(["natural", "g", "--through", "A"]), instruments: knows(["instruments", "g"]),
+  boundsBySet: knows(["bounds", "g", "g", "--set", "{}"]),
 };
 const KINDS = { 0: ["formula"], 1: ["settled", "unsettled"] };
 
@@ -355,6 +360,57 @@ function testTreated(text, sets) {
   const head = object.hedge ? `${object.effect} is not identifiable` : `${object.effect} is left open: ${joint} is identifiable`;
   same("why the treated have no formula", said.out.split("\n").slice(0, 2), [head, `${pathText({ vertices: [treatment, child], marks: ["->"] })} and ${pathText(path)}`], text);
   if (object.hedge) testHedge(object, said.out.split("\n").slice(2).join("\n"));
+}
+
+/** Natural effects through some of the others: the object says what is printed, and is typeset. */
+function testNatural(text, order, sets, [x, y]) {
+  const through = shuffled(order).filter((name) => name !== x && name !== y).slice(0, 1 + random(2)), words = ["natural", "g", ...sets, "--through", listWord(through)];
+  const said = run(words, text), { status, object, fault } = read(words, text);
+  if (fault) return same("the fault of a natural effect", [fault.stage, through.length ? 0 : fault.number], ["target", through.length ? 0 : 11], text);
+  const lines = said.out.split("\n"), joint = termText({ term: object.joint?.y ?? [], do: object.joint?.x ?? [], given: [] });
+  const nil = (way, what) => `no directed path leads from ${setText(object.x)} ${way} ${setText(object.through)} to ${setText(object.y)}: the ${what} effect is nil`;
+  natural[object.answer]++;
+  if (status === 0) {
+    same("a natural effect as it is printed", lines[0], `${object.effect} = ${object.formula}`, text);
+    // (a factor that is a product stands between brackets in the object, and within its product on the page)
+    const bare = (written) => written.replaceAll("\\left( ", "").replaceAll(" \\right)", "");
+    same("its LaTeX", bare(object.latex.slice(object.latex.indexOf(" = ") + 3)), bare(latex(parse(object.formula))), text);
+    for (const line of [object.latex, ...object.factors.flatMap((one) => one.latex.split("\n"))]) typesets(annotate(line), line);
+    typesets(naturalTex(object), object.formula);
+    for (const one of object.factors) same("a factor's trees are its texts", [one.tree, ...one.definition_trees], [one.formula, ...one.definitions].map(parse), text);
+  } else if (object.hedge) {
+    same("no natural effect", lines[0], `${object.effect} is not identifiable`, text);
+    testHedge({ ...object, given: [] }, lines.slice(1).filter((line) => !line.startsWith("no directed path")).join("\n"));
+  } else {
+    same("a natural effect is left open", lines[0], `${object.effect} is left open: ${joint} is identifiable`, text);
+    const both = object.witness ? pathText({ vertices: [object.witness], marks: [] }) : `district ${setText(object.district)}`;
+    same("by what", lines[1].startsWith(`${both} reads `), true, said.out);
+  }
+  same("what is nil", [nil("through", "indirect"), nil("past", "direct")].map((line) => lines.includes(line)), [!object.indirect, !object.direct], said.out);
+}
+
+const natural = { formula: 0, hedge: 0, open: 0 };
+
+/** Instruments: the object lists what is printed, and the program takes each for bounds. */
+function testInstruments(text, sets) {
+  const words = ["instruments", "g", ...sets], { out } = run(words, text), { status, object, fault } = read(words, text);
+  same("instruments have no fault", fault, null, text);
+  const { instruments, more } = instrumentsIn(object), lines = [...instruments.map(({ name, strata }) => `${listWordOf(name)} given ${setText(strata)}`), ...more.map((name) => `more of ${listWordOf(name)}`)];
+  same("instruments as they are printed", lines.sort(), out.split("\n").filter((line) => line && line !== "none").sort(), text);
+  same("their status", status, instruments.length ? 0 : 1, text);
+}
+
+/** A name as it is printed. */
+const listWordOf = (name) => pathText({ vertices: [name], marks: [] });
+
+/** Bounds by a set that is admissible: over counts that lack some strata they are printed as they are said. */
+function testBoundsBySet(text, order, sets, set) {
+  const rows = [order, ...Array.from({ length: 12 }, () => order.map(() => LEVELS[random(2)]))].map((row) => row.map(field).join(",")).join("\n");
+  const words = ["bounds", "g", "t", ...sets, "--set", listWord(set), "--exact"], { out } = run(words, text, { t: `${rows}\n` }), { status, object, fault } = read(words, text, { t: `${rows}\n` });
+  same("bounds by a set have no fault", [status, fault], [0, null], text + rows);
+  if (status !== 0) return;
+  const lines = boundsOf(object).map((c) => `P(${c.y}|do(${c.x})) at least ${c.low.text}, at most ${c.high.text}\n`);
+  same("bounds by a set as they are printed", [lines.join(""), object.set], [out, set], text + rows);
 }
 
 /** Bounds over random counts: their object says what is printed, and the digits that are shown enclose them. */
@@ -429,6 +485,7 @@ same("a CSV", rows, [["a", 'b "x"', "n"], ["1", "p,q", "2"], ["1", "r", "3"]], "
 same("levels", [...levelsOf(rows, ["a"], "n").get("a")], [["1", 5]], "");
 
 same("some sets are no instruments", bounded.none > bounded.all / 20 && bounded.none < bounded.all, true, JSON.stringify(bounded));
+if (KNOWN.natural) same("natural effects of each kind", [natural.formula, natural.hedge].every((n) => n > accepted / 50), true, JSON.stringify(natural));
 same("some tables lack records", missed > accepted / 20, true, missed);
 console.log(`${compared} comparisons on ${accepted} random diagrams, ${wrong} wrong`);
 process.exit(wrong ? 1 : 0);

@@ -1,10 +1,11 @@
-// What an effect is at least and at most over a table, whether a formula gives it or not: by the exposure alone, or by an instrument.
+// What an effect is at least and at most over a table, whether a formula gives it or not: by the exposure alone, by an instrument, or by a
+// set that is adjusted for, some of whose strata lack records.
 import { h, svg } from "../dom.js";
 import { isWithoutRecords } from "../faults.js";
 import { DIAGRAM } from "../names.js";
 import { boundsOf, levelsIn, valuesOf } from "../objects.js";
 import { digitsAbove, digitsBelow, fractionOf, minus, nearly } from "../statistics/fraction.js";
-import { listWord, pathText } from "../text/printed.js";
+import { listWord, pathText, setText } from "../text/printed.js";
 import { chosenContrast, contrastChoices } from "./contrast.js";
 import { instrumentsPart } from "./instruments.js";
 import { fold, listed, pathMarks, sourceOf, verdict, withRole } from "./parts.js";
@@ -17,21 +18,47 @@ const MOST_DIGITS = 15; // of a fraction in the table
 /**
  * The bounds that are asked for, and what was said.
  * @typedef {{ctx: import("./parts.js").Context, words: string[], said: import("../objects.js").Said, instrument: string[], strata: string[],
- *   points: import("../objects.js").Cell[], pickers: () => Node}} Asked
+ *   set: string[] | null, points: import("../objects.js").Cell[], pickers: () => Node}} Asked
  */
 
 /**
  * Asks for the bounds by the sets that are chosen, and for the values of a formula beside them.
- * @param {import("./parts.js").Context} ctx @param {string[]} given @returns {Promise<Asked>}
+ * @param {import("./parts.js").Context} ctx @param {string[]} given @param {string[][]} adjusting the admissible sets that may be chosen
+ * @returns {Promise<Asked>}
  */
-export async function askedBounds(ctx, given) {
-  const { instrument, strata, pickers } = chosenSets(ctx, given), list = (option, names) => (names.length ? [option, listWord(names)] : []);
-  const sets = [...list("--given", given), ...list("--instrument", instrument), ...list("--strata", strata)];
+export async function askedBounds(ctx, given, adjusting = []) {
+  const { set, row } = chosenAdmissible(ctx, given.length ? [] : adjusting);
+  if (set) return { ...(await boundsBy(ctx, set)), pickers: row };
+  const { instrument, strata, pickers } = chosenSets(ctx, given), sets = [...list("--given", given), ...list("--instrument", instrument), ...list("--strata", strata)];
+  return { ...(await asked(ctx, sets, list("--given", given))), instrument, strata, set, pickers: () => h("div", { class: "stack" }, row(), pickers()) };
+}
+
+/** The same by a set that is adjusted for. @param {string[]} set @returns {Promise<Asked>} */
+export async function boundsBy(ctx, set) {
+  return { ...(await asked(ctx, ["--set", listWord(set)], [])), instrument: [], strata: [], set, pickers: () => null };
+}
+
+const list = (option, names) => (names.length ? [option, listWord(names)] : []);
+
+async function asked(ctx, sets, condition) {
   const table = tableName(ctx.memory.csv.name), inDigits = ["bounds", DIAGRAM, table, ...sets, ...countWords(ctx)], exactly = [...inDigits, "--exact"];
   const exact = await ctx.read(exactly), isTooLarge = exact.fault?.stage === "evaluation" && exact.fault.number === NUMBER_TOO_LARGE;
   const [words, said] = isTooLarge ? [inDigits, await ctx.read(inDigits)] : [exactly, exact];
-  const formula = await ctx.read(["evaluate", DIAGRAM, table, ...list("--given", given), "--short", ...countWords(ctx)]);
-  return { ctx, words, said, instrument, strata, points: formula.status === 0 ? valuesOf(formula.object) : [], pickers };
+  const formula = await ctx.read(["evaluate", DIAGRAM, table, ...condition, "--short", ...countWords(ctx)]);
+  return { ctx, words, said, points: formula.status === 0 ? valuesOf(formula.object) : [] };
+}
+
+/** The admissible set by which bounds are asked for, chosen among these; null where none is. */
+function chosenAdmissible(ctx, sets) {
+  const { memory } = ctx, set = sets.find((one) => setText(one) === memory.boundSet) ?? null;
+  const choose = (e) => {
+    Object.assign(memory, { boundSet: e.target.value, armed: null });
+    ctx.refresh();
+  };
+  const option = (text, value, isNow) => h("option", { value, selected: isNow }, text);
+  const row = () => sets.length > 0 && h("label", { class: "count" }, "Adjusting for ", h("select", { id: "bound-set", data: { key: "bound-set" }, onchange: choose },
+    option("no set", "", !set), sets.map((one) => option(one.join(", ") || "nothing", setText(one), one === set))));
+  return { set, row };
 }
 
 /** The instrument and its strata, chosen among the vertices that the question doesn't name. */
@@ -50,9 +77,9 @@ const ABOUT_INSTRUMENTS = "An instrument, such as the arm of a trial that was dr
   + "less wide. Press its row's name, then click variables in the drawing; or take them from the list.";
 
 /** What the drawing shows of them. @param {Asked} asked */
-export function boundsMarks({ said, instrument, strata }, given) {
-  const { open, moved } = said.object, sets = [...instrument, ...strata, ...given].map((name) => [name, "chosen"]);
-  return { edges: open ? pathMarks(open) : [], vertices: new Map([...sets, ...(moved ? [[moved, "bad"]] : [])]) };
+export function boundsMarks({ said, instrument, strata, set }, given) {
+  const { open, moved, forbidden } = said.object, sets = [...instrument, ...strata, ...(set ?? []), ...given].map((name) => [name, "chosen"]);
+  return { edges: open ? pathMarks(open) : [], vertices: new Map([...sets, ...[moved, forbidden].filter(Boolean).map((name) => [name, "bad"])]) };
 }
 
 // ---- As they are told
@@ -64,7 +91,8 @@ export function boundsPart(asked) {
 }
 
 /** Why there are none. */
-function told({ said: { object, fault }, strata }) {
+function told({ said: { object, fault }, strata, set }) {
+  if (set && !fault && !object.crossed) return verdict("no", "Not admissible", "Bounds by this set aren't given. See Adjust for what it leaves open, or has too much.");
   if (fault) return isWithoutRecords(fault) ? verdict("no", "No bounds", "No record has ", levelsOf(fault.cell), ".") : verdict("ask", fault.sentence);
   if (object.crossed) return verdict("no", "No model of this diagram has these counts", crossedText(object.crossed));
   const why = object.moved
@@ -87,9 +115,10 @@ function crossedText(crossed) {
 const cellText = ({ y, x, given }) => `P(${y}${x || given ? `|${[...(x ? [`do(${x})`] : []), ...(given ? [given] : [])].join(",")}` : ""})`;
 
 /** @param {Asked} asked */
-function boundsView({ ctx, said: { object }, points }) {
+function boundsView({ ctx, said: { object }, points, set }) {
   const cells = boundsOf(object);
   return [
+    set && h("p", {}, "Strata of ", set.length ? listed(set) : "nothing", " that have records of a value of the exposure count as usual; the others leave open what would have been seen there."),
     verdict("warn", "At least and at most", "Proved, over the shares of this table: in every model of the diagram that has them, the effect lies between these numbers. ",
       "They are no confidence interval, since a sample's shares aren't those of the population. Better bounds may be had."),
     h("div", { class: "scroll" }, boundsTable(cells, points)),
@@ -136,13 +165,14 @@ function differencePart(ctx, cells) {
 }
 
 /** The bounds for a report. @param {Asked} asked @returns {import("../report/gather.js").Part[]} */
-export function boundsParts({ said: { status, object, fault }, instrument, strata }) {
+export function boundsParts({ said: { status, object, fault }, instrument, strata, set }) {
   if (fault) return [{ text: `No bounds: ${fault.sentence}` }];
-  const by = instrument.length ? `by the instrument ${instrument.join(", ")}${strata.length ? ` in the strata of ${strata.join(", ")}` : ""}` : "without an instrument";
+  const by = set ? `adjusting for ${set.join(", ") || "nothing"}, where strata without records leave open what would have been seen there` : instrument.length ? `by the instrument ${instrument.join(", ")}${strata.length ? ` in the strata of ${strata.join(", ")}` : ""}` : "without an instrument";
   if (object.crossed) {
     const [{ y, x, given, low, high }] = boundsOf({ cells: [object.crossed] });
     return [{ text: `No model of this diagram has these counts: ${cellText({ y, x, given })} would be at least ${low.text} and at most ${high.text} (${by}).` }];
   }
+  if (status === 1 && set) return [{ text: `No bounds: ${set.join(", ") || "nothing"} isn't admissible.` }];
   if (status === 1) return [{ text: `${instrument.join(", ")}: no instrument for this effect${object.open ? `; this path stays open: ${pathText(object.open)}` : ""}.` }];
   const cells = boundsOf(object), hasCondition = cells.some((c) => c.given);
   return [

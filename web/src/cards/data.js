@@ -4,8 +4,8 @@ import { levelsIn, saidOf, valuesOf } from "../objects.js";
 import { lacksMark } from "../faults.js";
 import { countName } from "../statistics/table.js";
 import { write } from "../text/edit.js";
-import { levelsText } from "../text/printed.js";
-import { askedBounds, boundsMarks, boundsPart } from "./bounds.js";
+import { levelsText, setText } from "../text/printed.js";
+import { askedBounds, boundsBy, boundsMarks, boundsPart } from "./bounds.js";
 import { contrastPart } from "./contrast.js";
 import { BOUNDS, chosenFormula, withoutRecords, zeroPart } from "./formulas.js";
 import { fold, listed, sourceOf, verdict, withRole } from "./parts.js";
@@ -18,8 +18,8 @@ const MOST_TRIED = 4; // sets whose formula is tried where another has no value
 /** What a report says of the table: the order of its draws, with the cells; or the bounds that were asked for; null where there is no table. */
 export async function measured(ctx) {
   if (!ctx.memory.csv) return null;
-  const { way } = await chosenFormula(ctx), said = way.by === BOUNDS ? null : await ctx.read(wordsOf(ctx, way, tableName(ctx.memory.csv.name), countWords(ctx)));
-  if (!said || hasNoFormula(way, said)) return { way, asked: await askedBounds(ctx, way.given) };
+  const { way, ways } = await chosenFormula(ctx), said = way.by === BOUNDS ? null : await ctx.read(wordsOf(ctx, way, tableName(ctx.memory.csv.name), countWords(ctx)));
+  if (!said || hasNoFormula(way, said)) return { way, asked: await askedBounds(ctx, way.given, minimalSets(ways)) };
   if (said.status !== 0) return { way, fault: said.fault };
   const crude = way.given.length ? [] : await crudeValues(ctx);
   return { way, order: orderOf({ ctx, way, crude }, valuesOf(said.object)) };
@@ -36,18 +36,28 @@ async function answer(ctx) {
   const { fault } = bounds, hasValue = bounds.status === 0 || isExact;
   const without = !fault || hasValue ? null : await withoutRecords(ctx, way, fault);
   const crude = hasValue && !way.given.length ? await crudeValues(ctx) : [];
-  const found = { ctx, choice, way, words, exactWords, bounds, exact, fault, without, crude, other: without && !way.given.length && (await otherWay(ctx, choice)) };
+  const other = without && !way.given.length && (await otherWay(ctx, choice)), instead = without && (await boundsInstead(ctx, choice));
+  const found = { ctx, choice, way, words, exactWords, bounds, exact, fault, without, crude, other, instead };
   const view = bounds.status === 1 ? notAdmissible : hasValue ? values : noValue;
-  const marks = { vertices: new Map([...(way.set ?? []), ...way.given].map((name) => [name, "chosen"])) };
+  const marks = { vertices: new Map([...(way.set ?? instead?.set ?? []), ...way.given].map((name) => [name, "chosen"])) };
   return { dot: hasValue ? "yes" : "no", view: () => view(found), marks };
 }
 
 /** Whether the effect has no formula. A set that isn't admissible leaves that open. */
 const hasNoFormula = ({ set }, { status }) => !set && status === 1;
 
+/** The sets among these ways that the program lists. */
+const minimalSets = (ways) => ways.filter(({ by, set }) => set && by === setText(set)).map(({ set }) => set);
+
+/** The bounds by a set that is adjusted for, where some condition has no record: by the one that is chosen, or the first; null where there are none. */
+async function boundsInstead(ctx, { ways, way }) {
+  const [set] = way.set ? [way.set] : way.given.length ? [] : minimalSets(ways), asked = set && (await boundsBy(ctx, set));
+  return asked?.said.status === 0 ? asked : null;
+}
+
 /** The bounds in place of values. */
 async function bounded(ctx, choice, told) {
-  const { given } = choice.way, asked = await askedBounds(ctx, given);
+  const { given } = choice.way, asked = await askedBounds(ctx, given, minimalSets(choice.ways));
   return { dot: asked.said.status === 0 ? "yes" : "no", view: () => h("div", {}, choices({ ctx, choice }), told(), boundsPart(asked)), marks: boundsMarks(asked, given) };
 }
 
@@ -91,7 +101,7 @@ function notAdmissible(found) {
 }
 
 function noValue(found) {
-  const { ctx, words, bounds, fault, without, other } = found, fine = without ? ctx.memory.csv.notes.filter(({ isFine, points }) => isFine && !points) : [];
+  const { ctx, words, bounds, fault, without, other, instead } = found, fine = without ? ctx.memory.csv.notes.filter(({ isFine, points }) => isFine && !points) : [];
   const many = fine.map(({ name, size }) => `${name} has ${size} different values`).join(", ");
   const use = (by) => () => {
     ctx.memory.by = by;
@@ -104,8 +114,9 @@ function noValue(found) {
   zeroPart(ctx, without),
   other ? h("p", {}, "The formula of adjusting for ", other.set.length ? listed(other.set) : "nothing", " has a value over this table. ",
     button("Use it", use(other.by), { id: "use" })) : null,
-  without && h("p", {}, "Bounds need no such records: ", button("At least and at most", use(BOUNDS), { id: "use-bounds" })),
-  sourceOf(ctx, words, bounds));
+  without && h("p", {}, instead ? "Other bounds, as by an instrument: " : "Bounds need no such records: ", button("At least and at most", use(BOUNDS), { id: "use-bounds" })),
+  sourceOf(ctx, words, bounds),
+  instead && h("div", { class: "stack", id: "instead" }, h("h3", {}, "What the records still say"), boundsPart(instead)));
 }
 
 /** Whether rows have missing values, or levels differ in spelling, that count as they are. */

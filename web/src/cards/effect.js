@@ -9,6 +9,7 @@ import { hedge } from "./hedge.js";
 import { certificateRow, fold, formulaBox, listed, refused, source, verdict, withRole } from "./parts.js";
 import { instrumentsPart } from "./instruments.js";
 import { ALL_KINDS, chosenKind } from "./kind.js";
+import { throughMediators } from "./natural.js";
 import { chosenSet, howToChoose } from "./sets.js";
 import { notesOn } from "./signs.js";
 import { amongTheTreated } from "./treated.js";
@@ -21,6 +22,7 @@ async function answer(ctx) {
   const asked = [...IDENTIFY, ...kind.words, ...(names.length ? ["--given", listWord(names)] : [])];
   const more = () => [condition(ctx, given, kind), ...(hasBoth(ctx) ? [fold(ctx, "instruments", "Instruments", () => instrumentsPart(ctx))] : [])];
   if (kind.id === "treated") return amongTheTreated(ctx, kind, names, more);
+  if (kind.id === "through") return throughMediators(ctx, kind, names, more);
   const form = await chosenForm(ctx, asked), { words, said } = form;
   if (said.fault) return refused(ctx, words, said, () => (names.length || kind.id === "direct" ? h("div", { class: "stack" }, kind.row(), more()) : null));
   if (said.status === 1) return hedge(ctx, words, said.object, names.length ? await kindOf(ctx, words) : "", kind, ...more());
@@ -41,10 +43,14 @@ async function leavesUnchanged(ctx) {
 
 const hasBoth = (ctx) => ["exposure", "outcome"].every((role) => withRole(ctx, role).length);
 
+const ABOUT_CONDITION = {
+  treated: "The effect among those of the treated who have the same values of these.",
+  through: "The effects among those who have the same values of these, which come before the exposure.",
+};
+
 /** The choice of a condition: the effect among those with the same values of some variables. */
 function condition(ctx, given, { id }) {
-  const about = id === "treated" ? "The effect among those of the treated who have the same values of these."
-    : "The effect among those who have the same values of these when the exposure is set.";
+  const about = ABOUT_CONDITION[id] ?? "The effect among those who have the same values of these when the exposure is set.";
   return fold(ctx, "condition", "Given the values of other variables", () => h("div", { class: "stack" }, h("p", {}, about),
     h("div", { class: "pickers" }, given.row()), howToChoose()));
 }

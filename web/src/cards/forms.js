@@ -1,4 +1,4 @@
-// In which form a formula is shown and evaluated: a short one, or as the identification procedure gives it.
+// In which form a formula is shown and evaluated: a short one, or the full one that the identification algorithm builds.
 import { h } from "../dom.js";
 import { linesOf } from "../objects.js";
 
@@ -34,8 +34,9 @@ function tickBox(ctx) {
   };
   return h("label", { class: "tick-box" },
     h("input", { type: "checkbox", id: "procedure", checked: memory.procedure, data: { key: "procedure" }, onchange: choose }),
-    " as the procedure gives it");
+    " the full formula, built step by step");
 }
 
-const noteOn = (more) => (more.length ? "A short form (--short), no longer than the identification procedure's. "
-  : "The identification procedure's form; a short one is no longer. ") + "Both equal the effect; over a sample their values may differ.";
+const noteOn = (more) => (more.length ? "A short formula (--short), which is no longer than the one that the identification algorithm builds step by step from the diagram. "
+  : "The formula that the identification algorithm builds step by step from the diagram; there is a short one that is no longer. ")
+  + "Both equal the effect; over a sample their values may differ.";

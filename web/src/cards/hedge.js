@@ -1,4 +1,5 @@
 import { h } from "../dom.js";
+import { hedgeMarks, linksOf } from "../diagram/marks.js";
 import { route } from "../diagram/route.js";
 import { bitsOf, sumText } from "../objects.js";
 import { termText } from "../text/printed.js";
@@ -13,20 +14,8 @@ const MOST_DIGITS = 12;
  * @param {import("./kind.js").Kind} asked which effect is asked for
  */
 export function hedge(ctx, words, object, kind, asked, ...more) {
-  const { choices } = object.hedge, links = linksOf(object.hedge), vertices = hedgeVertices(object.hedge);
-  const edges = [...choices.map(({ vertex, child }) => ({ a: vertex, b: child, both: false })), ...links];
-  return {
-    dot: "no", view: () => view(ctx, words, object, kind, asked, more),
-    marks: { vertices, edges: edges.map((e) => ({ ...e, cls: "hedge" })) },
-  };
+  return { dot: "no", view: () => view(ctx, words, object, kind, asked, more), marks: hedgeMarks(object.hedge) };
 }
-
-/** The vertices of a hedge, as the drawing marks them. @returns {Map<string, string>} */
-export const hedgeVertices = ({ larger, smaller }) =>
-  new Map([[larger, "hedge-big"], [smaller, "hedge-small"]].flatMap(([names, cls]) => names.map((n) => [n, cls])));
-
-/** Its bidirected edges. @returns {import("../text/printed.js").Edge[]} */
-const linksOf = ({ links }) => links.map(([a, b]) => ({ a, b, both: true }));
 
 function view(ctx, words, object, kind, { row }, more) {
   const { joint } = object, isAsked = object.given.length > 0;
@@ -57,7 +46,7 @@ export function hedgeParts({ joint, models, hedge: { larger, smaller, roots } })
 /** Which models show it of the effect that was asked for. */
 const DIFFER = {
   settled: ": the same two models differ on it too",
-  unsettled: ", and no two models that differ on it are shown",
+  unsettled: ": two other models differ on it, which aren't shown",
 };
 
 const MOST_NAMED = 3;

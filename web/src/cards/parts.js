@@ -113,9 +113,9 @@ export const pathMarks = (path) => edgesOf(path).map((e) => ({ ...e, cls: "open"
 
 /**
  * A formula with its ways out: its LaTeX, and a larger view; and beside them the choice of its form, where there is one.
- * @param {any} object the program's, with `latex` and the trees
+ * @param {any} object the program's, with `latex` and the trees @param {Node | null} choice @param {string} copied its LaTeX for a paper
  */
-export function formulaBox(object, choice = null) {
+export function formulaBox(object, choice = null, copied = formulaTex(object)) {
   const tex = object.latex.split("\n"), printed = linesOf(object);
   const enlarge = () => {
     const close = h("form", { method: "dialog" }, h("button", { class: "small" }, "Close"));
@@ -125,7 +125,7 @@ export function formulaBox(object, choice = null) {
     box.showModal();
   };
   return h("div", {}, h("div", { class: "formula" }, formula(tex, printed)),
-    h("div", { class: "row end" }, choice, copyButton(formulaTex(object), "LaTeX", "Copy LaTeX"), button("Enlarge", enlarge)));
+    h("div", { class: "row end" }, choice, copyButton(copied, "LaTeX", "Copy LaTeX"), button("Enlarge", enlarge)));
 }
 
 /** Saving the certificate of the answer to these words, and having it checked. */

@@ -1,9 +1,10 @@
 // The effect among the treated: what the outcome would be among those for whom some value of the exposure was observed, had another been set.
+import { hedgeVertices } from "../diagram/marks.js";
 import { h } from "../dom.js";
 import { DIAGRAM } from "../names.js";
 import { edgesOf, textOf } from "../objects.js";
 import { listWord, pathText, termText } from "../text/printed.js";
-import { hedgeParts, hedgeVertices } from "./hedge.js";
+import { hedgeParts } from "./hedge.js";
 import { whatNext } from "./next.js";
 import { fold, formulaBox, listed, refused, source, sourceOf, verdict } from "./parts.js";
 import { notesOn } from "./signs.js";

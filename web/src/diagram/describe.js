@@ -4,6 +4,7 @@ const ROLE_WORDS = { exposure: "exposure", outcome: "outcome", adjusted: "adjust
 const MARK_WORDS = {
   chosen: "chosen", from: "chosen", to: "chosen", bad: "refused", difference: "at the difference",
   "hedge-big": "in the hedge", "hedge-small": "in the hedge's smaller set",
+  witness: "needed under both values of the exposure",
 };
 
 const list = (names) => names.join(", ");

@@ -1,6 +1,6 @@
 // The list of the diagrams that this browser keeps, with their names.
 import { button, byId, h } from "../dom.js";
-import { titleOf } from "./kept.js";
+import { titleOf, whichOf } from "./kept.js";
 import { toast } from "./notices.js";
 
 const UNTITLED = "Untitled";
@@ -37,19 +37,23 @@ export class Diagrams {
     field.value = kept.shown.name;
     field.placeholder = UNTITLED;
     field.onchange = () => {
-      kept.rename(field.value.trim());
+      const wanted = field.value.trim(), name = kept.rename(wanted);
+      field.value = name;
+      byId("diagram-taken").textContent = name === wanted ? "" : `Another of your diagrams is called ${wanted}, so this one is ${name}. You can give it any other name.`;
       this.tell();
       this.#fillList();
     };
+    byId("diagram-taken").textContent = "";
     this.#fillList();
   }
 
   #fillList() {
-    const list = this.kept.list(), items = list.map((entry) => this.#item(entry));
+    const list = this.kept.list(), items = list.map((entry) => this.#item(entry, whichOf(entry, list)));
     byId("diagrams-list").replaceChildren(...(items.length ? items : [h("li", {}, "None yet: a diagram is kept from its first change on.")]));
   }
 
-  #item(entry) {
+  /** @param {import("./kept.js").Entry} entry @param {string} which among those with its name */
+  #item(entry, which) {
     const { id, name, text, at } = entry, isShown = id === this.kept.shown.id, title = name || UNTITLED;
     const item = h("li", { "aria-current": isShown ? "true" : null });
     const remove = () => {
@@ -62,7 +66,7 @@ export class Diagrams {
     };
     item.append(
       h("button", { type: "button", class: "open", onclick: () => this.#open(entry), title: "Open it" },
-        h("b", {}, title), isShown ? " (shown)" : "", h("small", {}, titleOf(text), at ? ` · ${new Date(at).toLocaleString()}` : "")),
+        h("b", {}, title), isShown ? " (shown)" : "", which && ` (${which})`, h("small", {}, titleOf(text), at ? ` · ${new Date(at).toLocaleString()}` : "")),
       button("Delete", remove, { "aria-label": `Delete ${title}` }));
     return item;
   }

@@ -61,16 +61,21 @@ export class Kept {
     this.#tell();
   }
 
-  /** Gives the diagram that is shown a name, and keeps it. */
+  /** Gives the diagram that is shown a name, and keeps it. Where another has it already, a number stands behind. @returns {string} the name it has */
   rename(name) {
-    this.shown.name = name;
+    const { shown } = this;
+    shown.name = freeName(name, this.list().filter(({ id }) => id !== shown.id));
     this.#put();
     this.#tell();
+    return shown.name;
   }
 
   #put() {
     const { shown } = this, list = this.list(), there = list.find(({ id }) => id === shown.id);
-    if (shown.id === null || (there && there.text !== this.#written)) shown.id = freshId(list);
+    if (shown.id === null || (there && there.text !== this.#written)) {
+      shown.id = freshId(list);
+      shown.name = freeName(shown.name, list);
+    }
     const { id, name, text, scale } = shown;
     this.#written = text;
     this.isSafe = this.#write([{ id, name, text, at: Date.now(), scale }, ...list.filter((entry) => entry.id !== id)]);
@@ -105,6 +110,22 @@ const freshId = (list) => {
   do id = Math.random().toString(36).slice(2); while (list.some((entry) => entry.id === id));
   return id;
 };
+
+/** A name that none of these has: with a number behind it, where it has to be. Those without a name keep none. @param {string} name @param {Entry[]} list */
+export function freeName(name, list) {
+  const isTaken = (other) => list.some((entry) => entry.name === other);
+  if (!name || !isTaken(name)) return name;
+  const stem = name.replace(/ \d+$/, "") || name;
+  let n = 2;
+  while (isTaken(`${stem} ${n}`)) n++;
+  return `${stem} ${n}`;
+}
+
+/** Which of several with one name an entry is, the oldest first; empty where no other has its name. @param {Entry} entry @param {Entry[]} list */
+export function whichOf({ id, name }, list) {
+  const same = list.filter((entry) => entry.name === name).sort((one, other) => one.at - other.at);
+  return name && same.length > 1 ? `${same.findIndex((entry) => entry.id === id) + 1} of ${same.length} with this name` : "";
+}
 
 function read(store, key) {
   try {

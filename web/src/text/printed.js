@@ -27,7 +27,12 @@ export function termText({ term, do: doing, given }) {
 }
 
 /** Levels such as S=large,"b c"=1. @param {import("../objects.js").Level[]} levels */
-export const levelsText = (levels) => levels.map(({ name, level }) => `${nameText(name)}=${level}`).join(",");
+export const levelsText = (levels) => levels.map(({ name, level }) => `${nameText(name)}=${levelText(level)}`).join(",");
+
+const SIGNS = { "\n": "\\n", "\r": "\\r", '"': '\\"', "\\": "\\\\" };
+
+/** A level as it stands; between quotation marks where it has one, or would break a line. */
+const levelText = (level) => (/[\n\r"]/.test(level) ? `"${level.replace(/[\n\r"\\]/g, (sign) => SIGNS[sign])}"` : level);
 
 // ---- As it takes them
 
