@@ -44,6 +44,23 @@ number_truth <- local({
   chance <- function(x) stats::integrate(function(m) stats::dnorm(m, x) * (stats::plogis(-1 + m) + stats::plogis(m)) / 2, -9, 10)$value
   chance(1) - chance(0)
 })
+# the same truth among those with X = 1
+treated_truth <- local({
+  cells <- expand.grid(A = 0:3, B = 0:3)
+  weight <- stats::dbinom(cells$A, 3, 0.35) * stats::dbinom(cells$B, 3, 0.35) * stats::plogis(-1 + 0.5 * cells$A + 0.3 * cells$B)
+  chance <- function(x) sum(weight * stats::plogis(-1.5 + 0.7 * x + 0.4 * cells$A + 0.3 * cells$B)) / sum(weight)
+  chance(1) - chance(0)
+})
+# observations of V, W and Y, and a trial of X, half as large, in which W was measured
+parts <- causal_diagram("dag { X [exposure] Y [outcome] X -> W -> Y X <-> W V -> Y V -> X }")
+parts_study <- function(n) {
+  U <- flip(rep(0.5, n))
+  V <- flip(rep(0.5, n))
+  W <- flip(0.2 + 0.4 * flip(0.2 + 0.3 * V + 0.3 * U) + 0.2 * U)
+  X <- rep(0:1, n / 4)
+  list(seen = data.frame(V, W, Y = flip(stats::plogis(-1 + 1.2 * W + 0.7 * V))), trial = data.frame(X, W = flip(0.2 + 0.4 * X + 0.2 * flip(rep(0.5, n / 2)))))
+}
+parts_truth <- 0.4 * mean(stats::plogis(0.2 + 0.7 * 0:1) - stats::plogis(-1 + 0.7 * 0:1))
 school_study <- function(schools) {
   school <- rep(seq_len(schools), each = 20)
   C <- flip(0.3 + 0.4 * stats::runif(schools)[school])
@@ -59,6 +76,12 @@ scenarios <- list(
   logistic_resampled_300 = list(logistic_truth, function() difference(estimate(two, logistic_study(300), resamples = 200, seed = NULL))),
   ipw_1000 = list(logistic_truth, function() difference(estimate(two, logistic_study(1000), method = "ipw"))),
   front_door_number_500 = list(number_truth, function() difference(estimate(front, number_study(500), resamples = 200, seed = NULL, draws = 300))),
+  front_door_models_400 = list(0.24, function() difference(estimate(front, front_study(400)))),
+  treated_500 = list(treated_truth, function() difference(estimate(two, logistic_study(500), observed = 1))),
+  trial_600 = list(parts_truth, function() {
+    study <- parts_study(600)
+    difference(estimate(parts, study$seen, trials = list(X = study$trial)))
+  }),
   schools_40 = list(0.2, function() difference(estimate(confounded, school_study(40), method = "aipw", clusters = "school"))),
   aipw_1000 = list(logistic_truth, function() difference(estimate(two, logistic_study(1000), method = "aipw"))),
   aipw_wrong_outcome = list(logistic_truth, function() difference(estimate(two, logistic_study(1000), method = "aipw", model = list(Y = ~ X, "logistic")))),

@@ -1,8 +1,9 @@
 #!/usr/bin/env python3
 """Coverage of the Python package's 95 % intervals in simulated studies with known truth: `coverage.py [STUDIES] [SCENARIO ..]`.
 
-bindings/python has to be on the path of modules. STUDIES is 300 unless given. Each scenario draws as many studies from a model, asks for
-the risk difference with its interval, and prints in how many the interval holds the truth, with the standard error of that share.
+bindings/python has to be on the path of modules. STUDIES is 300 unless given, or FIRST-LAST where several processes share them. Each
+scenario draws as many studies from a model, each with a seed of its own, asks for the risk difference with its interval, and prints in how
+many the interval holds the truth, with the standard error of that share.
 """
 import functools
 import random
@@ -16,6 +17,8 @@ from causal import Diagram
 CONFOUNDED = Diagram("dag { X [exposure] Y [outcome] Z -> X -> Y <- Z }")
 TWO = Diagram("dag { X [exposure] Y [outcome] A -> X -> Y <- A B -> X B -> Y }")
 FRONT_DOOR = Diagram("dag { X [exposure] Y [outcome] X -> M -> Y X <-> Y }")
+MEDIATED = Diagram("dag { X [exposure] Y [outcome] C -> X -> M -> Y X -> Y C -> M C -> Y }")
+IN_PARTS = Diagram("dag { X [exposure] Y [outcome] X -> W -> Y X <-> W V -> Y V -> X }")
 ARMS = {"treated": 1, "control": 0, "outcome": 1}
 
 
@@ -93,6 +96,54 @@ def truth(is_bent):
     return sum(part[a] * part[b] * (outcome(a, b, 1, is_bent) - outcome(a, b, 0, is_bent)) for a in part for b in part)
 
 
+def among_the_treated(source, size):
+    """The same; the truth is that among those with X=1."""
+    data, _ = smooth(source, size)
+    return data, treated_truth()
+
+
+@functools.lru_cache(maxsize=None)
+def treated_truth():
+    """The risk difference of `smooth` among those with X=1."""
+    part = {0: 0.65**3, 1: 3 * 0.65**2 * 0.35, 2: 3 * 0.65 * 0.35**2, 3: 0.35**3}
+    weight = {(a, b): part[a] * part[b] * logistic(-0.8 + 0.4 * a + 0.4 * b) for a in part for b in part}
+    moved = sum(own * (outcome(a, b, 1, False) - outcome(a, b, 0, False)) for (a, b), own in weight.items())
+    return moved / sum(weight.values())
+
+
+def mediated(source, size):
+    """A mediator with a confounder of all; x adds 0.1 where the mediator is 0 and 0.2 where it is 1, and 0.4 to the mediator's chance."""
+    data = {"C": [], "X": [], "M": [], "Y": []}
+    for _ in range(size):
+        c = chance(source, 0.5)
+        x = chance(source, 0.3 + 0.4 * c)
+        m = chance(source, 0.2 + 0.4 * x + 0.2 * c)
+        for name, value in zip("CXMY", (c, x, m, chance(source, 0.1 + 0.1 * x + 0.3 * m + 0.2 * c + 0.1 * x * m))):
+            data[name].append(value)
+    return data
+
+
+def in_parts(source, size):
+    """Observations of V, W and Y, and a trial of X, half as large, in which W was measured."""
+    observed, trial = {"V": [], "W": [], "Y": []}, {"X": [], "W": []}
+    for _ in range(size):
+        u, v = chance(source, 0.5), chance(source, 0.5)
+        x = chance(source, 0.2 + 0.3 * v + 0.3 * u)
+        w = chance(source, 0.2 + 0.4 * x + 0.2 * u)
+        for name, value in zip("VWY", (v, w, chance(source, logistic(-1 + 1.2 * w + 0.7 * v)))):
+            observed[name].append(value)
+    for place in range(size // 2):
+        x = place % 2
+        trial["X"].append(x)
+        trial["W"].append(chance(source, 0.2 + 0.4 * x + 0.2 * chance(source, 0.5)))
+    moved = [logistic(0.2 + 0.7 * v) - logistic(-1 + 0.7 * v) for v in (0, 1)]
+    return (observed, trial), 0.4 * sum(moved) / 2
+
+
+def part_of(data, name):
+    return getattr(MEDIATED.mediate(data, through="M", **ARMS, resamples=400), name).interval
+
+
 def counted(diagram, data, **more):
     return diagram.contrast(data, **ARMS, resamples=400, **more).interval.difference
 
@@ -102,33 +153,40 @@ def modelled(diagram, data, **more):
 
 
 SCENARIOS = {
-    "confounder-100": lambda source: (confounder, 100, lambda data: counted(CONFOUNDED, data)),
-    "confounder-500": lambda source: (confounder, 500, lambda data: counted(CONFOUNDED, data)),
-    "confounder-500-bca": lambda source: (confounder, 500, lambda data: counted(CONFOUNDED, data, interval="bca")),
-    "front-door-400": lambda source: (front_door, 400, lambda data: counted(FRONT_DOOR, data)),
-    "logistic-300": lambda source: (smooth, 300, lambda data: modelled(TWO, data)),
-    "logistic-1000": lambda source: (smooth, 1000, lambda data: modelled(TWO, data)),
-    "ipw-1000": lambda source: (smooth, 1000, lambda data: modelled(TWO, data, method="ipw")),
-    "aipw-300": lambda source: (smooth, 300, lambda data: modelled(TWO, data, method="aipw")),
-    "aipw-wrong-arm-1000": lambda source: (
+    "confounder-100": (confounder, 100, lambda data: counted(CONFOUNDED, data)),
+    "confounder-500": (confounder, 500, lambda data: counted(CONFOUNDED, data)),
+    "confounder-500-bca": (confounder, 500, lambda data: counted(CONFOUNDED, data, interval="bca")),
+    "front-door-400": (front_door, 400, lambda data: counted(FRONT_DOOR, data)),
+    "logistic-300": (smooth, 300, lambda data: modelled(TWO, data)),
+    "logistic-1000": (smooth, 1000, lambda data: modelled(TWO, data)),
+    "ipw-1000": (smooth, 1000, lambda data: modelled(TWO, data, method="ipw")),
+    "aipw-300": (smooth, 300, lambda data: modelled(TWO, data, method="aipw")),
+    "aipw-wrong-arm-1000": (
         lambda source, size: smooth(source, size, is_bent_arm=True), 1000, lambda data: modelled(TWO, data, method="aipw")
     ),
-    "front-door-number-500": lambda source: (
+    "front-door-number-500": (
         through_a_number, 500, lambda data: modelled(FRONT_DOOR, data, resamples=200)
     ),
-    "aipw-wrong-outcome-1000": lambda source: (
+    "treated-500": (among_the_treated, 500, lambda data: modelled(TWO, data, observed={"X": 1})),
+    "trial-600": (in_parts, 600, lambda data: modelled(IN_PARTS, data[0], trials={"X": data[1]})),
+    "door-by-models-400": (front_door, 400, lambda data: modelled(FRONT_DOOR, data)),
+    "direct-500": (lambda source, size: (mediated(source, size), 0.1 + 0.1 * 0.3), 500, lambda data: part_of(data, "direct")),
+    "indirect-500": (lambda source, size: (mediated(source, size), 0.4 * 0.4), 500, lambda data: part_of(data, "indirect")),
+    "aipw-wrong-outcome-1000": (
         lambda source, size: smooth(source, size, is_bent=True), 1000, lambda data: modelled(TWO, data, method="aipw")
     ),
 }  # fmt: skip
 
 
 def main(words):
-    studies = int(words[0]) if words else 300
+    first, _, last = (words[0] if words else "300").rpartition("-")
+    numbers = range(int(first), int(last) + 1) if first else range(int(last))
+    studies = len(numbers)
     for name in words[1:] or SCENARIOS:
-        source = random.Random(name)
-        draw, size, ask = SCENARIOS[name](source)
         held = without = 0
-        for _ in range(studies):
+        for number in numbers:
+            source = random.Random(f"{name} {number}")
+            draw, size, ask = SCENARIOS[name]
             data, wanted = draw(source, size)
             try:
                 interval = ask(data)
