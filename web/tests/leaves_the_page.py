@@ -79,16 +79,15 @@ def saves_a_report(s):
     for item, kind in (("Report, to print", "report.html"), ("Report, as LaTeX", "report.tex")):
         s.one("#export").click()
         s.item(item)
-        s.check(f"a report: {kind}", wait(lambda: s.downloads.joinpath(f"Fork.{kind}").exists(), 60), list(s.downloads.iterdir()))
-        time.sleep(0.5)
-    html = s.downloads.joinpath("Fork.report.html").read_text()
+        s.check(f"a report: {kind}", s.saved_as(kind), list(s.downloads.iterdir()))
+    html = s.saved_as("report.html").read_text()
     for part in ("<svg", "Adjustment", "Derivation by the rules of do-calculus", "Assumptions", "tested independences", "risk difference", "odds ratio",
                  "crude", "12 of 600 rows", "<math", "causal identify diagram.dag"):
         s.check(f"the report has {part}", part in html, html[:300])
     s.check("with intervals", html.count(" to ") > 4, "")
     s.check("without a request or a script", "<script" not in html and "http://" not in html.replace("http://www.w3.org", ""), "")
     if can_compile("tikz.sty", "booktabs.sty"):
-        told = compiled(s.downloads.joinpath("Fork.report.tex").read_text())
+        told = compiled(s.saved_as("report.tex").read_text())
         s.check("the LaTeX compiles", not told, told)
     s.tab("effect")
 
@@ -104,9 +103,8 @@ def reports_bounds(s):
     s.soon("bounds by an instrument", lambda: "--instrument assigned" in s.command(), s.panel)
     s.one("#export").click()
     s.item("Report, to print")
-    file = s.downloads / "A trial with noncompliance (with data).report.html"
-    s.check("a report", wait(file.exists, 60), list(s.downloads.iterdir()))
-    time.sleep(0.5)
+    file = s.saved_as("report.html")
+    s.check("a report", file, list(s.downloads.iterdir()))
     html = file.read_text()
     for part in ("by the instrument assigned", "at least", "0.4727", "0.8607", "no confidence interval", "causal bounds diagram.dag cholestyramine.csv --instrument assigned"):
         s.check(f"the report has {part}", part in html, html[-3000:])
@@ -180,9 +178,9 @@ def studies_in_one_sitting(s):
     s.one("#diagram-name").send_keys("Study", Keys.TAB, Keys.ESCAPE)
     s.one("#export").click()
     s.item("Report, to print")
-    file = s.downloads / "Study.report.html"
-    s.check("a report, called by the diagram's name", wait(file.exists, 60), list(s.downloads.iterdir()))
-    time.sleep(0.5)
+    s.check("the diagram has its name", s.called().startswith("Study"), s.called())
+    file = s.saved_as("report.html")
+    s.check("a report, called by the diagram's name", file, list(s.downloads.iterdir()))
     html = file.read_text()
     for part in ("<svg", "Coach, Fitness level", "<math", "tested independences", "risk difference", "rows with missing values left out", "95% interval"):
         s.check(f"it has {part}", part in html, html[:300])

@@ -148,13 +148,17 @@ function testKept() {
   kept.begin({ text: "another" });
   check("a name that is taken gets a number", kept.rename("A name") === "A name 2" && kept.rename("A name 2") === "A name 2" && kept.list()[0].name === "A name 2", kept.list()[0]);
   kept.begin({ text: "example", name: "Napkin" });
+  kept.keep("example");
+  check("an example that is opened again has its own name, and isn't kept before it is changed",
+    kept.shown.name === "Napkin" && kept.list().filter(({ name }) => name.startsWith("Napkin")).length === 1, kept.list());
   kept.keep("example changed once more");
-  check("so does an example that is changed again", /^Napkin \d$/.test(kept.shown.name) && kept.list()[0].name === kept.shown.name, kept.shown);
+  check("an example that is changed again gets one", /^Napkin \d$/.test(kept.shown.name) && kept.list()[0].name === kept.shown.name, kept.shown);
   const names = kept.list().map(({ name }) => name).filter(Boolean);
   check("no two have one name", new Set(names).size === names.length, names);
   const twins = [{ id: "b", name: "N", at: 2 }, { id: "a", name: "N", at: 1 }, { id: "c", name: "M", at: 3 }, { id: "d", name: "", at: 4 }, { id: "e", name: "", at: 5 }];
   check("of those that an earlier page kept it is told which is which", twins.map((one) => whichOf(one, twins)).join("; ") === "2 of 2 with this name; 1 of 2 with this name; ; ; ", twins);
-  check("numbers go on", freeName("N 2", [{ name: "N 2" }, { name: "N 3" }]) === "N 4" && freeName("", [{ name: "" }]) === "", freeName("N 2", [{ name: "N 2" }]));
+  check("numbers go on", freeName("N 2", [{ name: "N 2" }, { name: "N 3" }]) === "N 4" && freeName("", [{ name: "" }]) === ""
+    && freeName("Cohort 2019", [{ name: "Cohort 2019" }]) === "Cohort 2019 2", freeName("N 2", [{ name: "N 2" }]));
   store.memory.set("causal.named", "no list");
   check("what can't be read is none", !kept.list().length && new Kept(undefined, undefined).list().length === 0, kept.list());
   const old = memoryStore();

@@ -156,10 +156,18 @@ class Session:
             print(f"skipped: page-session: {what}: the program doesn't know it")
         return is_lacking
 
+    def called(self):
+        """The name of the diagram that is shown, which its files have: one that another diagram has already got a number."""
+        return self.one("#diagrams .name").get_attribute("textContent")
+
     def saved(self, name):
         """A file that the page saved."""
         path = self.downloads / name
         return path if wait(lambda: path.exists() and path.stat().st_size) else None
+
+    def saved_as(self, kind):
+        """A file of this kind that the page saved of the diagram that is shown."""
+        return self.saved(f"{self.called()}.{kind}")
 
 
 def drags_and_takes_back(s):

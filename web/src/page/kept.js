@@ -111,11 +111,11 @@ const freshId = (list) => {
   return id;
 };
 
-/** A name that none of these has: with a number behind it, where it has to be. Those without a name keep none. @param {string} name @param {Entry[]} list */
+/** A name that none of these has: one that is taken gets the next number, beside a year too. Those without a name keep none. @param {string} name @param {Entry[]} list */
 export function freeName(name, list) {
   const isTaken = (other) => list.some((entry) => entry.name === other);
   if (!name || !isTaken(name)) return name;
-  const stem = name.replace(/ \d+$/, "") || name;
+  const stem = name.replace(/ \d{1,3}$/, "") || name;
   let n = 2;
   while (isTaken(`${stem} ${n}`)) n++;
   return `${stem} ${n}`;
