@@ -69,7 +69,7 @@ EqualsNestedAsDrawn g l x m y z f = (w : FiniteModel) → Fits g w → IsObserve
 abbrev pub HasNoFormulaNestedAsDrawn : MixedGraph → (ℕ → Bool) → (n x m y z : ℕ) → Type 0
 HasNoFormulaNestedAsDrawn g l n x m y z = (f : PlainFormula) → FormulaNamesOnce n x f → EqualsNestedAsDrawn g l x m y z f → ⊥
 
--- values at which two models of the diagram as drawn have not one nested effect
+-- values of the observed vertices, x at the first and x' at the second, at which two models of the diagram as drawn have two nested effects
 pub record DifferNestedAsDrawn (l : ℕ → Bool) (w₁ w₂ : FiniteModel) (x m y z : ℕ) : Type 0 where
   pub first : ℕ → ℕ
   pub second : ℕ → ℕ
