@@ -81,12 +81,13 @@ use Rattle.causal_cli.specs.AsDrawn.{IsTreatedAsDrawn, AreDifferencesAsDrawn, Is
 use Rattle.causal_cli.specs.Calls.{Call, WrittenFor, WrittenForBoth}
 use Rattle.causal_cli.specs.Commands.{commands}
 use Rattle.causal_cli.specs.declared.commands.Command.TheVariants.{Identify, Adjust, Surrogate, Treated, Separate, Rule, Implications, Check, Evaluate}
-use Rattle.causal_cli.specs.declared.commands.Command.TheVariants.{Bounds}
+use Rattle.causal_cli.specs.declared.commands.Command.TheVariants.{Bounds, Natural}
 use Rattle.causal_cli.specs.Drawn.{IsIdentifiedAsDrawn, IsAdjusted, IsSurrogated, IsSeparated, IsRuled, IsImplied, IsImpliedOverCounts, IsImpliedIn}
 use Rattle.causal_cli.specs.Drawn.{Implied, RightAsDrawn, IsTreated, IsChecked, IsEvaluated, IsUnevaluated, IsBounded}
 use Rattle.causal_cli.proofs.AsDrawn.{identifies, adjusts, surrogates, treats, separates, rules, implies, implies_over_counts, unevaluated, checks}
 use Rattle.causal_cli.proofs.DrawnBounds.{bounds_drawn}
 use Rattle.causal_cli.proofs.DrawnCounts.{evaluates}
+use Rattle.causal_cli.proofs.NaturalDrawn.{natural}
 use Rattle.causal_cli.proofs.CallAnswers.{CallAnswer, on_words, on_file, on_both, Gave, under_name, under_names, written_for}
 use Rattle.causal_cli.proofs.ToldAnswers.{answered, answered_on_both}
 
@@ -374,6 +375,7 @@ right_as_drawn_of r code Yes text c g = let h = g (omega (arith, c)) in record {
   adjusted = λ uses call small. adjusted r uses code Yes text c small h.whole (λ w bytes a. a) (h.answers Adjust uses call);
   surrogated = λ uses call small. surrogated r uses code Yes text c small h.whole (λ w bytes a. a) (h.answers Surrogate uses call);
   treated = λ uses call small. treated r uses code Yes text c small h.whole (λ w bytes a. a) (h.answers Treated uses call);
+  natural = λ uses call small. natural r uses code Yes text c small h.whole (λ w bytes a. a) (h.answers Natural uses call);
   separated = λ uses call small. separated r uses code Yes text c small h.whole (λ w bytes a. a) (h.answers Separate uses call);
   ruled = λ uses call small. ruled r uses code Yes text c small h.whole (λ w bytes a. a) (h.answers Rule uses call);
   checked = λ uses call small. checked r uses code Yes text c small h.whole (λ w bytes a. a) (h.answers Check uses call);
@@ -387,6 +389,7 @@ right_as_drawn_of r code No text c g = let h = g (omega (arith, c)) in record {
   adjusted = λ uses call small. adjusted r uses code No text c small h.whole (λ w bytes a. a) (h.answers Adjust uses call);
   surrogated = λ uses call small. surrogated r uses code No text c small h.whole (λ w bytes a. a) (h.answers Surrogate uses call);
   treated = λ uses call small. treated r uses code No text c small h.whole (λ w bytes a. a) (h.answers Treated uses call);
+  natural = λ uses call small. natural r uses code No text c small h.whole (λ w bytes a. a) (h.answers Natural uses call);
   separated = λ uses call small. separated r uses code No text c small h.whole (λ w bytes a. a) (h.answers Separate uses call);
   ruled = λ uses call small. ruled r uses code No text c small h.whole (λ w bytes a. a) (h.answers Rule uses call);
   checked = λ uses call small. checked r uses code No text c small h.whole (λ w bytes a. a) (h.answers Check uses call);
@@ -400,6 +403,7 @@ right_as_drawn_of r code o text c g = record {
   adjusted = λ uses call small. absurd (omega (arith, c, small));
   surrogated = λ uses call small. absurd (omega (arith, c, small));
   treated = λ uses call small. absurd (omega (arith, c, small));
+  natural = λ uses call small. absurd (omega (arith, c, small));
   separated = λ uses call small. absurd (omega (arith, c, small));
   ruled = λ uses call small. absurd (omega (arith, c, small));
   implied = λ uses call zero. absurd (omega (arith, c, zero));

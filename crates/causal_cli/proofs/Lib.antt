@@ -3,6 +3,7 @@ pub mod CallAnswers
 mod AsDrawn
 mod DrawnCounts
 mod DrawnBounds
+mod NaturalDrawn
 mod ToldAnswers
 pub mod DrawnRuns
 pub mod Headlines

@@ -23,6 +23,8 @@ use Rattle.treated_command.specs.Requests.{treated_row}
 use Rattle.treated_command.specs.Requests as treated_requests
 use Rattle.treated_command.specs.Right.{IsTreatedAnswer}
 use Rattle.treated_command.specs.Telling.{treated_telling}
+use Rattle.natural_command.specs.Requests.{natural_row}
+use Rattle.natural_command.specs.Requests as natural_requests
 use Rattle.separation_commands.specs.SeparateRequests.{separate_row}
 use Rattle.separation_commands.specs.SeparateRequests as separate_requests
 use Rattle.separation_commands.specs.SeparateRight.{IsSeparateAnswer}
@@ -57,6 +59,7 @@ use Rattle.causal_cli.specs.AsDrawn.{IdentifiesAsDrawn, IsAdjustedAsDrawn, IsSur
 use Rattle.causal_cli.specs.AsDrawn.{AreDifferencesAsDrawn}
 use Rattle.causal_cli.specs.AsDrawn.{IsTreatedAsDrawn, IsUnevaluatedAsDrawn, IsEvaluatedAsDrawn, IsCheckedAsDrawn, IsBoundedAsDrawn}
 use Rattle.causal_cli.specs.Calls.{Call, IsCallOf, WrittenFor, WrittenForBoth}
+use Rattle.causal_cli.specs.NaturalDrawn.{IsNatural}
 
 -- ---- identify, adjust, surrogate, treated, separate and rule
 
@@ -133,8 +136,9 @@ IsBounded q = IsAnsweredOnBoth bounds_telling (λ d. IsAsked (graph_of d.observe
 
 -- ---- a run
 
--- What is written with status 0 or 1 for `identify`, `adjust`, `surrogate`, `treated`, `separate`, `rule`, `check` and `evaluate`, and with status 0 for
--- `implications` and `bounds`, is told of a right answer, which is so in the diagram as drawn. A status of 1 of `evaluate` is one of the diagram alone.
+-- What is written with status 0 or 1 for `identify`, `adjust`, `surrogate`, `treated`, `natural`, `separate`, `rule`, `check` and `evaluate`, and with
+-- status 0 for `implications` and `bounds`, is told of a right answer, which is so in the diagram as drawn. A status of 1 of `evaluate` is one of the
+-- diagram alone.
 pub record RightAsDrawn (r : Call) (code : ℕ) : Type 0 where
   pub identified : (uses : List Use) → IsCallOf identify_row r.words uses → code ≤ 1
       → WrittenFor identify_requests.IsRequest (λ q. q.file) (λ q bytes. IsIdentifiedAsDrawn q bytes code) r uses
@@ -144,6 +148,8 @@ pub record RightAsDrawn (r : Call) (code : ℕ) : Type 0 where
       → WrittenFor surrogate_requests.IsRequest (λ q. q.file) (λ q bytes. IsSurrogated q bytes code) r uses
   pub treated : (uses : List Use) → IsCallOf treated_row r.words uses → code ≤ 1
       → WrittenFor treated_requests.IsRequest (λ q. q.file) (λ q bytes. IsTreated q bytes code) r uses
+  pub natural : (uses : List Use) → IsCallOf natural_row r.words uses → code ≤ 1
+      → WrittenFor natural_requests.IsRequest (λ q. q.file) (λ q bytes. IsNatural q bytes code) r uses
   pub separated : (uses : List Use) → IsCallOf separate_row r.words uses → code ≤ 1
       → WrittenFor separate_requests.IsRequest (λ q. q.file) (λ q bytes. IsSeparated q bytes code) r uses
   pub ruled : (uses : List Use) → IsCallOf rule_row r.words uses → code ≤ 1

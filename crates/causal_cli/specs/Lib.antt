@@ -2,6 +2,7 @@ pub mod Calls
 pub mod Commands
 pub mod Answered
 pub mod AsDrawn
+pub mod NaturalDrawn
 pub mod Headline
 pub mod Drawn
 pub mod Inputs

@@ -1,7 +1,7 @@
 mod Counting
-mod Naming
+pub mod Naming
 mod Pieces
 mod Places
 mod Replying
-mod Ways
+pub mod Ways
 pub mod Lawful

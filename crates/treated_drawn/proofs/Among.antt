@@ -40,7 +40,7 @@ use Rattle.treated_drawn.specs.Laws.{IsAsked, RightAmongIsDrawn, JointLostIsDraw
 use Rattle.treated_drawn.proofs.Both.{each_has_both_folded, no_member}
 
 -- the observed graph is one
-q_mixed : (g : MixedGraph) → IsMixedGraph g → (l : ℕ → Bool) (q : MixedGraph) → IsObserved g l q → IsMixedGraph q
+pub q_mixed : (g : MixedGraph) → IsMixedGraph g → (l : ℕ → Bool) (q : MixedGraph) → IsObserved g l q → IsMixedGraph q
 q_mixed g ok l q is = subst IsMixedGraph (sym is.renumbers) (IsMixedGraph-renumbered is.projection (observed_below l g.vertices)
     (IsMixedGraph-projection g is.projection l ok is.projects))
 
@@ -58,12 +58,12 @@ module _ (g : MixedGraph) (ok : IsMixedGraph g) (l : ℕ → Bool) (q : MixedGra
       ∙ sym (both.folds.sizes (vertex_of m'.vertices x k) (vertex_low m'.vertices x k lt'))
 
   -- values of names are so in both
-  into : (c : ℕ → ℕ) → IsAssignment (drawn_with_primes l m x).vertices (drawn_with_primes l m x).size c
+  pub into : (c : ℕ → ℕ) → IsAssignment (drawn_with_primes l m x).vertices (drawn_with_primes l m x).size c
       → IsAssignment (with_primes m' x).vertices (with_primes m' x).size c
   into c hc k lt =
       let lt' : k < name_count (observed_count l m) x = subst (λ n. k < name_count n x) (sym counts) lt in subst (λ n. c k < n) (sizes k lt') (hc k lt')
 
-  back : (c : ℕ → ℕ) → IsAssignment (with_primes m' x).vertices (with_primes m' x).size c
+  pub back : (c : ℕ → ℕ) → IsAssignment (with_primes m' x).vertices (with_primes m' x).size c
       → IsAssignment (drawn_with_primes l m x).vertices (drawn_with_primes l m x).size c
   back c hc k lt = subst (λ n. c k < n) (sym (sizes k lt)) (hc k (subst (λ n. k < name_count n x) counts lt))
 
@@ -95,7 +95,7 @@ module _ (g : MixedGraph) (ok : IsMixedGraph g) (l : ℕ → Bool) (q : MixedGra
         ∙ ap (λ n. n * total m) (weight_of-none m' (λ k. false) o (as_observed m'.vertices x c) (λ k. refl))
 
   module _ (observed : IsObservedPositive l m) where
-    positive : IsPositiveModel m'
+    pub positive : IsPositiveModel m'
     positive = folded_is_positive g ok l q is m m' fit fit' both.folds observed
 
     some_event : (o : ℕ → Bool) (t : ℕ → ℕ) → IsAssignment m'.vertices m'.size t → 1 ≤ event_weight m' o t
@@ -122,7 +122,7 @@ module _ (g : MixedGraph) (ok : IsMixedGraph g) (l : ℕ → Bool) (q : MixedGra
         below = some_event (λ v. has x v || has z v) (as_observed m'.vertices x c) (seen c hc)
 
     -- and so has a formula whose terms are observed
-    one_value : (f : PlainFormula) → FormulaNamesOnce q.vertices x f → (c : ℕ → ℕ)
+    pub one_value : (f : PlainFormula) → FormulaNamesOnce q.vertices x f → (c : ℕ → ℕ)
         → IsAssignment (drawn_with_primes l m x).vertices (drawn_with_primes l m x).size c
         → IsEqual (value_of (drawn_with_primes l m x) f c) (value_of (with_primes m' x) f c)
     one_value f once c hc =
@@ -166,11 +166,9 @@ or_none true d e = refl
 or_none false d e = e
 
 module _ (g : MixedGraph) (ok : IsMixedGraph g) (l : ℕ → Bool) (q : MixedGraph) (is : IsObserved g l q) (x y z : ℕ)
-    (before : IsBefore q (has x) (λ v. has x v || has z v)) (x_low : (v : ℕ) → has x v ≡ true → v < q.vertices)
-    (y_off_x : (v : ℕ) → has y v ≡ true → has x v ≡ false) (y_off_z : (v : ℕ) → has y v ≡ true → has z v ≡ false)
-    (z_off_x : (v : ℕ) → has z v ≡ true → has x v ≡ false) (joint : NotIdentifiableAsDrawn g l (effect_on x (union y z)))
+    (joint : NotIdentifiableAsDrawn g l (effect_on x (union y z)))
     (m₁ m₂ : FiniteModel) (f₁ : Fits q m₁) (f₂ : Fits q m₂) (b₁ : FoldsBoth l joint.first m₁) (b₂ : FoldsBoth l joint.second m₂) where
-  agreed : AgreeObserved m₁ m₂
+  pub agreed : AgreeObserved m₁ m₂
   agreed = record {
     vertices = b₁.folds.vertices ∙ joint.observed.vertices ∙ sym b₂.folds.vertices;
     sizes = λ v vl.
@@ -195,79 +193,99 @@ module _ (g : MixedGraph) (ok : IsMixedGraph g) (l : ℕ → Bool) (q : MixedGra
           subst (λ n. s k < n) (joint.observed.sizes k lt ∙ sym (b₂.folds.sizes k kl)) (out s hs k lt)
 
   -- the same values of names are so in the second model
-  second_names : (c : ℕ → ℕ) → IsAssignment (drawn_with_primes l joint.first x).vertices (drawn_with_primes l joint.first x).size c
+  pub second_names : (c : ℕ → ℕ) → IsAssignment (drawn_with_primes l joint.first x).vertices (drawn_with_primes l joint.first x).size c
       → IsAssignment (drawn_with_primes l joint.second x).vertices (drawn_with_primes l joint.second x).size c
   second_names c hc = back g ok l q is joint.second m₂ joint.second_fits f₂ b₂ x c (names_in_second m₁ m₂ agreed.vertices agreed.sizes x c
       (into g ok l q is joint.first m₁ joint.first_fits f₁ b₁ x c hc))
 
-  module _ (equal : (c : ℕ → ℕ) → IsAssignment (drawn_with_primes l joint.first x).vertices (drawn_with_primes l joint.first x).size c
-      → IsEqual (drawn_among l joint.first x y z c) (drawn_among l joint.second x y z c)) where
-    same_weights : (s : ℕ → ℕ) → IsAssignment m₁.vertices m₁.size s
-        → weight_of m₁ (has x) (λ v. has y v || has z v) s * total m₂ ≡ weight_of m₂ (has x) (λ v. has y v || has z v) s * total m₁
-    same_weights = names_fix_joint q (q_mixed g ok l q is) m₁ m₂ f₁ f₂ agreed x y z before x_low y_off_x y_off_z z_off_x (λ c hc.
-        let hc₁ = back g ok l q is joint.first m₁ joint.first_fits f₁ b₁ x c hc in
-        equal_trans (among m₁ x y z c) (drawn_among l joint.first x y z c) (among m₂ x y z c)
-        (one_effect g ok l q is joint.first m₁ joint.first_fits f₁ b₁ x joint.first_positive y z c hc₁)
-        (equal_trans (drawn_among l joint.first x y z c) (drawn_among l joint.second x y z c) (among m₂ x y z c) (equal c hc₁)
-        (equal_sym (among m₂ x y z c) (drawn_among l joint.second x y z c)
-        (one_effect g ok l q is joint.second m₂ joint.second_fits f₂ b₂ x joint.second_positive y z c (second_names c hc₁)))))
-
-    top : (m : FiniteModel) (s : ℕ → ℕ) → weight_of m (has x) (λ v. has (union y z) v || has 0 v) s ≡ weight_of m (has x) (λ v. has y v || has z v) s
-    top m s = ap (λ (a : ℕ → Bool). weight_of m (has x) a s)
-        (fun_ext (λ v. or_none (has (union y z) v) (has 0 v) (has-zero v) ∙ has_join y z v))
-
-    bottom : (m : FiniteModel) (s : ℕ → ℕ) → weight_of m (has x) (has 0) s ≡ total m
-    bottom m s = weight-none (intervene m (has x) s) (has 0) s has-zero
-
-    one_term : (s : ℕ → ℕ) → IsAssignment m₁.vertices m₁.size s
-        → IsEqual (term_value (weights_of m₁) (union y z) x 0 s) (term_value (weights_of m₂) (union y z) x 0 s)
-    one_term s hs = record {
-      left_bottom = subst (λ n. 1 ≤ n) (sym (bottom m₁ s)) (total_positive q m₁ f₁);
-      right_bottom = subst (λ n. 1 ≤ n) (sym (bottom m₂ s)) (total_positive q m₂ f₂);
-      products = ap₂ (λ a b. a * b) (top m₁ s) (bottom m₂ s) ∙ same_weights s hs ∙ ap₂ (λ a b. a * b) (sym (top m₂ s)) (sym (bottom m₁ s));
-    }
-
-    -- so the joint effect is one, against what its two models show
-    contradicts : ⊥
-    contradicts =
-        let d : DifferOnAsDrawn l joint.first joint.second (effect_on x (union y z)) = (joint.effects (λ k. 0) (λ k kl. small k kl)).0 in
-        let hs = inside d.at d.within in
-        let hs₂ : IsAssignment (drawn_weights l joint.second).vertices (drawn_weights l joint.second).size d.at =
-        λ k kl. let k' = subst (λ n. k < n) (sym joint.observed.vertices) kl in subst (λ n. d.at k < n) (joint.observed.sizes k k') (d.within k k') in
-        d.unequal (equal_trans (term_value (drawn_weights l joint.first) (union y z) x 0 d.at) (term_value (weights_of m₁) (union y z) x 0 d.at)
-        (term_value (drawn_weights l joint.second) (union y z) x 0 d.at)
-        (keeps_term g ok l q is joint.first m₁ joint.first_fits f₁ b₁.folds joint.first_positive (union y z) x 0 d.at d.within)
-        (equal_trans (term_value (weights_of m₁) (union y z) x 0 d.at) (term_value (weights_of m₂) (union y z) x 0 d.at)
-        (term_value (drawn_weights l joint.second) (union y z) x 0 d.at) (one_term d.at hs)
-        (equal_sym (term_value (drawn_weights l joint.second) (union y z) x 0 d.at) (term_value (weights_of m₂) (union y z) x 0 d.at)
-        (keeps_term g ok l q is joint.second m₂ joint.second_fits f₂ b₂.folds joint.second_positive (union y z) x 0 d.at hs₂))))
-      where
-        inside : (s : ℕ → ℕ) → IsAssignment (drawn_weights l joint.first).vertices (drawn_weights l joint.first).size s → IsAssignment m₁.vertices m₁.size s
-        inside s hs k kl = subst (λ n. s k < n) (sym (b₁.folds.sizes k kl)) (hs k (subst (λ n. k < n) b₁.folds.vertices kl))
-
-        small : (k : ℕ) → k < (drawn_weights l joint.first).vertices → 0 < (drawn_weights l joint.first).size k
-        small k kl =
-            let k' = subst (λ n. k < n) (sym b₁.folds.vertices) kl in subst (λ n. 0 < n) (b₁.folds.sizes k k') (f₁.positive_size k k')
-
-  lost : (f : PlainFormula) → FormulaNamesOnce q.vertices x f → ((m : FiniteModel) → Fits g m → IsObservedPositive l m → (s : ℕ → ℕ)
-      → IsAssignment (drawn_with_primes l m x).vertices (drawn_with_primes l m x).size s
-      → IsEqual (value_of (drawn_with_primes l m x) f s) (drawn_among l m x y z s)) → ⊥
-  lost f once right = contradicts (λ c hc.
+  -- a formula whose terms are observed has one value in both
+  pub one_formula : (f : PlainFormula) → FormulaNamesOnce q.vertices x f → (c : ℕ → ℕ)
+      → IsAssignment (drawn_with_primes l joint.first x).vertices (drawn_with_primes l joint.first x).size c
+      → IsEqual (value_of (drawn_with_primes l joint.first x) f c) (value_of (drawn_with_primes l joint.second x) f c)
+  one_formula f once c hc =
       let v₁ = value_of (drawn_with_primes l joint.first x) f c in
       let v₂ = value_of (drawn_with_primes l joint.second x) f c in
       let w₁ = value_of (with_primes m₁ x) f c in
       let w₂ = value_of (with_primes m₂ x) f c in
-      let hc₂ = second_names c hc in
-      let e₁ = drawn_among l joint.first x y z c in
-      let e₂ = drawn_among l joint.second x y z c in
       let p₁ = positive g ok l q is joint.first m₁ joint.first_fits f₁ b₁ x joint.first_positive in
       let p₂ = positive g ok l q is joint.second m₂ joint.second_fits f₂ b₂ x joint.second_positive in
-      equal_trans e₁ v₁ e₂ (equal_sym v₁ e₁ (right joint.first joint.first_fits joint.first_positive c hc))
-      (equal_trans v₁ w₁ e₂ (one_value g ok l q is joint.first m₁ joint.first_fits f₁ b₁ x joint.first_positive f once c hc)
-      (equal_trans w₁ w₂ e₂ (observed_fixes_named q (q_mixed g ok l q is) m₁ m₂ f₁ f₂ p₁ p₂ agreed x f once c
+      equal_trans v₁ w₁ v₂ (one_value g ok l q is joint.first m₁ joint.first_fits f₁ b₁ x joint.first_positive f once c hc)
+      (equal_trans w₁ w₂ v₂ (observed_fixes_named q (q_mixed g ok l q is) m₁ m₂ f₁ f₂ p₁ p₂ agreed x f once c
       (into g ok l q is joint.first m₁ joint.first_fits f₁ b₁ x c hc))
-      (equal_trans w₂ v₂ e₂ (equal_sym v₂ w₂ (one_value g ok l q is joint.second m₂ joint.second_fits f₂ b₂ x joint.second_positive f once c hc₂))
-      (right joint.second joint.second_fits joint.second_positive c hc₂)))))
+      (equal_sym v₂ w₂ (one_value g ok l q is joint.second m₂ joint.second_fits f₂ b₂ x joint.second_positive f once c (second_names c hc))))
+
+  top : (m : FiniteModel) (s : ℕ → ℕ) → weight_of m (has x) (λ v. has (union y z) v || has 0 v) s ≡ weight_of m (has x) (λ v. has y v || has z v) s
+  top m s = ap (λ (a : ℕ → Bool). weight_of m (has x) a s)
+      (fun_ext (λ v. or_none (has (union y z) v) (has 0 v) (has-zero v) ∙ has_join y z v))
+
+  bottom : (m : FiniteModel) (s : ℕ → ℕ) → weight_of m (has x) (has 0) s ≡ total m
+  bottom m s = weight-none (intervene m (has x) s) (has 0) s has-zero
+
+  one_term : (s : ℕ → ℕ)
+      → weight_of m₁ (has x) (λ v. has y v || has z v) s * total m₂ ≡ weight_of m₂ (has x) (λ v. has y v || has z v) s * total m₁
+      → IsEqual (term_value (weights_of m₁) (union y z) x 0 s) (term_value (weights_of m₂) (union y z) x 0 s)
+  one_term s same = record {
+    left_bottom = subst (λ n. 1 ≤ n) (sym (bottom m₁ s)) (total_positive q m₁ f₁);
+    right_bottom = subst (λ n. 1 ≤ n) (sym (bottom m₂ s)) (total_positive q m₂ f₂);
+    products = ap₂ (λ a b. a * b) (top m₁ s) (bottom m₂ s) ∙ same ∙ ap₂ (λ a b. a * b) (sym (top m₂ s)) (sym (bottom m₁ s));
+  }
+
+  -- values of the observed vertices are so in what folds the first model
+  pub inside : (s : ℕ → ℕ) → IsAssignment (drawn_weights l joint.first).vertices (drawn_weights l joint.first).size s
+      → IsAssignment m₁.vertices m₁.size s
+  inside s hs k kl = subst (λ n. s k < n) (sym (b₁.folds.sizes k kl)) (hs k (subst (λ n. k < n) b₁.folds.vertices kl))
+
+  -- values at which the joint effect differs
+  pub difference : DifferOnAsDrawn l joint.first joint.second (effect_on x (union y z))
+  difference = (joint.effects (λ k. 0) small).0
+    where
+      small : (k : ℕ) → k < (drawn_weights l joint.first).vertices → 0 < (drawn_weights l joint.first).size k
+      small k kl =
+          let k' = subst (λ n. k < n) (sym b₁.folds.vertices) kl in subst (λ n. 0 < n) (b₁.folds.sizes k k') (f₁.positive_size k k')
+
+  -- it has no one weight in what folds the two models
+  pub no_one_weight : (d : DifferOnAsDrawn l joint.first joint.second (effect_on x (union y z)))
+      → weight_of m₁ (has x) (λ v. has y v || has z v) d.at * total m₂ ≡ weight_of m₂ (has x) (λ v. has y v || has z v) d.at * total m₁ → ⊥
+  no_one_weight d same =
+      let hs₂ : IsAssignment (drawn_weights l joint.second).vertices (drawn_weights l joint.second).size d.at =
+      λ k kl. let k' = subst (λ n. k < n) (sym joint.observed.vertices) kl in subst (λ n. d.at k < n) (joint.observed.sizes k k') (d.within k k') in
+      d.unequal (equal_trans (term_value (drawn_weights l joint.first) (union y z) x 0 d.at) (term_value (weights_of m₁) (union y z) x 0 d.at)
+      (term_value (drawn_weights l joint.second) (union y z) x 0 d.at)
+      (keeps_term g ok l q is joint.first m₁ joint.first_fits f₁ b₁.folds joint.first_positive (union y z) x 0 d.at d.within)
+      (equal_trans (term_value (weights_of m₁) (union y z) x 0 d.at) (term_value (weights_of m₂) (union y z) x 0 d.at)
+      (term_value (drawn_weights l joint.second) (union y z) x 0 d.at) (one_term d.at same)
+      (equal_sym (term_value (drawn_weights l joint.second) (union y z) x 0 d.at) (term_value (weights_of m₂) (union y z) x 0 d.at)
+      (keeps_term g ok l q is joint.second m₂ joint.second_fits f₂ b₂.folds joint.second_positive (union y z) x 0 d.at hs₂))))
+
+  module _ (before : IsBefore q (has x) (λ v. has x v || has z v)) (x_low : (v : ℕ) → has x v ≡ true → v < q.vertices)
+      (y_off_x : (v : ℕ) → has y v ≡ true → has x v ≡ false) (y_off_z : (v : ℕ) → has y v ≡ true → has z v ≡ false)
+      (z_off_x : (v : ℕ) → has z v ≡ true → has x v ≡ false) where
+    module _ (equal : (c : ℕ → ℕ) → IsAssignment (drawn_with_primes l joint.first x).vertices (drawn_with_primes l joint.first x).size c
+        → IsEqual (drawn_among l joint.first x y z c) (drawn_among l joint.second x y z c)) where
+      same_weights : (s : ℕ → ℕ) → IsAssignment m₁.vertices m₁.size s
+          → weight_of m₁ (has x) (λ v. has y v || has z v) s * total m₂ ≡ weight_of m₂ (has x) (λ v. has y v || has z v) s * total m₁
+      same_weights = names_fix_joint q (q_mixed g ok l q is) m₁ m₂ f₁ f₂ agreed x y z before x_low y_off_x y_off_z z_off_x (λ c hc.
+          let hc₁ = back g ok l q is joint.first m₁ joint.first_fits f₁ b₁ x c hc in
+          equal_trans (among m₁ x y z c) (drawn_among l joint.first x y z c) (among m₂ x y z c)
+          (one_effect g ok l q is joint.first m₁ joint.first_fits f₁ b₁ x joint.first_positive y z c hc₁)
+          (equal_trans (drawn_among l joint.first x y z c) (drawn_among l joint.second x y z c) (among m₂ x y z c) (equal c hc₁)
+          (equal_sym (among m₂ x y z c) (drawn_among l joint.second x y z c)
+          (one_effect g ok l q is joint.second m₂ joint.second_fits f₂ b₂ x joint.second_positive y z c (second_names c hc₁)))))
+
+      -- so the joint effect is one, against what its two models show
+      contradicts : ⊥
+      contradicts = no_one_weight difference (same_weights difference.at (inside difference.at difference.within))
+
+    lost : (f : PlainFormula) → FormulaNamesOnce q.vertices x f → ((m : FiniteModel) → Fits g m → IsObservedPositive l m → (s : ℕ → ℕ)
+        → IsAssignment (drawn_with_primes l m x).vertices (drawn_with_primes l m x).size s
+        → IsEqual (value_of (drawn_with_primes l m x) f s) (drawn_among l m x y z s)) → ⊥
+    lost f once right = contradicts (λ c hc.
+        let v₁ = value_of (drawn_with_primes l joint.first x) f c in
+        let v₂ = value_of (drawn_with_primes l joint.second x) f c in
+        let e₁ = drawn_among l joint.first x y z c in
+        let e₂ = drawn_among l joint.second x y z c in
+        equal_trans e₁ v₁ e₂ (equal_sym v₁ e₁ (right joint.first joint.first_fits joint.first_positive c hc))
+        (equal_trans v₁ v₂ e₂ (one_formula f once c hc) (right joint.second joint.second_fits joint.second_positive c (second_names c hc))))
 
 -- it can't be that x and z don't come after x, and no set shows it: their ancestors do
 before_tested : (q : MixedGraph) → IsMixedGraph q → (x y z : ℕ) → IsAsked q x y z → (IsBefore q (has x) (λ v. has x v || has z v) → ⊥) → ⊥
@@ -292,7 +310,9 @@ joint_lost_is_drawn = λ g ok l q is x y z asked joint.
     record {
       joint = joint;
       differ = λ equal. before_tested q (q_mixed g ok l q is) x y z asked (λ before.
-          contradicts g ok l q is x y z before asked.x_low asked.y_off_x asked.y_off_z asked.z_off_x joint h₁.folded h₂.folded h₁.fits h₂.fits h₁.folds h₂.folds equal);
+          contradicts g ok l q is x y z joint h₁.folded h₂.folded h₁.fits h₂.fits h₁.folds h₂.folds before asked.x_low asked.y_off_x asked.y_off_z
+          asked.z_off_x equal);
       no_formula = λ f once right. before_tested q (q_mixed g ok l q is) x y z asked (λ before.
-          lost g ok l q is x y z before asked.x_low asked.y_off_x asked.y_off_z asked.z_off_x joint h₁.folded h₂.folded h₁.fits h₂.fits h₁.folds h₂.folds f once right);
+          lost g ok l q is x y z joint h₁.folded h₂.folded h₁.fits h₂.fits h₁.folds h₂.folds before asked.x_low asked.y_off_x asked.y_off_z asked.z_off_x
+          f once right);
     }

@@ -25,14 +25,14 @@ use Rattle.treated_models.specs.Treated.{is_both, weight_of_both}
 use Rattle.treated_drawn.specs.Laws.{EachHasBothFolded}
 
 -- where nothing is set the solution is that of the model
-solution_none : (m : FiniteModel) (b : ℕ → Bool) (t u : ℕ → ℕ) → ((v : ℕ) → b v ≡ false) → solution (intervene m b t) u ≡ solution m u
+pub solution_none : (m : FiniteModel) (b : ℕ → Bool) (t u : ℕ → ℕ) → ((v : ℕ) → b v ≡ false) → solution (intervene m b t) u ≡ solution m u
 solution_none m b t u none = go m.vertices
   where
     go : (k : ℕ) → rounds (intervene m b t) k u ≡ rounds m k u
     go zero = refl
     go (suc k) = let ih = go k in fun_ext (λ v. let e = none v in rw e (ap (λ (x : ℕ → ℕ). m.mechanism v x u) ih))
 
-nothing : (l : ℕ → Bool) → Apart (λ v. false) l
+pub nothing : (l : ℕ → Bool) → Apart (λ v. false) l
 nothing l v e = absurd (grind (arith, e))
 
 pub no_member : (c : Bool) → (c && false) ≡ false
@@ -115,7 +115,7 @@ module _ (p : MixedGraph) (m : FiniteModel) (o j : ℕ → Bool) (ok : IsMixedGr
 -- ---- both together
 module _ (g p : MixedGraph) (l : ℕ → Bool) (m : FiniteModel) (r : ℕ → ℕ → Bool) (j : ℕ → Bool)
     (ok : IsMixedGraph g) (is : IsProjection g l p) (fit : Fits g m) (tells : TellsReached g l m r) (keeps : KeepsCauses (fold m l r) (λ v. not (l v)) j) where
-  both_folded : (x y e : ℕ → Bool) (s t : ℕ → ℕ) → IsAssignment (folded_by m l r j).vertices (folded_by m l r j).size s
+  pub both_folded : (x y e : ℕ → Bool) (s t : ℕ → ℕ) → IsAssignment (folded_by m l r j).vertices (folded_by m l r j).size s
       → IsAssignment (folded_by m l r j).vertices (folded_by m l r j).size t
       → weight_of_both m (set_in (λ v. not (l v)) x) (set_in (λ v. not (l v)) y) (set_in (λ v. not (l v)) e) (values_in (λ v. not (l v)) s)
       (values_in (λ v. not (l v)) t) * total (folded_by m l r j)

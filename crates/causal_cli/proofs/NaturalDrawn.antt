@@ -1,0 +1,103 @@
+-- What right answers of `natural` say of the diagram as drawn, and from the end of a run to those that were told.
+use Rattle.std.proofs.Common.{ℕ, ◌≡◌, ◌<◌, ◌≤◌, List, Ok, refl, sym, subst, arith}
+use Rattle.std.specs.Io.KnownBytes.{Appends}
+use Rattle.mixed_graph.specs.Bits.{has}
+use Rattle.mixed_graph.specs.Graphs.{MixedGraph}
+use Rattle.mixed_graph.specs.Masks.{union}
+use Rattle.mixed_graph.specs.Shown.{graph_of}
+use Rattle.command_words.specs.Form.{Use}
+use Rattle.replies.specs.declared.outcome.Outcome.{Outcome}
+use Rattle.replies.specs.Outcomes.{code_of}
+use Rattle.replies.specs.Told.{Told}
+use Rattle.diagram.specs.Observed.{IsObservedGraph}
+use Rattle.diagram.specs.Sets.{Names}
+use Rattle.diagram.specs.declared.diagram.Diagram.{Diagram}
+use Rattle.diagram.proofs.ObservedParts.{part_of}
+use Rattle.nested_models.specs.Nested.{IsNestedQuery}
+use Rattle.natural_id.specs.Answers.{parts_view}
+use Rattle.natural_drawn.specs.Drawn.{EqualsNaturalAsDrawn, IsLostNestedAsDrawn}
+use Rattle.natural_drawn.proofs.Formulas.{right_parts_are_drawn}
+use Rattle.natural_drawn.proofs.Lost.{nested_lost_is_drawn}
+use Rattle.natural_drawn.proofs.Nil.{no_indirect_path_is_drawn, no_direct_path_is_drawn}
+use Rattle.natural_command.specs.Asking.{natural_lists}
+use Rattle.natural_command.specs.Faults.{natural_refusal}
+use Rattle.natural_command.specs.Requests as natural_requests
+use Rattle.natural_command.specs.Right.{IsAskedFor, Decides, IsNaturalAnswer}
+use Rattle.natural_command.specs.Telling.{natural_telling}
+use Rattle.natural_command.specs.declared.asking.Question.{Question}
+use Rattle.natural_command.specs.declared.answer.Asked.{Asked}
+use Rattle.natural_command.specs.declared.answer.Answer.{Answer}
+use Rattle.natural_command.specs.declared.answer.Answer.TheVariants.{Formula, Excluded, Witness, Split}
+use Rattle.natural_command.specs.declared.fault.NaturalFault.{NaturalFault}
+use Rattle.natural_command.proofs.Naming.{four_sets}
+use Rattle.natural_command.proofs.Ways.{target_of}
+use Rattle.command_run.specs.Answers.{HoldsAnswer, Defined}
+use Rattle.command_run.specs.Commands.{Request, of}
+use Rattle.causal_cli.specs.Calls.{Call, WrittenFor}
+use Rattle.causal_cli.specs.Commands.{commands}
+use Rattle.causal_cli.specs.NaturalDrawn.{AreNilAsDrawn, IsNaturalAsDrawn, IsNatural}
+use Rattle.causal_cli.specs.declared.commands.Command.TheVariants.{Natural}
+use Rattle.causal_cli.proofs.AsDrawn.{effect_lost}
+use Rattle.causal_cli.proofs.CallAnswers.{CallAnswer, written_for}
+use Rattle.causal_cli.proofs.ToldAnswers.{answered}
+
+-- ---- a right answer
+
+module _ (d : Diagram) (q : Question)
+    (asked : IsNestedQuery (graph_of d.observed.graph) (has q.x.bits) (has q.through.bits) (has q.y.bits) (has q.given.bits)) where
+  -- the graph that was read, and the observed one
+  abbrev g : MixedGraph
+  g = graph_of d.read.graph
+
+  abbrev seen : MixedGraph
+  seen = graph_of d.observed.graph
+
+  observed : IsObservedGraph d.read seen
+  observed = (part_of d).graph
+
+  nil : (a : Asked) → IsAskedFor seen q a → AreNilAsDrawn d a.question a
+  nil a h = subst (λ (k : Question). AreNilAsDrawn d k a) (sym h.question) (record {
+    indirect_nil = λ e. no_indirect_path_is_drawn g d.read.graph.valid (has d.read.latent.bits) seen observed q.x.bits q.through.bits q.y.bits q.given.bits
+        asked (h.no_indirect e);
+    direct_nil = λ e. no_direct_path_is_drawn g d.read.graph.valid (has d.read.latent.bits) seen observed q.x.bits q.through.bits q.y.bits q.given.bits
+        asked (h.no_direct e);
+  })
+
+  of_question : (a : Answer) → Decides seen q a → IsNaturalAsDrawn d a
+  of_question (Formula a f) h = (
+    nil a h.0,
+    subst (λ (k : Question). EqualsNaturalAsDrawn g (has d.read.latent.bits) k.x.bits k.through.bits k.y.bits k.given.bits f.summed.bits
+        (parts_view f.parts.items)) (sym h.0.question)
+        (right_parts_are_drawn g d.read.graph.valid (has d.read.latent.bits) seen observed q.x.bits q.through.bits q.y.bits q.given.bits f.summed.bits
+        (parts_view f.parts.items) h.1.equals),
+  )
+  of_question (Excluded a hedge pair) h = (
+    nil a h.0,
+    subst (λ (k : Question). IsLostNestedAsDrawn g (has d.read.latent.bits) d.observed.graph.n k.x.bits k.through.bits k.y.bits k.given.bits)
+        (sym h.0.question)
+        (nested_lost_is_drawn g d.read.graph.valid (has d.read.latent.bits) seen observed q.x.bits q.through.bits q.y.bits q.given.bits asked
+        (effect_lost d.read seen observed q.x.bits (union q.y.bits q.given.bits) pair h.1.right.counter)),
+  )
+  of_question (Witness a w) h = nil a h.0
+  of_question (Split a s) h = nil a h.0
+
+-- a right answer of `natural`
+naturals : (x y : Names) (through given : List (List ℕ)) (d : Diagram) (a : Answer) → IsNaturalAnswer d x y through given (Ok a) → IsNaturalAsDrawn d a
+naturals x y through given d a h =
+    let sets = four_sets (natural_lists d x y through given) h.question h.named d.observed.graph.n d.observed.sized in
+    of_question d h.question (target_of (graph_of d.observed.graph) h.question sets h.is.before).asked a h.is.decided
+
+-- ---- a run
+
+-- what is refused has status 3
+natural_refused : (e : NaturalFault) → 1 < code_of (natural_refusal.outcome e)
+natural_refused e = omega arith
+
+pub natural : (r : Call) (uses : List Use) (code : ℕ) (o : Outcome) (text : Told) → code ≡ code_of o → code ≤ 1 → Appends r.before r.after text.text
+    → ((w : Request commands) (bytes : List ℕ) → Defined commands w bytes o text → HoldsAnswer commands w bytes o text)
+    → CallAnswer r Natural uses o text → WrittenFor natural_requests.IsRequest (λ q. q.file) (λ q bytes. IsNatural q bytes code) r uses
+natural r uses code o text status small whole held = written_for r Natural uses o text (λ q. q.file) (λ q bytes. IsNatural q bytes code) (λ q h. h) (λ q. refl)
+    (λ q. refl)
+    (λ q is bytes a. let h = held (of Natural q) bytes a in
+    answered natural_telling natural_refusal natural_refused q.form bytes code o text status small
+    (λ d. IsNaturalAnswer d q.x q.y q.through q.given) IsNaturalAsDrawn (naturals q.x q.y q.through q.given) h.diagram h.holds h.answer) whole

@@ -1,0 +1,40 @@
+-- What an answer of `natural` says of the diagram as drawn, with its hidden vertices: of the models of the graph that was read, whatever the mechanisms
+-- of these.
+use Rattle.std.specs.Prelude.{ℕ, ◌≡◌, false, List}
+use Rattle.mixed_graph.specs.Bits.{has}
+use Rattle.mixed_graph.specs.Shown.{graph_of}
+use Rattle.replies.specs.Told.{Told}
+use Rattle.diagram.specs.declared.diagram.Diagram.{Diagram}
+use Rattle.natural_id.specs.Answers.{parts_view}
+use Rattle.natural_drawn.specs.Drawn.{EqualsNaturalAsDrawn, IsLostNestedAsDrawn, IsIndirectNilAsDrawn, IsDirectNilAsDrawn}
+use Rattle.natural_command.specs.Requests as natural_requests
+use Rattle.natural_command.specs.Right.{IsNaturalAnswer}
+use Rattle.natural_command.specs.Telling.{natural_telling}
+use Rattle.natural_command.specs.declared.asking.Question.{Question}
+use Rattle.natural_command.specs.declared.answer.Asked.{Asked}
+use Rattle.natural_command.specs.declared.answer.Answer.{Answer}
+use Rattle.natural_command.specs.declared.answer.Answer.TheVariants.{Formula, Excluded, Witness, Split}
+use Rattle.causal_cli.specs.Answered.{IsAnswered}
+
+-- where no directed path leads from x to y through the mediators the indirect effect is nil, and where none leads past them the direct one
+pub record AreNilAsDrawn (d : Diagram) (q : Question) (a : Asked) : Type 0 where
+  pub indirect_nil : a.indirect ≡ false
+      → IsIndirectNilAsDrawn (graph_of d.read.graph) (has d.read.latent.bits) q.x.bits q.through.bits q.y.bits q.given.bits
+  pub direct_nil : a.direct ≡ false
+      → IsDirectNilAsDrawn (graph_of d.read.graph) (has d.read.latent.bits) q.x.bits q.through.bits q.y.bits q.given.bits
+
+-- A formula equals the nested effect. What a hedge for the joint effect excludes isn't identifiable: two models show it. Of what is left open nothing is
+-- said but which effects are nil.
+abbrev pub IsNaturalAsDrawn : Diagram → Answer → Type 0
+IsNaturalAsDrawn d (Formula a f) = AreNilAsDrawn d a.question a
+    × EqualsNaturalAsDrawn (graph_of d.read.graph) (has d.read.latent.bits) a.question.x.bits a.question.through.bits a.question.y.bits a.question.given.bits
+    f.summed.bits (parts_view f.parts.items)
+IsNaturalAsDrawn d (Excluded a h pair) = AreNilAsDrawn d a.question a
+    × IsLostNestedAsDrawn (graph_of d.read.graph) (has d.read.latent.bits) d.observed.graph.n a.question.x.bits a.question.through.bits a.question.y.bits
+    a.question.given.bits
+IsNaturalAsDrawn d (Witness a w) = AreNilAsDrawn d a.question a
+IsNaturalAsDrawn d (Split a s) = AreNilAsDrawn d a.question a
+
+-- the answer to a request of `natural`
+abbrev pub IsNatural : natural_requests.Request → (bytes : List ℕ) (code : ℕ) (told : Told) → Type 0
+IsNatural q = IsAnswered natural_telling (λ d. IsNaturalAnswer d q.x q.y q.through q.given) IsNaturalAsDrawn q.form

@@ -1,0 +1,51 @@
+-- What is true of nested effects in the diagram as drawn.
+use Rattle.std.specs.Prelude.{ℕ, Bool, List}
+use Rattle.mixed_graph.specs.Bits.{has}
+use Rattle.mixed_graph.specs.Graphs.{MixedGraph, IsMixedGraph}
+use Rattle.mixed_graph.specs.Masks.{union}
+use Rattle.finite_models.specs.Models.{FiniteModel, Fits}
+use Rattle.latent_projection.specs.Renumbering.{IsObserved}
+use Rattle.prob_expr.specs.Tree.{PlainFormula, effect_on}
+use Rattle.hidden_models.specs.Unfolding.{NotIdentifiableAsDrawn}
+use Rattle.treated_models.specs.NamedOnce.{FormulaNamesOnce}
+use Rattle.nested_models.specs.Nested.{IsNestedQuery, HasNoIndirectPath, HasNoDirectPath}
+use Rattle.nested_models.specs.NoFormula.{EqualsNested}
+use Rattle.natural_id.specs.Parts.{PlainPart, EqualsNatural}
+use Rattle.natural_drawn.specs.Drawn.{FoldsNested, EqualsNaturalAsDrawn, EqualsNestedAsDrawn, IsLostNestedAsDrawn}
+use Rattle.natural_drawn.specs.Drawn.{IsIndirectNilAsDrawn, IsDirectNilAsDrawn}
+
+-- a model of the observed graph q that folds w, nested events too
+pub record HasNestedFolded (q : MixedGraph) (l : ℕ → Bool) (w : FiniteModel) : Type 0 where
+  pub folded : FiniteModel
+  pub fits : Fits q folded
+  pub folds : FoldsNested l w folded
+
+-- every model of a graph with hidden vertices has one of the observed graph that folds it, nested events too
+abbrev pub EachHasNestedFolded : Type 0
+EachHasNestedFolded = (g : MixedGraph) → IsMixedGraph g → (l : ℕ → Bool) (q : MixedGraph) → IsObserved g l q → (w : FiniteModel) → Fits g w
+    → HasNestedFolded q l w
+
+-- a formula of parts that equals a nested effect in every positive model of the observed graph q equals it in the diagram as drawn
+abbrev pub RightPartsAreDrawn : Type 0
+RightPartsAreDrawn = (g : MixedGraph) → IsMixedGraph g → (l : ℕ → Bool) (q : MixedGraph) → IsObserved g l q → (x m y z summed : ℕ) (ps : List PlainPart)
+    → EqualsNatural q x m y z summed ps → EqualsNaturalAsDrawn g l x m y z summed ps
+
+-- so does a formula over names and primed names, where its terms are observed
+abbrev pub RightNestedIsDrawn : Type 0
+RightNestedIsDrawn = (g : MixedGraph) → IsMixedGraph g → (l : ℕ → Bool) (q : MixedGraph) → IsObserved g l q → (x m y z : ℕ) (f : PlainFormula)
+    → FormulaNamesOnce q.vertices x f → EqualsNested q x m y z f → EqualsNestedAsDrawn g l x m y z f
+
+-- where the joint effect of x on y and z isn't identifiable in the diagram as drawn, the nested effect isn't either
+abbrev pub NestedLostIsDrawn : Type 0
+NestedLostIsDrawn = (g : MixedGraph) → IsMixedGraph g → (l : ℕ → Bool) (q : MixedGraph) → IsObserved g l q → (x m y z : ℕ)
+    → IsNestedQuery q (has x) (has m) (has y) (has z) → NotIdentifiableAsDrawn g l (effect_on x (union y z)) → IsLostNestedAsDrawn g l q.vertices x m y z
+
+-- where no directed path of the observed graph leads from x through m to y, the indirect effect is nil in the diagram as drawn
+abbrev pub NoIndirectPathIsDrawn : Type 0
+NoIndirectPathIsDrawn = (g : MixedGraph) → IsMixedGraph g → (l : ℕ → Bool) (q : MixedGraph) → IsObserved g l q → (x m y z : ℕ)
+    → IsNestedQuery q (has x) (has m) (has y) (has z) → HasNoIndirectPath q (has x) (has m) (has y) → IsIndirectNilAsDrawn g l x m y z
+
+-- where none leads there past m, the direct effect is
+abbrev pub NoDirectPathIsDrawn : Type 0
+NoDirectPathIsDrawn = (g : MixedGraph) → IsMixedGraph g → (l : ℕ → Bool) (q : MixedGraph) → IsObserved g l q → (x m y z : ℕ)
+    → IsNestedQuery q (has x) (has m) (has y) (has z) → HasNoDirectPath q (has x) (has m) (has y) → IsDirectNilAsDrawn g l x m y z

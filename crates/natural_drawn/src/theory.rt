@@ -1,0 +1,14 @@
+//! What is right of nested effects in the observed graph is so in the diagram as drawn.
+
+ghost use Rattle.natural_drawn.specs.Laws.{EachHasNestedFolded, RightPartsAreDrawn, RightNestedIsDrawn, NestedLostIsDrawn};
+ghost use Rattle.natural_drawn.specs.Laws.{NoIndirectPathIsDrawn, NoDirectPathIsDrawn};
+
+/// The laws of nested effects in the diagram as drawn.
+pub fn laws()
+    ensures folded { EachHasNestedFolded }
+    ensures parts { RightPartsAreDrawn }
+    ensures right { RightNestedIsDrawn }
+    ensures lost { NestedLostIsDrawn }
+    ensures no_indirect { NoIndirectPathIsDrawn }
+    ensures no_direct { NoDirectPathIsDrawn }
+{}
