@@ -207,10 +207,8 @@ async function colourPaths(graph) {
   const isOn = byId("paths").getAttribute("aria-pressed") === "true", mine = (turnOfPaths = {});
   document.body.classList.toggle("with-paths", isOn);
   if (!isOn) return diagram.show({ colours: new Map() });
-  const { classes, isAll } = await pathClasses(askAbout, graph);
-  if (mine !== turnOfPaths) return;
-  diagram.show({ colours: classes });
-  byId("ways-cut").hidden = isAll;
+  const colours = await pathClasses(askAbout, graph);
+  if (mine === turnOfPaths) diagram.show({ colours });
 }
 addEventListener("resize", () => diagram.resized());
 resizePanes(() => diagram.resized());
