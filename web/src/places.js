@@ -89,6 +89,14 @@ export class Places {
     return coming;
   }
 
+  /** Computes a layout anew for a pane of another size, where the text gives no places, and all is seen as it was fitted. */
+  async useRoom(graph, text) {
+    if (!graph.vertices.length || positions(text).size || !this.diagram.isFitted) return;
+    this.#arranged.key = "";
+    this.#isAnew = true;
+    await this.draw(graph, text, { fit: false });
+  }
+
   /** How a text was drawn before, as by an act that is taken back. */
   #known(text, fit) {
     const isAnew = this.#isAnew || fit;

@@ -193,6 +193,9 @@ def takes_trials(s):
     s.tab("experiments")
     s.soon("trials are asked for", lambda: "set in a trial" in s.panel(), s.panel)
     s.write("dag { X [exposure] Y [outcome] Z -> X -> Y Z <-> X Z <-> Y }")
+    fold(s, "which trials")
+    s.soon("which would help", lambda: s.all("#which-trials [data-key='trial Z']"), s.panel)
+    fold(s, "which trials", is_open=False)
     s.one("[data-key='arm experiment 0']").click()
     s.click("Z")
     if s.lacks("surrogate"):
@@ -457,6 +460,11 @@ def tells_paths_apart(s):
     s.tab("paths")
     rows = lambda: [row.text for row in s.all("table.paths tbody tr")]
     s.soon("a list of paths", lambda: any("X -> I -> Y causal open" in row for row in rows()), rows)
+    broken = s.run("""return [...document.querySelectorAll('table.paths td:nth-child(2)')].filter((cell) => {
+        const range = document.createRange();
+        range.selectNodeContents(cell);
+        return range.getClientRects().length > 1; }).length""")
+    s.check("no word is broken", broken == 0, broken)
     s.check("with what closes them", any("X <- W <- N -> I -> Y not causal open" in row for row in rows()), rows())
     s.run("arguments[0].focus()", s.vertex("W"))
     s.keys("a")

@@ -234,6 +234,11 @@ function testTaken() {
   const parts = warningsOf("dag { Body mass [exposure]\nBody mass -> Y\nmass -> Z }", { vertices: [{ name: "Body" }, { name: "mass", role: "exposure" }, { name: "Y" }, { name: "Z" }],
     edges: [{ a: "mass", b: "Y" }, { a: "mass", b: "Z" }] });
   check("a parted name", parts.length === 1 && parts[0].fixed === 'dag { "Body mass" [exposure]\n"Body mass" -> Y\n"Body mass" -> Z }', parts);
+  const [three] = warningsOf("dag {\nBody mass index -> Y\nindex [exposure]\n}", { vertices: ["Body", "mass", "index", "Y"].map((name) => ({ name, role: null })), edges: [{ a: "index", b: "Y" }] });
+  check("one of three words", three?.fixed === 'dag {\n"Body mass index" -> Y\n"Body mass index" [exposure]\n}' && three.sentence.startsWith("Body and mass are read"), three);
+  const [curly] = warningsOf("dag { “Body mass” -> Y }", { vertices: ["“Body", "mass”", "Y"].map((name) => ({ name, role: null })), edges: [{ a: "mass”", b: "Y" }] });
+  check("typed curly quotes", curly?.fixed === 'dag { "Body mass" -> Y }', curly);
+  same("a name that has curly quotes keeps them", 'dag { "the “large” one" -> Y }', null);
   check("no parted name", !warningsOf("dag { A B\nC -> D }", { vertices: ["A", "B", "C", "D"].map((name) => ({ name })), edges: [{ a: "C", b: "D" }] }).length, "");
 }
 
