@@ -1,4 +1,5 @@
 import dagre from "dagre";
+import { circle } from "./diagram/fitting.js";
 import { bend, runsBehind } from "./diagram/geometry.js";
 
 /** @typedef {{x: number, y: number}} Point  @typedef {{width: number, height: number}} Size */
@@ -7,6 +8,7 @@ const SIDEWAYS_FIRST = 1.2; // how much larger a drawing from top to bottom is, 
 const QUICK_MS = 400; // a layout that took longer isn't computed the other way as well
 const MOST_STRETCH = 2.2;
 const MOST_EDGES = 150; // beyond it edges may run behind vertices
+const DENSE = 300; // edges beyond which those that longer ways make superfluous don't count, since dagre takes seconds for them
 const WIDER = 1.15; // how much a layout grows at once, so that no edge does
 const MOST_ROUNDS = 8;
 
@@ -16,6 +18,7 @@ const MOST_ROUNDS = 8;
  * @returns {[string, Point][]}
  */
 export function arrange(outline, quickMs = QUICK_MS) {
+  if (outline.edges.length > DENSE) return listed(arrangeDense(outline));
   const began = performance.now(), sideways = arrangeBy("LR", outline), { room } = outline;
   if (!room || performance.now() - began > quickMs) return listed(sideways);
   const down = arrangeBy("TB", outline), isDown = scaleIn(room, down) > SIDEWAYS_FIRST * scaleIn(room, sideways);
@@ -23,6 +26,26 @@ export function arrange(outline, quickMs = QUICK_MS) {
   stretch(chosen, room);
   widen(chosen, outline.edges);
   return listed(chosen);
+}
+
+/** A layout of many edges, or a circle where that shows it larger. */
+function arrangeDense({ vertices, edges, room }) {
+  const outline = { vertices, edges: reduced(edges) }, sideways = arrangeBy("LR", outline);
+  if (!room) return sideways;
+  const round = circle(vertices.map(({ name }) => name), new Map(vertices.map(({ name, width }) => [name, width / 2])));
+  const all = [sideways, arrangeBy("TB", outline), vertices.map((v) => ({ ...v, ...round.get(v.name) }))];
+  return all.reduce((best, other) => (scaleIn(room, other) > scaleIn(room, best) ? other : best));
+}
+
+/** The arrows of a graph without cycles that no longer way makes superfluous. @param {[string, string][]} edges */
+function reduced(edges) {
+  const next = new Map(), known = new Map();
+  for (const [a, b] of edges) next.set(a, [...(next.get(a) ?? []), b]);
+  const behind = (name) => {
+    if (!known.has(name)) known.set(name, new Set((next.get(name) ?? []).flatMap((b) => [b, ...behind(b)])));
+    return known.get(name);
+  };
+  return edges.filter(([a, b]) => !next.get(a).some((other) => behind(other).has(b)));
 }
 
 /** Widens a layout until each edge can be bent round the vertices that aren't its ends. */

@@ -84,6 +84,12 @@ function testLayout() {
   const wide = arrange({ ...chain(12), room: { width: 900, height: 400 } }, Infinity);
   check("where there is width it lies", span(wide, "x") > span(wide, "y"), wide);
   check("without a room it lies", span(arrange(chain(3)), "x") > 0, "");
+  const { vertices } = chain(64), room = { width: 700, height: 700 }, halves = new Map(vertices.map(({ name }) => [name, 30]));
+  for (const every of [1, 3]) {
+    const edges = vertices.flatMap((v, i) => vertices.slice(i + 1).filter((_, j) => (7 * i + j) % every === 0).map((w) => [v.name, w.name]));
+    const places = new Map(arrange({ vertices, edges, room }));
+    check(`${edges.length} edges are laid out, with no name on another`, places.size === 64 && !overlaps(places, halves).length, overlaps(places, halves));
+  }
 }
 
 const memoryStore = () => {
