@@ -177,9 +177,9 @@ def lists_what_is_implied(s):
     s.run(drop, "A,B,C,count\n0,0,0,4\n0,0,1,2\n1,0,0,2\n1,0,1,1\n0,1,0,1\n0,1,1,3\n1,1,0,2\n1,1,1,1\n")
     s.soon("the largest difference", lambda: "A=0,C=0,B=1" in s.one("table.pairs").text, s.panel)
     s.check("with its command line", s.command() == "$ causal implications diagram.dag fork.csv --count=count", s.command())
-    s.check("as a probability, and in counts", "0." in s.all("table.pairs tbody td")[3].text
-            and "in counts" in s.all("table.pairs tbody td")[3].get_attribute("title"), s.all("table.pairs tbody td")[3].text)
-    s.check("with a test", "0." in s.all("table.pairs tbody td")[2].text, s.panel())
+    s.check("as a probability, and in counts", "0." in s.all("table.pairs tbody td")[2].text
+            and "in counts" in s.all("table.pairs tbody td")[2].get_attribute("title"), s.all("table.pairs tbody td")[2].text)
+    s.check("with a test", "0." in s.all("table.pairs tbody td")[1].text, s.panel())
     s.check("and what it is worth", "speaks against the diagram" in s.panel() and "not proved" in s.panel(), s.panel())
     s.run(drop, "A,C\n0,1\n")
     s.soon("a table that lacks a column", lambda: "No column for B" in s.panel(), s.panel)

@@ -99,7 +99,7 @@ function head({ ctx, pairs, counted, tests, untested, rejected }) {
 
 function table({ ctx, pairs, tests }) {
   const hasDifference = pairs.some((pair) => pair.difference), names = [...(tests ? ["p"] : []), ...(hasDifference ? ["largest difference"] : [])];
-  const columns = ["pair", "given", ...names].map((text) => h("th", { scope: "col" }, text));
+  const columns = ["pair", ...names].map((text) => h("th", { scope: "col" }, text));
   const left = pairs.length - MOST_ROWS;
   return h("table", { class: "pairs" },
     h("caption", {}, left > 0 ? `The first ${MOST_ROWS} of ${pairs.length}; all are in the printed text` : null),
@@ -121,8 +121,7 @@ function row(ctx, pair, hasTests, hasDifference) {
     tabindex: 0, onpointerenter: show, onfocus: show, onpointerleave: hide, onblur: hide, class: test?.adjusted < LEVEL ? "differs" : null,
     "aria-label": `${a} and ${b}${given.length ? ` given ${given.join(", ")}` : ""}${hasTests ? `: p ${part(test?.p)}` : ""}`
       + (difference ? `, largest difference ${difference} at ${at}` : ""),
-  }, h("td", {}, h("b", {}, a), " and ", h("b", {}, b)),
-  h("td", {}, given.join(", ") || "–", " ", furtherButton(ctx, a, b)),
+  }, h("td", {}, h("b", {}, a), " and ", h("b", {}, b), h("small", {}, "given ", given.join(", ") || "nothing", " ", furtherButton(ctx, a, b))),
   hasTests ? h("td", { class: "number", title: statistic }, test ? part(test.p) : "no column", test && h("small", {}, `Holm ${part(test.adjusted)}`)) : null,
   hasDifference ? h("td", { title: `${difference} in counts, as the program prints it` },
     h("span", { class: "number" }, share === null ? difference : share.toFixed(4)), h("small", { class: "cell" }, at && ["at ", at.split(",").map((level, i) => [i ? [",", h("wbr")] : "", level])])) : null);
