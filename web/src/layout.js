@@ -14,17 +14,16 @@ const MOST_ROUNDS = 8;
 
 /**
  * Places for a graph by dagre: from left to right, or from top to bottom where that shows it clearly larger in its room.
- * @param {{vertices: {name: string, width: number, height: number}[], edges: [string, string][], room?: Size}} outline
+ * @param {{vertices: {name: string, width: number, height: number}[], edges: [string, string][], arcs?: [string, string][], room?: Size}} outline
  * @returns {[string, Point][]}
  */
 export function arrange(outline, quickMs = QUICK_MS) {
   if (outline.edges.length > DENSE) return listed(arrangeDense(outline));
-  const began = performance.now(), sideways = arrangeBy("LR", outline), { room } = outline;
-  if (!room || performance.now() - began > quickMs) return listed(sideways);
-  const down = arrangeBy("TB", outline), isDown = scaleIn(room, down) > SIDEWAYS_FIRST * scaleIn(room, sideways);
+  const began = performance.now(), sideways = arrangeBy("LR", outline), { room } = outline, isQuick = performance.now() - began < quickMs;
+  const down = room && isQuick ? arrangeBy("TB", outline) : sideways, isDown = room && scaleIn(room, down) > SIDEWAYS_FIRST * scaleIn(room, sideways);
   const chosen = isDown ? down : sideways;
-  stretch(chosen, room);
-  widen(chosen, outline.edges);
+  if (room) stretch(chosen, room);
+  widen(chosen, outline);
   return listed(chosen);
 }
 
@@ -49,13 +48,14 @@ function reduced(edges) {
 }
 
 /** Widens a layout until each edge can be bent round the vertices that aren't its ends. */
-function widen(placed, edges) {
+function widen(placed, { edges, arcs = [] }) {
   const by = new Map(placed.map((p) => [p.name, p]));
-  const meets = ([a, b]) => {
+  const meets = (isArc) => ([a, b]) => {
     const others = placed.filter(({ name }) => name !== a && name !== b).map((p) => ({ ...p, half: p.width / 2, tall: p.height / 2 })), [p, q] = [by.get(a), by.get(b)];
-    return runsBehind(p, bend(p, q, false, others, []), q, others);
+    return runsBehind(p, bend(p, q, isArc, others, []), q, others);
   };
-  for (let round = 0; round < MOST_ROUNDS && edges.length <= MOST_EDGES && edges.some(meets); round++) {
+  const isBehind = () => edges.some(meets(false)) || arcs.some(meets(true));
+  for (let round = 0; round < MOST_ROUNDS && edges.length + arcs.length <= MOST_EDGES && isBehind(); round++) {
     for (const p of placed) Object.assign(p, { x: p.x * WIDER, y: p.y * WIDER });
   }
 }

@@ -46,7 +46,7 @@ export class Places {
 
   /** Places for a graph that has none in its text. @returns {Promise<Map<string, Point>>} */
   async arrange(graph) {
-    const wanted = outline(graph), key = JSON.stringify([wanted.vertices.map((v) => v.name), wanted.edges]);
+    const wanted = outline(graph), key = JSON.stringify([wanted.vertices.map((v) => v.name), wanted.edges, wanted.arcs]);
     if (this.#arranged.key !== key) {
       this.arranger.giveUpAfter(STALE_MS);
       const patience = this.#patience;

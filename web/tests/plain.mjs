@@ -104,10 +104,12 @@ function testBends() {
   for (let k = 0; k < 60; k++) {
     const vertices = Array.from({ length: 4 + Math.floor(14 * random()) }, (_, i) => ({ name: `v${i}`, width: 44 + 160 * random(), height: HEIGHT }));
     const part = 0.15 + 0.25 * random(), pairs = vertices.flatMap((a, i) => vertices.slice(i + 1).map((b) => [a.name, b.name]));
-    const edges = pairs.filter(() => random() < part), places = new Map(arrange({ vertices, edges, room: { width: 700, height: 700 } }));
+    const edges = pairs.filter(() => random() < part), arcs = pairs.filter(() => random() < 0.05);
+    const places = new Map(arrange({ vertices, edges, arcs, room: { width: 700, height: 700 } }, k % 2 ? undefined : 0)), middles = [];
     const all = vertices.map(({ name, width }) => ({ name, ...places.get(name), half: width / 2 }));
-    for (const [a, b] of edges) {
-      const [p, q] = [places.get(a), places.get(b)], others = all.filter(({ name }) => name !== a && name !== b), c = bend(p, q, false, others, []);
+    for (const [a, b, isArc] of [...edges, ...arcs.map((arc) => [...arc, true])]) {
+      const [p, q] = [places.get(a), places.get(b)], others = all.filter(({ name }) => name !== a && name !== b), c = bend(p, q, Boolean(isArc), others, isArc ? middles : []);
+      if (isArc) middles.push(curve(p, c, q, 0.5));
       const at = Array.from({ length: 201 }, (_, i) => curve(p, c, q, i / 200));
       edgesSeen++;
       if (at.some(({ x, y }) => others.some((o) => Math.abs(x - o.x) < o.half && Math.abs(y - o.y) < HEIGHT / 2))) behind++;
