@@ -1,13 +1,18 @@
 import { CARDS } from "./cards/index.js";
+import { drawFirst } from "./cards/parts.js";
 import { tableName } from "./cards/table.js";
 import { byId, h, speak } from "./dom.js";
 import { AS_JSON } from "./names.js";
 import { saidOf } from "./objects.js";
+import { kindOf, notRead } from "./page/files.js";
 import { toast } from "./page/notices.js";
 import { forgetGone } from "./seen.js";
 import { Table } from "./table.js";
 
 const MOST_BYTES = 1 << 26; // what the program reads of a table
+
+/** @type {import("./cards/parts.js").Shown} */
+const EMPTY = { dot: "", view: drawFirst };
 
 /** @typedef {import("./cards/parts.js").Card} Card  @typedef {import("./cards/parts.js").Context} Context */
 
@@ -96,7 +101,7 @@ export class Answers {
     const turn = ++this.#turn, { active } = this;
     if (isAnew) this.#shown = "";
     this.around.drawing.pick = null;
-    const { ctx, asked } = this.#context(), shown = await active.answer(ctx);
+    const { ctx, asked } = this.#context(), shown = active.wantsVariables && !this.#graph.vertices.length ? EMPTY : await active.answer(ctx);
     if (turn !== this.#turn) return;
     this.#setDot(active, shown);
     this.#marks = shown.marks ?? {};
@@ -135,6 +140,7 @@ export class Answers {
   /** Takes a table of counts, and shows what it gives for the effect, or for what is implied. @param {File} file */
   async take(file) {
     if (file.size > MOST_BYTES) return toast(`${file.name} has ${Math.ceil(file.size / 2 ** 20)} MB. A table has 64 MB at most.`);
+    if ((await kindOf(file)) === "other") return toast(notRead(file));
     const table = new Table(file.name, new Uint8Array(await file.arrayBuffer()));
     Object.assign(this.#memory, { table, csv: null, count: undefined, zero: false });
     this.#readTable();

@@ -1,4 +1,5 @@
 import dagre from "dagre";
+import { circle } from "./diagram/fitting.js";
 import { bend, runsBehind } from "./diagram/geometry.js";
 
 /** @typedef {{x: number, y: number}} Point  @typedef {{width: number, height: number}} Size */
@@ -7,32 +8,54 @@ const SIDEWAYS_FIRST = 1.2; // how much larger a drawing from top to bottom is, 
 const QUICK_MS = 400; // a layout that took longer isn't computed the other way as well
 const MOST_STRETCH = 2.2;
 const MOST_EDGES = 150; // beyond it edges may run behind vertices
+const DENSE = 300; // edges beyond which those that longer ways make superfluous don't count, since dagre takes seconds for them
 const WIDER = 1.15; // how much a layout grows at once, so that no edge does
 const MOST_ROUNDS = 8;
 
 /**
  * Places for a graph by dagre: from left to right, or from top to bottom where that shows it clearly larger in its room.
- * @param {{vertices: {name: string, width: number, height: number}[], edges: [string, string][], room?: Size}} outline
+ * @param {{vertices: {name: string, width: number, height: number}[], edges: [string, string][], arcs?: [string, string][], room?: Size}} outline
  * @returns {[string, Point][]}
  */
 export function arrange(outline, quickMs = QUICK_MS) {
-  const began = performance.now(), sideways = arrangeBy("LR", outline), { room } = outline;
-  if (!room || performance.now() - began > quickMs) return listed(sideways);
-  const down = arrangeBy("TB", outline), isDown = scaleIn(room, down) > SIDEWAYS_FIRST * scaleIn(room, sideways);
+  if (outline.edges.length > DENSE) return listed(arrangeDense(outline));
+  const began = performance.now(), sideways = arrangeBy("LR", outline), { room } = outline, isQuick = performance.now() - began < quickMs;
+  const down = room && isQuick ? arrangeBy("TB", outline) : sideways, isDown = room && scaleIn(room, down) > SIDEWAYS_FIRST * scaleIn(room, sideways);
   const chosen = isDown ? down : sideways;
-  stretch(chosen, room);
-  widen(chosen, outline.edges);
+  if (room) stretch(chosen, room);
+  widen(chosen, outline);
   return listed(chosen);
 }
 
-/** Widens a layout until each edge can be bent round the vertices that aren't its ends. */
-function widen(placed, edges) {
-  const by = new Map(placed.map((p) => [p.name, p]));
-  const meets = ([a, b]) => {
-    const others = placed.filter(({ name }) => name !== a && name !== b).map((p) => ({ ...p, half: p.width / 2, tall: p.height / 2 })), [p, q] = [by.get(a), by.get(b)];
-    return runsBehind(p, bend(p, q, false, others, []), q, others);
+/** A layout of many edges, or a circle where that shows it larger. */
+function arrangeDense({ vertices, edges, room }) {
+  const outline = { vertices, edges: reduced(edges) }, sideways = arrangeBy("LR", outline);
+  if (!room) return sideways;
+  const round = circle(vertices.map(({ name }) => name), new Map(vertices.map(({ name, width }) => [name, width / 2])));
+  const all = [sideways, arrangeBy("TB", outline), vertices.map((v) => ({ ...v, ...round.get(v.name) }))];
+  return all.reduce((best, other) => (scaleIn(room, other) > scaleIn(room, best) ? other : best));
+}
+
+/** The arrows of a graph without cycles that no longer way makes superfluous. @param {[string, string][]} edges */
+function reduced(edges) {
+  const next = new Map(), known = new Map();
+  for (const [a, b] of edges) next.set(a, [...(next.get(a) ?? []), b]);
+  const behind = (name) => {
+    if (!known.has(name)) known.set(name, new Set((next.get(name) ?? []).flatMap((b) => [b, ...behind(b)])));
+    return known.get(name);
   };
-  for (let round = 0; round < MOST_ROUNDS && edges.length <= MOST_EDGES && edges.some(meets); round++) {
+  return edges.filter(([a, b]) => !next.get(a).some((other) => behind(other).has(b)));
+}
+
+/** Widens a layout until each edge can be bent round the vertices that aren't its ends. */
+function widen(placed, { edges, arcs = [] }) {
+  const by = new Map(placed.map((p) => [p.name, p]));
+  const meets = (isArc) => ([a, b]) => {
+    const others = placed.filter(({ name }) => name !== a && name !== b).map((p) => ({ ...p, half: p.width / 2, tall: p.height / 2 })), [p, q] = [by.get(a), by.get(b)];
+    return runsBehind(p, bend(p, q, isArc, others, []), q, others);
+  };
+  const isBehind = () => edges.some(meets(false)) || arcs.some(meets(true));
+  for (let round = 0; round < MOST_ROUNDS && edges.length + arcs.length <= MOST_EDGES && isBehind(); round++) {
     for (const p of placed) Object.assign(p, { x: p.x * WIDER, y: p.y * WIDER });
   }
 }

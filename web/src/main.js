@@ -9,6 +9,7 @@ import { Drawing } from "./page/drawing.js";
 import { closeMenu, openMenu } from "./page/menu.js";
 import { toast } from "./page/notices.js";
 import { Diagrams } from "./page/diagrams.js";
+import { isCalledTable, kindOf, notRead } from "./page/files.js";
 import { fileName, Kept } from "./page/kept.js";
 import { resizePanes } from "./page/panes.js";
 import { followLink, hasLink, partOf, readLink, writeLink } from "./page/link.js";
@@ -105,7 +106,6 @@ byId("licences-box").ontoggle = () => (byId("licences-text").textContent = inlin
 
 // ---- The text
 
-const OTHER_KINDS = /\.(xlsx?|ods|sav|dta|sas7bdat|rds|rda|rdata|pdf|docx?|png|jpe?g|gif|svg|zip|gz)$/i;
 const EMPTY = "dag {\n}\n";
 const MOST_BYTES = 2e6; // the program says the fault of a text that is only a little too long
 let origin = { source: "", graph: "" };
@@ -143,14 +143,18 @@ function sayOrigin({ vertices, edges }) {
 function toggleText(isOn = document.body.classList.contains("no-text")) {
   document.body.classList.toggle("no-text", !isOn);
   byId("fold").setAttribute("aria-expanded", String(isOn));
-  requestAnimationFrame(() => diagram.resized());
+  requestAnimationFrame(() => {
+    diagram.resized();
+    if (!draft.isFaulty) places.useRoom(draft.accepted.graph, draft.accepted.text);
+  });
 }
 
-/** Opens a file's text. What is far longer than a diagram's text may be isn't read. */
+/** Opens a file's text, or takes a table. What is far longer than a diagram's text may be isn't read. */
 async function openFile(file) {
-  if (OTHER_KINDS.test(file.name) || (await file.slice(0, 4096).text()).includes("\0")) {
-    toast(`${file.name} can't be read here. Read are diagrams as text (.dag, .txt, .R, .gv) and tables with commas, semicolons or tabs (.csv, .tsv, .tab).`);
-  } else if (file.size > MOST_BYTES) toast(`${file.name} has ${Math.ceil(file.size / 1e6)} MB. A diagram's text has 1 MB at most.`);
+  const kind = await kindOf(file);
+  if (kind === "other") toast(notRead(file));
+  else if (kind === "table") answers.take(file);
+  else if (file.size > MOST_BYTES) toast(`${file.name} has ${Math.ceil(file.size / 1e6)} MB. A diagram's text has 1 MB at most.`);
   else open(await file.text(), { name: file.name.replace(/\.\w+$/, "") });
 }
 
@@ -165,7 +169,7 @@ document.addEventListener("dragover", (e) => e.preventDefault());
 document.addEventListener("drop", (e) => {
   e.preventDefault();
   const [file] = e.dataTransfer.files;
-  if (/\.(csv|tsv|tab)$/i.test(file?.name ?? "")) answers.take(file);
+  if (file && (isCalledTable(file) || e.target.closest?.(".drop"))) answers.take(file);
   else if (file) openFile(file);
 });
 
@@ -207,10 +211,8 @@ async function colourPaths(graph) {
   const isOn = byId("paths").getAttribute("aria-pressed") === "true", mine = (turnOfPaths = {});
   document.body.classList.toggle("with-paths", isOn);
   if (!isOn) return diagram.show({ colours: new Map() });
-  const { classes, isAll } = await pathClasses(askAbout, graph);
-  if (mine !== turnOfPaths) return;
-  diagram.show({ colours: classes });
-  byId("ways-cut").hidden = isAll;
+  const colours = await pathClasses(askAbout, graph);
+  if (mine === turnOfPaths) diagram.show({ colours });
 }
 addEventListener("resize", () => diagram.resized());
 resizePanes(() => diagram.resized());

@@ -34,10 +34,13 @@ function aligned(lines) {
   return `\\begin{aligned}\n${lines.map((line) => line.replace(" = ", " &= ")).join(" \\\\\n")}\n\\end{aligned}`;
 }
 
-/** The formula of a natural effect, and behind it the factors that stand there as effects, with their parts. @param {any} object of `natural` */
-export function naturalTex({ y, x, through, second, given, formula, factors }) {
+/** The lines of the formula of a natural effect, and behind it of the factors that stand there as effects, with their parts. @param {any} object of `natural` */
+export function naturalLines({ y, x, through, second, given, formula, factors }) {
   const list = (names) => names.map(nameTex).join(", "), group = (names) => `{${list(names)}}`, line = (left, right) => `${left} = ${exprTex(right)}`;
   const effect = `P(${group(y)}_{${group(x)}, ${group(through)}_{${list(second)}}}${given.length ? ` \\mid ${list(given)}` : ""})`;
   const named = factors.filter(({ definitions }) => definitions.length);
-  return aligned([line(effect, parse(formula)), ...named.flatMap((one) => [line(exprTex(parse(one.effect)), one.tree), ...one.definition_trees.map((part, i) => line(`q_{${i}}`, part))])]);
+  return [line(effect, parse(formula)), ...named.flatMap((one) => [line(exprTex(parse(one.effect)), one.tree), ...one.definition_trees.map((part, i) => line(`q_{${i}}`, part))])];
 }
+
+/** The same as one formula. */
+export const naturalTex = (object) => aligned(naturalLines(object));

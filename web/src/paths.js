@@ -1,29 +1,26 @@
 // The edges on causal and on open biasing paths of the diagram as it is drawn. The program tells which arrows lie on directed ways, and what
-// leads to the set that is adjusted for (ways.js); which edges lie on paths that are open is searched for (walks.js).
+// leads to the set that is adjusted for (ways.js); which edges lie on paths that are open is computed (walks.js).
 import { keyOf } from "./diagram/geometry.js";
 import { Walks } from "./walks.js";
 import { Ways } from "./ways.js";
 
 /** @typedef {import("./text/printed.js").Graph} Graph  @typedef {import("./text/printed.js").Edge} Edge  @typedef {import("./ways.js").Ask} Ask */
 
-const MOST_TRIES = 3e7; // steps of the search
-
 /**
  * The class of each edge that lies on such a path: "causal" or "biasing", and "causal also" where it lies on both; behind these words
- * " blocked" or " also-blocked" where the set that is marked adjusted blocks each of its paths of that kind. `isAll` says whether the search
- * came to its end.
- * @param {Ask} ask @param {Graph} graph @returns {Promise<{classes: Map<string, string>, isAll: boolean}>}
+ * " blocked" or " also-blocked" where the set that is marked adjusted blocks each of its paths of that kind.
+ * @param {Ask} ask @param {Graph} graph @returns {Promise<Map<string, string>>}
  */
 export async function pathClasses(ask, graph) {
   const marked = (role) => graph.vertices.filter((v) => v.role === role).map((v) => v.name);
   const [xs, ys, set] = ["exposure", "outcome", "adjusted"].map(marked);
-  if (!xs.length || !ys.length) return { classes: new Map(), isAll: true };
+  if (!xs.length || !ys.length) return new Map();
   const causal = await new Ways(ask, graph).arrows(xs, ys), left = await new Ways(ask, without(graph, set)).arrows(xs, ys);
   const first = causal.filter((e) => xs.includes(e.a)), rest = { ...graph, edges: graph.edges.filter((e) => !first.includes(e)) };
-  const budget = { tries: MOST_TRIES }, before = new Walks(rest, [], new Set()).edgesBetween(xs, ys, budget);
-  const now = set.length ? new Walks(rest, set, await new Ways(ask, rest).before(set)).edgesBetween(xs, ys, budget) : before;
+  const before = new Walks(rest, [], new Set()).edgesBetween(xs, ys);
+  const now = set.length ? new Walks(rest, set, await new Ways(ask, rest).before(set)).edgesBetween(xs, ys) : before;
   const keys = (edges) => new Set(edges.map(keyOf));
-  return { classes: classesOf(graph, keys(causal), keys(left), before.edges, now.edges), isAll: before.isAll && now.isAll };
+  return classesOf(graph, keys(causal), keys(left), before, now);
 }
 
 function classesOf({ edges }, causal, left, before, now) {

@@ -46,7 +46,7 @@ export class Places {
 
   /** Places for a graph that has none in its text. @returns {Promise<Map<string, Point>>} */
   async arrange(graph) {
-    const wanted = outline(graph), key = JSON.stringify([wanted.vertices.map((v) => v.name), wanted.edges]);
+    const wanted = outline(graph), key = JSON.stringify([wanted.vertices.map((v) => v.name), wanted.edges, wanted.arcs]);
     if (this.#arranged.key !== key) {
       this.arranger.giveUpAfter(STALE_MS);
       const patience = this.#patience;
@@ -87,6 +87,14 @@ export class Places {
     if (fit || there < graph.vertices.length / 2) this.#dim(true);
     else draw(this.#written(graph, given), false, true);
     return coming;
+  }
+
+  /** Computes a layout anew for a pane of another size, where the text gives no places, and all is seen as it was fitted. */
+  async useRoom(graph, text) {
+    if (!graph.vertices.length || positions(text).size || !this.diagram.isFitted) return;
+    this.#arranged.key = "";
+    this.#isAnew = true;
+    await this.draw(graph, text, { fit: false });
   }
 
   /** How a text was drawn before, as by an act that is taken back. */

@@ -2,6 +2,7 @@
 // is open is read off its vertices by the textbook's definition, with what the program tells of ways. What is found is compared with all paths,
 // and with the program's answers, in tests.
 import { keyOf } from "./diagram/geometry.js";
+import { Flow } from "./flow.js";
 
 /** @typedef {import("./text/printed.js").Graph} Graph  @typedef {import("./text/printed.js").Edge} Edge */
 /** @typedef {{edge: Edge, from: string, to: string}} Step */
@@ -47,68 +48,17 @@ export class Walks {
     });
   }
 
-  /**
-   * The edges on open paths from one of xs to one of ys: each is searched for until a path over it is found, or none can be.
-   * @param {{tries: number}} budget @returns {{edges: Set<string>, isAll: boolean}}
-   */
-  edgesBetween(xs, ys, budget) {
+  /** The edges on open paths from one of xs to one of ys, by their keys. @returns {Set<string>} */
+  edgesBetween(xs, ys) {
     const { graph: { edges }, numbers } = this, found = new Set();
     for (const [x, y] of xs.flatMap((a) => ys.map((b) => [numbers.get(a), numbers.get(b)]))) {
-      for (let edge = 0; edge < edges.length && budget.tries >= 0; edge++) {
-        if (found.has(edge)) continue;
-        for (const step of this.#pathOver(x, y, edge, budget) ?? []) found.add(step.edge);
-      }
+      const flow = new Flow(this, x, y);
+      this.steps.forEach((list, v) => list.forEach((step) => {
+        if (numbers.get(edges[step.edge].a) === v && !found.has(step.edge) && flow.goesOver(v, step)) found.add(step.edge);
+      }));
     }
-    return { edges: new Set([...found].map((edge) => keyOf(edges[edge]))), isAll: budget.tries >= 0 };
+    return new Set([...found].map((edge) => keyOf(edges[edge])));
   }
-
-  /** An open path from x to y over an edge; it goes on only where an open way leads over the edge and on to y. @returns {Numbered[] | null} */
-  #pathOver(x, y, edge, budget) {
-    const seen = this.steps.map(() => false), path = [];
-    const go = (at, entered, did) => {
-      const way = this.#wayOver({ at, entered, did }, y, edge, seen, budget);
-      if (!way) return null;
-      if (new Set(way.map(({ to }) => to)).size === way.length) return [...path, ...way];
-      for (const step of this.steps[at]) {
-        if (seen[step.to] || step.to === y || (entered !== null && !this.#passes(at, entered, step.out))) continue;
-        seen[step.to] = true;
-        path.push(step);
-        const whole = go(step.to, step.in, did || step.edge === edge);
-        path.pop();
-        seen[step.to] = false;
-        if (whole) return whole;
-      }
-      return null;
-    };
-    seen[x] = true;
-    return go(x, null, false);
-  }
-
-  /** The shortest open way from here over an edge to y, which may come to a vertex twice. @returns {Numbered[] | null} */
-  #wayOver(here, y, edge, seen, budget) {
-    const n = this.steps.length, reached = new Uint8Array(4 * n), queue = [{ ...here, step: null, before: null }];
-    for (const now of queue) {
-      if (now.at === y && now.step) {
-        if (now.did) return traced(now);
-        continue;
-      }
-      for (const step of this.steps[now.at]) {
-        if (--budget.tries < 0) return null;
-        if (seen[step.to] || (now.entered !== null && !this.#passes(now.at, now.entered, step.out))) continue;
-        const did = now.did || step.edge === edge, state = (2 * did + step.in) * n + step.to;
-        if (reached[state]) continue;
-        reached[state] = 1;
-        queue.push({ at: step.to, entered: step.in, did, step, before: now });
-      }
-    }
-    return null;
-  }
-}
-
-function traced(end) {
-  const way = [];
-  for (let here = end; here.step; here = here.before) way.unshift(here.step);
-  return way;
 }
 
 /**

@@ -177,9 +177,9 @@ def lists_what_is_implied(s):
     s.run(drop, "A,B,C,count\n0,0,0,4\n0,0,1,2\n1,0,0,2\n1,0,1,1\n0,1,0,1\n0,1,1,3\n1,1,0,2\n1,1,1,1\n")
     s.soon("the largest difference", lambda: "A=0,C=0,B=1" in s.one("table.pairs").text, s.panel)
     s.check("with its command line", s.command() == "$ causal implications diagram.dag fork.csv --count=count", s.command())
-    s.check("as a probability, and in counts", "0." in s.all("table.pairs tbody td")[3].text
-            and "in counts" in s.all("table.pairs tbody td")[3].get_attribute("title"), s.all("table.pairs tbody td")[3].text)
-    s.check("with a test", "0." in s.all("table.pairs tbody td")[2].text, s.panel())
+    s.check("as a probability, and in counts", "0." in s.all("table.pairs tbody td")[2].text
+            and "in counts" in s.all("table.pairs tbody td")[2].get_attribute("title"), s.all("table.pairs tbody td")[2].text)
+    s.check("with a test", "0." in s.all("table.pairs tbody td")[1].text, s.panel())
     s.check("and what it is worth", "speaks against the diagram" in s.panel() and "not proved" in s.panel(), s.panel())
     s.run(drop, "A,C\n0,1\n")
     s.soon("a table that lacks a column", lambda: "No column for B" in s.panel(), s.panel)
@@ -193,6 +193,9 @@ def takes_trials(s):
     s.tab("experiments")
     s.soon("trials are asked for", lambda: "set in a trial" in s.panel(), s.panel)
     s.write("dag { X [exposure] Y [outcome] Z -> X -> Y Z <-> X Z <-> Y }")
+    fold(s, "which trials")
+    s.soon("which would help", lambda: s.all("#which-trials [data-key='trial Z']"), s.panel)
+    fold(s, "which trials", is_open=False)
     s.one("[data-key='arm experiment 0']").click()
     s.click("Z")
     if s.lacks("surrogate"):
@@ -457,6 +460,11 @@ def tells_paths_apart(s):
     s.tab("paths")
     rows = lambda: [row.text for row in s.all("table.paths tbody tr")]
     s.soon("a list of paths", lambda: any("X -> I -> Y causal open" in row for row in rows()), rows)
+    broken = s.run("""return [...document.querySelectorAll('table.paths td:nth-child(2)')].filter((cell) => {
+        const range = document.createRange();
+        range.selectNodeContents(cell);
+        return range.getClientRects().length > 1; }).length""")
+    s.check("no word is broken", broken == 0, broken)
     s.check("with what closes them", any("X <- W <- N -> I -> Y not causal open" in row for row in rows()), rows())
     s.run("arguments[0].focus()", s.vertex("W"))
     s.keys("a")
@@ -550,6 +558,9 @@ def compares_your_diagrams(s):
     s.one("#new").click()
     s.write("dag {\nA\nB\nC\nA -> B <- C\n}\n")
     s.soon("one of the user's", lambda: s.all("#panel [data-key='take mine'] option"), s.panel)
+    out = s.run("const panel = document.getElementById('panel'); return panel.scrollWidth - panel.clientWidth")
+    high = s.run("return document.querySelector('#panel [data-key=\\'copy first\\']').offsetHeight")
+    s.check("the list leaves room for the buttons", out <= 0 and high < 45, (out, high))
     s.run("""const el = document.querySelector('#panel [data-key="take mine"]');
         el.value = [...el.options].find((o) => o.textContent.includes('Chain')).value;
         el.dispatchEvent(new Event('change'))""")

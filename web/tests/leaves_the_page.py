@@ -111,6 +111,43 @@ def reports_bounds(s):
     s.tab("effect")
 
 
+def saved_report(s):
+    """The report as HTML, made now."""
+    s.downloads.joinpath(f"{s.called()}.report.html").unlink(missing_ok=True)
+    s.one("#export").click()
+    s.item("Report, to print")
+    file = s.saved_as("report.html")
+    s.check("a report", file, list(s.downloads.iterdir()))
+    return file.read_text()
+
+
+def reports_what_is_chosen(s):
+    """Beside the total effect a report has the one that is chosen; and where a table gives no value, what its records still say."""
+    s.example("front_door")
+    s.tab("effect")
+    for key, title in (("direct", "Direct effect, where M is set too"), ("treated", "Effect among the treated"), ("through", "Effects through M")):
+        s.one(f"#panel [data-key='{key}']").click()
+        s.soon(f"the effect {key}", lambda key=key: s.all(f"#panel [data-key='{key}'][aria-checked=true]") and s.all("#panel .source"), s.panel)
+        html = saved_report(s)
+        s.check(f"the report has it: {key}", f"<h2>{title}</h2>" in html and html.count("<h2>") > 5, html[:2000])
+        s.check("beside the total one", "<h2>Effect</h2>" in html and "causal identify diagram.dag<" in html, html[:2000])
+    if can_compile("tikz.sty", "booktabs.sty"):
+        s.one("#export").click()
+        s.item("Report, as LaTeX")
+        told = compiled(s.saved_as("report.tex").read_text())
+        s.check("the LaTeX of a natural effect compiles", not told, told)
+    s.one("#panel [data-key='total']").click()
+    s.example("kidney_stones")
+    s.tab("data")
+    lines = (over_tables.EXAMPLES / "kidney_stones.csv").read_text().split("\n")
+    over_tables.drop(s, "lost.csv", "\n".join(line for line in lines if not line.startswith("large,B")))
+    s.soon("no value", lambda: s.all("#instead"), s.panel)
+    html = saved_report(s)
+    for part in ("gives no value", "adjusting for S", "0.4990", "0.9233", "causal bounds diagram.dag lost.csv --set S"):
+        s.check(f"the report has {part}", part in html, html[-2500:])
+    s.tab("effect")
+
+
 PLACES = {
     "Coach": (300, 150), "Genetics": (520, 150), "Team motivation": (150, 250), "Fitness level": (420, 240), "Contact sport": (70, 350),
     "Pre-game proprioception": (330, 340), "Neuromuscular fatigue": (480, 350), "Connective tissue disorder": (600, 260), "Previous injury": (90, 470),
@@ -187,4 +224,4 @@ def studies_in_one_sitting(s):
     s.tab("effect")
 
 
-PARTS = [copies_latex, saves_a_report, reports_bounds, studies_in_one_sitting]
+PARTS = [copies_latex, saves_a_report, reports_bounds, reports_what_is_chosen, studies_in_one_sitting]

@@ -18,6 +18,13 @@ def drop(s, name, table):
         document.body.dispatchEvent(new DragEvent("drop", { dataTransfer: data, bubbles: true, cancelable: true }));""", name, table)
 
 
+def drop_on(s, css, name, text):
+    """Drops a file on a part of the page."""
+    s.run("""const data = new DataTransfer();
+        data.items.add(new File([arguments[2]], arguments[1], { type: "text/plain" }));
+        document.querySelector(arguments[0]).dispatchEvent(new DragEvent("drop", { dataTransfer: data, bubbles: true, cancelable: true }));""", css, name, text)
+
+
 def by(s, way):
     """Chooses how the formula is found."""
     s.run("const el = document.getElementById('by'); el.value = arguments[0]; el.dispatchEvent(new Event('change'))", way)
@@ -102,6 +109,17 @@ def reads_other_tables(s):
         document.body.dispatchEvent(new DragEvent("drop", { dataTransfer: data, bubbles: true, cancelable: true }));
         delete File.prototype.size;""")
     s.soon("what is too large isn't read", lambda: "64 MB at most" in s.one("#toast").text, lambda: s.one("#toast").text)
+    s.run("""const chosen = new DataTransfer(), input = document.getElementById("csv");
+        chosen.items.add(new File(["PK\\u0003\\u0004"], "study.xlsx"));
+        input.files = chosen.files;
+        input.dispatchEvent(new Event("change"));""")
+    s.soon("a file of another kind says which are read", lambda: "study.xlsx can't be read here" in s.one("#toast").text and ".csv, .tsv" in s.one("#toast").text,
+           lambda: s.one("#toast").text)
+    s.check("and the table stays", "study.xlsx" not in s.panel(), s.panel())
+    drop_on(s, "label.drop", "mine.txt", table.replace(",", "\t"))
+    s.soon("a table with another ending", lambda: "mine.read.csv" in s.panel() and "634983/762700" in s.one(".values").text, s.panel)
+    drop_on(s, "#drawing", "other.txt", table.replace(",", ";"))
+    s.soon("and dropped anywhere", lambda: "other.read.csv" in s.panel() and "dag" in s.text(), s.panel)
     s.one("#sample").click()
     s.soon("the example's table comes back", lambda: "634983/762700" in s.one(".values").text, s.panel)
 
@@ -422,6 +440,18 @@ def tells_what_is_rejected(s):
     s.tab("effect")
 
 
+def tests_many_columns(s):
+    """A table whose columns have too many cells together is tested pair by pair."""
+    s.example("fork")
+    names = [f"V{i}" for i in range(21)]
+    s.write("dag { " + " ".join(f"{a} -> {b}" for a, b in zip(names, names[1:])) + " }")
+    s.tab("implications")
+    drop(s, "many.csv", ",".join(names) + "\n" + "".join(",".join(str((i * 2654435761 >> (k + 3)) & 1) for k in range(21)) + "\n" for i in range(200)))
+    s.soon("the tests are made", lambda: "tested independences" in s.one("#panel .verdict").text, s.panel)
+    s.check("and what isn't is told", "2^20 cells. So the largest differences aren't printed" in s.panel(), s.panel())
+    s.tab("effect")
+
+
 def stops_the_draws(s):
     """Draws that take long show how far they are, and can be stopped."""
     s.example("fork")
@@ -447,7 +477,7 @@ def stops_the_draws(s):
 
 
 PARTS = [
-    cleans_a_table, matches_columns, tells_what_is_rejected, stops_the_draws, drops_a_table, reads_other_tables, contrasts_with_intervals, adjusts_for_less, counts_zero_cells_for_nothing,
+    cleans_a_table, matches_columns, tells_what_is_rejected, tests_many_columns, stops_the_draws, drops_a_table, reads_other_tables, contrasts_with_intervals, adjusts_for_less, counts_zero_cells_for_nothing,
     evaluates_under_a_condition, evaluates_the_marked_set, gives_bounds,
     gives_bounds_by_a_set,
 ]

@@ -16,7 +16,7 @@ let seed = 5;
 const random = (n) => (seed = (seed * 1103515245 + 12345) % 2147483648) % n;
 
 function randomGraph() {
-  const names = ["A", "B", "C", "D", "E", "F"].slice(0, 4 + random(3)), roles = ["exposure", "outcome", "adjusted", "latent", null, null];
+  const names = ["A", "B", "C", "D", "E", "F", "G", "H"].slice(0, 4 + random(5)), roles = ["exposure", "outcome", "adjusted", "latent", null, "adjusted", null, null];
   const edges = names.flatMap((a, i) => names.slice(i + 1).flatMap((b) => [0, 1, 2].filter(() => !random(5)).slice(0, 1).map((k) => ({ a, b, both: k === 2 }))));
   const order = names.map((_, i) => i).sort(() => random(3) - 1);
   return { vertices: names.map((name, i) => ({ name, role: roles[order[i]] ?? null })), edges };
@@ -99,12 +99,11 @@ async function comparePaths(graph) {
 }
 
 const listed = (classes) => JSON.stringify([...classes].sort());
-let wrong = 0, edges = 0, compared = 0;
+let wrong = 0, edges = 0;
 for (let k = 0; k < GRAPHS; k++) {
-  const graph = randomGraph(), { classes, isAll } = await pathClasses(ask, graph), wanted = expected(graph);
+  const graph = randomGraph(), classes = await pathClasses(ask, graph), wanted = expected(graph);
   edges += wanted.size;
   await comparePaths(graph);
-  if (isAll) compared++;
   if (listed(classes) !== listed(wanted)) {
     wrong++;
     console.log(`differs: ${JSON.stringify(graph)}: ${listed(classes)}, wanted ${listed(wanted)}`);
@@ -115,10 +114,18 @@ for (let k = 0; k < GRAPHS; k++) {
     console.log(`differs: behind ${name} in ${JSON.stringify(graph)}: ${found}`);
   }
 }
-const large = { vertices: Array.from({ length: 64 }, (_, i) => ({ name: `v${i}`, role: i === 20 ? "exposure" : i === 50 ? "outcome" : i === 40 ? "adjusted" : null })), edges: [] };
-for (let i = 0; i < 64; i++) for (let j = i + 1; j < 64; j++) if (!random(4)) large.edges.push({ a: `v${i}`, b: `v${j}`, both: !random(9) });
-const began = performance.now(), whole = await pathClasses(ask, large), took = Math.round(performance.now() - began);
-if (!whole.isAll) wrong++;
-console.log(`64 vertices and ${large.edges.length} edges: ${whole.classes.size} edges on paths, in ${took} ms${whole.isAll ? "" : ", cut off"}`);
-console.log(`${edges} edges on paths of ${GRAPHS} random diagrams (${compared} with all paths), ${wrong} wrong`);
+/** A diagram of 64 vertices with about so many edges. */
+function largeGraph(wanted) {
+  const role = (i) => ({ 20: "exposure", 50: "outcome", 10: "adjusted", 30: "adjusted", 40: "adjusted" })[i] ?? null, all = [];
+  for (let i = 0; i < 64; i++) for (let j = i + 1; j < 64; j++) if (random(2016) < wanted) all.push({ a: `v${i}`, b: `v${j}`, both: !random(9) });
+  return { vertices: Array.from({ length: 64 }, (_, i) => ({ name: `v${i}`, role: role(i) })), edges: all };
+}
+
+const MOST_MS = 5000; // on a busy machine
+for (const wanted of [124, 200, 300, 820, 2016]) {
+  const large = largeGraph(wanted), began = performance.now(), classes = await pathClasses(ask, large), took = Math.round(performance.now() - began);
+  if (took > MOST_MS) wrong++;
+  console.log(`64 vertices and ${large.edges.length} edges: ${classes.size} edges on paths, in ${took} ms`);
+}
+console.log(`${edges} edges on paths of ${GRAPHS} random diagrams, ${wrong} wrong`);
 process.exit(wrong ? 1 : 0);

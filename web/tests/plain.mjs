@@ -84,6 +84,12 @@ function testLayout() {
   const wide = arrange({ ...chain(12), room: { width: 900, height: 400 } }, Infinity);
   check("where there is width it lies", span(wide, "x") > span(wide, "y"), wide);
   check("without a room it lies", span(arrange(chain(3)), "x") > 0, "");
+  const { vertices } = chain(64), room = { width: 700, height: 700 }, halves = new Map(vertices.map(({ name }) => [name, 30]));
+  for (const every of [1, 3]) {
+    const edges = vertices.flatMap((v, i) => vertices.slice(i + 1).filter((_, j) => (7 * i + j) % every === 0).map((w) => [v.name, w.name]));
+    const places = new Map(arrange({ vertices, edges, room }));
+    check(`${edges.length} edges are laid out, with no name on another`, places.size === 64 && !overlaps(places, halves).length, overlaps(places, halves));
+  }
 }
 
 const memoryStore = () => {
@@ -98,10 +104,12 @@ function testBends() {
   for (let k = 0; k < 60; k++) {
     const vertices = Array.from({ length: 4 + Math.floor(14 * random()) }, (_, i) => ({ name: `v${i}`, width: 44 + 160 * random(), height: HEIGHT }));
     const part = 0.15 + 0.25 * random(), pairs = vertices.flatMap((a, i) => vertices.slice(i + 1).map((b) => [a.name, b.name]));
-    const edges = pairs.filter(() => random() < part), places = new Map(arrange({ vertices, edges, room: { width: 700, height: 700 } }));
+    const edges = pairs.filter(() => random() < part), arcs = pairs.filter(() => random() < 0.05);
+    const places = new Map(arrange({ vertices, edges, arcs, room: { width: 700, height: 700 } }, k % 2 ? undefined : 0)), middles = [];
     const all = vertices.map(({ name, width }) => ({ name, ...places.get(name), half: width / 2 }));
-    for (const [a, b] of edges) {
-      const [p, q] = [places.get(a), places.get(b)], others = all.filter(({ name }) => name !== a && name !== b), c = bend(p, q, false, others, []);
+    for (const [a, b, isArc] of [...edges, ...arcs.map((arc) => [...arc, true])]) {
+      const [p, q] = [places.get(a), places.get(b)], others = all.filter(({ name }) => name !== a && name !== b), c = bend(p, q, Boolean(isArc), others, isArc ? middles : []);
+      if (isArc) middles.push(curve(p, c, q, 0.5));
       const at = Array.from({ length: 201 }, (_, i) => curve(p, c, q, i / 200));
       edgesSeen++;
       if (at.some(({ x, y }) => others.some((o) => Math.abs(x - o.x) < o.half && Math.abs(y - o.y) < HEIGHT / 2))) behind++;
@@ -234,6 +242,11 @@ function testTaken() {
   const parts = warningsOf("dag { Body mass [exposure]\nBody mass -> Y\nmass -> Z }", { vertices: [{ name: "Body" }, { name: "mass", role: "exposure" }, { name: "Y" }, { name: "Z" }],
     edges: [{ a: "mass", b: "Y" }, { a: "mass", b: "Z" }] });
   check("a parted name", parts.length === 1 && parts[0].fixed === 'dag { "Body mass" [exposure]\n"Body mass" -> Y\n"Body mass" -> Z }', parts);
+  const [three] = warningsOf("dag {\nBody mass index -> Y\nindex [exposure]\n}", { vertices: ["Body", "mass", "index", "Y"].map((name) => ({ name, role: null })), edges: [{ a: "index", b: "Y" }] });
+  check("one of three words", three?.fixed === 'dag {\n"Body mass index" -> Y\n"Body mass index" [exposure]\n}' && three.sentence.startsWith("Body and mass are read"), three);
+  const [curly] = warningsOf("dag { “Body mass” -> Y }", { vertices: ["“Body", "mass”", "Y"].map((name) => ({ name, role: null })), edges: [{ a: "mass”", b: "Y" }] });
+  check("typed curly quotes", curly?.fixed === 'dag { "Body mass" -> Y }', curly);
+  same("a name that has curly quotes keeps them", 'dag { "the “large” one" -> Y }', null);
   check("no parted name", !warningsOf("dag { A B\nC -> D }", { vertices: ["A", "B", "C", "D"].map((name) => ({ name })), edges: [{ a: "C", b: "D" }] }).length, "");
 }
 

@@ -224,10 +224,10 @@ def draws_large_texts(s):
         new MutationObserver(see).observe(drawing, { attributes: true });""")
     dense = "\n".join(f"w{i} -> w{j}" for i in range(64) for j in range(i + 1, 64))
     s.write(f"dag {{\n{dense}\n}}\n")
-    s.check("a drawing that isn't right yet is dimmed", s.run("return window.sawLate"))
+    drawn = "return document.querySelectorAll('#drawing .vertex').length === 64 && !document.querySelector('#drawing.late')"
+    s.check("a drawing that isn't right yet is dimmed", s.run("return window.sawLate") or s.run(drawn))
     area = s.one("#text")
     s.soon("the answers don't wait for it", lambda: "Mark an outcome" in s.panel(), s.panel)
-    drawn = "return document.querySelectorAll('#drawing .vertex').length === 64 && !document.querySelector('#drawing.late')"
     s.soon("at the latest after two seconds it is there", lambda: s.run(drawn), lambda: len(s.names()))
     s.check("the text can be written in", area.is_enabled())
 
@@ -444,6 +444,9 @@ def begins_well(s):
     s.soon("so do the answers", lambda: "Draw your variables" in s.panel() and "is empty" not in s.panel(), s.panel)
     s.tab("rules")
     s.soon("also of the rules", lambda: "is empty" not in s.panel(), s.panel)
+    for card in ("effect", "paths", "separation", "rules", "implications", "experiments", "views"):
+        s.tab(card)
+        s.soon(f"and of {card}", lambda: "Draw your variables" in s.panel(), s.panel)
     s.tab("effect")
     s.check("the page says what it is for", "what to adjust for" in s.one(".tagline").text, s.one("header").text)
     s.check("adjustment comes first", s.all("#tabs button")[0].get_attribute("id") == "tab-adjustment")
@@ -473,6 +476,12 @@ def begins_well(s):
     s.soon("a name that became two variables is noted", lambda: 'quotation marks: "Body mass"' in s.one("#text-notes").text, lambda: s.one("#text-notes").text)
     s.one("#text-notes [data-key=mend]").click()
     s.soon("and made one", lambda: sorted(s.names()) == ["Body mass", "Y"], s.text)
+    for text, told in (("dag {\nBody mass index [exposure]\nY [outcome]\nBody mass index -> Y\n}\n", 'quotation marks: "Body mass index"'),
+                       ("dag { “Body mass index” [exposure] Y [outcome] “Body mass index” -> Y }", "aren't straight")):
+        s.write(text)
+        s.soon(f"so is {told}", lambda: told in s.one("#text-notes").text, lambda: s.one("#text-notes").text)
+        s.one("#text-notes [data-key=mend]").click()
+        s.soon("and mended", lambda: sorted(s.names()) == ["Body mass index", "Y"] and not s.one("#text-notes").is_displayed(), s.text)
     for text, told, names in (
             ("dag { “Body mass” [e] Y [o] U [unobserved] “Body mass” -> Y U -> Y }", "quotation marks are straight", ["Body mass", "U", "Y"]),
             ('g <- dagify(y ~ x + a, x ~ a, y ~~ x, exposure = "x", outcome = "y")', "dagify", ["a", "x", "y"]),

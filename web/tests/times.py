@@ -36,7 +36,19 @@ area.value = text;
 area.dispatchEvent(new Event("input"));
 setTimeout(look, 5);
 """.replace("const [text, done] = arguments;", "const text = arguments[0], done = arguments[arguments.length - 1];")
+KEY = """
+const [name, key, done] = arguments;
+const vertex = [...document.querySelectorAll("#drawing .vertex")].find((v) => v.querySelector("text").textContent === name);
+vertex.focus();
+const start = performance.now();
+new MutationObserver((_, observer) => {
+  observer.disconnect();
+  done(performance.now() - start);
+}).observe(document.getElementById("panel"), { childList: true });
+vertex.dispatchEvent(new KeyboardEvent("keydown", { key, bubbles: true }));
+"""
 REPEATS = 4
+KEYS = 8
 PAUSE = 1
 
 
@@ -105,6 +117,27 @@ def large_text():
     return figures
 
 
+def keys():
+    """Milliseconds from a key on a vertex to its answer, with 20 vertices: it is marked adjusted, or unmeasured."""
+    driver = browser.start()
+    try:
+        browser.open_page(driver)
+        figures = {}
+        for card in ("adjustment", "effect"):
+            driver.execute_script("document.getElementById('new').click()")
+            time.sleep(PAUSE)
+            driver.execute_async_script(LARGE, large(20, 60), 60)
+            driver.execute_script("document.getElementById('tab-' + arguments[0]).click()", card)
+            time.sleep(PAUSE)
+            figures[card] = []
+            for i in range(KEYS):
+                figures[card].append(driver.execute_async_script(KEY, f"v{i + 2}", "u" if card == "effect" else "a"))
+                time.sleep(PAUSE / 2)
+        return figures
+    finally:
+        driver.quit()
+
+
 def main():
     print(f"web/dist/causal.html: {browser.PAGE.stat().st_size} bytes")
     fresh, again = opened()
@@ -113,6 +146,8 @@ def main():
     figures = large_text()
     spread("a text of 64 vertices and 820 edges to its answer", [f[0] for f in figures])
     spread("  until it is drawn as well", [f[1] for f in figures])
+    for card, found in keys().items():
+        spread(f"a key to its answer, 20 vertices, {card}", found[1:])
     for answer, ends in {"a hedge": (0, 39), "a formula": (36, 38)}.items():
         # a further edge, so that the answer and the layout change
         more = [[f"v{k} -> v{k + 20}", f"v{k} -> v{k + 19}"] for k in range(REPEATS)]

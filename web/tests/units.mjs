@@ -364,7 +364,11 @@ function testTreated(text, sets) {
 
 /** Natural effects through some of the others: the object says what is printed, and is typeset. */
 function testNatural(text, order, sets, [x, y]) {
-  const through = shuffled(order).filter((name) => name !== x && name !== y).slice(0, 1 + random(2)), words = ["natural", "g", ...sets, "--through", listWord(through)];
+  testThrough(text, sets, shuffled(order).filter((name) => name !== x && name !== y).slice(0, 1 + random(2)));
+}
+
+function testThrough(text, sets, through) {
+  const words = ["natural", "g", ...sets, "--through", listWord(through)];
   const said = run(words, text), { status, object, fault } = read(words, text);
   if (fault) return same("the fault of a natural effect", [fault.stage, through.length ? 0 : fault.number], ["target", through.length ? 0 : 11], text);
   const lines = said.out.split("\n"), joint = termText({ term: object.joint?.y ?? [], do: object.joint?.x ?? [], given: [] });
@@ -390,6 +394,15 @@ function testNatural(text, order, sets, [x, y]) {
 }
 
 const natural = { formula: 0, hedge: 0, open: 0 };
+
+/** Diagrams in which x acts on what lies before mediators, with hidden causes among the rest: there natural effects are left open too. */
+function testLeftOpen() {
+  const names = ["X", "L", "K", "M", "Y"];
+  for (let k = 0; k < 200; k++) {
+    const edges = names.flatMap((a, i) => names.slice(i + 1).flatMap((b) => [...(random(3) ? [`${a} -> ${b}`] : []), ...(a !== "X" && !random(6) ? [`${a} <-> ${b}`] : [])]));
+    testThrough(`dag { ${names.join(" ")} ${edges.join(" ")} }`, ["--x", "X", "--y", "Y"], random(2) ? ["M"] : ["K", "M"]);
+  }
+}
 
 /** Instruments: the object lists what is printed, and the program takes each for bounds. */
 function testInstruments(text, sets) {
@@ -485,7 +498,11 @@ same("a CSV", rows, [["a", 'b "x"', "n"], ["1", "p,q", "2"], ["1", "r", "3"]], "
 same("levels", [...levelsOf(rows, ["a"], "n").get("a")], [["1", 5]], "");
 
 same("some sets are no instruments", bounded.none > bounded.all / 20 && bounded.none < bounded.all, true, JSON.stringify(bounded));
-if (KNOWN.natural) same("natural effects of each kind", [natural.formula, natural.hedge].every((n) => n > accepted / 50), true, JSON.stringify(natural));
+if (KNOWN.natural) {
+  same("natural effects of each kind", [natural.formula, natural.hedge].every((n) => n > accepted / 50), true, JSON.stringify(natural));
+  testLeftOpen();
+  same("some are left open", natural.open > 20, true, JSON.stringify(natural));
+}
 same("some tables lack records", missed > accepted / 20, true, missed);
 console.log(`${compared} comparisons on ${accepted} random diagrams, ${wrong} wrong`);
 process.exit(wrong ? 1 : 0);

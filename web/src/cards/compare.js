@@ -79,7 +79,7 @@ function secondHead(ctx, canSwap) {
   };
   const list = h("select", { "aria-label": "Take one of your diagrams", data: { key: "take mine" }, onchange: (e) => choose(mine[e.target.value].text) },
     h("option", { value: "" }, "Yours …"), mine.map(({ name, text }, i) => h("option", { value: i }, name ? `${name}: ${titleOf(text)}` : titleOf(text))));
-  return h("div", { class: "stack" }, h("b", {}, "The second diagram"), h("div", { class: "row" },
+  return h("div", { class: "stack" }, h("b", {}, "The second diagram"), h("div", { class: "row wrap" },
     button("Copy from the first", () => choose(ctx.text), { data: { key: "copy first" } }), mine.length > 0 && list,
     canSwap && button("Swap the two", swap, { title: "Draw in the second; the first stands here then", data: { key: "swap" } })));
 }

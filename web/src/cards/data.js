@@ -1,7 +1,7 @@
 import { button, h } from "../dom.js";
 import { AS_JSON, DIAGRAM } from "../names.js";
 import { levelsIn, saidOf, valuesOf } from "../objects.js";
-import { lacksMark } from "../faults.js";
+import { isWithoutRecords, lacksMark } from "../faults.js";
 import { countName } from "../statistics/table.js";
 import { write } from "../text/edit.js";
 import { levelsText, setText } from "../text/printed.js";
@@ -15,12 +15,15 @@ import { asksForTable, cellsOf, countWords, tableName, tableRow } from "./table.
 const MOST_DIGITS = 15; // of a fraction in the table
 const MOST_TRIED = 4; // sets whose formula is tried where another has no value
 
-/** What a report says of the table: the order of its draws, with the cells; or the bounds that were asked for; null where there is no table. */
+/**
+ * What a report says of the table: the order of its draws, with the cells; or the bounds that were asked for, or that there are in place of a
+ * value; null where there is no table.
+ */
 export async function measured(ctx) {
   if (!ctx.memory.csv) return null;
   const { way, ways } = await chosenFormula(ctx), said = way.by === BOUNDS ? null : await ctx.read(wordsOf(ctx, way, tableName(ctx.memory.csv.name), countWords(ctx)));
   if (!said || hasNoFormula(way, said)) return { way, asked: await askedBounds(ctx, way.given, minimalSets(ways)) };
-  if (said.status !== 0) return { way, fault: said.fault };
+  if (said.status !== 0) return { way, fault: said.fault, instead: said.fault && isWithoutRecords(said.fault) ? (await boundsInstead(ctx, { way, ways })) ?? (await askedBounds(ctx, way.given)) : null };
   const crude = way.given.length ? [] : await crudeValues(ctx);
   return { way, order: orderOf({ ctx, way, crude }, valuesOf(said.object)) };
 }

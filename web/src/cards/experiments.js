@@ -2,7 +2,8 @@ import { button, h } from "../dom.js";
 import { DIAGRAM } from "../names.js";
 import { nodesIn, textOf } from "../objects.js";
 import { experimentsWord } from "../text/printed.js";
-import { formulaBox, listed, refused, source, sourceOf, verdict } from "./parts.js";
+import { trialsPart } from "./next.js";
+import { fold, formulaBox, listed, refused, source, sourceOf, verdict } from "./parts.js";
 import { chosenSet, howToChoose } from "./sets.js";
 
 const MOST = 8;
@@ -13,7 +14,7 @@ async function answer(ctx) {
   const sets = Array.from({ length: number }, (_, i) => chosenSet(ctx, `experiment ${i}`, `Trial ${i + 1}`, []));
   const chosen = sets.map((set) => set.names).filter((names) => names.length);
   const pickers = () => choice(ctx, sets, chosen.length);
-  if (!chosen.length) return { dot: "", view: () => h("div", {}, invitation(), pickers()) };
+  if (!chosen.length) return { dot: "", view: () => h("div", {}, invitation(), pickers(), fold(ctx, "which trials", "Which trials would help", () => trialsPart(ctx))) };
   const words = ["surrogate", DIAGRAM, "--experiments", experimentsWord(chosen)], said = await ctx.read(words);
   const marks = { vertices: new Map(chosen.flat().map((name) => [name, "chosen"])) };
   if (said.fault) return { ...refused(ctx, words, said, pickers), marks };
@@ -63,4 +64,4 @@ function stopped(ctx, words, said, pickers) {
 }
 
 /** @type {import("./parts.js").Card} */
-export const experiments = { id: "experiments", title: "Trials", about: "Whether trials on other variables give a formula", answer };
+export const experiments = { id: "experiments", title: "Trials", wantsVariables: true, about: "Whether trials on other variables give a formula", answer };

@@ -4,13 +4,14 @@ import { impliedBy } from "../objects.js";
 import { holm, strataOf } from "../statistics/independence.js";
 import { levelsText } from "../text/printed.js";
 import { asksForTable, cellsOf, countWords, tableName, tableNotes } from "./table.js";
-import { refused, source, sourceOf, verdict } from "./parts.js";
+import { commandOf, fold, refused, sourceOf, verdict } from "./parts.js";
 
 const WORDS = ["implications", DIAGRAM];
 const MOST_ROWS = 200;
 const SEED = 1;
 const PERMUTATIONS = 1000;
 const LEVEL = 0.05;
+const MANY_CELLS = 5; // of the faults of counts: too many cells for the differences, which need all columns at once; a test needs a few
 
 /** @typedef {import("../objects.js").Implication} Implication */
 
@@ -21,7 +22,7 @@ export async function impliedPairs(ctx) {
   const { csv } = ctx.memory, pairs = impliedBy(said.object), isLacking = ({ a, b, given }) => csv.lacking.some((name) => [a, b, ...given].includes(name));
   const testable = csv ? pairs.filter((pair) => !isLacking(pair)) : [];
   const words = csv && pairs.length && !csv.lacking.length ? ["implications", DIAGRAM, tableName(csv.name), ...countWords(ctx)] : null;
-  const counted = words && (await ctx.read(words)), isReadable = !counted || counted.status === 0;
+  const counted = words && (await ctx.read(words)), isReadable = !counted?.fault || (counted.fault.stage === "counts" && counted.fault.number === MANY_CELLS);
   const tests = csv && isReadable && testable.length ? await testsOf(ctx, testable.slice(0, MOST_ROWS)) : null;
   const differences = counted?.status === 0 ? new Map(impliedBy(counted.object).map((pair) => [keyOf(pair), pair])) : new Map();
   const rows = pairs.map((pair) => ({ ...pair, ...differences.get(keyOf(pair)), test: tests?.get(keyOf(pair)) ?? null }));
@@ -73,22 +74,20 @@ function asProbability({ difference, cell }, strata) {
 
 function view(found) {
   const { ctx, said, pairs, words, counted } = found;
-  return h("div", {}, head(found), ctx.memory.csv && pairs.length ? tableNotes(ctx) : null,
-    pairs.length && !ctx.memory.csv ? asksForTable(ctx) : null,
+  return h("div", {}, head(found), pairs.length ? (ctx.memory.csv ? [tableNotes(ctx), dataPart(found)] : asksForTable(ctx)) : null,
     pairs.length ? h("div", { class: "scroll" }, table(found)) : null,
-    counted?.status === 0 ? sourceOf(ctx, words, counted) : sourceOf(ctx, WORDS, said),
-    pairs.length ? dataPart(found) : null);
+    counted?.status === 0 ? sourceOf(ctx, words, counted) : sourceOf(ctx, WORDS, said));
 }
 
-function head({ ctx, pairs, tests, untested, rejected }) {
+function head({ ctx, pairs, counted, tests, untested, rejected }) {
   if (!pairs.length) {
-    return verdict("no", "No independence to test", "No two variables are separated by any set, so the diagram demands no "
+    return verdict("ask", "No independence to test", "No two variables are separated by any set, so the diagram demands no "
       + "independence of what is observed.");
   }
   const many = pairs.length === 1 ? "One independence" : `${pairs.length} independences`;
   if (!tests) {
-    return verdict("yes", many, "If the diagram is right, each pair is independent given the set beside it. No other pair is separated by any set. "
-      + "A table can test this.");
+    const isTested = ctx.memory.csv ? ` The table doesn't test this: ${counted?.fault?.sentence ?? "no pair has all its columns."}` : " A table can test this.";
+    return verdict(ctx.memory.csv ? "ask" : "yes", many, `If the diagram is right, each pair is independent given the set beside it. No other pair is separated by any set.${isTested}`);
   }
   const { csv, table: { reading } } = ctx.memory, done = [...tests.values()].filter(({ p }) => p !== null).length;
   const left = (csv.incomplete && !reading.leavesOut ? " Missing values are counted as a level." : "") + (untested ? ` ${untested} more name a variable without a column.` : "");
@@ -100,7 +99,7 @@ function head({ ctx, pairs, tests, untested, rejected }) {
 
 function table({ ctx, pairs, tests }) {
   const hasDifference = pairs.some((pair) => pair.difference), names = [...(tests ? ["p"] : []), ...(hasDifference ? ["largest difference"] : [])];
-  const columns = ["pair", "given", ...names].map((text) => h("th", { scope: "col" }, text));
+  const columns = ["pair", ...names].map((text) => h("th", { scope: "col" }, text));
   const left = pairs.length - MOST_ROWS;
   return h("table", { class: "pairs" },
     h("caption", {}, left > 0 ? `The first ${MOST_ROWS} of ${pairs.length}; all are in the printed text` : null),
@@ -122,8 +121,7 @@ function row(ctx, pair, hasTests, hasDifference) {
     tabindex: 0, onpointerenter: show, onfocus: show, onpointerleave: hide, onblur: hide, class: test?.adjusted < LEVEL ? "differs" : null,
     "aria-label": `${a} and ${b}${given.length ? ` given ${given.join(", ")}` : ""}${hasTests ? `: p ${part(test?.p)}` : ""}`
       + (difference ? `, largest difference ${difference} at ${at}` : ""),
-  }, h("td", {}, h("b", {}, a), " and ", h("b", {}, b)),
-  h("td", {}, given.join(", ") || "–", " ", furtherButton(ctx, a, b)),
+  }, h("td", {}, h("b", {}, a), " and ", h("b", {}, b), h("small", {}, "given ", given.join(", ") || "nothing", " ", furtherButton(ctx, a, b))),
   hasTests ? h("td", { class: "number", title: statistic }, test ? part(test.p) : "no column", test && h("small", {}, `Holm ${part(test.adjusted)}`)) : null,
   hasDifference ? h("td", { title: `${difference} in counts, as the program prints it` },
     h("span", { class: "number" }, share === null ? difference : share.toFixed(4)), h("small", { class: "cell" }, at && ["at ", at.split(",").map((level, i) => [i ? [",", h("wbr")] : "", level])])) : null);
@@ -138,19 +136,20 @@ function furtherButton(ctx, a, b) {
   return button("sets", go, { title: "Which sets separate them", "aria-label": `which sets separate ${a} and ${b}` });
 }
 
-/** What a table says of the pairs. */
+/** What a table says of the pairs, and how. */
 function dataPart({ ctx, words, counted, tests }) {
-  const { csv } = ctx.memory;
-  if (!csv) return null;
-  const change = h("p", {}, "In ", h("b", {}, csv.name), " ",
+  const change = h("p", {}, "In ", h("b", {}, ctx.memory.csv.name), " ",
     button("Another file or column of counts", () => ctx.show("data"), { data: { key: "to data" } }));
-  if (counted && counted.status !== 0) return h("div", { class: "stack" }, change, verdict("ask", counted.fault.sentence), source(words, ""));
-  return h("div", { class: "stack" }, change, tests && h("p", { class: "small-print" }, "A small p speaks against the diagram; a large one doesn't speak for "
-      + "it. p is the chance of counts at least as far from the independence, if it holds, by the statistic G² with the chi-squared distribution, or where a "
-      + `table is thin by ${PERMUTATIONS} shuffles (seed ${SEED}). It is computed here, not proved. Holm's correction is for all pairs that were tested.`),
-    counted && h("p", { class: "small-print" }, "The largest difference, of all levels a, b and w, is P(a,b|w) − P(a|w)·P(b|w). The program prints it "
-      + "in counts: N(a,b,w)·N(w) − N(a,w)·N(b,w). It is 0 where a model that fits the diagram matches the counts."));
+  return h("div", { class: "stack" }, change, counted?.fault && h("p", { class: "small-print" }, `${counted.fault.sentence} So the largest differences aren't printed.`, " ", h("code", {}, commandOf(words))),
+    tests && h("p", { class: "small-print" }, "A small p speaks against the diagram; a large one doesn't speak for it. It is computed here, not proved."),
+    (tests || counted) && fold(ctx, "how tested", "How the tests are made", () => howTested(tests, counted)));
 }
 
+const howTested = (tests, counted) => h("div", { class: "stack" },
+  tests && h("p", { class: "small-print" }, "p is the chance of counts at least as far from the independence, if it holds, by the statistic G² with the chi-squared distribution, or where a "
+    + `table is thin by ${PERMUTATIONS} shuffles (seed ${SEED}). Holm's correction is for all pairs that were tested.`),
+  counted && h("p", { class: "small-print" }, "The largest difference, of all levels a, b and w, is P(a,b|w) − P(a|w)·P(b|w). The program prints it "
+    + "in counts: N(a,b,w)·N(w) − N(a,w)·N(b,w). It is 0 where a model that fits the diagram matches the counts."));
+
 /** @type {import("./parts.js").Card} */
-export const implications = { id: "implications", title: "Implies", about: "Which independences the diagram implies, and whether a table fits them", ahead: [WORDS], answer };
+export const implications = { id: "implications", title: "Implies", wantsVariables: true, about: "Which independences the diagram implies, and whether a table fits them", ahead: [WORDS], answer };

@@ -43,6 +43,14 @@ async function trials(ctx, words) {
   return names.filter((_, i) => said[i].status === 0);
 }
 
+/** The trials that would help, where there is no formula: asked for when it is opened. */
+export function trialsPart(ctx) {
+  const box = h("div", { class: "stack", id: "which-trials" }, h("p", {}, "…")), words = ["identify", DIAGRAM];
+  ctx.read(words).then(async (said) => box.replaceChildren(...(said.fault ? [h("p", {}, said.fault.sentence)]
+    : said.status === 0 ? [h("p", {}, "None is needed: the effect has a formula without a trial.")] : trying(ctx, await trials(ctx, words)))));
+  return box;
+}
+
 const measuring = (measured) => [
   h("p", {}, h("b", {}, "Measure"), measured.length ? " one of these, and there is a formula:" : ": no single measurement of what is hidden here gives a formula."),
   measured.length ? h("ul", {}, measured.map(({ label }) => h("li", {}, label.length > 1 ? [label[0], h("b", {}, label[1]), label[2], h("b", {}, label[3])] : h("b", {}, label[0])))) : "",

@@ -14,8 +14,9 @@ import { formulaTex } from "../paper.js";
  * @typedef {{dot: "yes" | "no" | "", dotWords?: {yes: string, no: string}, view: () => Node, marks?: Marks}} Shown
  */
 /**
- * A card asks the program and shows what it answers. `ahead` are the questions that it will ask by the text alone.
- * @typedef {{id: string, title: string, about: string, hasDot?: boolean, dotWords?: {yes: string, no: string}, ahead?: string[][],
+ * A card asks the program and shows what it answers. `ahead` are the questions that it will ask by the text alone; one that wants variables isn't
+ * asked before there are some.
+ * @typedef {{id: string, title: string, about: string, hasDot?: boolean, wantsVariables?: boolean, dotWords?: {yes: string, no: string}, ahead?: string[][],
  *   answer: (ctx: Context) => Promise<Shown>}} Card
  */
 /**
@@ -100,10 +101,13 @@ export const withRole = ({ graph }, role) => graph.vertices.filter((v) => v.role
 export const listed = (names) =>
   names.map((name, i) => [i ? (i === names.length - 1 ? " and " : ", ") : "", h("b", {}, name)]);
 
+/** What is shown while nothing is drawn yet. */
+export const drawFirst = () => verdict("ask", "Draw your variables", "Double-click the drawing, or press + Variable. Then mark exposure and outcome.");
+
 /** What is shown where the program refuses the question, above it the choices that led to it, and what to do. @param {Context} ctx @param {Said} said */
 export function refused({ graph }, words, { fault }, choices = () => null, toDo = "") {
   const isEmpty = !graph.vertices.length && lacksMark(fault), help = "Click a variable, and choose Exposure or Outcome (or focus it and press e or o).";
-  const told = isEmpty ? verdict("ask", "Draw your variables", "Double-click the drawing, or press + Variable. Then mark exposure and outcome.")
+  const told = isEmpty ? drawFirst()
     : verdict("ask", fault.sentence, ...(lacksMark(fault) ? [help] : toDo ? [toDo] : []));
   return { dot: "", view: () => h("div", {}, choices(), told, source(words, lineOf(fault))) };
 }

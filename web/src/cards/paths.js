@@ -49,4 +49,4 @@ function pathRow(ctx, { path, isCausal, blocks }) {
 }
 
 /** @type {import("./parts.js").Card} */
-export const paths = { id: "paths", title: "Paths", about: "All paths between exposure and outcome: open or closed, and by what", answer };
+export const paths = { id: "paths", title: "Paths", wantsVariables: true, about: "All paths between exposure and outcome: open or closed, and by what", answer };

@@ -30,11 +30,12 @@ async function answer(ctx) {
         h("select", { data: { key: "rule number" }, onchange: choose },
           RULES.map((text, i) => h("option", { value: i + 1, selected: i + 1 === n }, text)))),
       h("div", { class: "pickers" }, [y, z, doing, given].map((set) => set.row())), howToChoose(),
-      judged(said, where), sourceOf(ctx, words, said)),
+      judged(said, where, rule), sourceOf(ctx, words, said)),
   };
 }
 
-function judged({ status, object, fault }, where) {
+function judged({ status, object, fault }, where, { y }) {
+  if (!y.length) return verdict("ask", "Choose y, or mark an outcome");
   if (fault) return verdict("ask", fault.sentence);
   if (status === 1) {
     return verdict("no", "The rule doesn't apply", "It doesn't give ", equationOf(object), `, since this path is open ${where}: `,
@@ -47,4 +48,4 @@ function judged({ status, object, fault }, where) {
 const equationOf = ({ left, right }) => h("code", {}, `${left} = ${right}`);
 
 /** @type {import("./parts.js").Card} */
-export const rules = { id: "rules", title: "Rules", about: "The three rules of do-calculus, one by one", answer };
+export const rules = { id: "rules", title: "Rules", wantsVariables: true, about: "The three rules of do-calculus, one by one", answer };

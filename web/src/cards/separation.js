@@ -63,6 +63,7 @@ function setsPart(ctx, { list, hasMore, words }, w) {
 
 function judged({ status, object, fault }, x, y, w) {
   if (status === 1) return verdict("no", "Not separated", "This path is open: ", h("code", {}, pathText(object.open)));
+  if (!x.names.length || !y.names.length) return verdict("ask", `Choose ${x.names.length ? "To" : y.names.length ? "From" : "From and To"}`, "Marked exposures and outcomes stand there by themselves.");
   if (fault) return verdict("ask", fault.sentence);
   return verdict("yes", "Separated", "No path is open. If the diagram is right, ",
     listed(x.names), " and ", listed(y.names), " are independent",
@@ -70,4 +71,4 @@ function judged({ status, object, fault }, x, y, w) {
 }
 
 /** @type {import("./parts.js").Card} */
-export const separation = { id: "separation", title: "Separate", about: "Whether variables are independent given others, and which path is open", answer };
+export const separation = { id: "separation", title: "Separate", wantsVariables: true, about: "Whether variables are independent given others, and which path is open", answer };

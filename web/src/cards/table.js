@@ -174,7 +174,7 @@ export function cellsOf({ memory: { csv, count }, observed }) {
 function levels(ctx) {
   const found = tableLevels(ctx), { rows } = ctx.memory.csv;
   const line = ([column, sums]) => {
-    const list = [...sums], shown = list.slice(0, MOST_LEVELS).map(([level, sum]) => `${level} (${sum})`).join(", ");
+    const list = [...sums], shown = list.slice(0, MOST_LEVELS).map(([level, sum]) => `${level.trim() ? level : "blank"} (${sum})`).join(", ");
     return h("tr", {}, h("th", { scope: "row" }, column),
       h("td", {}, shown, list.length > MOST_LEVELS ? ` and ${list.length - MOST_LEVELS} more` : ""));
   };

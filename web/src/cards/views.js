@@ -71,4 +71,4 @@ function view(ctx, now, { edges, words, told }) {
 }
 
 /** @type {import("./parts.js").Card} */
-export const views = { id: "views", title: "Views", about: "The correlation graph, the moral graph and the class of equivalent diagrams", answer };
+export const views = { id: "views", title: "Views", wantsVariables: true, about: "The correlation graph, the moral graph and the class of equivalent diagrams", answer };

@@ -230,6 +230,11 @@ export class Diagram {
     return zoomIdentity.translate(x, y).scale(k);
   }
 
+  /** Whether the drawing is seen as it was fitted. */
+  get isFitted() {
+    return this.#isFitted;
+  }
+
   /** Follows the pane's size: what was fitted, and wasn't changed since, is fitted again; else the middle stays where it is. */
   resized() {
     const box = this.element.getBoundingClientRect(), { width, height } = this.#size;

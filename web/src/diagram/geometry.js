@@ -33,10 +33,11 @@ export function halfWidth({ name, role }) {
   return Math.max(widths.length > 1 ? 28 : 22, (Math.max(...widths) + mark) / 2 + 13);
 }
 
-/** What a layout has to know of a graph: bidirected edges don't count. */
+/** What a layout has to know of a graph: bidirected edges are drawn round what is placed by the others. */
 export const outline = ({ vertices, edges }) => ({
   vertices: vertices.map((v) => ({ name: v.name, width: 2 * halfWidth(v), height: 2 * halfHeight(v) })),
   edges: edges.filter((e) => !e.both).map((e) => [e.a, e.b]),
+  arcs: edges.filter((e) => e.both).map((e) => [e.a, e.b]),
 });
 
 /** A place for a vertex that has none: near the middle of its neighbours, clear of all others. */

@@ -6,10 +6,11 @@ import { measured } from "../cards/data.js";
 import { impliedPairs, part } from "../cards/implications.js";
 import { commandOf, withRole } from "../cards/parts.js";
 import { chosenForm } from "../cards/forms.js";
+import { ALL_KINDS, chosenKind } from "../cards/kind.js";
 import { derivationOf } from "../explain.js";
 import { DIAGRAM } from "../names.js";
-import { exprTex, formulaLines } from "../paper.js";
-import { listWord, pathText } from "../text/printed.js";
+import { exprTex, formulaLines, naturalLines } from "../paper.js";
+import { listWord, pathText, termText } from "../text/printed.js";
 
 /**
  * A part of a report: a paragraph, lines of LaTeX, a list, a table, steps of a derivation, or a text as it is.
@@ -19,6 +20,7 @@ import { listWord, pathText } from "../text/printed.js";
 /** @typedef {{title: string, sections: {title: string, parts: Part[]}[]}} Report */
 
 const MOST_LISTED = 60;
+const IDENTIFY = ["identify", DIAGRAM];
 
 const names = (list) => list.join(", ") || "none";
 
@@ -28,7 +30,7 @@ export async function gather(ctx, title) {
     { title: "Diagram", parts: diagramPart(ctx) },
     { title: "Assumptions", parts: assumptions(ctx) },
     { title: "Adjustment", parts: await adjustmentPart(ctx) },
-    { title: "Effect", parts: await effectPart(ctx) },
+    ...(await effectSections(ctx)),
     { title: "Independences", parts: await independences(ctx) },
     { title: "Values from the table", parts: await valuesPart(ctx) },
     { title: "Text of the diagram", parts: [{ code: ctx.text.trim() }] },
@@ -69,14 +71,30 @@ async function adjustmentPart(ctx) {
   ];
 }
 
-async function effectPart(ctx) {
-  const { words, said } = await chosenForm(ctx, ["identify", DIAGRAM]);
+/** The total effect; and the one that is chosen under Effect, where that is another. */
+async function effectSections(ctx) {
+  const kind = await chosenKind(ctx, ALL_KINDS), given = ctx.observed.filter((name) => ctx.memory.sets.condition?.includes(name));
+  const condition = given.length ? ["--given", listWord(given)] : [], among = given.length ? ` given ${names(given)}` : "";
+  const total = { title: "Effect", parts: await identified(ctx, IDENTIFY) };
+  if (kind.id === "treated") return [total, { title: `Effect among the treated${among}`, parts: await counterfactual(ctx, ["treated", DIAGRAM, ...condition], formulaLines) }];
+  if (kind.id === "through") {
+    const words = ["natural", DIAGRAM, "--through", listWord(kind.through), ...condition];
+    return [total, { title: `Effects through ${names(kind.through)}${among}`, parts: await counterfactual(ctx, words, naturalLines) }];
+  }
+  if (!kind.isDirect && !given.length) return [total];
+  const title = kind.isDirect ? `Direct effect, where ${names(kind.also)} ${kind.also.length > 1 ? "are" : "is"} set too${among}` : `Effect${among}`;
+  return [total, { title, parts: await identified(ctx, [...IDENTIFY, ...kind.words, ...condition]) }];
+}
+
+const hedgeText = ({ larger, smaller }) => `The hedge: ${names(larger)} over ${names(smaller)}.`;
+
+/** What `identify` says, with the derivation of its formula. */
+async function identified(ctx, asked) {
+  const { words, said } = await chosenForm(ctx, asked), { object } = said;
   if (said.fault) return [{ text: said.fault.sentence }];
-  const { object } = said;
   if (said.status === 1) {
-    const { larger, smaller } = object.hedge;
-    return [{ text: `${object.effect} isn't identifiable: two models fit the diagram, agree on all that is observed, and differ on it. The hedge: ${names(larger)} over ${names(smaller)}.` },
-      { code: commandOf(words) }];
+    const why = object.given.length ? "no formula over what is observed equals it." : "two models fit the diagram, agree on all that is observed, and differ on it.";
+    return [{ text: `${object.effect} isn't identifiable: ${why} ${hedgeText(object.hedge)}` }, { code: commandOf(words) }];
   }
   const derived = await derivationOf(ctx, (await ctx.ask([...words, "--certificate"])).out);
   const steps = (derived ?? []).flatMap(({ lemma, steps: list }) => list.map((step) => ({
@@ -88,6 +106,16 @@ async function effectPart(ctx) {
     ...(steps.length ? [{ text: "Derivation by the rules of do-calculus:" }, { steps }] : []),
     { code: commandOf(words) },
   ];
+}
+
+/** What is said of the treated, or of natural effects, whose formulas have no derivation. @param {(object: any) => string[]} linesOf */
+async function counterfactual(ctx, words, linesOf) {
+  const { status, object, fault } = await ctx.read(words), code = { code: commandOf(words) };
+  if (fault) return [{ text: fault.sentence }, code];
+  if (status === 0) return [{ text: "It is identified: under the diagram it equals this formula." }, { formula: linesOf(object) }, code];
+  if (!object.hedge) return [{ text: `For ${object.effect} no formula was found, and no proof that there is none.` }, code];
+  const joint = termText({ term: object.joint.y, do: object.joint.x, given: [] });
+  return [{ text: `${object.effect} isn't identifiable: two models fit the diagram and agree on all that is observed, but differ on ${joint}, which would follow from a formula. ${hedgeText(object.hedge)}` }, code];
 }
 
 async function independences(ctx) {
@@ -106,7 +134,10 @@ async function valuesPart(ctx) {
   if (!found) return [];
   const { csv, table } = ctx.memory, read = table.reading.leavesOut && csv.incomplete ? `, ${csv.incomplete} of ${csv.all} rows with missing values left out` : "";
   if (found.asked) return [{ text: `Over ${table.name}${read}.` }, ...boundsParts(found.asked), { code: commandOf(found.asked.words) }];
-  if (!found.order) return [{ text: `The table ${table.name} gives no value${found.fault ? `: ${found.fault.sentence}` : "."}` }];
+  if (!found.order) {
+    const { fault, instead } = found, bounds = instead ? [...boundsParts(instead), { code: commandOf(instead.words) }] : [];
+    return [{ text: `The table ${table.name}${read} gives no value${fault ? `: ${fault.sentence}` : "."}` }, ...bounds];
+  }
   const rows = await contrastRows(found.order), hasCrude = found.order.crude.length > 0;
   return [
     { text: `Plug-in values of the formula ${found.way.label} over ${table.name}${read}. Intervals are percentiles of 1000 draws of the records with replacement; they are computed by the page, and not proved.` },

@@ -73,7 +73,8 @@ function decoded(name) {
 
 // ---- Quotation marks, and DAGitty's short marks
 
-const straightQuotes = (text) => text.replace(/[\u201c\u201d\u201e\u201f\u00ab\u00bb]/g, '"');
+/** A text with straight quotation marks, but for those in a name that has them. */
+export const straightQuotes = (text) => text.replace(/"[^"\r\n]*"|[\u201c\u201d\u201e\u201f\u00ab\u00bb]/g, (part) => (part.startsWith('"') ? part : '"'));
 
 const MARKS = { e: "exposure", o: "outcome", a: "adjusted", u: "latent", unobserved: "latent", l: "latent" };
 

@@ -1,4 +1,5 @@
 // What a text that the program accepts may not have meant.
+import { straightQuotes } from "./taken.js";
 import { isMark, survey, tokens } from "./tokens.js";
 
 /** @typedef {import("./printed.js").Graph} Graph */
@@ -19,37 +20,50 @@ export function warningsOf(text, { vertices, edges }) {
   return [
     ...dropped.map(({ name, value }) => ({ sentence: `${name} = ${value} says nothing of the diagram and is left out. An edge is written ->, <- or <->.` })),
     ...signs.map(({ name }) => ({ sentence: `${name} is read as a variable, without an edge. An edge is written ->, <- or <->.` })),
-    ...(CIRCLES.test(text) ? [{ sentence: `Edges with circles, such as o-> and o-o, aren't read: their o is read as a variable. Give each edge a direction.` }] : partedNames(text, vertices, joined)),
+    ...(CIRCLES.test(text) ? [{ sentence: `Edges with circles, such as o-> and o-o, aren't read: their o is read as a variable. Give each edge a direction.` }]
+      : curlyQuotes(text) ?? partedNames(text, vertices, joined)),
   ];
 }
 
-/** Vertices without edges and marks that always stand right before the same other one, in its line: parts of a name without its quotes. */
-function partedNames(text, vertices, joined) {
-  const list = tokens(text), alone = new Set(vertices.filter(({ name, role }) => !role && !joined.has(name) && !SIGNS.test(name)).map(({ name }) => name));
-  const isName = (t) => t && !isMark(t) && !t.text.startsWith('"') && !t.text.includes("@");
-  const next = new Map();
-  list.forEach((t, i) => {
-    if (i === 0 || !isName(t) || !alone.has(t.text)) return;
-    const after = list[i + 1], isPair = isName(after) && !/[\r\n;]/.test(text.slice(t.end, after.start)) && !alone.has(after.text);
-    next.set(t.text, [...(next.get(t.text) ?? []), isPair ? after.text : null]);
-  });
-  return [...next].filter(([, after]) => after.every((name) => name !== null && name === after[0])).map(([first, [second]]) => ({
-    sentence: `${first} is read as a variable of its own, without an edge. A name of two words needs quotation marks: "${first} ${second}".`,
-    label: "Put them", fixed: quotedPair(text, list, first, second),
-  }));
+/** A note on quotation marks that aren't straight; null where there are none. @returns {Note[] | null} */
+function curlyQuotes(text) {
+  const fixed = straightQuotes(text);
+  return fixed === text ? null : [{ sentence: "Quotation marks that aren't straight are read as letters of the names.", label: "Straighten them", fixed }];
 }
 
-/** The text with two words as one name; where the second stands alone, it is that name too. */
-function quotedPair(text, list, first, second) {
+/**
+ * Vertices without edges and marks that always stand right before the same others, in their line: parts of a name without its quotes.
+ * @returns {Note[]}
+ */
+function partedNames(text, vertices, joined) {
+  const list = tokens(text), alone = new Set(vertices.filter(({ name, role }) => !role && !joined.has(name) && !SIGNS.test(name)).map(({ name }) => name));
+  const isName = (t) => t && !isMark(t) && !t.text.startsWith('"') && !t.text.includes("@"), isAlone = (t) => isName(t) && alone.has(t.text);
+  const isInLine = (i) => isName(list[i + 1]) && !/[\r\n;]/.test(text.slice(list[i].end, list[i + 1].start));
+  const runs = new Map(); // by its first word, what each run is: its words, or null where it doesn't end with a variable that has edges or marks
+  for (let i = 1; i < list.length; i++) {
+    if (!isAlone(list[i])) continue;
+    const from = i;
+    while (isAlone(list[i]) && isInLine(i)) i++;
+    const words = list.slice(from, i + 1).map((t) => t.text);
+    runs.set(words[0], [...(runs.get(words[0]) ?? []), isAlone(list[i]) ? null : words]);
+  }
+  return [...runs.values()].filter((all) => all.every((words) => words && words.join(" ") === all[0].join(" "))).map(([words]) => {
+    const lone = words.slice(0, -1), name = words.join(" ");
+    return {
+      sentence: `${lone.join(" and ")} ${lone.length > 1 ? "are read as variables of their own, without edges" : "is read as a variable of its own, without an edge"}. `
+        + `A name of ${words.length} words needs quotation marks: "${name}".`, label: "Put them", fixed: quoted(text, list, words),
+    };
+  });
+}
+
+/** The text with these words as one name; where the last stands alone, it is that name too. */
+function quoted(text, list, words) {
+  const isHere = (i) => words.every((word, k) => list[i + k]?.text === word), name = `"${words.join(" ")}"`;
   let made = "", at = 0;
   list.forEach((t, i) => {
-    if (t.text === first && list[i + 1]?.text === second) {
-      made += text.slice(at, t.start);
-      at = list[i + 1].start;
-    }
-    if (t.text !== second) return;
-    made += `${text.slice(at, t.start)}"${first} ${second}"`;
-    at = t.end;
+    if (t.start < at || !(isHere(i) || t.text === words.at(-1))) return;
+    made += text.slice(at, t.start) + name;
+    at = (isHere(i) ? list[i + words.length - 1] : t).end;
   });
   return made + text.slice(at);
 }
