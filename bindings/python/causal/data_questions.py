@@ -3,7 +3,7 @@ from __future__ import annotations
 
 from typing import TYPE_CHECKING, Any, Dict, Mapping, Optional, Sequence, Union, cast, overload
 
-from causal.errors import DataWarning
+from causal.errors import DataWarning, RequestError
 from causal.names import Names
 from causal.vocabulary import Renamed, renamed, warn
 
@@ -479,6 +479,10 @@ class DataQuestions:
         level: float = 0.95,
         seed: Optional[int] = 0,
         progress: Optional[Progress] = None,
+        model: Any = None,
+        smoothing: float = 1.0,
+        factors: Names = (),
+        interval: Optional[str] = None,
     ) -> Mediation:
         """How much of the effect of x on y goes through the mediators `through`, and how much past them: the natural direct and indirect
         effect, whose sum is the total one, in the data.
@@ -486,7 +490,10 @@ class DataQuestions:
         `outcome` is the level of y whose risk is compared; without it means are, of a numeric y. The arms, `count` and `missing` are as in
         `contrast`, and intervals are percentiles of `resamples` bootstrap draws.
 
-        The formula of `natural` is proved; its values over the counts are computed, and a term without records leaves none.
+        The formula of `natural` is proved; its values over the counts are computed, and a term without records leaves none. With `model`
+        they are by models of its terms, as in `estimate`, which says what `model`, `smoothing`, `factors` and `interval` are: then
+        mediators and what lies before them may be numbers, and intervals are by influence functions where these are known.
+
         The proportion mediated means little where the two effects have opposite signs or the total may be near 0, and says so. A natural
         effect speaks of two values of x in one person, which no experiment shows: that of X and M together (`contrast` with both as x)
         asks for less.
@@ -498,9 +505,14 @@ class DataQuestions:
         (0.0, True)
         """
         from causal.mediation import mediated
+        from causal.natural_estimates import ModelWords
 
         asked: Dict[str, Any] = {"treated": treated, "control": control, "outcome": outcome, "count": count, "missing": missing}
         asked.update(resamples=resamples, level=level, seed=seed, progress=progress)
+        if model is not None:
+            asked.update(words=ModelWords(model, smoothing, factors, interval))
+        elif interval not in (None, "percentile"):
+            raise RequestError("a mediation by counts has percentile intervals; model='logistic' has those by influence functions")
         return mediated(self._diagram, data, x, y, through, **asked)
 
     def estimate(
