@@ -499,7 +499,7 @@ class DataQuestions:
         asks for less.
 
         >>> from causal import Diagram
-        >>> data = {"X": [0] * 8 + [1] * 8, "M": ([0] * 3 + [1]) * 2 + [0, 1, 1, 1] * 2, "Y": [0, 0, 1, 1, 0, 0, 0, 1] * 2}
+        >>> data = {"X": [0] * 40 + [1] * 40, "M": ([0] * 3 + [1]) * 10 + [0, 1, 1, 1] * 10, "Y": [0, 0, 1, 1, 0, 0, 0, 1] * 10}
         >>> found = Diagram("dag { X -> M -> Y X -> Y }").mediate(data, "X", "Y", through="M", treated=1, control=0, outcome=1, resamples=50)
         >>> round(float(found.direct) + float(found.indirect) - float(found.total), 12), found.direct.interval is not None
         (0.0, True)

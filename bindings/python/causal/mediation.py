@@ -20,6 +20,7 @@ from causal.effects import Level, check_arms, levels_at, levels_text, typed_orde
 from causal.errors import DataWarning, EvaluationError, NotIdentifiable, RequestError, WrongType
 from causal.events import lost_text, many_lost
 from causal.framed import Framed
+from causal.frequencies import doubt_frequencies
 from causal.intervals import Interval, check_asked, interval_of
 from causal.names import Names, printed_set
 from causal.models import Fit
@@ -324,6 +325,8 @@ def mediation_table(diagram: "Diagram", formula: NaturalFormula, data: Data, cou
     names = {first.get(name, name) for name in read}
     used = [name for name in diagram.vertices if name in names]
     check_request(used, count, missing)
+    if count is not None:
+        doubt_frequencies(data, count)
     table = table_of(data, used, count, missing, formula.sets.y).ordered()
     table.check_size()
     return table

@@ -284,7 +284,8 @@ class Intervals(unittest.TestCase):
         source = random.Random(3)
         data = {"X": [0, 1] * 300, "Y": [source.randrange(2) for _ in range(600)], "w": [source.randrange(50, 400) for _ in range(600)]}
         edge = Diagram("dag { X -> Y }")
-        by = [edge.contrast(data, "X", "Y", **ARMS, resamples=300, **{kind: "w"}) for kind in ("count", "weights")]
+        with self.assertWarnsRegex(causal.DataWarning, "w holds frequencies, .* the weights of a survey are named by weights"):
+            by = [edge.contrast(data, "X", "Y", **ARMS, resamples=300, **{kind: "w"}) for kind in ("count", "weights")]
         self.assertEqual(by[0].difference, by[1].difference)
         widths = [it.interval.difference.upper - it.interval.difference.lower for it in by]
         self.assertGreater(widths[1], 8 * widths[0])

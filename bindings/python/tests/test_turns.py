@@ -225,6 +225,29 @@ class Told(unittest.TestCase):
         with self.assertRaisesRegex(causal.CountsError, "the weights of a survey are named by weights"):
             edge.effects({**data, "w": [0.5] * 8}, "X", "Y", count="w")
 
+    def test_weights_that_look_like_frequencies(self):
+        import os
+        import tempfile
+
+        edge, told = Diagram("dag { X -> Y }"), "w holds frequencies, so that 80 rows stand for 14000 records; but 76 rows are like another"
+        data = {"X": [0, 1] * 40, "Y": [0, 0, 1, 1] * 20, "w": [150, 200, 50, 400, 75, 125, 300, 100] * 10}
+        arms = {"treated": 1, "control": 0, "outcome": 1, "count": "w"}
+        with tempfile.TemporaryDirectory() as folder:
+            path = os.path.join(folder, "records.csv")
+            with open(path, "w", encoding="utf-8") as file:
+                file.write("X,Y,w\n" + "".join(f"{x},{y},{w}\n" for x, y, w in zip(*data.values())))
+            for given in (data, path, [dict(zip(data, row)) for row in zip(*data.values())]):
+                with self.assertWarnsRegex(causal.DataWarning, told):
+                    edge.effects(given, "X", "Y", count="w")
+        with self.assertWarnsRegex(causal.DataWarning, told):
+            Diagram("dag { X Y }").test_implications(data, "w", permutations=5)
+        # frequencies of a table stand in rows that differ, also where not all columns are read; and equal ones are no weights
+        table = [(x, y, z, w) for x in (0, 1) for y in (0, 1) for z, w in enumerate(data["w"])]
+        for given in (dict(zip("XYZw", zip(*table))), {**data, "w": [2] * 80}):
+            with warnings.catch_warnings():
+                warnings.simplefilter("error")
+                edge.contrast(given, "X", "Y", **arms, resamples=0)
+
     def test_a_contrast_in_words(self):
         data = {"X": ["a", "b"] * 20, "Y": [0, 1, 1, 1] * 10}
         found = Diagram("dag { X -> Y }").contrast(data, "X", "Y", treated="a", control="b", outcome=1, resamples=0)
