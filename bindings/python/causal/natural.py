@@ -6,7 +6,7 @@ from typing import Any, Dict, FrozenSet, List, Optional, Sequence, Tuple, Union
 
 from causal import reading
 from causal.formula import Hedge, Term, names_read
-from causal.framed import Framed, Shown
+from causal.framed import Shown
 from causal.names import printed_name, printed_set
 from causal.objects import Told
 
@@ -83,7 +83,7 @@ def moved(tree: Told, by: int) -> Told:
 
 
 @dataclass(frozen=True)
-class NaturalFormula(Framed):
+class NaturalFormula(Shown):
     """A formula for a natural effect: a sum over `summed` of the product of the `factors`, over the probability of what is given.
 
     It is proved that the formula equals the effect at any two values of x in every positive finite model that fits the diagram's observed

@@ -202,6 +202,9 @@ class Told(unittest.TestCase):
         effects, bounds = edge.effects(data, "X", "Y"), edge.bounds(data, "X", "Y")
         answers = [found.difference, found.e_value, effects[0], effects.effect_means()[0], bounds[0], bounds.difference(1, 1, 0)]
         answers += [*Diagram("dag { X -> Z -> Y }").implications({**data, "Z": data["X"]})]
+        formula = edge.identify("X", "Y")
+        answers += [Diagram("dag { X -> Z -> Y }").natural("X", "Y", through="Z"), formula.target, edge.separated("X", "Y").path]
+        answers.append(edge.check_certificate(formula.certificate.replace("rule2see", "rule1out")).refusal)
         for it in answers:
             self.assertNotIn("Fraction(", it._repr_html_())
             self.assertIn("<pre>", it._repr_html_())
