@@ -323,6 +323,17 @@ class Records(unittest.TestCase):
         with self.assertRaises(causal.MissingValues):
             Diagram("dag { X -> Y }").effects([{"X": 0}, {"Y": 1}], "X", "Y")
 
+    @needs_pandas
+    def test_an_array_of_records(self):
+        data = pandas.DataFrame({"X": [0, 0, 1], "Y": [0, 1, 1]})
+        edge = Diagram("dag { X -> Y }")
+        self.assertEqual(edge.effects(data.to_records(index=False), "X", "Y").effects, edge.effects(data, "X", "Y").effects)
+
+    def test_answers_can_be_kept_in_sets(self):
+        data, edge = {"X": [0, 1] * 10, "Y": [0, 0, 1, 1] * 5}, Diagram("dag { X -> Y }")
+        for ask in (lambda: edge.effects(data, "X", "Y"), lambda: edge.bootstrap(data, "X", "Y", resamples=5)):
+            self.assertEqual(len({ask(), ask()}), 1)
+
     def test_too_many_cells_are_counted(self):
         source = random.Random(2)
         names = [f"c{k}" for k in range(11)]
@@ -390,6 +401,7 @@ class Refusals(unittest.TestCase):
             lambda: edge.surrogate("X", "Y"),
             lambda: edge.bootstrap(data, "X", "Y", resamples=1.5),
             lambda: edge.bootstrap(data, "X", "Y", seed="x"),
+            lambda: edge.bootstrap(data, "X", "Y", seed=random.Random(1)),
             lambda: edge.bootstrap(data, "X", "Y", level="high"),
             lambda: edge.effects(3, "X", "Y"),
             lambda: Diagram(3),
