@@ -1,7 +1,7 @@
 """What a diagram is asked of data: effects, contrasts, intervals, tests, estimates and reports."""
 from __future__ import annotations
 
-from typing import TYPE_CHECKING, Any, Dict, Mapping, Optional, Sequence, Union, cast, overload
+from typing import TYPE_CHECKING, Any, Dict, Mapping, Optional, Union, cast, overload
 
 from causal.errors import DataWarning, RequestError
 from causal.names import Names
@@ -609,8 +609,9 @@ class DataQuestions:
         """The crude effect, the one by the formula, and the one by each minimal set that may be adjusted for (`most` of them), in a table.
 
         If the diagram is right, all but the crude one estimate the same; where their intervals have no point in common, the answer says
-        so. Beside them stand the E-value, and the natural bounds of the program, which hold whatever is hidden. Each is by counts where they have a value, as in `contrast`, which takes the same options (`count`, `missing`, `resamples`,
-        `level`, `seed`, `weights` and so on); else it is by the `model`, as in `estimate`, and says so.
+        so. Beside them stand the E-value, and the natural bounds of the program, which hold whatever is hidden. Each is by counts where they
+        have a value, as in `contrast`, which takes the same options (`count`, `missing`, `resamples`, `level`, `seed`, `weights` and so on);
+        else it is by the `model`, as in `estimate`, and says so.
 
         >>> from causal import Diagram
         >>> diagram = Diagram("dag { T [exposure] R [outcome] S -> T -> R <- S }")
