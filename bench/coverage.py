@@ -123,6 +123,35 @@ def mediated(source, size):
     return data
 
 
+def mediated_smoothly(source, size):
+    """The same with a logistic truth."""
+    data = {"C": [], "X": [], "M": [], "Y": []}
+    for _ in range(size):
+        c = chance(source, 0.5)
+        x = chance(source, 0.3 + 0.4 * c)
+        m = chance(source, mediator(c, x))
+        for name, value in zip("CXMY", (c, x, m, chance(source, mediated_outcome(c, x, m)))):
+            data[name].append(value)
+    return data
+
+
+def mediator(c, x):
+    return logistic(-1 + 1.2 * x + 0.8 * c)
+
+
+def mediated_outcome(c, x, m):
+    return logistic(-1.5 + 0.6 * x + 1.0 * m + 0.7 * c)
+
+
+def world(x, through):
+    """The risk of `mediated_smoothly` were x this, and the mediator as under another value."""
+
+    def risk(c, m):
+        return (mediator(c, through) if m else 1 - mediator(c, through)) * mediated_outcome(c, x, m)
+
+    return sum(risk(c, m) for c in (0, 1) for m in (0, 1)) / 2
+
+
 def in_parts(source, size):
     """Observations of V, W and Y, and a trial of X, half as large, in which W was measured."""
     observed, trial = {"V": [], "W": [], "Y": []}, {"X": [], "W": []}
@@ -140,8 +169,8 @@ def in_parts(source, size):
     return (observed, trial), 0.4 * sum(moved) / 2
 
 
-def part_of(data, name):
-    return getattr(MEDIATED.mediate(data, through="M", **ARMS, resamples=400), name).interval
+def part_of(data, name, **more):
+    return getattr(MEDIATED.mediate(data, through="M", **ARMS, resamples=400, **more), name).interval
 
 
 def counted(diagram, data, **more):
@@ -172,6 +201,14 @@ SCENARIOS = {
     "door-by-models-400": (front_door, 400, lambda data: modelled(FRONT_DOOR, data)),
     "direct-500": (lambda source, size: (mediated(source, size), 0.1 + 0.1 * 0.3), 500, lambda data: part_of(data, "direct")),
     "indirect-500": (lambda source, size: (mediated(source, size), 0.4 * 0.4), 500, lambda data: part_of(data, "indirect")),
+    "direct-by-models-500": (
+        lambda source, size: (mediated_smoothly(source, size), world(1, 0) - world(0, 0)), 500,
+        lambda data: part_of(data, "direct", model="logistic"),
+    ),
+    "indirect-by-models-500": (
+        lambda source, size: (mediated_smoothly(source, size), world(1, 1) - world(1, 0)), 500,
+        lambda data: part_of(data, "indirect", model="logistic"),
+    ),
     "aipw-wrong-outcome-1000": (
         lambda source, size: smooth(source, size, is_bent=True), 1000, lambda data: modelled(TWO, data, method="aipw")
     ),

@@ -60,8 +60,8 @@ def main():
         if got["method"] != (wanted.method or ""):
             wrong.append(f"method of table {k}: {got['method']}, and in Python {wanted.method}")
         by_draws = wanted.method == "permutation"
-        spread = math.sqrt(wanted.p * (1 - wanted.p) / 1000) if by_draws else 0
-        close(f"p of table {k}", got["p"], wanted.p, 6 * spread + 0.002 if by_draws else 1e-9)
+        spread = math.sqrt(wanted.p_value * (1 - wanted.p_value) / 1000) if by_draws else 0
+        close(f"p of table {k}", got["p"], wanted.p_value, 6 * spread + 0.002 if by_draws else 1e-9)
         values.append(1 if got["p"] is None else got["p"])
     for k, (got, wanted) in enumerate(zip(found["holm"], independence.holm(values))):
         close(f"Holm's correction of table {k}", got, wanted)

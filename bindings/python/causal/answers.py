@@ -4,7 +4,7 @@ from __future__ import annotations
 from dataclasses import dataclass, field
 from typing import Any, Dict, Iterator, List, Optional, Sequence, Tuple, Union, overload
 
-from causal.display import html_table
+from causal.display import Printed, html_table
 from causal.formula import Formula, HedgeSets, Term
 from causal.framed import Shown
 from causal.names import printed_name, printed_set
@@ -30,7 +30,7 @@ class GraphText:
 
 
 @dataclass(frozen=True)
-class Path:
+class Path(Printed):
     """A path: its vertices, and the marks of the edges between them (`->`, `<-` or `<->`).
 
     >>> from causal import Diagram
@@ -99,7 +99,7 @@ class RuleAnswer(Shown):
 
 
 @dataclass(frozen=True)
-class CertificateRefusal:
+class CertificateRefusal(Printed):
     """Why a certificate is refused: the fault's number with a sentence, and where it is.
 
     `lemma` is the number of the lemma, or None for the main derivation; `step` is the number of the step, or None; `vertex` is a

@@ -172,6 +172,16 @@ def columns_of(data: Data, used: Sequence[str]) -> Dict[str, Column]:
     return columns
 
 
+def names_of_columns(data: Data) -> List[str]:
+    """The names of all columns of data that is no path.
+
+    >>> from causal.columns import names_of_columns
+    >>> names_of_columns([{"X": 0}, {"Y": 1}])
+    ['X', 'Y']
+    """
+    return [str(label) for label in _reader_of(data)[0]]
+
+
 def _reader_of(data: Any) -> Tuple[List[Any], Callable[[int], Any]]:
     """The names of the columns, and what gives the column at a place."""
     if isinstance(data, Mapping):

@@ -1,9 +1,9 @@
 """What a diagram is asked of data: effects, contrasts, intervals, tests, estimates and reports."""
 from __future__ import annotations
 
-from typing import TYPE_CHECKING, Any, Dict, Mapping, Optional, Sequence, Union, cast, overload
+from typing import TYPE_CHECKING, Any, Dict, Mapping, Optional, Union, cast, overload
 
-from causal.errors import DataWarning
+from causal.errors import DataWarning, RequestError
 from causal.names import Names
 from causal.vocabulary import Renamed, renamed, warn
 
@@ -479,6 +479,10 @@ class DataQuestions:
         level: float = 0.95,
         seed: Optional[int] = 0,
         progress: Optional[Progress] = None,
+        model: Any = None,
+        smoothing: float = 1.0,
+        factors: Names = (),
+        interval: Optional[str] = None,
     ) -> Mediation:
         """How much of the effect of x on y goes through the mediators `through`, and how much past them: the natural direct and indirect
         effect, whose sum is the total one, in the data.
@@ -486,21 +490,29 @@ class DataQuestions:
         `outcome` is the level of y whose risk is compared; without it means are, of a numeric y. The arms, `count` and `missing` are as in
         `contrast`, and intervals are percentiles of `resamples` bootstrap draws.
 
-        The formula of `natural` is proved; its values over the counts are computed, and a term without records leaves none.
+        The formula of `natural` is proved; its values over the counts are computed, and a term without records leaves none. With `model`
+        they are by models of its terms, as in `estimate`, which says what `model`, `smoothing`, `factors` and `interval` are: then
+        mediators and what lies before them may be numbers, and intervals are by influence functions where these are known.
+
         The proportion mediated means little where the two effects have opposite signs or the total may be near 0, and says so. A natural
         effect speaks of two values of x in one person, which no experiment shows: that of X and M together (`contrast` with both as x)
         asks for less.
 
         >>> from causal import Diagram
-        >>> data = {"X": [0] * 8 + [1] * 8, "M": ([0] * 3 + [1]) * 2 + [0, 1, 1, 1] * 2, "Y": [0, 0, 1, 1, 0, 0, 0, 1] * 2}
+        >>> data = {"X": [0] * 40 + [1] * 40, "M": ([0] * 3 + [1]) * 10 + [0, 1, 1, 1] * 10, "Y": [0, 0, 1, 1, 0, 0, 0, 1] * 10}
         >>> found = Diagram("dag { X -> M -> Y X -> Y }").mediate(data, "X", "Y", through="M", treated=1, control=0, outcome=1, resamples=50)
         >>> round(float(found.direct) + float(found.indirect) - float(found.total), 12), found.direct.interval is not None
         (0.0, True)
         """
         from causal.mediation import mediated
+        from causal.natural_estimates import ModelWords
 
         asked: Dict[str, Any] = {"treated": treated, "control": control, "outcome": outcome, "count": count, "missing": missing}
         asked.update(resamples=resamples, level=level, seed=seed, progress=progress)
+        if model is not None:
+            asked.update(words=ModelWords(model, smoothing, factors, interval))
+        elif interval not in (None, "percentile"):
+            raise RequestError("a mediation by counts has percentile intervals; model='logistic' has those by influence functions")
         return mediated(self._diagram, data, x, y, through, **asked)
 
     def estimate(
@@ -597,8 +609,9 @@ class DataQuestions:
         """The crude effect, the one by the formula, and the one by each minimal set that may be adjusted for (`most` of them), in a table.
 
         If the diagram is right, all but the crude one estimate the same; where their intervals have no point in common, the answer says
-        so. Beside them stand the E-value, and the natural bounds of the program, which hold whatever is hidden. Each is by counts where they have a value, as in `contrast`, which takes the same options (`count`, `missing`, `resamples`,
-        `level`, `seed`, `weights` and so on); else it is by the `model`, as in `estimate`, and says so.
+        so. Beside them stand the E-value, and the natural bounds of the program, which hold whatever is hidden. Each is by counts where they
+        have a value, as in `contrast`, which takes the same options (`count`, `missing`, `resamples`, `level`, `seed`, `weights` and so on);
+        else it is by the `model`, as in `estimate`, and says so.
 
         >>> from causal import Diagram
         >>> diagram = Diagram("dag { T [exposure] R [outcome] S -> T -> R <- S }")

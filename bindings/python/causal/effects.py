@@ -14,7 +14,7 @@ from causal.errors import RequestError
 from causal.formula import Formula
 from causal.names import Names, names_of, printed_level, printed_name
 from causal.objects import Told, name_in
-from causal.vocabulary import Renamed, meant, needed
+from causal.vocabulary import Renamed, needed
 
 if TYPE_CHECKING:
     import pandas

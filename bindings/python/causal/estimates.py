@@ -452,16 +452,18 @@ def estimator_of(
 ) -> Estimator:
     """The estimator."""
     if isinstance(rows, Joined):
-        return ByTree(dict(zip(rows.done, rows.parts)), asked, formula, names)
+        return ByTree(dict(zip(rows.done, rows.parts)), asked, formula._known(), names)
     if method == "ipw":
         return Weighted(rows, asked, formula.target.x, members)
     if method == "aipw":
         return DoublyRobust(rows, asked, formula.target.x, members)
     given = pattern_of(formula)
-    return ByTree({frozenset(): rows}, asked, formula, names, tuple(primes)) if given is None else Standardized(rows, asked, given)
+    if given is None:
+        return ByTree({frozenset(): rows}, asked, formula._known(), names, tuple(primes))
+    return Standardized(rows, asked, given)
 
 
-def values_of(numbers: Tuple[float, float], is_mean: bool) -> List[Optional[float]]:
+def values_of(numbers: Sequence[float], is_mean: bool) -> List[Optional[float]]:
     """The measures of two numbers.
 
     >>> from causal.estimates import values_of
@@ -476,29 +478,43 @@ def values_of(numbers: Tuple[float, float], is_mean: bool) -> List[Optional[floa
     return found
 
 
-def by_influence(rows: Union[Rows, Joined], estimator: Estimator, numbers: Tuple[float, float], level: float, is_mean: bool) -> List[Optional[Interval]]:
-    """Intervals by how the numbers move with each record: of risks on the scale of the logit, of ratios on that of the logarithm."""
-    width = NormalDist().inv_cdf((1 + level) / 2)
-    (first, second), (a, b) = estimator.moves(rows.weights), numbers
+class ByMoves:
+    """Intervals of numbers by how they move with each record."""
 
-    def on_scale(value: float, moves: Any, there: Callable[[float], float], back: Callable[[float], float], slope: float) -> Interval:
-        half = width * math.sqrt(rows.variance(moves * slope))
+    def __init__(self, rows: Union[Rows, Joined], level: float) -> None:
+        self.rows, self.width = rows, NormalDist().inv_cdf((1 + level) / 2)
+
+    def on_scale(self, value: float, moves: Any, there: Callable[[float], float], back: Callable[[float], float], slope: float) -> Interval:
+        """That of a number, made on another scale."""
+        half = self.width * math.sqrt(self.rows.variance(moves * slope))
         return Interval(back(there(value) - half), back(there(value) + half))
 
-    def plain(value: float, moves: Any) -> Interval:
-        return on_scale(value, moves, lambda it: it, lambda it: it, 1.0)
+    def plain(self, value: float, moves: Any) -> Interval:
+        """That of a difference, or of a mean."""
+        return self.on_scale(value, moves, lambda it: it, lambda it: it, 1.0)
 
-    def risk(value: float, moves: Any) -> Interval:
-        if is_mean or not 0 < value < 1:
-            return plain(value, moves)
-        return on_scale(value, moves, logit, lambda it: 1 / (1 + math.exp(-it)), 1 / (value * (1 - value)))
+    def risk(self, value: float, moves: Any) -> Interval:
+        """That of a risk, on the scale of the logit."""
+        if not 0 < value < 1:
+            return self.plain(value, moves)
+        return self.on_scale(value, moves, logit, lambda it: 1 / (1 + math.exp(-it)), 1 / (value * (1 - value)))
 
-    found: List[Optional[Interval]] = [risk(a, first), risk(b, second), plain(a - b, first - second)]
-    found.append(on_scale(a / b, first / a - second / b, math.log, math.exp, 1.0) if a > 0 and b > 0 else None)
+    def ratio(self, value: float, moves: Any) -> Interval:
+        """That of a ratio, on the scale of the logarithm: `moves` are those of the logarithm."""
+        return self.on_scale(value, moves, math.log, math.exp, 1.0)
+
+
+def by_influence(rows: Union[Rows, Joined], estimator: Estimator, numbers: Sequence[float], level: float, is_mean: bool) -> List[Optional[Interval]]:
+    """Intervals by how the numbers move with each record: of risks on the scale of the logit, of ratios on that of the logarithm."""
+    (first, second), (a, b) = estimator.moves(rows.weights), numbers
+    by = ByMoves(rows, level)
+    arm = by.plain if is_mean else by.risk
+    found: List[Optional[Interval]] = [arm(a, first), arm(b, second), by.plain(a - b, first - second)]
+    found.append(by.ratio(a / b, first / a - second / b) if a > 0 and b > 0 else None)
     if not is_mean:
         is_inside = 0 < a < 1 and 0 < b < 1
         moves = first / (a * (1 - a)) - second / (b * (1 - b)) if is_inside else None
-        found.append(on_scale(a * (1 - b) / ((1 - a) * b), moves, math.log, math.exp, 1.0) if is_inside else None)
+        found.append(by.ratio(a * (1 - b) / ((1 - a) * b), moves) if is_inside else None)
     return found
 
 
@@ -509,11 +525,11 @@ def logit(value: float) -> float:
 
 def by_draws(
     rows: Union[Rows, Joined], estimator: Estimator, resamples: int, seed: int, progress: Optional[Progress]
-) -> List[Optional[Tuple[float, float]]]:
-    """The numbers of both arms over records that are drawn anew, with the models fitted to each draw."""
+) -> List[Optional[Tuple[float, ...]]]:
+    """The numbers of the arms over records that are drawn anew, with the models fitted to each draw."""
     check_whole("resamples", resamples)
     source, members = rows.numpy.random.RandomState(seed % 2**32), rows.members
-    found: List[Optional[Tuple[float, float]]] = []
+    found: List[Optional[Tuple[float, ...]]] = []
     for done in range(resamples):
         weights = rows.drawn(source, members)
         try:
@@ -527,7 +543,7 @@ def by_draws(
     return found
 
 
-def of_draws(drawn: Sequence[Optional[Tuple[float, float]]], level: float, is_mean: bool) -> List[Optional[Interval]]:
+def of_draws(drawn: Sequence[Optional[Tuple[float, ...]]], level: float, is_mean: bool) -> List[Optional[Interval]]:
     """The percentile intervals of each measure."""
     columns = zip(*(values_of(numbers, is_mean) for numbers in drawn if numbers is not None))
     found = [interval_of(column, level) for column in columns]

@@ -15,12 +15,12 @@ Arm = Mapping[str, int]
 
 @dataclass(frozen=True)
 class Asked:
-    """What is estimated: the outcome, its level (None for its mean), both arms, and the levels of what is given and of what is pinned, all
+    """What is estimated: the outcome, its level (None for its mean), the arms, and the levels of what is given and of what is pinned, all
     by their numbers; and the models that were asked for."""
 
     outcome: str
     level: Optional[int]
-    arms: Tuple[Arm, Arm]
+    arms: Tuple[Arm, ...]
     fixed: Arm
     models: Any
     smoothing: float
@@ -55,13 +55,12 @@ class Estimator:
         """For each arm two numbers of each row, whose weighted sums' ratio is the number of the arm; None where it is none."""
         raise NotImplementedError
 
-    def numbers(self, weights: Any) -> Tuple[float, float]:
+    def numbers(self, weights: Any) -> Tuple[float, ...]:
         """The number of each arm."""
         # (what isn't drawn may be unknown)
         some = weights > 0
         held = weights[some]
-        found = [float((held * above[some]).sum() / (held * below[some]).sum()) for above, below in self.parts(self.models) or ()]
-        return found[0], found[1]
+        return tuple(float((held * above[some]).sum() / (held * below[some]).sum()) for above, below in self.parts(self.models) or ())
 
     @property
     def has_moves(self) -> bool:

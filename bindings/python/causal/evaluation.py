@@ -18,6 +18,7 @@ from causal.estimators import pattern_of
 from causal.events import Support
 from causal.files import read_bytes
 from causal.formula import Formula, Hedge
+from causal.frequencies import doubt_frequencies
 from causal.intervals import check_asked
 from causal.names import Names, list_word
 from causal.objects import Told
@@ -111,6 +112,8 @@ class Evaluation:
         if path is not None and not self.formula.free and not at and not self.design:
             text = read_bytes(path)
             if self.missing == "level" or not may_have_blanks(text):
+                if self.count is not None:
+                    doubt_frequencies(data, self.count)
                 return in_order_of_levels(self.over_file(text, exact))
         return self.over_table(self.pinned(self.table(data), at), exact)
 
@@ -195,6 +198,8 @@ class Evaluation:
         """The table of the data. The library reads a file itself too, and both readings have to give the same."""
         if self.design:
             return self.sample(data).table
+        if self.count is not None:
+            doubt_frequencies(data, self.count)
         path = path_of(data)
         if path is None:
             return table_of(data, self.used, self.count, self.missing, self.formula.target.y)

@@ -4,7 +4,7 @@ from __future__ import annotations
 import html
 import os
 import re
-from typing import Any, Dict, Iterable, Iterator, List, Mapping, NamedTuple, Optional, Sequence, Tuple, Union
+from typing import Any, Dict, Iterable, Iterator, List, Mapping, NamedTuple, Optional, Tuple, Union
 
 from causal.conversion import ROLES, Pair, labelled, text_of_edges, texts_of
 from causal.diagram import Diagram

@@ -5,6 +5,7 @@ from dataclasses import dataclass, field
 from itertools import chain
 from typing import TYPE_CHECKING, Any, FrozenSet, Iterator, List, NamedTuple, Optional, Sequence, Set, Tuple, Union
 
+from causal.display import Printed
 from causal.errors import RequestError
 from causal.framed import Framed, Shown
 from causal.names import printed_name, printed_set
@@ -18,7 +19,7 @@ if TYPE_CHECKING:
 
 
 @dataclass(frozen=True)
-class Term:
+class Term(Printed):
     """A probability `P(y | do(x), given)`.
 
     >>> from causal.formula import Term

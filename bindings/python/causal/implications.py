@@ -8,6 +8,7 @@ from causal.columns import Data, may_have_blanks, path_of
 from causal.display import Printed, html_table
 from causal.effects import Level, LevelOf, levels_text
 from causal.files import read_bytes
+from causal.frequencies import doubt_frequencies
 from causal.names import printed_name, printed_set
 from causal.objects import Told, name_in
 from causal.tables import Table, check_request, table_of, table_of_file
@@ -180,6 +181,8 @@ class _Counts:
 
     def table(self, data: Data) -> Table:
         """The table of the data."""
+        if self.count is not None:
+            doubt_frequencies(data, self.count)
         path = path_of(data)
         if path is None:
             return table_of(data, self.names, self.count, self.missing)

@@ -1,14 +1,13 @@
 """How much of an effect goes through mediators, and how much past them, in data: natural effects, with intervals by the bootstrap.
 
-The formula is proved; its values are computed of the counts, and so are the intervals: nothing about them is proved.
+The formula is proved; its values are computed of the counts, or by models, and so are the intervals: nothing about them is proved.
 """
 from __future__ import annotations
 
 import random
-from dataclasses import dataclass, field
-from fractions import Fraction
+from dataclasses import dataclass, field, replace
 from itertools import islice
-from typing import TYPE_CHECKING, Any, Callable, Dict, Iterator, List, Mapping, Optional, Sequence, Tuple
+from typing import TYPE_CHECKING, Any, Dict, Iterator, List, Mapping, Optional, Sequence, Tuple
 
 from causal.bootstrap import Progress, beside
 from causal.columnwise import Columns, Factor, Numbers
@@ -20,9 +19,12 @@ from causal.effects import Level, check_arms, levels_at, levels_text, typed_orde
 from causal.errors import DataWarning, EvaluationError, NotIdentifiable, RequestError, WrongType
 from causal.events import lost_text, many_lost
 from causal.framed import Framed
+from causal.frequencies import doubt_frequencies
 from causal.intervals import Interval, check_asked, interval_of
 from causal.names import Names, printed_set
+from causal.models import Fit
 from causal.natural import NaturalFormula
+from causal.natural_estimates import Modelled, ModelWords, modelled
 from causal.objects import Told
 from causal.tables import Table, check_request, table_of
 from causal.vocabulary import check_progress, warn
@@ -70,7 +72,7 @@ class Mediation(Framed):
 
     `between` is the risk were x as treated, and the mediators as they would be under control. The direct effect is that less the risk under
     control, the indirect one the risk under treated less that; they add up to the total. **Computed**: the values of `formula`, which is
-    proved to be the effect, over the counts. A natural effect speaks of two values of x in one person, which no experiment shows.
+    proved to be the effect, over the counts, or by models of its terms, of which `fits` has each. A natural effect speaks of two values of x in one person, which no experiment shows.
     """
 
     formula: NaturalFormula
@@ -83,6 +85,11 @@ class Mediation(Framed):
     seed: int
     dropped: int = 0
     pinned: Dict[str, Level] = field(default_factory=dict)
+    # Where the values are by models: each with how it fits, the variables that enter them as numbers, and how many records there are.
+    fits: Tuple[Fit, ...] = ()
+    as_numbers: Tuple[str, ...] = ()
+    records: int = 0
+    interval_kind: str = "percentile"
 
     def number(self, measure: str) -> MediatedNumber:
         """One of the numbers, by its name."""
@@ -119,12 +126,22 @@ class Mediation(Framed):
     def notes(self) -> Tuple[str, ...]:
         """What the numbers rest on."""
         found = [f"computed: {self.formula.sets.effect} = {self.formula.expression}", *self.formula.sets.nil]
+        found += ["by these models of its terms", *map(str, self.fits)] if self.fits else []
+        found += [f"as numbers: {', '.join(self.as_numbers)}"] if self.as_numbers else []
         found += [f"pinned {levels_text(self.pinned)}"] if self.pinned else []
+        if self.interval_kind == "influence":
+            found += [f"{100 * self.level:g}% intervals by influence functions; {self.records} records"]
         if self.resamples:
             drawn = f"{self.resamples} resamples, of which {self.without_value} had no value; seed {self.seed}"
             found += [f"{100 * self.level:g}% percentile intervals of {drawn}"]
         found += [f"{self.dropped} records left out that lack a value"] if self.dropped else []
-        return (*found, *many_lost(self.without_value, self.resamples))
+        return (*found, *self.doubts)
+
+    @property
+    def doubts(self) -> Tuple[str, ...]:
+        """What is wrong with the models, or with the resamples."""
+        fits = [f"{fit.term}: {note}" for fit in self.fits for note in fit.notes]
+        return (*fits, *many_lost(self.without_value, self.resamples))
 
     HEADS = ("treated", "control", "measure", "estimate", "conf_low", "conf_high", "note")
 
@@ -150,8 +167,7 @@ class Worlds:
         self.formula, self.arms, self.weights, self.exact = formula, arms, weights, exact
         first = dict(zip(sets.second, sets.x))
         sizes = {name: len(levels) for name, levels in zip(table.names, table.levels)}
-        free = [name for factor in formula.factors for name in factor.free]
-        self.kept = [*sets.x, *sets.y, *free]
+        self.kept = [*sets.x, *sets.y, *formula.free]
         self.parts = []
         for factor in formula.factors:
             reads_second = factor.reads == sets.second
@@ -250,6 +266,7 @@ def mediated(
     level: float,
     seed: Optional[int],
     progress: Optional[Progress],
+    words: Optional[ModelWords] = None,
 ) -> Mediation:
     """The effect of two arms in its natural parts: see `Diagram.mediate`."""
     check_asked(resamples, level, "percentile", least=0)
@@ -262,6 +279,9 @@ def mediated(
         raise RequestError("a mediation is of one outcome")
     arms = levels_at(sets.x, treated, typed_order(x)), levels_at(sets.x, control, typed_order(x))
     check_arms(*arms)
+    if words is not None:
+        told = None if outcome is None else levels_at(sets.y, outcome, typed_order(y))
+        return of_models(formula, arms, level, modelled(diagram, formula, data, arms, told, words, count, missing, resamples, level, seed, progress))
     table = mediation_table(diagram, formula, data, count, missing)
     coded = [{name: place_of(table, name, held) for name, held in arm.items()} for arm in arms]
     told, weights = outcome_weights(table, sets.y[0], outcome)
@@ -272,10 +292,24 @@ def mediated(
     seed = seed_of(seed)
     draws = resampled(worlds, table, resamples, random.Random(seed), progress)
     rows = told_numbers(own, draws, level)
-    pinned = {name: table.levels_of(name)[0] for factor in formula.factors for name in factor.free if name not in (*sets.x, *formula.summed)}
+    pinned = {name: table.levels_of(name)[0] for name in formula.free}
     without = sum(it is None for it in draws)
-    found = Mediation(formula, arms, told, rows, level, resamples, without, seed, table.dropped, pinned)
-    for doubt in many_lost(without, resamples):
+    return warned(Mediation(formula, arms, told, rows, level, resamples, without, seed, table.dropped, pinned))
+
+
+def of_models(formula: NaturalFormula, arms: Tuple[Dict[str, Level], Dict[str, Level]], level: float, by: Modelled) -> Mediation:
+    """The same by models."""
+    is_influence = by.by_moves is not None
+    rows = cautioned(by.values, by.intervals()) if is_influence else told_numbers(by.values, by.draws, level)
+    without = sum(it is None for it in by.draws)
+    found = Mediation(formula, arms, by.outcome, rows, level, len(by.draws), without, by.seed, by.dropped, by.pinned)
+    kind = "influence" if is_influence else "percentile"
+    return warned(replace(found, fits=by.fits, as_numbers=by.as_numbers, records=by.records, interval_kind=kind))
+
+
+def warned(found: Mediation) -> Mediation:
+    """Warns of what speaks against the numbers."""
+    for doubt in found.doubts:
         warn(doubt, DataWarning)
     return found
 
@@ -290,6 +324,8 @@ def mediation_table(diagram: "Diagram", formula: NaturalFormula, data: Data, cou
     names = {first.get(name, name) for name in read}
     used = [name for name in diagram.vertices if name in names]
     check_request(used, count, missing)
+    if count is not None:
+        doubt_frequencies(data, count)
     table = table_of(data, used, count, missing, formula.sets.y).ordered()
     table.check_size()
     return table
@@ -355,13 +391,14 @@ def resampled(
 
 def told_numbers(own: Tuple[Any, ...], draws: Sequence[Optional[Tuple[float, ...]]], level: float) -> Tuple[MediatedNumber, ...]:
     """The measures with their intervals, and with what has to be known beside them."""
-    columns = list(zip(*(numbers_of(*draw) for draw in draws if draw is not None)))
+    columns = list(zip(*(numbers_of(*draw) for draw in draws if draw is not None))) or [()] * len(MEASURES)
     lost = lost_text(sum(it is None for it in draws), len(draws))
-    found = []
-    values = numbers_of(*own)
-    for place, (measure, value) in enumerate(zip(MEASURES, values)):
-        interval = interval_of([it for it in columns[place] if it is not None], level) if columns else None
-        found.append(MediatedNumber(measure, value, interval, lost))
+    return cautioned(own, [interval_of([it for it in column if it is not None], level) for column in columns], lost)
+
+
+def cautioned(own: Sequence[Any], intervals: Sequence[Optional[Interval]], lost: str = "") -> Tuple[MediatedNumber, ...]:
+    """The measures with their intervals; that the proportion says little stands beside it, where it does."""
+    found = [MediatedNumber(*it, lost) for it in zip(MEASURES, numbers_of(*own), intervals)]
     total, direct, indirect = (found[MEASURES.index(measure)] for measure in ("total", "direct", "indirect"))
     is_open = total.interval is not None and total.interval.lower <= 0 <= total.interval.upper
     if float(direct) * float(indirect) < 0 or is_open or not float(total):

@@ -9,6 +9,7 @@ import warnings
 from dataclasses import dataclass
 from typing import Any, Dict, List, Mapping, Optional, Sequence, Tuple
 
+from causal.display import Printed
 from causal.errors import RequestError
 
 # Newton's steps at most, how small the last one is, and how far a coefficient may go before the data are said to be separated.
@@ -17,7 +18,7 @@ MODELS = ("logistic", "multinomial", "linear", "table")
 
 
 @dataclass(frozen=True)
-class Fit:
+class Fit(Printed):
     """How a model fits: the term, the model, its number of parameters, whether it converged, its log-likelihood, and what is wrong."""
 
     term: str

@@ -2,11 +2,11 @@
 from __future__ import annotations
 
 from dataclasses import dataclass, field
-from typing import Any, List, Optional, Sequence, Tuple, Union
+from typing import Any, Dict, FrozenSet, List, Optional, Sequence, Tuple, Union
 
 from causal import reading
-from causal.formula import Hedge, Term
-from causal.framed import Framed, Shown
+from causal.formula import Hedge, Term, names_read
+from causal.framed import Shown
 from causal.names import printed_name, printed_set
 from causal.objects import Told
 
@@ -64,8 +64,26 @@ class District:
         return [f"free {printed_set(self.free)}"] if self.free else []
 
 
+def moved(tree: Told, by: int) -> Told:
+    """A tree with the numbers of its definitions moved.
+
+    >>> from causal.natural import moved
+    >>> moved({"sum": ["M"], "of": {"product": [{"definition": 0}, {"term": ["M"], "do": [], "given": []}]}}, 2)
+    {'sum': ['M'], 'of': {'product': [{'definition': 2}, {'term': ['M'], 'do': [], 'given': []}]}}
+    """
+    if "definition" in tree:
+        return {"definition": tree["definition"] + by}
+    found: Dict[str, Any] = dict(tree)
+    if "of" in tree:
+        found["of"] = moved(tree["of"], by)
+    for key in ("product", "quotient"):
+        if key in tree:
+            found[key] = [moved(part, by) for part in tree[key]]
+    return found
+
+
 @dataclass(frozen=True)
-class NaturalFormula(Framed):
+class NaturalFormula(Shown):
     """A formula for a natural effect: a sum over `summed` of the product of the `factors`, over the probability of what is given.
 
     It is proved that the formula equals the effect at any two values of x in every positive finite model that fits the diagram's observed
@@ -93,6 +111,27 @@ class NaturalFormula(Framed):
     def printed_latex(self) -> str:
         """The lines that `causal natural --latex` prints."""
         return "\n".join([self._latex, *(line for factor in self.factors for line in factor.latex_lines), *self.sets.nil])
+
+    @property
+    def trees(self) -> Tuple[Told, ...]:
+        """The trees as those of any formula: the definitions of the factors, and the whole last."""
+        found: List[Told] = []
+        parts: List[Told] = []
+        for factor in self.factors:
+            start = len(found)
+            *definitions, tree = (moved(it, start) for it in factor.trees)
+            found += definitions
+            parts += tree.get("product", [tree])
+        body: Told = {"product": parts}
+        return (*found, {"sum": list(self.summed), "of": body} if self.summed else body)
+
+    @property
+    def free(self) -> Tuple[str, ...]:
+        """What the formula reads beside its sets, at any level: in the population each gives the same."""
+        read: List[FrozenSet[str]] = []
+        for tree in self.trees:
+            read.append(names_read(tree, read))
+        return tuple(sorted(read[-1].difference(self.sets.x, self.sets.second, self.sets.y, self.sets.given)))
 
     def _table(self) -> Tuple[Sequence[str], List[List[Any]]]:
         return ("term", "expression"), [[self.sets.effect, self.expression], *([it.effect, it.expression] for it in self.factors)]

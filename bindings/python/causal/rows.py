@@ -9,6 +9,7 @@ from causal.columns import _NUMBER, Column, Data, columns_of, in_order
 from causal.databases import database_of
 from causal.errors import CountsError
 from causal.frames import frame_of
+from causal.frequencies import doubt_frequencies
 from causal.models import Variable
 from causal.samples import Design, _weights, unit_weights
 from causal.tables import kept_records, record_counts
@@ -105,6 +106,8 @@ def rows_of(
     >>> rows.codes["X"].tolist(), rows.weights.tolist(), rows.variables["Z"].numbers.tolist()
     ([0, 1], [1.0, 2.0], [2.0, 3.0])
     """
+    if count is not None:
+        doubt_frequencies(data, count)
     source = None if design else database_of(data) or frame_of(data)
     if source is not None:
         columns, stand_for = source.grouped(list(names), count)

@@ -12,7 +12,7 @@ from typing import Any, Dict, FrozenSet, Iterator, List, Mapping, Optional, Sequ
 from causal.axes import Axis, axis_of
 from causal.errors import RequestError
 from causal.estimators import Arm, Asked, Estimator
-from causal.formula import Formula, nodes_of, parts_of
+from causal.formula import nodes_of, parts_of
 from causal.models import Linear, Model
 from causal.objects import Told
 from causal.rows import MOST_ARMS, Rows
@@ -105,14 +105,14 @@ class At:
 
 
 class ByTree(Estimator):
-    """The formula's tree. Values are arrays: an axis for records, and one for each name. `sources` has the rows for each set of variables
-    that was done: none for the observed ones."""
+    """A formula by its trees: those of the definitions, and its own last. Values are arrays: an axis for records, and one for each name.
+    `sources` has the rows for each set of variables that was done: none for the observed ones."""
 
     def __init__(
-        self, sources: Mapping[FrozenSet[str], Rows], asked: Asked, formula: Formula, names: Sequence[str], observed: Sequence[str] = ()
+        self, sources: Mapping[FrozenSet[str], Rows], asked: Asked, trees: Sequence[Told], names: Sequence[str], observed: Sequence[str] = ()
     ) -> None:
         super().__init__(next(iter(sources.values())), asked)
-        self.sources, self.trees, self.observed = dict(sources), formula._known(), frozenset(observed)
+        self.sources, self.trees, self.observed = dict(sources), tuple(trees), frozenset(observed)
         self.names = tuple(names)
         self.axes = {name: self._axis(name) for name in names}
         self.places = {name: place + 1 for place, name in enumerate(names)}
@@ -121,7 +121,7 @@ class ByTree(Estimator):
         self.whole_mean = asked.level is None
         if self.whole_mean:
             self._check_mean()
-        self._check_exposures(formula)
+        self._check_exposures()
         self.chains: Dict[Key, List[Model]] = {}
         for key in dict.fromkeys(key_of(node) for tree in self.trees for node in nodes_of(tree) if "term" in node):
             if not self._is_counted(key):
@@ -178,7 +178,7 @@ class ByTree(Estimator):
                     f"the mean of {self.asked.outcome} can't be had by this formula; cut it into classes, and give one as outcome"
                 )
 
-    def _check_exposures(self, formula: Formula) -> None:
+    def _check_exposures(self) -> None:
         """Refuses a formula with the chance of a level that is asked for, where it is one of many numbers."""
         for tree in self.trees:
             for name in targets_free(tree, frozenset()):
@@ -265,17 +265,16 @@ class ByTree(Estimator):
             for model in models:
                 model.examine(self._rows(key).codes, self._rows(key).weights)
 
-    def numbers(self, weights: Any) -> Tuple[float, float]:
+    def numbers(self, weights: Any) -> Tuple[float, ...]:
         return self.evaluated({})
 
-    def evaluated(self, kept: Mapping[Key, Any]) -> Tuple[float, float]:
+    def evaluated(self, kept: Mapping[Key, Any]) -> Tuple[float, ...]:
         """The number of each arm, where the values of some terms are kept."""
         self.found: Dict[Key, Any] = dict(kept)
         self.known: Dict[int, Any] = {}
         with self.numpy.errstate(divide="ignore", invalid="ignore"):
             whole = self._value(self.trees[-1], None)
-        first, second = (self._at_arm(whole, arm) for arm in self.asked.arms)
-        return first, second
+        return tuple(self._at_arm(whole, arm) for arm in self.asked.arms)
 
     def _at_arm(self, whole: Any, arm: Arm) -> float:
         at = {**self.asked.fixed, **arm}

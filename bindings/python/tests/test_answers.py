@@ -410,7 +410,7 @@ class Frames(unittest.TestCase):
         bow = Diagram("dag { X -> Y X <-> Y }")
         napkin = Diagram("dag { W -> Z -> X -> Y W <-> X W <-> Y }")
         data = {"X": [0, 0, 1, 1], "Y": [0, 1, 1, 1]}
-        contrast = Diagram("dag { X -> Y }").contrast(data, "X", "Y", treated=1, control=0, outcome=1)
+        contrast = Diagram("dag { X -> Y }").contrast(data, "X", "Y", treated=1, control=0, outcome=1, resamples=0)
         for answer, wanted in (
             (diagram.separated("X", "Z"), [False, "X <- Z"]),
             (diagram.rule_holds(2, "Y", "X", given="Z"), [True, None]),

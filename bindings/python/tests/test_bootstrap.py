@@ -144,7 +144,8 @@ class Coverage(unittest.TestCase):
     def test_draws_without_a_value_are_counted(self):
         data = {"S": [0, 0, 1, 1], "T": [0, 1, 0, 1], "R": [0, 1, 1, 1], "n": [40, 40, 40, 1]}
         diagram = Diagram(read_example("kidney_stones.dag"))
-        answer = diagram.bootstrap(data, count="n", resamples=200, seed=1)
+        with self.assertWarnsRegex(causal.DataWarning, "of the resamples have no value"):
+            answer = diagram.bootstrap(data, count="n", resamples=200, seed=1)
         self.assertTrue(40 < answer.without_value < 110)
         self.assertEqual(answer.intervals[0].draws, 200 - answer.without_value)
 

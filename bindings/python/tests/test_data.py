@@ -66,17 +66,17 @@ class Columns(unittest.TestCase):
 
     def test_contrast_with_zero(self):
         data = {"X": ["a", "b"], "Y": [1, 0]}
-        contrast = Diagram("dag { X -> Y }").contrast(data, "X", "Y", treated="a", control="b", outcome=1, exact=True)
+        contrast = Diagram("dag { X -> Y }").contrast(data, "X", "Y", treated="a", control="b", outcome=1, exact=True, resamples=0)
         self.assertEqual((contrast.difference.exact, contrast.ratio), (1, None))
         with self.assertRaises(causal.RequestError):
-            Diagram("dag { X -> Y }").contrast(data, "X", "Y", treated="c", control="b", outcome=1)
+            Diagram("dag { X -> Y }").contrast(data, "X", "Y", treated="c", control="b", outcome=1, resamples=0)
 
     def test_several_exposures(self):
         data = {"A": [0, 0, 1, 1] * 2, "B": [0, 1] * 4, "Y": [1, 1, 0, 1, 0, 1, 1, 1]}
         diagram = Diagram("dag { A -> Y B -> Y }")
         effects = diagram.effects(data, ["A", "B"], "Y", exact=True)
         self.assertEqual(effects.at({"Y": 1}, {"B": 0, "A": 1}).exact, Fraction(1, 2))
-        contrast = diagram.contrast(data, ["A", "B"], "Y", treated=[1, 1], control={"B": 0, "A": 0}, outcome=1, exact=True)
+        contrast = diagram.contrast(data, ["A", "B"], "Y", treated=[1, 1], control={"B": 0, "A": 0}, outcome=1, exact=True, resamples=0)
         self.assertEqual(contrast.difference.exact, Fraction(1, 2))
 
     def test_nothing_is_done(self):
@@ -608,7 +608,8 @@ class Frames(unittest.TestCase):
 
     def test_nothing_to_draw(self):
         data = pandas.DataFrame({"X": ["a", "b"], "Y": [0, 1]})
-        frame = Diagram("dag { X -> Y }").bootstrap(data, "X", "Y", resamples=1, seed=2).frame()
+        with self.assertWarnsRegex(causal.DataWarning, "100% of the resamples have no value"):
+            frame = Diagram("dag { X -> Y }").bootstrap(data, "X", "Y", resamples=1, seed=2).frame()
         self.assertTrue(math.isnan(frame["conf_low"][0]))
 
     def test_adjacency(self):

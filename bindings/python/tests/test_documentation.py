@@ -12,9 +12,9 @@ import unittest
 import causal
 
 HERE = os.path.dirname(os.path.abspath(__file__))
-OPTIONAL = ("pandas", "networkx", "matplotlib", "igraph")
+OPTIONAL = ("numpy", "pandas", "networkx", "matplotlib", "igraph")
 # Calls that need a package which their example doesn't name.
-CALLS = {"networkx": "to_networkx(", "matplotlib": ".plot("}
+CALLS = {"networkx": "to_networkx(", "matplotlib": ".plot(", "numpy": ".estimate("}
 
 
 def lacking_in(test):

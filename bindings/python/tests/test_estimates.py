@@ -284,7 +284,8 @@ class Intervals(unittest.TestCase):
         source = random.Random(3)
         data = {"X": [0, 1] * 300, "Y": [source.randrange(2) for _ in range(600)], "w": [source.randrange(50, 400) for _ in range(600)]}
         edge = Diagram("dag { X -> Y }")
-        by = [edge.contrast(data, "X", "Y", **ARMS, resamples=300, **{kind: "w"}) for kind in ("count", "weights")]
+        with self.assertWarnsRegex(causal.DataWarning, "w holds frequencies, .* the weights of a survey are named by weights"):
+            by = [edge.contrast(data, "X", "Y", **ARMS, resamples=300, **{kind: "w"}) for kind in ("count", "weights")]
         self.assertEqual(by[0].difference, by[1].difference)
         widths = [it.interval.difference.upper - it.interval.difference.lower for it in by]
         self.assertGreater(widths[1], 8 * widths[0])
@@ -340,6 +341,32 @@ class Told(unittest.TestCase):
         with self.assertWarnsRegex(causal.DataWarning, "its fit warned: it didn't converge"):
             found = STUDY.estimate(study(50), **ARMS, model=Warner(), resamples=2)
         self.assertIn("its fit warned: it didn't converge", str(found))
+
+    def test_a_fit_that_stops_early(self):
+        with unittest.mock.patch("causal.models.MOST_STEPS", 1), self.assertWarnsRegex(causal.DataWarning, "it didn't converge"):
+            found = STUDY.estimate(study(200), **ARMS)
+        self.assertFalse(found.fits[0].converged)
+        self.assertIn("P(death|drug,age,sex): logistic, 4 parameters", str(found))
+        self.assertIn("it didn't converge", str(found.frame()["note"][0]) if pandas else "it didn't converge")
+
+    def test_what_a_model_cannot_take(self):
+        class Narrow(Fixed):
+            def fit(self, rows, wanted, sample_weight=None):
+                raise ValueError("too many columns")
+
+        class Blind(Fixed):
+            def fit(self, rows, wanted, sample_weight=None):
+                super().fit(rows, wanted)
+                self.classes_ = self.classes_[:1]
+                return self
+
+            def predict_proba(self, rows):
+                return super().predict_proba(rows)[:, :1]
+
+        with self.assertRaisesRegex(causal.RequestError, r"the model Narrow of P\(death\|drug,age,sex\) can't be fitted: too many columns"):
+            STUDY.estimate(study(50), **ARMS, model=Narrow())
+        with self.assertWarnsRegex(causal.DataWarning, r"P\(death\|drug,age,sex\): no record that it was fitted to has death=1"):
+            STUDY.estimate(study(50), **ARMS, model=Blind(), resamples=2)
 
     def test_extreme_weights(self):
         data = study(300)

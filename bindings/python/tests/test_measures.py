@@ -148,7 +148,8 @@ class Corrected(unittest.TestCase):
 
     def test_a_record_without_which_there_is_no_value(self):
         data = {"S": [0, 0, 1, 1], "T": [0, 1, 0, 1], "R": [0, 1, 1, 1], "n": [40, 40, 40, 1]}
-        answer = KIDNEY.bootstrap(data, count="n", resamples=100, seed=1, interval="bca")
+        with self.assertWarnsRegex(causal.DataWarning, "of the resamples have no value"):
+            answer = KIDNEY.bootstrap(data, count="n", resamples=100, seed=1, interval="bca")
         self.assertEqual([count for count, values in answer.left_out if values is None], [1])
 
     def test_kind(self):

@@ -1,4 +1,5 @@
 """Natural effects, and how much of an effect goes through mediators."""
+import math
 import random
 import unittest
 from fractions import Fraction
@@ -7,6 +8,14 @@ from test_commands import answering
 
 import causal
 from causal import Diagram, Mediation, NaturalFormula, NoNaturalFormula
+
+try:
+    import numpy
+    import pandas
+    import statsmodels.api
+    import statsmodels.formula.api
+except ImportError:
+    numpy = None
 
 SETS = {"y": ["Y"], "x": ["X"], "through": ["M"], "given": [], "second": ["X'"], "indirect": True, "direct": True, "effect": "P(Y[X,M[X']])"}
 MEDIATED = Diagram("dag { C -> X C -> M C -> Y X -> M -> Y X -> Y }")
@@ -55,7 +64,6 @@ NAPKIN = {
             "M", "X'", "P(M|do(W,Z,X',Y))", "q0 / (sum{M} q0)", {"quotient": [{"definition": 0}, {"sum": ["M"], "of": {"definition": 0}}]},
             ["sum{W} P(W) * P(X'|W,Z) * P(M|W,Z,X')"],
             [{"sum": ["W"], "of": {"product": [term("W"), term(["X'"], "W", "Z"), term("M", "W", "Z", "X'")]}}],
-            ["Z"],
         ),
         factor("Y", "X", "P(Y|do(W,Z,X,M))", "P(Y|X,M)", term("Y", "X", "M")),
     ],
@@ -97,7 +105,7 @@ class Answers(unittest.TestCase):
             str(found).splitlines(),
             [
                 "P(Y[X,M[X']]) = sum{M} P(M|do(W,Z,X',Y)) * P(Y|X,M)", "P(M|do(W,Z,X',Y)) = q0 / (sum{M} q0)",
-                "q0 = sum{W} P(W) * P(X'|W,Z) * P(M|W,Z,X')", "free {Z}",
+                "q0 = sum{W} P(W) * P(X'|W,Z) * P(M|W,Z,X')",
             ],
         )  # fmt: skip
         with answering(DOOR):
@@ -194,6 +202,98 @@ class Values(unittest.TestCase):
             self.asked(FORMULA, MEDIATED, {name: held[:6] for name, held in data.items()})
         with self.assertRaisesRegex(causal.WrongType, "no numbers"):
             self.asked(FORMULA, MEDIATED, {**data, "Y": ["no" if y else "yes" for y in data["Y"]]}, outcome=None)
+
+
+@unittest.skipIf(numpy is None, "no pandas or statsmodels")
+class ByModels(unittest.TestCase):
+    """Natural effects by models of the formula's terms."""
+
+    ARMS = {"x": "X", "y": "Y", "through": "M", "treated": 1, "control": 0, "outcome": 1}
+    DIAGRAMS = (MEDIATED, Diagram("dag { X -> M -> Y X <-> Y }"), Diagram("dag { W -> Z -> X -> M -> Y X -> Y W <-> X W <-> M }"))
+
+    def test_a_table_has_the_values_of_the_counts(self):
+        source, data = random.Random(2), drawn(400)
+        data.update(W=[source.randrange(2) for _ in range(400)], Z=[source.randrange(2) for _ in range(400)])
+        for diagram in self.DIAGRAMS:
+            plain, tabled = (diagram.mediate(data, **self.ARMS, resamples=20, **more) for more in ({}, {"model": "table", "smoothing": 0}))
+            for one, other in zip(plain.rows, tabled.rows):
+                self.assertAlmostEqual(float(one), float(other), places=12)
+            self.assertEqual(plain.pinned, tabled.pinned)
+        self.assertEqual(plain.pinned, {"Z": 0})
+
+    def test_against_statsmodels(self):
+        data = pandas.DataFrame(drawn(500))
+        family = statsmodels.api.families.Binomial()
+        mediator, outcome = (
+            statsmodels.formula.api.glm(text, data, family=family).fit(tol=1e-14, maxiter=100) for text in ("M ~ C + X", "Y ~ C + X + M")
+        )
+        found = MEDIATED.mediate(data, **self.ARMS, model="logistic")
+        for measure, arm, through in (("treated", 1, 1), ("control", 0, 0), ("between", 1, 0)):
+            chance = mediator.predict(data.assign(X=through))
+            risks = [outcome.predict(data.assign(X=arm, M=level)) for level in (0, 1)]
+            self.assertAlmostEqual(float(found.number(measure)), float(((1 - chance) * risks[0] + chance * risks[1]).mean()), places=10)
+        self.assertAlmostEqual(float(found.direct) + float(found.indirect), float(found.total), places=12)
+        self.assertIn("by these models of its terms", found.notes)
+        self.assertIn("P(M|C,X'): logistic, 3 parameters", str(found))
+        self.assertIn("95% intervals by influence functions; 500 records", found.notes)
+
+    def test_intervals_are_alike(self):
+        data = drawn(400)
+        found = [MEDIATED.mediate(data, **self.ARMS, model="logistic", interval=kind, resamples=300, seed=3) for kind in ("influence", "percentile")]
+        for one, other in list(zip(*(it.rows for it in found)))[:6]:
+            widths = [it.interval.upper - it.interval.lower for it in (one, other)]
+            self.assertAlmostEqual(widths[0] / widths[1], 1, delta=0.2)
+        self.assertIn("300 resamples, of which 0 had no value; seed 3", str(found[1]))
+
+    def test_numbers(self):
+        # (the truth by the same draws of what the outcome depends on)
+        source, data = random.Random(3), {name: [] for name in "CXMY"}
+
+        def risk(x, m, c):
+            return 1 / (1 + math.exp(1 - 0.5 * x - 0.6 * m - 0.3 * c))
+
+        worlds = []
+        for _ in range(3000):
+            c, e = source.gauss(0, 1), source.gauss(0, 1)
+            x = int(source.random() < 1 / (1 + math.exp(-c)))
+            m = 0.5 * x + 0.4 * c + e
+            worlds.append([risk(arm, 0.5 * through + 0.4 * c + e, c) for arm, through in ((1, 1), (0, 0), (1, 0))])
+            for name, value in zip("CXMY", (c, x, m, int(source.random() < risk(x, m, c)))):
+                data[name].append(value)
+        treated, control, between = (sum(column) / 3000 for column in zip(*worlds))
+        found = MEDIATED.mediate(data, **self.ARMS, model="logistic", resamples=0)
+        self.assertAlmostEqual(float(found.direct), between - control, delta=0.05)
+        self.assertAlmostEqual(float(found.indirect), treated - between, delta=0.03)
+        self.assertEqual(found.as_numbers, ("C", "M"))
+        self.assertIsNone(found.direct.interval)
+
+    def test_a_mean(self):
+        data = drawn(2000)
+        data["Y"] = [y + 2 * m + x for x, m, y in zip(data["X"], data["M"], data["Y"])]
+        found = MEDIATED.mediate(data, **{**self.ARMS, "outcome": None}, model="logistic")
+        self.assertAlmostEqual(float(found.direct), 1 + 0.1 + 0.1 * 0.5, delta=0.15)
+        self.assertIn("E(Y|C,X,M): linear", str(found))
+
+    def test_what_is_wrong_with_a_fit(self):
+        data = drawn(100)
+        data["Y"] = list(data["X"])
+        with self.assertWarnsRegex(causal.DataWarning, r"P\(Y\|C,X,M\): some records are told apart perfectly"):
+            found = MEDIATED.mediate(data, **self.ARMS, model="logistic", resamples=0)
+        self.assertIn("told apart perfectly", str(found))
+
+    def test_refusals(self):
+        data = drawn(60)
+        for words, text in (
+            ({"model": "logistick"}, "model"),
+            ({"model": {"Q": "table"}}, "model names Q, which is no vertex"),
+            ({"model": "logistic", "factors": "Age"}, "factors names Age"),
+            ({"model": "logistic", "interval": "bca"}, "interval is"),
+            ({"model": "logistic", "smoothing": -1}, "smoothing"),
+            ({"interval": "influence"}, "by counts has percentile intervals"),
+            ({"model": "logistic", "treated": 7}, "X"),
+        ):
+            with self.assertRaisesRegex(causal.RequestError, text):
+                MEDIATED.mediate(data, **{**self.ARMS, **words})
 
 
 if __name__ == "__main__":

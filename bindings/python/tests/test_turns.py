@@ -202,6 +202,9 @@ class Told(unittest.TestCase):
         effects, bounds = edge.effects(data, "X", "Y"), edge.bounds(data, "X", "Y")
         answers = [found.difference, found.e_value, effects[0], effects.effect_means()[0], bounds[0], bounds.difference(1, 1, 0)]
         answers += [*Diagram("dag { X -> Z -> Y }").implications({**data, "Z": data["X"]})]
+        formula = edge.identify("X", "Y")
+        answers += [Diagram("dag { X -> Z -> Y }").natural("X", "Y", through="Z"), formula.target, edge.separated("X", "Y").path]
+        answers.append(edge.check_certificate(formula.certificate.replace("rule2see", "rule1out")).refusal)
         for it in answers:
             self.assertNotIn("Fraction(", it._repr_html_())
             self.assertIn("<pre>", it._repr_html_())
@@ -224,6 +227,29 @@ class Told(unittest.TestCase):
             self.assertIn("w holds frequencies: 1400 records", text)
         with self.assertRaisesRegex(causal.CountsError, "the weights of a survey are named by weights"):
             edge.effects({**data, "w": [0.5] * 8}, "X", "Y", count="w")
+
+    def test_weights_that_look_like_frequencies(self):
+        import os
+        import tempfile
+
+        edge, told = Diagram("dag { X -> Y }"), "w holds frequencies, so that 80 rows stand for 14000 records; but 76 rows are like another"
+        data = {"X": [0, 1] * 40, "Y": [0, 0, 1, 1] * 20, "w": [150, 200, 50, 400, 75, 125, 300, 100] * 10}
+        arms = {"treated": 1, "control": 0, "outcome": 1, "count": "w"}
+        with tempfile.TemporaryDirectory() as folder:
+            path = os.path.join(folder, "records.csv")
+            with open(path, "w", encoding="utf-8") as file:
+                file.write("X,Y,w\n" + "".join(f"{x},{y},{w}\n" for x, y, w in zip(*data.values())))
+            for given in (data, path, [dict(zip(data, row)) for row in zip(*data.values())]):
+                with self.assertWarnsRegex(causal.DataWarning, told):
+                    edge.effects(given, "X", "Y", count="w")
+        with self.assertWarnsRegex(causal.DataWarning, told):
+            Diagram("dag { X Y }").test_implications(data, "w", permutations=5)
+        # frequencies of a table stand in rows that differ, also where not all columns are read; and equal ones are no weights
+        table = [(x, y, z, w) for x in (0, 1) for y in (0, 1) for z, w in enumerate(data["w"])]
+        for given in (dict(zip("XYZw", zip(*table))), {**data, "w": [2] * 80}):
+            with warnings.catch_warnings():
+                warnings.simplefilter("error")
+                edge.contrast(given, "X", "Y", **arms, resamples=0)
 
     def test_a_contrast_in_words(self):
         data = {"X": ["a", "b"] * 20, "Y": [0, 1, 1, 1] * 10}
@@ -297,6 +323,17 @@ class Records(unittest.TestCase):
         with self.assertRaises(causal.MissingValues):
             Diagram("dag { X -> Y }").effects([{"X": 0}, {"Y": 1}], "X", "Y")
 
+    @needs_pandas
+    def test_an_array_of_records(self):
+        data = pandas.DataFrame({"X": [0, 0, 1], "Y": [0, 1, 1]})
+        edge = Diagram("dag { X -> Y }")
+        self.assertEqual(edge.effects(data.to_records(index=False), "X", "Y").effects, edge.effects(data, "X", "Y").effects)
+
+    def test_answers_can_be_kept_in_sets(self):
+        data, edge = {"X": [0, 1] * 10, "Y": [0, 0, 1, 1] * 5}, Diagram("dag { X -> Y }")
+        for ask in (lambda: edge.effects(data, "X", "Y"), lambda: edge.bootstrap(data, "X", "Y", resamples=5)):
+            self.assertEqual(len({ask(), ask()}), 1)
+
     def test_too_many_cells_are_counted(self):
         source = random.Random(2)
         names = [f"c{k}" for k in range(11)]
@@ -364,6 +401,7 @@ class Refusals(unittest.TestCase):
             lambda: edge.surrogate("X", "Y"),
             lambda: edge.bootstrap(data, "X", "Y", resamples=1.5),
             lambda: edge.bootstrap(data, "X", "Y", seed="x"),
+            lambda: edge.bootstrap(data, "X", "Y", seed=random.Random(1)),
             lambda: edge.bootstrap(data, "X", "Y", level="high"),
             lambda: edge.effects(3, "X", "Y"),
             lambda: Diagram(3),

@@ -161,6 +161,16 @@ few_events <- function(drawn, places) {
   })
 }
 
+# That few records of an arm have the outcome, or are without it: then no interval reaches its level. Where none has it, the rule of three
+# says how many may.
+few_note <- function(found, arm) {
+  without <- found[["records"]] - found[["events"]]
+  least <- min(found[["events"]], without)
+  if (least >= 5) return("")
+  bound <- if (found[["events"]] == 0 && found[["records"]] >= 30) paste0(" (by the rule of three up to ", format(3 / found[["records"]], digits = 3), ")")
+  paste0(if (without < found[["events"]]) "few without the outcome: " else "few events: ", format(least), " of ", format(found[["records"]]), " records of ", arm, bound)
+}
+
 # What a reader of a row has to know beside its numbers.
 interval_notes <- function(drawn, columns, events, computed) {
   lost <- sum(is.na(drawn$drawn[, 1]))
@@ -168,9 +178,7 @@ interval_notes <- function(drawn, columns, events, computed) {
   cell <- (seq_len(rows) - 1) %/% length(measures) + 1
   told <- lapply(names(events), function(arm) {
     vapply(cell, function(k) {
-      found <- events[[arm]][[k]]
-      if (found[["events"]] >= 5) return("")
-      paste0("few events: ", format(found[["events"]]), " of ", format(found[["records"]]), " records of ", columns[[arm]][1])
+      few_note(events[[arm]][[k]], columns[[arm]][1])
     }, "")
   })
   needs <- list(treated = columns$measure != "risk_control", control = columns$measure != "risk_treated")

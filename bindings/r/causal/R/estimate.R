@@ -85,11 +85,11 @@ model_table <- function(asked, data, count, missing, design, trials, at) {
     table <- table_of_trials(asked, data, trials, count, missing, design)
   } else {
     of <- if (!is.null(asked$set)) unique(c(asked$x, asked$y, asked$set))
-          else if (length(asked$observed)) setdiff(unique(c(asked$x, asked$y, asked$given, unlist(lapply(asked$trees, names_in)))), asked$observed)
+          else if (length(second_names(asked))) setdiff(unique(c(asked$x, asked$y, asked$given, unlist(lapply(asked$trees, names_in)))), second_names(asked))
     table <- count_table(asked$diagram, asked$words, data, count, missing, keeps = asked$y, design = design, of = of)
   }
-  for (name in names(asked$observed)) {
-    second <- asked$observed[[name]]
+  for (name in names(second_names(asked))) {
+    second <- second_names(asked)[[name]]
     table$levels[[second]] <- table$levels[[name]]
     table$codes <- cbind(table$codes, matrix(table$codes[, name], dimnames = list(NULL, second)))
     table$names <- c(table$names, second)
@@ -98,6 +98,9 @@ model_table <- function(asked, data, count, missing, design, trials, at) {
   table$frame <- model_rows(table, table$codes)
   table
 }
+
+# Second names of exposures: of levels that were observed, or that mediators have.
+second_names <- function(asked) c(asked$observed, asked$second)
 
 # All names of a tree.
 names_in <- function(tree) {

@@ -56,8 +56,8 @@ estimate_cells <- function(asked, table, arms, targets, estimator, each) {
 # The weight of each row over the data.
 table_weights <- function(table) if (is.null(table$survey)) table$counts else table$counts * sum(table$records) / sum(table$counts)
 
-# The values of both arms over resamples, a row for each; NA where a fit gives no number.
-model_draws <- function(estimator, table, resamples, seed, progress) {
+# The values of the arms over resamples, a row for each; NA where a fit gives no number.
+model_draws <- function(estimator, table, resamples, seed, progress, arms = c("treated", "control")) {
   tell <- progress_of(progress, resamples)
   drawn <- with_seed(seed, lapply(seq_len(resamples), function(k) {
     weights <- resampled_weights(table)
@@ -67,7 +67,7 @@ model_draws <- function(estimator, table, resamples, seed, progress) {
   }))
   size <- max(vapply(drawn, function(one) length(one$treated), 0L))
   part <- function(name) do.call(rbind, lapply(drawn, function(one) if (is.null(one)) rep(NA_real_, size) else replace(one[[name]], !is.finite(one[[name]]), NA)))
-  list(treated = part("treated"), control = part("control"))
+  sapply(arms, part, simplify = FALSE)
 }
 
 # The weights of the rows over one resample, of each study by itself.
@@ -89,18 +89,24 @@ measure_row <- function(measure, name, values, draws, shares, table, level) {
     return(c(value, stats::sd(have), percentile_interval(have, level)))
   }
   if (!length(shares)) return(c(value, NA, NA, NA))
-  is_risk <- name %in% c("risk_treated", "risk_control") && isTRUE(value > 0 && value < 1)
-  scale <- if (is_risk) list(there = stats::qlogis, back = stats::plogis, slope = value * (1 - value))
-           else if (name %in% c("ratio", "odds_ratio")) list(there = log, back = exp, slope = value)
+  scale <- switch(name, risk_treated = , risk_control = "risk", ratio = , odds_ratio = "ratio", "plain")
+  moved_row(function(values) measure(values[["treated"]], values[["control"]]), scale, values, shares, table, level)
+}
+
+# A measure, its standard error and the ends of its interval by how the value of each arm moves: for risks on their logit, for ratios on
+# their logarithm.
+moved_row <- function(measure, scale, values, shares, table, level) {
+  value <- measure(values)
+  scale <- if (scale == "risk" && isTRUE(value > 0 && value < 1)) list(there = stats::qlogis, back = stats::plogis, slope = value * (1 - value))
+           else if (scale == "ratio") list(there = log, back = exp, slope = value)
            else list(there = identity, back = identity, slope = 1)
-  on_scale <- function(values) scale$there(measure(values[["treated"]], values[["control"]]))
-  if (!isTRUE(is.finite(on_scale(values)))) return(c(value, NA, NA, NA))
+  if (!isTRUE(is.finite(value) && is.finite(scale$there(value)))) return(c(value, NA, NA, NA))
   slope <- function(arm) {
     step <- 1e-5 * max(abs(values[[arm]]), 1e-3)
-    (on_scale(replace(values, arm, values[[arm]] + step)) - on_scale(replace(values, arm, values[[arm]] - step))) / (2 * step)
+    (measure(replace(values, arm, values[[arm]] + step)) - measure(replace(values, arm, values[[arm]] - step))) / (2 * step)
   }
-  error <- sqrt(design_variance(slope("treated") * shares$treated + slope("control") * shares$control, table))
-  c(value, scale$slope * error, scale$back(on_scale(values) + stats::qnorm(c(1 - level, 1 + level) / 2) * error))
+  error <- sqrt(design_variance(Reduce(`+`, lapply(names(values), function(arm) slope(arm) * shares[[arm]])), table))
+  c(value, error, scale$back(scale$there(value) + stats::qnorm(c(1 - level, 1 + level) / 2) * error / scale$slope))
 }
 
 # The variance of a weighted mean of numbers, one for each row of the table: between the clusters of each stratum.

@@ -114,9 +114,19 @@ term_models <- function(scope) {
 step_model <- function(step, scope) {
   is_mean <- scope$targets$mean && step$name == scope$asked$y
   plain <- step$by_records && !step$name %in% names(scope$options$models)
-  model <- new_model(step$name, step$given, scope$table, if (plain) list("table") else scope$options$models, if (plain) 0 else scope$options$smoothing, is_mean,
+  model <- new_model(step$name, step$given, scope$table, if (plain) list("table") else models_of(step, scope), if (plain) 0 else scope$options$smoothing, is_mean,
                      scope$options$factors)
   c(model, list(order = step$given, source = step$source))
+}
+
+# The models that were asked for. In a formula an exposure has its own name, also where the term has its second one.
+models_of <- function(step, scope) {
+  second <- scope$asked$second
+  own <- second[second %in% step$given & !names(second) %in% step$given]
+  if (!length(own)) return(scope$options$models)
+  lapply(scope$options$models, function(model) {
+    if (inherits(model, "formula")) stats::as.formula(do.call(substitute, list(model, lapply(own, as.name))), environment(model)) else model
+  })
 }
 
 # The terms of a tree, each with its variables, what it is given, and which experiment it is of (0 for none).

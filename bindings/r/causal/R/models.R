@@ -54,7 +54,7 @@ new_model <- function(name, given, table, models, smoothing = 0, mean = FALSE, f
   if (!mean && size > 50)
     refuse("a model of ", name, " would have ", size, " classes, one for each of its values; cut it to a few", kind = "model_refusal")
   if (identical(wanted, "linear") && !mean) refuse("a linear model is of numbers whose mean is wanted, and not of the levels of ", name, kind = "model_refusal")
-  design <- design_matrix(formula, frame)
+  design <- fitted_or_refused(design_matrix(formula, frame), name, given)
   several <- !mean && (size > 2 || identical(wanted, "multinomial"))
   fit <- if (several) multinomial_fit(table$codes[, name], size, design$matrix)
          else if (mean) linear_fit(as.numeric(frame[[name]]), design$matrix)
@@ -80,12 +80,20 @@ factors_of <- function(factors, asked, table) {
 
 own_model <- function(name, given, frame, size, wanted, mean) {
   fit <- function(weights) {
-    fitted <- wanted$fit(frame[given], if (mean) as.numeric(frame[[name]]) else frame_factor(frame[[name]]), weights)
-    list(predict = function(new) as_chances(wanted$predict(fitted, new), size, mean, nrow(new), name), notes = character(), deviance = NA,
+    fitted <- fitted_or_refused(wanted$fit(frame[given], if (mean) as.numeric(frame[[name]]) else frame_factor(frame[[name]]), weights), name, given)
+    list(predict = function(new) as_chances(fitted_or_refused(wanted$predict(fitted, new), name, given), size, mean, nrow(new), name), notes = character(), deviance = NA,
          null_deviance = NA, parameters = NA)
   }
   list(kind = "the caller's own", label = paste0(printed(name), " by ", paste(printed(given), collapse = ", ")), name = name, given = given,
        rows = function(new) new[given], fit = fit)
+}
+
+# What a model can't take is refused by the name of its term.
+fitted_or_refused <- function(call, name, given) {
+  tryCatch(call, error = function(it) {
+    if (inherits(it, "causal_refusal")) stop(it)
+    refuse("the model of P(", name, if (length(given)) "|", paste(given, collapse = ","), ") can't be fitted: ", conditionMessage(it), kind = "model_refusal")
+  })
 }
 
 frame_factor <- function(column) if (is.factor(column)) column else factor(column)

@@ -1,5 +1,6 @@
 # Natural effects: an effect were the mediators as they would be under another value of the exposures, and with it how much of an effect
-# goes through mediators. The formula is the library's, and proved; its values over counts are computed.
+# goes through mediators. The formula is the library's, and proved; its values over counts are computed, and so are those by models (see
+# natural_models.R).
 
 natural_effect <- function(diagram, x = NULL, y = NULL, through, given = NULL) {
   diagram <- as_causal_diagram(diagram)
@@ -33,26 +34,40 @@ nil_notes <- function(sets) {
 }
 
 mediate <- function(diagram, data, x = NULL, y = NULL, through, treated = NULL, control = NULL, outcome = NULL, count = NULL, level = 0.95,
-                    resamples = 1000, seed = 0, missing = c("error", "drop", "level"), progress = NULL) {
+                    resamples = NULL, seed = 0, missing = c("error", "drop", "level"), progress = NULL, model = NULL, smoothing = 1,
+                    factors = character(), interval = NULL, draws = 1000) {
   missing <- one_of(missing)
-  check_numbers(level, resamples)
+  if (is.null(model) && !is.null(interval) && !identical(interval, "percentile")) refuse("a mediation by counts has percentile intervals; with a `model` there are those by influence functions")
+  if (is.null(model) && is.null(resamples)) resamples <- 1000
+  check_numbers(level, if (is.null(resamples)) 0 else resamples)
   diagram <- as_causal_diagram(diagram)
   formula <- natural_effect(diagram, x, y, through)
   if (!formula$identifiable) stop(no_natural_formula(formula))
   sets <- formula$sets
   if (length(sets$y) != 1) refuse("a mediation is of one outcome; here are ", paste(sets$y, collapse = ", "))
   asked <- list(x = if (is.null(x)) sets$x else as.character(x), typed = !is.null(x), y = sets$y, given = character(), levels = list())
+  if (!is.null(model)) {
+    words <- list(model = model, smoothing = smoothing, factors = factors, draws = draws)
+    return(mediate_by_models(c(asked, list(diagram = diagram)), formula, data, count, missing, treated, control, outcome, words, level, interval, resamples, seed,
+                             progress))
+  }
   table <- count_table(diagram, character(), data, count, missing, keeps = sets$y, of = read_by_factors(formula))
   arms <- model_arms(asked, table, treated, control)
-  targets <- model_targets(asked, table, outcome)
-  if (length(targets$codes) > 1) refuse("`outcome` names the level of ", sets$y, " whose chance is wanted; its levels are ", listed(level_labels(table$levels[[sets$y]])))
+  targets <- mediation_targets(asked, table, outcome)
   weights <- if (targets$mean) numbers_of(table, sets$y) else as.numeric(seq_along(table$levels[[sets$y]]) == targets$codes)
   values <- natural_values(formula, table, arms, weights)
   own <- values(matrix(table$counts))
   if (anyNA(own)) refuse("no record has some condition of the formula, so that the natural effects have no value over these data", kind = "no_value")
   seed <- seed_or_drawn(seed)
   drawn <- with_seed(seed, drawn_worlds(told_by(values, progress, resamples), table, resamples))
-  mediation_frame(formula, table, arms, targets, own, drawn, level, seed)
+  mediation_frame(formula, table, arms, targets, own, ends_of_worlds(drawn, level), level, "percentile", nrow(drawn), sum(is.na(drawn[, 1])), seed)
+}
+
+# What is asked of the outcome: the chance of one level, or its mean.
+mediation_targets <- function(asked, table, outcome) {
+  targets <- model_targets(asked, table, outcome)
+  if (length(targets$codes) > 1) refuse("`outcome` names the level of ", asked$y, " whose chance is wanted; its levels are ", listed(level_labels(table$levels[[asked$y]])))
+  targets
 }
 
 no_natural_formula <- function(formula) {
@@ -84,7 +99,7 @@ first_tree <- function(tree, sets) {
 natural_values <- function(formula, table, arms, weights) {
   sets <- formula$sets
   sizes <- lengths(table$levels)
-  free <- unlist(lapply(formula$factors, `[[`, "free"))
+  free <- pinned_of(formula)
   parts <- lapply(formula$factors, function(factor) {
     second <- identical(factor$reads, sets$second)
     list(second = second, trees = if (second) lapply(factor$trees, first_tree, sets) else factor$trees)
@@ -146,30 +161,51 @@ mediation_measures <- list(
   }
 )
 
+# What is pinned: what the formula reads beside its sets, at any level.
+pinned_of <- function(formula) {
+  read <- list()
+  for (tree in joined_trees(formula)) read <- c(read, list(names_read(tree, read)))
+  sort(setdiff(read[[length(read)]], c(formula$sets$x, formula$sets$second, formula$sets$y)))
+}
+
+# The names on which the value of a tree depends; those of definitions are told.
+names_read <- function(tree, definitions) {
+  if (!is.null(tree$definition)) return(definitions[[tree$definition + 1]])
+  inner <- unlist(lapply(inner_trees(tree), names_read, definitions))
+  setdiff(c(texts(tree$term), texts(tree$do), texts(tree$given), inner), texts(tree$sum))
+}
+
 proportion_caution <- "the proportion says little: the direct and the indirect effect have opposite signs, or the total may be near 0"
 
-mediation_frame <- function(formula, table, arms, targets, own, drawn, level, seed) {
-  estimate <- vapply(mediation_measures, function(measure) unname(measure(own)), 0)
-  ends <- vapply(mediation_measures, function(measure) {
+# The ends of each measure's interval, of its values over resamples.
+ends_of_worlds <- function(drawn, level) {
+  vapply(mediation_measures, function(measure) {
     have <- measure(drawn)
     percentile_interval(have[is.finite(have)], level)
   }, c(0, 0))
-  lost <- sum(is.na(drawn[, 1]))
+}
+
+mediation_frame <- function(formula, table, arms, targets, own, ends, level, interval, resamples, lost, seed, fits = NULL, drawn = character()) {
+  estimate <- vapply(mediation_measures, function(measure) unname(measure(own)), 0)
   low <- unname(ends[1, ])
   high <- unname(ends[2, ])
   at <- match(c("total", "direct", "indirect", "proportion"), names(estimate))
   is_open <- isTRUE(low[at[1]] <= 0 && high[at[1]] >= 0) || estimate[at[1]] == 0 || prod(estimate[at[2:3]]) < 0
-  note <- rep(if (lost > 0) paste(lost, "of", nrow(drawn), "resamples had no value") else "", length(estimate))
+  bad <- nzchar(fits$note)
+  told <- c(paste0(fits$model[bad], ": ", fits$note[bad], recycle0 = TRUE), if (lost > 0) paste(lost, "of", resamples, "resamples had no value"),
+            if (any(is.nan(low))) "no interval: the fit doesn't tell how far it could be")
+  note <- rep(paste(told, collapse = "; "), length(estimate))
   if (is_open) note[at[4]] <- paste(c(note[at[4]][nzchar(note[at[4]])], proportion_caution), collapse = "; ")
-  if (lost >= 0.05 * nrow(drawn) && lost > 0) doubt(lost, " of ", nrow(drawn), " resamples had no value, so that the intervals are too narrow")
+  if (any(bad)) doubt(paste(told[seq_len(sum(bad))], collapse = "; "))
+  if (lost >= 0.05 * resamples && lost > 0) doubt(lost, " of ", resamples, " resamples had no value, so that the intervals are too narrow")
   labels <- lapply(arms, function(arm) arm_text(labels_at(table, arm)))
   columns <- list(treated = rep(labels$treated, length(estimate)), control = rep(labels$control, length(estimate)), measure = names(estimate),
                   estimate = unname(estimate), conf_low = low, conf_high = high, note = note)
   sets <- formula$sets
-  free <- setdiff(unlist(lapply(formula$factors, `[[`, "free")), c(sets$x, formula$summed))
+  free <- pinned_of(formula)
   structure(frame_of(columns), class = c("causal_mediation", "causal_rows", "data.frame"), formula = formula, exposures = sets$x, through = sets$through,
             outcome = if (targets$mean) sets$y else paste0(sets$y, "=", level_labels(table$levels[[sets$y]])[targets$codes]), mean = targets$mean, level = level,
-            interval = "percentile", resamples = nrow(drawn), without_value = lost, seed = seed, dropped = table$dropped,
+            interval = interval, resamples = resamples, without_value = lost, seed = if (interval == "percentile") seed, dropped = table$dropped, models = fits, drawn = drawn,
             pinned = levels_at(table, stats::setNames(rep(1L, length(free)), free)))
 }
 
@@ -178,11 +214,13 @@ print.causal_mediation <- function(x, digits = 4, ...) {
   formula <- attr(x, "formula")
   writeLines(c(paste0("treated: ", named_arm(x, "treated")[1], "; control: ", named_arm(x, "control")[1], "; ", if (attr(x, "mean")) "mean of " else "outcome: ",
                       attr(x, "outcome"), "; through ", paste(attr(x, "through"), collapse = ", ")),
-               paste0("computed: ", formula$effect, " = ", formula$expression), nil_notes(formula$sets), head_notes(x)))
+               paste0("computed: ", formula$effect, " = ", formula$expression), nil_notes(formula$sets), model_notes(attr(x, "models"), attr(x, "drawn")), head_notes(x)))
   shown <- as.data.frame(x)[c("measure", "estimate", "conf_low", "conf_high")]
-  if (attr(x, "resamples") == 0) shown <- shown[c("measure", "estimate")]
+  is_influence <- attr(x, "interval") == "influence"
+  if (attr(x, "resamples") == 0 && !is_influence) shown <- shown[c("measure", "estimate")]
   print.data.frame(shown, digits = digits, row.names = FALSE, ...)
-  writeLines(c(if (attr(x, "resamples") > 0) interval_note(x), row_notes(x)))
+  kind <- if (is_influence) paste0(100 * attr(x, "level"), "% intervals by influence functions") else if (attr(x, "resamples") > 0) interval_note(x)
+  writeLines(c(kind, row_notes(x)))
   invisible(x)
 }
 

@@ -28,7 +28,7 @@ new_maker <- function(term, scope) {
   steps <- steps_of(term, scope)
   models <- lapply(steps, function(step) {
     if (!is_many(scope$table, step$name)) return(step_model(step, scope))
-    model <- new_model(step$name, step$given, scope$table, scope$options$models, 0, TRUE, scope$options$factors)
+    model <- new_model(step$name, step$given, scope$table, models_of(step, scope), 0, TRUE, scope$options$factors)
     model$kind <- paste0(model$kind, ", drawn with its residuals")
     c(model, list(order = step$given, source = step$source))
   })

@@ -13,8 +13,10 @@ natural_effect(diagram, x = NULL, y = NULL, through, given = NULL)
 
 mediate(diagram, data, x = NULL, y = NULL, through, treated = NULL,
         control = NULL, outcome = NULL, count = NULL, level = 0.95,
-        resamples = 1000, seed = 0,
-        missing = c("error", "drop", "level"), progress = NULL)
+        resamples = NULL, seed = 0,
+        missing = c("error", "drop", "level"), progress = NULL,
+        model = NULL, smoothing = 1, factors = character(),
+        interval = NULL, draws = 1000)
 
 \method{print}{causal_mediation}(x, digits = 4, ...)
 \method{as.data.frame}{causal_mediation}(x, ...)
@@ -26,8 +28,11 @@ mediate(diagram, data, x = NULL, y = NULL, through, treated = NULL,
     answer.}
   \item{through}{names of the mediators.}
   \item{given}{names of variables before \code{x} with whose values the effect is asked for; \code{NULL} for none.}
-  \item{treated, control, level, resamples, seed, progress}{as in \code{\link{contrast}}.}
+  \item{treated, control, level, resamples, seed, progress}{as in \code{\link{contrast}}; without \code{resamples} 1000 are drawn of counts,
+    and 200 where models have no influence functions.}
   \item{outcome}{the level of the outcome whose chance is compared; without it the second of two, or the mean of one with more numbers.}
+  \item{model, smoothing, factors, interval, draws}{as in \code{\link{estimate}}: the terms of the formula by models. \code{NULL}
+    is for none: the values over the counts.}
   \item{digits, ...}{passed on to \code{\link{print.data.frame}}.}
 }
 \details{
@@ -37,7 +42,9 @@ mediate(diagram, data, x = NULL, y = NULL, through, treated = NULL,
 
   \strong{Proved} is that a formula equals this at any two values of \code{x} in every positive finite model of the diagram's observed
   graph, and that a hedge excludes one. Where neither is found the question is left open. \strong{The values are computed} over the counts,
-  and intervals are percentiles of resamples.
+  and intervals are percentiles of resamples. With a \code{model} they are computed by models of the formula's terms, where tables are thin,
+  or where mediators or what lies before them are numbers; intervals are by influence functions where these are known. In a formula of
+  \code{model} an exposure has its own name, also where the printed term has its second one.
 
   The proportion mediated means little where the direct and the indirect effect have opposite signs, or where the total may be near 0: its
   \code{note} says so. A natural effect speaks of two values of \code{X} in one person, which no experiment shows; the effect of \code{X} and
@@ -51,7 +58,8 @@ mediate(diagram, data, x = NULL, y = NULL, through, treated = NULL,
 
   From \code{mediate} a data frame of the class \code{causal_mediation} with a row for each measure: \code{"treated"}, \code{"control"},
   \code{"between"} (as treated, the mediators as under control), \code{"total"}, \code{"direct"}, \code{"indirect"} and
-  \code{"proportion"}; with \code{treated}, \code{control}, \code{estimate}, \code{conf_low}, \code{conf_high} and \code{note}. Where there
+  \code{"proportion"}; with the attributes \code{pinned} (levels of what the formula reads beside its sets) and \code{models} (how each fits),
+  and the columns \code{treated}, \code{control}, \code{estimate}, \code{conf_low}, \code{conf_high} and \code{note}. Where there
   is no formula an error of the class \code{causal_not_identifiable} has the \code{answer}.
 }
 \seealso{\code{\link{contrast}}, \code{\link{treated_effect}}}
@@ -63,4 +71,6 @@ data <- expand.grid(C = 0:1, X = 0:1, M = 0:1, Y = 0:1)
 data$n <- c(30, 12, 9, 14, 8, 9, 12, 21, 10, 9, 6, 12, 8, 11, 14, 40)
 mediate(diagram, data, "X", "Y", through = "M", count = "n",
         resamples = 200, seed = 1)
+mediate(diagram, data, "X", "Y", through = "M", count = "n",
+        model = "logistic")
 }

@@ -35,7 +35,7 @@ door <- paste0('{"answer":"formula",', sets("false"), ',"formula":"sum{M} P(M|X\
 napkin <- paste0('{"answer":"formula",', sets(), ',"formula":"sum{M} P(M|do(W,Z,X\',Y)) * P(Y|X,M)","summed":["M"],"factors":[',
                  factor_told("M", "X'", "q0 / (sum{M} q0)", '{"quotient":[{"definition":0},{"sum":["M"],"of":{"definition":0}}]}',
                              '["sum{W} P(W) * P(X\'|W,Z) * P(M|W,Z,X\')"]',
-                             paste0('[{"sum":["W"],"of":{"product":[', term("W"), ",", term("X'", "W", "Z"), ",", term("M", "W", "Z", "X'"), "]}}]"), '["Z"]'),
+                             paste0('[{"sum":["W"],"of":{"product":[', term("W"), ",", term("X'", "W", "Z"), ",", term("M", "W", "Z", "X'"), "]}}]")),
                  ",", factor_told("Y", "X", "P(Y|X,M)", term("Y", "X", "M")), '],"latex":".."}')
 
 set.seed(4)
@@ -97,3 +97,49 @@ caught <- tryCatch(mediate("dag { X -> L -> M -> Y X -> Y L -> Y }", seen, "X", 
 stopifnot(inherits(caught, "causal_not_identifiable"), grepl("is left open", conditionMessage(caught)))
 answering(formula)
 stopifnot(inherits(tryCatch(mediate(mediated, seen[!(C == 1 & X == 0), ], "X", "Y", through = "M", treated = 1, control = 0, outcome = 1), error = identity), "causal_no_value"))
+
+# By models: a table without smoothing has the values of the counts, in each kind of formula, and logistic ones those by hand
+utils::assignInNamespace("run_on", run, "causal")
+arms <- function(diagram, data, ...) mediate(diagram, data, "X", "Y", through = "M", treated = 1, control = 0, outcome = 1, ...)
+door_diagram <- "dag { X -> M -> Y X <-> Y }"
+napkin_diagram <- "dag { W -> Z -> X -> M -> Y X -> Y W <-> X W <-> M }"
+for (diagram in list(mediated, door_diagram, napkin_diagram)) {
+  plain <- arms(diagram, seen, resamples = 0)
+  tabled <- arms(diagram, seen, model = "table", smoothing = 0)
+  near(tabled$estimate, plain$estimate, 1e-9)
+  same(attr(tabled, "interval"), "influence")
+}
+by_counts <- arms(mediated, seen, resamples = 300, seed = 1)
+tabled <- arms(mediated, seen, model = "table", smoothing = 0)
+# (the same intervals within what 300 resamples leave)
+near((tabled$conf_high - tabled$conf_low)[1:6] / (by_counts$conf_high - by_counts$conf_low)[1:6], rep(1, 6), 0.2)
+own <- glm(M ~ C + X, binomial, seen)
+outcome <- glm(Y ~ C + X * M, binomial, seen)
+by_glm <- function(arm, through) mean(vapply(seq_len(n), function(k) {
+  chance <- predict(own, data.frame(C = C[k], X = through), type = "response")
+  sum(c(1 - chance, chance) * predict(outcome, data.frame(C = C[k], X = arm, M = 0:1), type = "response"))
+}, 0))
+modelled <- arms(mediated, seen, model = list(Y = ~ C + X * M, M = ~ C + X))
+near(modelled$estimate[1:3], c(by_glm(1, 1), by_glm(0, 0), by_glm(1, 0)), 1e-10)
+near(at(modelled, "direct") + at(modelled, "indirect"), at(modelled, "total"), 1e-12)
+printed <- capture.output(print(modelled))
+stopifnot(any(grepl("logistic: M ~ C + `X'`", printed, fixed = TRUE)), any(printed == "by these models of its terms"), any(printed == "95% intervals by influence functions"))
+resampled <- arms(mediated, seen, model = "logistic", resamples = 60, interval = "percentile", seed = 2)
+stopifnot(all(is.finite(resampled$conf_low)), any(grepl("60 resamples", capture.output(print(resampled)))))
+
+# numbers, of which the formula sums over a mediator
+numbers <- transform(seen, C = C + round(stats::rnorm(n), 3))
+numbers$M <- 0.5 * numbers$X + 0.4 * numbers$C + stats::rnorm(n)
+found <- arms(mediated, numbers, model = "logistic", resamples = 5)
+stopifnot(all(is.finite(found$estimate)), any(grepl("summed over draws of C, M", capture.output(print(found)))))
+means <- mediate(mediated, transform(seen, Y = Y + 2 * M + X), "X", "Y", through = "M", treated = 1, control = 0, model = "logistic")
+stopifnot(at(means, "direct") > 0.5, at(means, "indirect") > 0.3)
+
+# what speaks against a fit is told, and what can't be is refused
+apart <- tryCatch(arms(mediated, transform(seen, Y = X), model = "logistic"), causal_doubt = identity)
+stopifnot(grepl("perfect separation", conditionMessage(apart)))
+refused <- function(call, words) stopifnot(grepl(words, conditionMessage(tryCatch(call, causal_refusal = identity)), fixed = TRUE))
+refused(arms(mediated, seen, model = list(M = ~ C + W, "logistic")), "the model of M reads W, and its term P(M|C,X') isn't given it")
+refused(arms(mediated, seen, model = list(Q = "table", "logistic")), "`model` has a model of Q")
+refused(arms(mediated, seen, interval = "influence"), "by counts has percentile intervals")
+refused(arms(mediated, seen, model = "logistic", smoothing = -1), "`smoothing`")

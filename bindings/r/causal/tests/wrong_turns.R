@@ -105,12 +105,15 @@ same(nrow(evaluate("dag { X -> Y }", holes, "X", "Y", count = "n", missing = "le
 # Lost resamples, few events and intervals of width 0 are told beside each number
 thin <- data.frame(S = c(0, 0, 0, 0, 1, 1, 1, 1), T = c(0, 0, 1, 1, 0, 0, 1, 1), R = c(0, 1, 0, 1, 0, 1, 1, 1))
 found <- doubted(answer <- contrast("dag { S -> T S -> R T -> R }", thin, "T", "R", resamples = 50))
-stopifnot(grepl("resamples had no value", found), all(grepl("of 50 resamples had no value", answer$note)), grepl("few events", answer$note))
+stopifnot(grepl("resamples had no value", found), all(grepl("of 50 resamples had no value", answer$note)), grepl("few events|few without the outcome", answer$note))
 stopifnot(grepl("of 50 resamples had no value", as.data.frame(answer)$note), any(grepl("note: .*resamples had no value", capture.output(print(answer)))))
 none <- data.frame(X = rep(0:1, each = 30), Y = c(rep(0, 30), rep(1, 10), rep(0, 20)))
 answer <- contrast("dag { X -> Y }", none, "X", "Y", outcome = 1, resamples = 50)
-stopifnot(grepl("few events: 0 of 30 records of 0; an interval of width 0 says nothing", part_of(answer, "risk_control", "note")))
+stopifnot(grepl("few events: 0 of 30 records of 0 (by the rule of three up to 0.1); an interval of width 0 says nothing", part_of(answer, "risk_control", "note"), fixed = TRUE))
 same(part_of(answer, "risk_treated", "note"), "")
+most <- contrast("dag { X -> Y }", transform(none, Y = 1 - c(rep(0, 30), rep(1, 3), rep(0, 27))), "X", "Y", outcome = 1, resamples = 50)
+stopifnot(grepl("few without the outcome: 3 of 30 records of 1", part_of(most, "risk_treated", "note"), fixed = TRUE),
+          grepl("few without the outcome: 0 of 30 records of 0", part_of(most, "risk_control", "note"), fixed = TRUE))
 
 # So are they of means, and where an interval can't be corrected
 numbers <- effect_means("dag { X -> Y }", data.frame(X = rep(0:1, each = 20), Y = c(rep(3, 20), rep(1:4, 5))), "X", "Y", resamples = 30)
