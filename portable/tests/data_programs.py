@@ -1,12 +1,15 @@
 #!/usr/bin/env python3
-"""data_programs.py: programs with addresses in their data, compiled natively and by way of WebAssembly and wasm_to_c.
+"""data_programs.py [--keep FOLDER | --again FOLDER]: programs with addresses in their data, compiled natively and by way of WebAssembly
+and wasm_to_c.
 
 The addresses lead into the middle of tables, to tables that no code names, and past offsets of both kinds. A clang that has wasm64
 makes the objects, with a segment for each table and with one for all. Data that may change, or that wants more than 16 bytes of
-alignment, stops the translator. Status 77 where clang or gcc isn't here.
+alignment, stops the translator. With --again the objects are those that an earlier run with --keep left in the folder, and only those
+are compiled whose translation isn't as that run left it. Status 77 where clang or gcc isn't here.
 """
 from __future__ import annotations
 
+import argparse
 import os
 import shutil
 import subprocess
@@ -70,6 +73,8 @@ table:
  .size table, 40
 """
 OF_ASSEMBLY = "".join(f"{300 + 20 + (0x8877665544332211 >> 8 >> 8 * (i & 3) & 255):x}\n" for i in range(200))
+# How the tables are compiled.
+TABLES = {f"tables{level}{sections}": [level, sections] for level in ("-O0", "-Os", "-O2") for sections in ("-fdata-sections", "-fno-data-sections")}
 # Data, and what stops the translator.
 REFUSED = {
     "static long long x; EXPORT long long causal_t(long long s) { x += s; return x; }": "which isn't constant",
@@ -87,10 +92,9 @@ def write(name: str, text: str) -> None:
         file.write(text)
 
 
-def translated(words: list[str]) -> str:
-    """Translates what clang makes; what stopped it."""
-    subprocess.run([*wasm_clang(), "--target=wasm64-unknown-unknown", "-ffreestanding", "-w", *words, "-c", "-o", "p.o"], check=True)
-    made = subprocess.run([sys.executable, f"{PORTABLE}/wasm_to_c", "p.o", "t.c"], capture_output=True, text=True)
+def translated(name: str) -> str:
+    """Translates an object; what stopped it."""
+    made = subprocess.run([sys.executable, f"{PORTABLE}/wasm_to_c", f"{name}.o", "t.c"], capture_output=True, text=True)
     return made.stderr if made.returncode else ""
 
 
@@ -99,37 +103,77 @@ def printed(words: list[str]) -> str:
     return subprocess.run(["./program"], stdout=subprocess.PIPE, text=True).stdout
 
 
-def differs(what: str, words: list[str], expected: str) -> bool:
-    stopped = translated(words)
-    got = stopped or printed(["gcc", "-O1", "-w", "-I", PORTABLE, "-DNAME=causal_t_code", "t.c", "caller.c"])
+def has_changed(name: str) -> bool:
+    """Whether a translation isn't as it is kept; it is kept then where none is."""
+    with open("t.c", encoding="ascii") as made:
+        code = made.read()
+    if not os.path.exists(f"{name}.c"):
+        write(f"{name}.c", code)
+        return True
+    with open(f"{name}.c", encoding="ascii") as before:
+        return before.read() != code
+
+
+def differs(name: str, expected: str) -> bool:
+    got = translated(name)
+    if not got:
+        if not has_changed(name):
+            return False
+        compiler = ["tcc"] if shutil.which("tcc") else ["gcc", "-O1"]
+        got = printed([*compiler, "-w", "-I", PORTABLE, "-DNAME=causal_t_code", "t.c", "caller.c"])
     if got != expected:
-        print(f"{what}: differs: {got[:300]}")
+        print(f"{name}: differs: {got[:300]}")
     return got != expected
 
 
+def make_objects() -> None:
+    """Makes the objects and what the programs print, in the current folder."""
+    target = [*wasm_clang(), "--target=wasm64-unknown-unknown", "-ffreestanding", "-w", "-c"]
+    export = '-DEXPORT=__attribute__((export_name("causal_t")))'
+    write("p.c", PROGRAM)
+    write("p.s", ASSEMBLY)
+    write("caller.c", CALLER)
+    write("expected", printed(["gcc", "-O1", "-w", "-DEXPORT=", "-DNAME=causal_t", "p.c", "caller.c"]))
+    for name, options in TABLES.items():
+        subprocess.run([*target, *options, export, "p.c", "-o", f"{name}.o"], check=True)
+    subprocess.run([*target, "p.s", "-o", "assembly.o"], check=True)
+    for number, program in enumerate(REFUSED):
+        write("p.c", program)
+        subprocess.run([*target, "-O2", export, "p.c", "-o", f"refused{number}.o"], check=True)
+
+
+def count_wrong() -> int:
+    """How many of the objects in the current folder give something else than they have to."""
+    with open("expected", encoding="ascii") as file:
+        expected = file.read()
+    wrong = sum(differs(name, expected) for name in TABLES) + differs("assembly", OF_ASSEMBLY)
+    for number, (program, why) in enumerate(REFUSED.items()):
+        said = translated(f"refused{number}")
+        if not said.startswith("wasm_to_c: ") or why not in said:
+            print(f"{program}: {said}, and not {why}")
+            wrong += 1
+    return wrong
+
+
 def main() -> int:
+    parser = argparse.ArgumentParser(description=__doc__, formatter_class=argparse.RawDescriptionHelpFormatter)
+    parser.add_argument("--keep", metavar="FOLDER", help="where to leave what is made")
+    parser.add_argument("--again", metavar="FOLDER", help="what an earlier run with --keep left")
+    options = parser.parse_args()
     if not shutil.which("gcc") or not wasm_clang():
         print(f"skipped: data programs: no {'clang with wasm64' if shutil.which('gcc') else 'gcc'}")
         return 77
-    wrong = 0
+    kept = os.path.abspath(options.keep or options.again or ".")
     with tempfile.TemporaryDirectory() as folder:
+        if options.again:
+            shutil.copytree(kept, folder, dirs_exist_ok=True)
         os.chdir(folder)
-        write("p.c", PROGRAM)
-        write("p.s", ASSEMBLY)
-        write("caller.c", CALLER)
-        export = '-DEXPORT=__attribute__((export_name("causal_t")))'
-        expected = printed(["gcc", "-O1", "-w", "-DEXPORT=", "-DNAME=causal_t", "p.c", "caller.c"])
-        for level in ("-O0", "-Os", "-O2"):
-            for sections in ("-fdata-sections", "-fno-data-sections"):
-                wrong += differs(f"tables, {level} {sections}", [level, sections, export, "p.c"], expected)
-        wrong += differs("offsets in assembly", ["p.s"], OF_ASSEMBLY)
-        for program, why in REFUSED.items():
-            write("p.c", program)
-            said = translated(["-O2", export, "p.c"])
-            if not said.startswith("wasm_to_c: ") or why not in said:
-                print(f"{program}: {said}, and not {why}")
-                wrong += 1
+        if not options.again:
+            make_objects()
+        wrong = count_wrong()
         os.chdir("/")
+        if options.keep:
+            shutil.copytree(folder, kept, dirs_exist_ok=True)
     print(f"programs with addresses in their data: {wrong} wrong")
     return 1 if wrong else 0
 
