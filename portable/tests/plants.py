@@ -46,7 +46,8 @@ class Part:
 PROGRAMS = "24"  # so many random programs
 CALLS = Part("portable/tests/calls.py", "--first", "gcc", "arm", "s390x", "sanitized")
 REFUSALS = Part("portable/tests/refusals.py")
-DATA = Part("portable/tests/data_programs.py", "--again", "KEPT/data")
+DATA = Part("portable/tests/data_programs.py", "--again", "KEPT/data", "tcc")
+DATA_OF_HEADER = Part("portable/tests/data_programs.py", "--again", "KEPT/data", "--header", "arm", "s390x")
 OPERATIONS = Part("portable/tests/operations.py", "--again", "KEPT/operations", "--first", "tcc")
 RANDOM = Part("portable/tests/random_programs.py", "--again", "KEPT/random", PROGRAMS)
 OF_HEADER = [Part("portable/tests/operations.py", "--again", "KEPT/operations", "--header", "--first", target)
@@ -61,7 +62,7 @@ def parts_of(file: str) -> list[Part]:
     if file == "causal.c":
         return [CALLS]
     if file == "portable.h":
-        return [OF_HEADER[0], CALLS, *OF_HEADER[1:]]
+        return [OF_HEADER[0], CALLS, *OF_HEADER[1:], DATA_OF_HEADER]
     if file == "main.c":
         return [UNUSUAL, REFUSED, WORDS]
     if file in ("wasm_to_c/stack.py", "wasm_to_c/program.py", "wasm_to_c/objects.py"):
@@ -125,8 +126,8 @@ class Base:
         files = {plant.file for plant in plants}
         if files - {"main.c", "causal.c"}:
             self.run("operations.py", "--keep", f"{self.kept}/operations", "tcc")
+            self.run("data_programs.py", "--keep", f"{self.kept}/data", "tcc")
         if files - {"main.c", "causal.c", "portable.h"}:
-            self.run("data_programs.py", "--keep", f"{self.kept}/data")
             self.run("random_programs.py", "--keep", f"{self.kept}/random", PROGRAMS)
         if "main.c" in files:
             for source in "causal", "causal_code":
