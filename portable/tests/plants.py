@@ -64,7 +64,7 @@ def parts_of(file: str) -> list[Part]:
     if file == "portable.h":
         return [OF_HEADER[0], CALLS, *OF_HEADER[1:], DATA_OF_HEADER]
     if file == "main.c":
-        return [UNUSUAL, REFUSED, WORDS]
+        return [UNUSUAL, CALLS, REFUSED, WORDS]
     if file in ("wasm_to_c/stack.py", "wasm_to_c/program.py", "wasm_to_c/objects.py"):
         return [REFUSALS, DATA, OPERATIONS, RANDOM]
     return [OPERATIONS, REFUSALS, DATA, RANDOM]
