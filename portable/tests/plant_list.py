@@ -49,8 +49,7 @@ INSTRUCTIONS = of(
     ("wrap keeps 64", '"i32.wrap_i64", "L", "I", 2, "(I){a:2}"', '"i32.wrap_i64", "L", "I", 2, "(L){a:2}"'),
     ("ge_s of bytes as gt", '"notV(lts1({a},{b}))"', '"lts1({b},{a})"'),
     ("xor of the level of or", '"xor", "TT", "T", 9, "{a:9n}^{b:9n}"', '"xor", "TT", "T", 10, "{a:10n}^{b:10n}"'),
-    ("neg by C's operator", '"f64.neg", "W", "W", 1, "double_of(bits_of({a})^(L)1<<63)"', '"f64.neg", "W", "W", 2, "-({a})"',
-     "C's operator turns the sign too; doubles are never beside an operator"),
+    ("neg by C's operator", '"f64.neg", "W", "W", 1, "double_of(bits_of({a})^(L)1<<63)"', '"f64.neg", "W", "W", 2, "-({a})"'),
     ("another memory by another bit", "r.unsigned() & 64:", "r.unsigned() & 128:"),
     ("any relocations", "if sum(step.relocation is not None for step in steps) != len(module.relocations_in(start, r.end)):", "if False:"),
 )
