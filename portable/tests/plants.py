@@ -1,6 +1,7 @@
 #!/usr/bin/env python3
 """plants.py [--turn N [--of M]] [--only TEXT] [--jobs N]: makes wrong edits of what nothing proves, and says which no test tells.
-plants.py --stale: says which edits can't be made, since what they replace doesn't stand there once; that needs no tools.
+plants.py --stale: says which edits can't be made, since what they replace doesn't stand there once, and for which no test is noted; that
+needs no tools.
 
 plant_list.py has them. Each is made in a copy of portable/ and of what its tests read; then the tests run that look at the edited
 file, up to the first that fails. They take from a run without an edit what that made, and compile and run only what an edit has changed.
@@ -187,7 +188,7 @@ def told_by(plant: Plant, base: Base, number: int) -> Told:
 
 
 def tell_stale() -> int:
-    """Says which edits can't be made."""
+    """Says which edits can't be made, and which have no test."""
     stale = 0
     for plant in PLANTS:
         with open(f"{TOP}/portable/{plant.file}", encoding="utf-8") as file:
@@ -195,9 +196,12 @@ def tell_stale() -> int:
         if count != 1:
             print(f"{plant.file}: {plant.name}: what it replaces stands {count} times")
             stale += 1
-    made = sum(key_of(plant) in told_before() or bool(plant.why) for plant in PLANTS)
-    print(f"{len(PLANTS)} wrong edits, of which {stale} can't be made; {made} were tried so far, or change nothing")
-    return 1 if stale else 0
+    told = told_before()
+    lacking = [key_of(plant) for plant in PLANTS if not plant.why and key_of(plant) not in told]
+    if lacking:
+        print("no test is noted for", *lacking, sep="\n  ")
+    print(f"{len(PLANTS)} wrong edits: {stale} can't be made, {sum(bool(plant.why) for plant in PLANTS)} change nothing, {len(lacking)} have no test")
+    return 1 if stale or lacking else 0
 
 
 def main() -> int:
@@ -206,7 +210,7 @@ def main() -> int:
     parser.add_argument("--of", type=int, default=10)
     parser.add_argument("--only", default="", help="those whose file or name has this in it")
     parser.add_argument("--jobs", type=int, default=2)
-    parser.add_argument("--stale", action="store_true", help="only say which edits can't be made")
+    parser.add_argument("--stale", action="store_true", help="only say which edits can't be made, or have no test")
     parser.add_argument("--write", action="store_true", help="write what told of each to plants_told")
     options = parser.parse_args()
     if options.stale:
