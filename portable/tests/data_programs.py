@@ -44,12 +44,19 @@ CALLER = """#include <stdio.h>
 #include <stdlib.h>
 unsigned long long NAME(unsigned long long);
 void causal_trap(void) { abort(); }
+#if defined(MADE) && defined(__BYTE_ORDER__) && __BYTE_ORDER__ == __ORDER_BIG_ENDIAN__
+void causal_data_begin(void);
+#else
+static void causal_data_begin(void) {}
+#endif
 int main(void) {
+  causal_data_begin();
   for (unsigned long long i = 0; i < 200; i++) printf("%llx\\n", NAME(i));
   return 0;
 }
 """
-# A place in the data as a number behind a load, with a constant as the address and with a sum.
+# A place in the data as a number behind a load, with a constant as the address and with a sum; a table behind one of an odd size, whose
+# words are reached by | since it is a multiple of 16; and another behind it in its segment.
 ASSEMBLY = """ .section .text.causal_t,"",@
  .globl causal_t
  .export_name causal_t, causal_t
@@ -68,9 +75,27 @@ causal_t:
  i64.and
  i64.load8_u table+25
  i64.add
+ i64.const 0
+ i64.load8_u odd+2
+ i64.add
+ i64.const before
+ i64.const 8
+ i64.or
+ i64.load 0
+ i64.add
  end_function
+ .section .rodata.odd,"",@
+odd:
+ .int8 9
+ .int8 8
+ .int8 50
+ .size odd, 3
  .section .rodata.table,"",@
- .p2align 3
+ .p2align 4
+before:
+ .int64 5
+ .int64 4000
+ .size before, 16
 table:
  .int64 1
  .int64 2
@@ -79,7 +104,7 @@ table:
  .int64 table+8
  .size table, 40
 """
-OF_ASSEMBLY = "".join(f"{300 + 20 + (0x8877665544332211 >> 8 >> 8 * (i & 3) & 255):x}\n" for i in range(200))
+OF_ASSEMBLY = "".join(f"{300 + 20 + 50 + 4000 + (0x8877665544332211 >> 8 >> 8 * (i & 3) & 255):x}\n" for i in range(200))
 # How the tables are compiled.
 TABLES = {f"tables{level}{sections}": [level, sections] for level in ("-O0", "-Os", "-O2") for sections in ("-fdata-sections", "-fno-data-sections")}
 # Data, and what stops the translator.
@@ -125,7 +150,7 @@ def given_by(target: str, code: str) -> str:
     """What a program prints as a target compiles it."""
     it = TARGETS[target]
     try:
-        it.compile("made", "-w", "-I", PORTABLE, "-DNAME=causal_t_code", code, "caller.c", *it.links)
+        it.compile("made", "-w", "-I", PORTABLE, "-DMADE", "-DNAME=causal_t_code", code, "caller.c", *it.links)
     except Failed as failed:
         return str(failed)
     return subprocess.run([*it.runs, "./made"], stdout=subprocess.PIPE, text=True).stdout
@@ -138,7 +163,7 @@ def differs(name: str, expected: str, targets: list[str], is_of_header: bool) ->
     for target in targets:
         got = stopped or given_by(target, f"{name}.c" if is_of_header else "t.c")
         if got != expected:
-            print(f"{name} on {target}: differs: {got[:300]}")
+            print(f"{name} on {target}: differs: {' '.join(got[:300].split())}")
             return True
     return False
 

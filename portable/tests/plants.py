@@ -30,6 +30,7 @@ from targets import FOUND, HERE, TARGETS, TOP, why_missing
 COPIED = ["portable", "include", "examples", "VERSION", ".ci/refused-memory", ".ci/refuse.c"]
 LEFT_OUT = shutil.ignore_patterns("__pycache__", "causal_code.c")
 SKIPPED = 77
+MOST_SECONDS = 30
 STALE = "it can't be made"
 TOLD = f"{HERE}/plants_told"
 
@@ -90,10 +91,10 @@ def write_told(found: dict[str, str]) -> None:
 
 
 def run(words: list[str], folder: str) -> subprocess.CompletedProcess[str]:
-    """(What a wrong edit makes may never end.)"""
+    """(What a wrong edit makes may never end: no process has more than some seconds of a processor.)"""
     try:
-        return subprocess.run(words, cwd=folder, stdin=subprocess.DEVNULL, stdout=subprocess.PIPE, stderr=subprocess.STDOUT, text=True,
-                              errors="replace", timeout=600, env={**os.environ, "PYTHONDONTWRITEBYTECODE": "1"})
+        return subprocess.run(["sh", "-c", f'ulimit -t {MOST_SECONDS} && exec "$@"', "sh", *words], cwd=folder, stdin=subprocess.DEVNULL, stdout=subprocess.PIPE, stderr=subprocess.STDOUT, text=True,
+                              errors="replace", timeout=900, env={**os.environ, "PYTHONDONTWRITEBYTECODE": "1"})
     except subprocess.TimeoutExpired:
         return subprocess.CompletedProcess(words, 1, "no end")
 
