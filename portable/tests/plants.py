@@ -114,7 +114,7 @@ def told_line(text: str) -> str:
     rows = [row.strip() for row in text.splitlines() if row.strip()] or ["(nothing)"]
     if any(row.startswith("Traceback") for row in rows):
         return rows[-1][:200]
-    usual = re.compile(r"\d+ functions, \d+ calls$|\w+: all calls hold$|\w+: \d+ functions differ|skipped: ")
+    usual = re.compile(r"\d+ functions, \d+ calls$|[\w-]+: all calls hold$|[\w-]+: \d+ functions differ|skipped: ")
     return next((row for row in rows if not usual.match(row)), rows[-1])[:200]
 
 
