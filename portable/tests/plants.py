@@ -1,6 +1,7 @@
 #!/usr/bin/env python3
 """plants.py [--turn N [--of M]] [--only TEXT] [--jobs N]: makes wrong edits of what nothing proves, and says which no test tells.
-plants.py --stale: says which edits can't be made, since what they replace doesn't stand there once; that needs no tools.
+plants.py --stale: says which edits can't be made, since what they replace doesn't stand there once, and for which no test is noted; that
+needs no tools.
 
 plant_list.py has them. Each is made in a copy of portable/ and of what its tests read; then the tests run that look at the edited
 file, up to the first that fails. They take from a run without an edit what that made, and compile and run only what an edit has changed.
@@ -29,6 +30,7 @@ from targets import FOUND, HERE, TARGETS, TOP, why_missing
 COPIED = ["portable", "include", "examples", "VERSION", ".ci/refused-memory", ".ci/refuse.c"]
 LEFT_OUT = shutil.ignore_patterns("__pycache__", "causal_code.c")
 SKIPPED = 77
+MOST_SECONDS = 30
 STALE = "it can't be made"
 TOLD = f"{HERE}/plants_told"
 
@@ -46,7 +48,8 @@ class Part:
 PROGRAMS = "24"  # so many random programs
 CALLS = Part("portable/tests/calls.py", "--first", "gcc", "arm", "s390x", "sanitized")
 REFUSALS = Part("portable/tests/refusals.py")
-DATA = Part("portable/tests/data_programs.py", "--again", "KEPT/data")
+DATA = Part("portable/tests/data_programs.py", "--again", "KEPT/data", "tcc")
+DATA_OF_HEADER = Part("portable/tests/data_programs.py", "--again", "KEPT/data", "--header", "arm", "s390x")
 OPERATIONS = Part("portable/tests/operations.py", "--again", "KEPT/operations", "--first", "tcc")
 RANDOM = Part("portable/tests/random_programs.py", "--again", "KEPT/random", PROGRAMS)
 OF_HEADER = [Part("portable/tests/operations.py", "--again", "KEPT/operations", "--header", "--first", target)
@@ -61,9 +64,9 @@ def parts_of(file: str) -> list[Part]:
     if file == "causal.c":
         return [CALLS]
     if file == "portable.h":
-        return [OF_HEADER[0], CALLS, *OF_HEADER[1:]]
+        return [OF_HEADER[0], CALLS, *OF_HEADER[1:], DATA_OF_HEADER]
     if file == "main.c":
-        return [UNUSUAL, REFUSED, WORDS]
+        return [UNUSUAL, CALLS, REFUSED, WORDS]
     if file in ("wasm_to_c/stack.py", "wasm_to_c/program.py", "wasm_to_c/objects.py"):
         return [REFUSALS, DATA, OPERATIONS, RANDOM]
     return [OPERATIONS, REFUSALS, DATA, RANDOM]
@@ -88,10 +91,10 @@ def write_told(found: dict[str, str]) -> None:
 
 
 def run(words: list[str], folder: str) -> subprocess.CompletedProcess[str]:
-    """(What a wrong edit makes may never end.)"""
+    """(What a wrong edit makes may never end: no process has more than some seconds of a processor.)"""
     try:
-        return subprocess.run(words, cwd=folder, stdin=subprocess.DEVNULL, stdout=subprocess.PIPE, stderr=subprocess.STDOUT, text=True,
-                              errors="replace", timeout=600, env={**os.environ, "PYTHONDONTWRITEBYTECODE": "1"})
+        return subprocess.run(["sh", "-c", f'ulimit -t {MOST_SECONDS} && exec "$@"', "sh", *words], cwd=folder, stdin=subprocess.DEVNULL, stdout=subprocess.PIPE, stderr=subprocess.STDOUT, text=True,
+                              errors="replace", timeout=900, env={**os.environ, "PYTHONDONTWRITEBYTECODE": "1"})
     except subprocess.TimeoutExpired:
         return subprocess.CompletedProcess(words, 1, "no end")
 
@@ -111,7 +114,7 @@ def told_line(text: str) -> str:
     rows = [row.strip() for row in text.splitlines() if row.strip()] or ["(nothing)"]
     if any(row.startswith("Traceback") for row in rows):
         return rows[-1][:200]
-    usual = re.compile(r"\d+ functions, \d+ calls$|\w+: all calls hold$|\w+: \d+ functions differ|skipped: ")
+    usual = re.compile(r"\d+ functions, \d+ calls$|[\w-]+: all calls hold$|[\w-]+: \d+ functions differ|skipped: ")
     return next((row for row in rows if not usual.match(row)), rows[-1])[:200]
 
 
@@ -125,8 +128,8 @@ class Base:
         files = {plant.file for plant in plants}
         if files - {"main.c", "causal.c"}:
             self.run("operations.py", "--keep", f"{self.kept}/operations", "tcc")
+            self.run("data_programs.py", "--keep", f"{self.kept}/data", "tcc")
         if files - {"main.c", "causal.c", "portable.h"}:
-            self.run("data_programs.py", "--keep", f"{self.kept}/data")
             self.run("random_programs.py", "--keep", f"{self.kept}/random", PROGRAMS)
         if "main.c" in files:
             for source in "causal", "causal_code":
@@ -186,7 +189,7 @@ def told_by(plant: Plant, base: Base, number: int) -> Told:
 
 
 def tell_stale() -> int:
-    """Says which edits can't be made."""
+    """Says which edits can't be made, and which have no test."""
     stale = 0
     for plant in PLANTS:
         with open(f"{TOP}/portable/{plant.file}", encoding="utf-8") as file:
@@ -194,9 +197,12 @@ def tell_stale() -> int:
         if count != 1:
             print(f"{plant.file}: {plant.name}: what it replaces stands {count} times")
             stale += 1
-    made = sum(key_of(plant) in told_before() or bool(plant.why) for plant in PLANTS)
-    print(f"{len(PLANTS)} wrong edits, of which {stale} can't be made; {made} were tried so far, or change nothing")
-    return 1 if stale else 0
+    told = told_before()
+    lacking = [key_of(plant) for plant in PLANTS if not plant.why and key_of(plant) not in told]
+    if lacking:
+        print("no test is noted for", *lacking, sep="\n  ")
+    print(f"{len(PLANTS)} wrong edits: {stale} can't be made, {sum(bool(plant.why) for plant in PLANTS)} change nothing, {len(lacking)} have no test")
+    return 1 if stale or lacking else 0
 
 
 def main() -> int:
@@ -205,7 +211,7 @@ def main() -> int:
     parser.add_argument("--of", type=int, default=10)
     parser.add_argument("--only", default="", help="those whose file or name has this in it")
     parser.add_argument("--jobs", type=int, default=2)
-    parser.add_argument("--stale", action="store_true", help="only say which edits can't be made")
+    parser.add_argument("--stale", action="store_true", help="only say which edits can't be made, or have no test")
     parser.add_argument("--write", action="store_true", help="write what told of each to plants_told")
     options = parser.parse_args()
     if options.stale:

@@ -20,11 +20,11 @@ import sys
 import tempfile
 
 from program_maker import Maker
-from targets import PORTABLE, wasm_clang
+from targets import GCC, PORTABLE, wasm_clang
 
 PLAIN = ["-fno-vectorize", "-fno-slp-vectorize"]
 LEVELS = [["-O0"], ["-O1"], ["-O2"], ["-Os"], ["-Oz"], ["-O3"], ["-Os", "-msimd128", *PLAIN], ["-O2", *PLAIN]]
-COMPILERS = [["gcc", "-O0"], ["gcc", "-O1"], ["gcc", "-O2"], ["gcc", "-O3"], ["clang", "-O1"], ["clang", "-O2"], ["tcc"]]
+COMPILERS = [[GCC, "-O0"], [GCC, "-O1"], [GCC, "-O2"], [GCC, "-O3"], ["clang", "-O1"], ["clang", "-O2"], ["tcc"]]
 QUIET = ["-w", "-fwrapv", "-ffp-contract=off"]
 
 # Calls a program with some seeds, and prints what it gives.
@@ -58,7 +58,7 @@ def try_program(seed: int, clang: str, compilers: list[list[str]]) -> str:
     """What came of a program: "same", "different", or why it was passed over."""
     with open("p.c", "w", encoding="ascii") as file:
         file.write(Maker(seed).program())
-    run(["gcc", "-O1", *QUIET, "-DNAME=causal_t", "-o", "native", "p.c", "caller.c"])
+    run([GCC, "-O1", *QUIET, "-DNAME=causal_t", "-o", "native", "p.c", "caller.c"])
     target = ["--target=wasm64-unknown-unknown", "-mbulk-memory", "-msign-ext", "-ffreestanding", *LEVELS[seed % len(LEVELS)]]
     run([clang, *target, *QUIET, "-c", "p.c", "-o", "p.o"])
     made = subprocess.run([sys.executable, f"{PORTABLE}/wasm_to_c", "p.o", "t.c"], capture_output=True, text=True)
@@ -93,8 +93,8 @@ def main() -> int:
     parser.add_argument("--seed", type=int, default=0)
     parser.add_argument("count", type=int)
     options = parser.parse_args()
-    if not shutil.which("gcc") or not wasm_clang():
-        print(f"skipped: random programs: no {'clang with wasm64' if shutil.which('gcc') else 'gcc'}")
+    if not shutil.which(GCC) or not wasm_clang():
+        print(f"skipped: random programs: no {'clang with wasm64' if shutil.which(GCC) else GCC}")
         return 77
     kept = options.again and os.path.abspath(options.again)
     folder = options.keep or tempfile.mkdtemp()

@@ -14,6 +14,7 @@ import fcntl
 import os
 import pty
 import shutil
+import signal
 import struct
 import subprocess
 import sys
@@ -189,13 +190,19 @@ def as_nobody() -> list[str]:
 def ending(folder: str, program: str, use: str) -> Ending:
     begin(folder)
     words = [*as_nobody(), "bash", "-c", use.replace("@", program)]
-    ran = subprocess.run(words, cwd=folder, stdin=subprocess.DEVNULL, stdout=subprocess.PIPE, stderr=subprocess.PIPE, timeout=60)
+    running = subprocess.Popen(words, cwd=folder, stdin=subprocess.DEVNULL, stdout=subprocess.PIPE, stderr=subprocess.PIPE, start_new_session=True)
+    try:
+        out, err = running.communicate(timeout=60)
+    except subprocess.TimeoutExpired:
+        os.killpg(running.pid, signal.SIGKILL)
+        out, err = running.communicate()
+        err += b"no end"
     written = b""
     if os.path.exists(f"{folder}/out"):
         with open(f"{folder}/out", "rb") as file:
             written = file.read()
     # (bash names its own line where it says that a signal ended the program)
-    return Ending(ran.returncode, ran.stdout, ran.stderr.replace(program.encode(), b"@"), written)
+    return Ending(running.returncode, out, err.replace(program.encode(), b"@"), written)
 
 
 def cut_off(folder: str, program: str, words: list[str], text: bytes) -> Ending:
