@@ -82,6 +82,12 @@ static void note(L words, L word_count, L inputs, L input_count, L sizes) {
   P8(sizes + 8, 5);
 }
 
+/* A diagram's words, the first of each of its two graphs of 4 bytes: each number is another one. */
+enum { OF_DIAGRAM = 390, OF_GRAPH = 193 };
+static void hold_words(L d, L first) {
+  for (L i = 0; i < OF_DIAGRAM; i++) HOLDS((i % OF_GRAPH || i > OF_GRAPH ? R8(d + 8 * i) : R4(d + 8 * i)) == first + i);
+}
+
 I causal_run_code(L b, L l, L words, L n, L inputs, L m, L out, L out_room, L err, L err_room, L sizes) {
   L all[] = {b, l, out, out_room, err, err_room};
   memcpy(got, all, sizeof all);
@@ -92,7 +98,8 @@ I causal_explain_code(L b, L l, L words, L n, L inputs, L m, L out, L out_room, 
   return causal_run_code(b, l, words, n, inputs, m, out, out_room, err, err_room, sizes);
 }
 I causal_ask_code(L d, L names, L size, L b, L l, L words, L n, L inputs, L m, L out, L out_room, L err, L err_room, L sizes) {
-  name_of_words = R8(d + 16 * 193) + names + size;
+  hold_words(d, 1000);
+  name_of_words = names + size;
   return causal_run_code(b, l, words, n, inputs, m, out, out_room, err, err_room, sizes);
 }
 I causal_inputs_code(L b, L l, L words, L n, L names, L room, L wanted) {
@@ -104,18 +111,23 @@ I causal_inputs_code(L b, L l, L words, L n, L names, L room, L wanted) {
 }
 I causal_keep_code(L text, L l, L d, L names, L room, L size) {
   HOLDS(IS_READY && text && l && names && room);
-  P8(d + 8, 99); /* the first vertex's parents */
-  P8(d + 16 * 193, 98);
+  hold_words(d, 1000);
+  for (L i = 0; i < OF_DIAGRAM; i++) {
+    if (i % OF_GRAPH || i > OF_GRAPH) P8(d + 8 * i, 2000 + i);
+    else P4(d + 8 * i, 2000 + i);
+  }
   P8(size, 12);
   return status;
 }
 I causal_separated_code(L d, L x, L y, L given) {
   HOLDS(IS_READY);
-  return (I)(R8(d + 8) + R8(d + 16 * 193 + 24) + x + y + given);
+  hold_words(d, 2000);
+  return (I)(x + 2 * y + 4 * given);
 }
 I causal_is_identifiable_code(L d, L x, L y) {
   HOLDS(IS_READY);
-  return (I)(R8(d + 8) + R8(d + 16 * 193 + 24) + 2 * x + y);
+  hold_words(d, 2000);
+  return (I)(2 * x + y);
 }
 
 /* --- the heap */
@@ -190,35 +202,53 @@ static void is_passed(uint8_t ended) {
   memset(given_inputs, 0, sizeof given_inputs);
 }
 
+static void fill_graph(causal_graph *graph, uint64_t first) {
+  graph->vertices = (uint32_t)first;
+  for (uint64_t i = 0; i < 64; i++) {
+    graph->parents[i] = first + 1 + i;
+    graph->children[i] = first + 65 + i;
+    graph->spouses[i] = first + 129 + i;
+  }
+}
+
+/* A diagram whose words are numbers from `first` on. */
+static causal_diagram filled(uint64_t first) {
+  causal_diagram diagram;
+  memset(&diagram, 0, sizeof diagram);
+  fill_graph(&diagram.observed, first);
+  fill_graph(&diagram.read, first + 193);
+  diagram.exposures = first + 386;
+  diagram.outcomes = first + 387;
+  diagram.adjusted = first + 388;
+  diagram.latent = first + 389;
+  return diagram;
+}
+
 static void test_calls(void) {
-  causal_diagram diagram, before;
+  causal_diagram diagram = filled(1000), after = filled(2000);
   causal_wanted wanted;
   size_t size = 0;
   status = 5;
   is_passed(causal_run(bytes, 16, spans, 2, inputs, 2, out, 8, err, 4, &sizes));
   is_passed(causal_explain(bytes, 16, spans, 2, inputs, 2, out, 8, err, 4, &sizes));
-  memset(&diagram, 0, sizeof diagram);
-  diagram.exposures = 20;
   is_passed(causal_ask(&diagram, err, 4, bytes, 16, spans, 2, inputs, 2, out, 8, err, 4, &sizes));
-  HOLDS(name_of_words == 20 + at(err) + 4);
+  HOLDS(name_of_words == at(err) + 4);
   HOLDS(causal_inputs(bytes, 16, spans, 2, out, 8, &wanted) == 5 && given_words[3] == 400);
   HOLDS(wanted.count == 11 && wanted.file == 12 && wanted.second == 13 && wanted.most == (uint64_t)3 << 33 && in_use == 0);
   /* a diagram changes with the status of a yes alone; the library itself leaves it as it is */
   begun = 0;
-  before = diagram;
   status = 0;
-  HOLDS(causal_keep(bytes, 16, &diagram, out, 8, &size) == 0 && size == 12);
-  HOLDS(diagram.observed.parents[0] == 99 && diagram.exposures == 98 && diagram.latent == 0);
+  HOLDS(causal_keep(bytes, 16, &diagram, out, 8, &size) == 0 && size == 12 && !memcmp(&diagram, &after, sizeof after));
   begun = 0;
-  diagram.latent = 7;
-  HOLDS(causal_separated(&diagram, 1, 2, 4) == 99 + 7 + 7);
+  HOLDS(causal_separated(&diagram, 1, 2, 4) == 21);
   begun = 0;
-  HOLDS(causal_is_identifiable(&diagram, 1, 2) == 99 + 7 + 4);
+  HOLDS(causal_is_identifiable(&diagram, 1, 2) == 4);
 #if !AS_IT_IS
-  diagram = before;
+  diagram = filled(1000);
+  after = filled(1000);
   status = 3;
   begun = 0;
-  HOLDS(causal_keep(bytes, 16, &diagram, out, 8, &size) == 3 && !memcmp(&diagram, &before, sizeof before));
+  HOLDS(causal_keep(bytes, 16, &diagram, out, 8, &size) == 3 && !memcmp(&diagram, &after, sizeof after));
   /* memory is refused for what is turned, or there is more of it than memory can hold */
   is_refused = 1;
   sizes.out = sizes.err = 3;
@@ -230,8 +260,6 @@ static void test_calls(void) {
     HOLDS(causal_run(bytes, 16, spans, 0, inputs, 0x08000001u, out, 8, err, 4, &sizes) == CAUSAL_NO_WORDS);
   }
   HOLDS(in_use == 0);
-#else
-  (void)before;
 #endif
 }
 

@@ -1,5 +1,6 @@
 #!/usr/bin/env python3
-"""calls.py [--first] [TARGET..]: runs calls.c, which tests causal.c by itself, on each target (targets.py) that is here.
+"""calls.py [--first] [TARGET..]: runs calls.c and program.c, which test causal.c and main.c by themselves, on each target (targets.py)
+that is here.
 
 Without a target: gcc, tcc, the sanitizers, and machines of 32 bits or with the other order of bytes. With --first it ends at the
 first that fails. Status 77 where none is here.
@@ -16,17 +17,17 @@ from targets import PORTABLE, TARGETS, TOP, Failed, why_missing
 USUAL = ["gcc", "tcc", "clang", "sanitized", "arm", "i686", "s390x", "windows"]
 
 
-def test(name: str) -> str:
-    """Why a target fails, or nothing."""
+def test(name: str, source: str) -> str:
+    """Why a source fails on a target, or nothing."""
     target = TARGETS[name]
     try:
-        target.compile("calls.exe", "-w", "-I", f"{TOP}/include", "-I", PORTABLE, f"{PORTABLE}/tests/calls.c", *target.links)
+        target.compile("test.exe", "-w", "-I", f"{TOP}/include", "-I", PORTABLE, f"{PORTABLE}/tests/{source}.c", *target.links)
     except Failed as failed:
         return str(failed)
-    ran = subprocess.run([*target.runs, "./calls.exe"], stdout=subprocess.PIPE, stderr=subprocess.STDOUT,
+    ran = subprocess.run([*target.runs, "./test.exe"], stdout=subprocess.PIPE, stderr=subprocess.STDOUT,
                          env={**os.environ, "WINEDEBUG": "-all"})
     text = ran.stdout.decode(errors="replace").replace("\r\n", "\n")
-    return "" if (ran.returncode, text) == (0, "calls: all hold\n") else f"status {ran.returncode}: {text[-500:]}"
+    return "" if (ran.returncode, text) == (0, f"{source}: all hold\n") else f"{source}: status {ran.returncode}: {text[-500:]}"
 
 
 def main(names: list[str], is_first: bool) -> int:
@@ -39,7 +40,7 @@ def main(names: list[str], is_first: bool) -> int:
                 print(f"skipped: calls on {name}: {missing}")
                 continue
             tried += 1
-            fault = test(name)
+            fault = test(name, "calls") or test(name, "program")
             print(f"{name}: {fault or 'all calls hold'}", flush=True)
             wrong += bool(fault)
             if fault and is_first:

@@ -11,7 +11,7 @@ import sys
 from typing import Iterator, NamedTuple
 
 sys.path.insert(0, os.path.join(os.path.dirname(os.path.dirname(os.path.abspath(__file__))), "wasm_to_c"))
-from instructions import BITS, INSTRUCTIONS, Instruction  # noqa: E402
+from instructions import BITS, INSTRUCTIONS, NAMED, Instruction  # noqa: E402
 
 EDGES = {
     32: [0, 1, 2, 7, 8, 15, 16, 31, 32, 33, 63, 64, 127, 128, 129, 255, 256, 32767, 32768, 65535, 65536, 0x7FFFFFFF, 0x80000000,
@@ -169,6 +169,11 @@ def cases() -> list[Case]:
             found += accesses(instruction) if instruction.behind.startswith("memory") else calculations(instruction)
     return [*found, *with_constants(), *nested(), *copies(), *of_128_bits(), *runs(), *orders(), *waiting(),
             *updates(), *constants_within(), *vector_constants(), *jumps(), *more_jumps()]
+
+
+def is_of_header(case: Case) -> bool:
+    """Whether a case is of one instruction, of which portable.h has the meaning."""
+    return case.name in NAMED or case.name.startswith(("__", "memory.", "16 bytes", "a store of "))
 
 
 def accesses(instruction: Instruction) -> Iterator[Case]:

@@ -11,6 +11,8 @@ from typing import NamedTuple
 HERE = os.path.dirname(os.path.abspath(__file__))
 PORTABLE = os.path.dirname(HERE)
 TOP = os.path.dirname(PORTABLE)
+# Where there is no gcc of this name, cc may be one, or another compiler with its options.
+GCC = "gcc" if shutil.which("gcc") else "cc"
 WARNINGS = ["-std=c99", "-Wall", "-Wextra", "-Werror"]
 SANITIZERS = ["-g0", "-fsanitize=address,undefined", "-fno-sanitize-recover=undefined"]
 PLAIN = ["-DWITHOUT_SSE2", "-D__TINYC__", "-U__SIZEOF_INT128__"]  # no vectors, no builtins, no numbers of 128 bits
@@ -42,20 +44,20 @@ class Failed(Exception):
 THREADS = ["-pthread"]
 STATIC = ["-static", "-pthread"]
 TARGETS = {
-    "gcc": Target(["gcc", "-O1", *WARNINGS], THREADS),
-    "gcc-O0": Target(["gcc", "-O0", *WARNINGS], THREADS),
-    "parts": Target(["gcc", "-O0", *WARNINGS], THREADS, in_parts=True),
-    "gcc-O2": Target(["gcc", "-O2", *WARNINGS], THREADS),
-    "gcc-words": Target(["gcc", "-O1", "-DWITHOUT_SSE2", *WARNINGS], THREADS),
-    "gcc-plain": Target(["gcc", "-O1", "-DSOFT_DOUBLES", *PLAIN, *WARNINGS], THREADS),
+    "gcc": Target([GCC, "-O1", *WARNINGS], THREADS),
+    "gcc-O0": Target([GCC, "-O0", *WARNINGS], THREADS),
+    "parts": Target([GCC, "-O0", *WARNINGS], THREADS, in_parts=True),
+    "gcc-O2": Target([GCC, "-O2", *WARNINGS], THREADS),
+    "gcc-words": Target([GCC, "-O1", "-DWITHOUT_SSE2", *WARNINGS], THREADS),
+    "gcc-plain": Target([GCC, "-O1", "-DSOFT_DOUBLES", *PLAIN, *WARNINGS], THREADS),
     "clang": Target(["clang", "-O1", *WARNINGS], THREADS),
     "tcc": Target(["tcc"], THREADS, has_edges=False),  # (some initializers of structs)
     "musl": Target(["musl-gcc", "-O1", *WARNINGS], STATIC),
-    "sanitized": Target(["gcc", "-O1", *SANITIZERS, *WARNINGS], THREADS),
+    "sanitized": Target([GCC, "-O1", *SANITIZERS, *WARNINGS], THREADS),
     "aarch64": Target(["aarch64-linux-gnu-gcc", "-O1", *WARNINGS], STATIC, ["qemu-aarch64"]),
     "arm": Target(["arm-linux-gnueabihf-gcc", "-O1", *WARNINGS], STATIC, ["qemu-arm"]),
     "s390x": Target(["s390x-linux-gnu-gcc", "-O1", *WARNINGS], STATIC, ["qemu-s390x"]),
-    "x87": Target(["gcc", "-O1", "-mfpmath=387", *WARNINGS], THREADS),
+    "x87": Target([GCC, "-O1", "-mfpmath=387", *WARNINGS], THREADS),
     "i686": Target(["i686-linux-gnu-gcc", "-O1", *WARNINGS], STATIC),
     "windows": Target(["x86_64-w64-mingw32-gcc", "-O1", *WARNINGS], ["-static", "-pthread", "-lshell32"], [WINE]),
 }

@@ -1,16 +1,20 @@
 #!/usr/bin/env python3
-"""unusual.py [--more] [--first] NATIVE PROGRAM..: unusual words, inputs and outputs, of each program beside the native one.
+"""unusual.py [--more] [--first] [--kept FILE] NATIVE PROGRAM..: unusual words, inputs and outputs, of each program beside the native one.
 
 Each use is a line of bash, with @ for the program, run in a fresh folder with the files of examples/. The programs have to end with
 the same status, and to write the same to standard output, to standard error and into the file `out`. Where this runs as root, all of
-it is run as nobody, whom files without permission stop. With --first it ends at the first use that differs.
+it is run as nobody, whom files without permission stop. With --first it ends at the first use that differs. With --kept the native
+program's endings are taken from a file, or written there where it isn't.
 """
 from __future__ import annotations
 
+import argparse
+import ast
 import fcntl
 import os
 import pty
 import shutil
+import signal
 import struct
 import subprocess
 import sys
@@ -186,13 +190,19 @@ def as_nobody() -> list[str]:
 def ending(folder: str, program: str, use: str) -> Ending:
     begin(folder)
     words = [*as_nobody(), "bash", "-c", use.replace("@", program)]
-    ran = subprocess.run(words, cwd=folder, stdin=subprocess.DEVNULL, stdout=subprocess.PIPE, stderr=subprocess.PIPE, timeout=60)
+    running = subprocess.Popen(words, cwd=folder, stdin=subprocess.DEVNULL, stdout=subprocess.PIPE, stderr=subprocess.PIPE, start_new_session=True)
+    try:
+        out, err = running.communicate(timeout=60)
+    except subprocess.TimeoutExpired:
+        os.killpg(running.pid, signal.SIGKILL)
+        out, err = running.communicate()
+        err += b"no end"
     written = b""
     if os.path.exists(f"{folder}/out"):
         with open(f"{folder}/out", "rb") as file:
             written = file.read()
     # (bash names its own line where it says that a signal ended the program)
-    return Ending(ran.returncode, ran.stdout, ran.stderr.replace(program.encode(), b"@"), written)
+    return Ending(running.returncode, out, err.replace(program.encode(), b"@"), written)
 
 
 def cut_off(folder: str, program: str, words: list[str], text: bytes) -> Ending:
@@ -215,7 +225,28 @@ def cut_off(folder: str, program: str, words: list[str], text: bytes) -> Ending:
 CUT_OFF = [(["graph", "-"], b"dag { A -> B }"), (["check", "front_door.dag", "-"], b"{"), (["check", "-", "front_door.dag"], b"dag {")]
 
 
-def main(text: str, is_first: bool, native: str, programs: list[str]) -> int:
+class Native:
+    """The endings of the native program, which a file may have."""
+
+    def __init__(self, program: str, file: str | None) -> None:
+        self.program, self.file = program, file
+        self.endings: dict[str, Ending] = {}
+        if file and os.path.exists(file):
+            with open(file, encoding="utf-8") as kept:
+                self.endings = {use: Ending(*ast.literal_eval(row)) for use, row in ast.literal_eval(kept.read()).items()}
+
+    def ending(self, use: str, run: Callable[[str], Ending]) -> Ending:
+        if use not in self.endings:
+            self.endings[use] = run(self.program)
+        return self.endings[use]
+
+    def keep(self) -> None:
+        if self.file and not os.path.exists(self.file):
+            with open(self.file, "w", encoding="utf-8") as kept:
+                kept.write(repr({use: repr(tuple(it)) for use, it in self.endings.items()}))
+
+
+def main(text: str, is_first: bool, file: str | None, native: str, programs: list[str]) -> int:
     lines = [line for line in text.strip().splitlines() if not line.startswith("#")]
     wrong = 0
     with tempfile.TemporaryDirectory() as room:
@@ -224,8 +255,9 @@ def main(text: str, is_first: bool, native: str, programs: list[str]) -> int:
         copies = [shutil.copy(program, f"{room}/program{number}") for number, program in enumerate([native, *programs])]
         uses: list[tuple[str, Callable[[str], Ending]]] = [(line, partial(ending, folder, use=line)) for line in lines]
         uses += [(f"{words}, cut off", partial(cut_off, folder, words=words, text=given)) for words, given in CUT_OFF]
+        kept = Native(copies[0], file)
         for use, run in uses:
-            wanted = run(copies[0])
+            wanted = kept.ending(use, run)
             for program, copy in zip(programs, copies[1:]):
                 got = run(copy)
                 if got != wanted:
@@ -233,14 +265,22 @@ def main(text: str, is_first: bool, native: str, programs: list[str]) -> int:
                     wrong += 1
             if wrong and is_first:
                 break
+        kept.keep()
         subprocess.run(["chmod", "-R", "u+rwX", room])
     print(f"{len(uses)} unusual uses of {len(programs)} programs beside the native one, {wrong} differ")
     return 1 if wrong else 0
 
 
+def arguments() -> argparse.Namespace:
+    parser = argparse.ArgumentParser(description=__doc__, formatter_class=argparse.RawDescriptionHelpFormatter)
+    parser.add_argument("--more", action="store_true")
+    parser.add_argument("--first", action="store_true")
+    parser.add_argument("--kept", metavar="FILE")
+    parser.add_argument("native", metavar="NATIVE")
+    parser.add_argument("programs", metavar="PROGRAM", nargs="*")
+    return parser.parse_args()
+
+
 if __name__ == "__main__":
-    flags = [it for it in sys.argv[1:] if it in ("--more", "--first")]
-    named = [os.path.abspath(it) for it in sys.argv[1:] if it not in flags]
-    if len(named) < 2:
-        sys.exit(__doc__)
-    sys.exit(main(USES + MORE * ("--more" in flags), "--first" in flags, named[0], named[1:]))
+    given = arguments()
+    sys.exit(main(MORE * given.more + USES, given.first, given.kept, os.path.abspath(given.native), [os.path.abspath(it) for it in given.programs]))
