@@ -117,6 +117,10 @@ I causal_is_identifiable_code(L d, L x, L y) {
   HOLDS(IS_READY);
   return (I)(R8(d + 8) + R8(d + 16 * 193 + 24) + 2 * x + y);
 }
+I causal_is_admissible_code(L d, L x, L y, L set) {
+  HOLDS(IS_READY);
+  return (I)(R8(d + 8) + R8(d + 16 * 193 + 24) + 3 * x + 2 * y + set);
+}
 
 /* --- the heap */
 
@@ -214,6 +218,8 @@ static void test_calls(void) {
   HOLDS(causal_separated(&diagram, 1, 2, 4) == 99 + 7 + 7);
   begun = 0;
   HOLDS(causal_is_identifiable(&diagram, 1, 2) == 99 + 7 + 4);
+  begun = 0;
+  HOLDS(causal_is_admissible(&diagram, 1, 2, 4) == 99 + 7 + 11);
 #if !AS_IT_IS
   diagram = before;
   status = 3;
