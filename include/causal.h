@@ -171,8 +171,8 @@ typedef struct causal_diagram {
 
 /* Reads a graph text, and keeps its diagram in `diagram`. `names` receives the names of its vertices in order, each with a line feed
  * behind it (no name has one in it), and `names_size` how many bytes these are: a room of as many bytes as the text has is enough.
- * Where they have more bytes than the room, the room has the first of them. A caller who asks no more than causal_separated and
- * causal_is_identifiable needs no names: `names` may be null, with no room.
+ * Where they have more bytes than the room, the room has the first of them. A caller who asks no more than causal_separated,
+ * causal_is_identifiable and causal_is_admissible needs no names: `names` may be null, with no room.
  *
  * CAUSAL_GRAPH where the bytes are no graph text, over 1,048,576 bytes included (causal_run tells the fault); CAUSAL_NO_MEMORY where
  * memory was refused. Then `diagram` and `names` stay as they were, and `names_size` is 0. */
@@ -189,6 +189,12 @@ uint8_t causal_separated(const causal_diagram *diagram, uint64_t x, uint64_t y, 
  * it. Sets as in causal_separated. CAUSAL_GRAPH where that can't be asked: a set has a member that isn't a vertex, the two have a
  * common one, or y has none. It takes no memory, so it always answers; causal_ask with the words of `identify` shows why. */
 uint8_t causal_is_identifiable(const causal_diagram *diagram, uint64_t x, uint64_t y);
+
+/* Whether a set is admissible for the effect of x on y, in the observed graph of a diagram that was kept: CAUSAL_YES where it is, and its
+ * adjustment formula equals the effect in every positive finite model of that graph; CAUSAL_NO where in some such model it doesn't.
+ * Sets, and CAUSAL_GRAPH, as in causal_separated. It takes no memory, so it always answers; causal_ask with the words of
+ * `adjust --set` shows why. */
+uint8_t causal_is_admissible(const causal_diagram *diagram, uint64_t x, uint64_t y, uint64_t set);
 
 /* Runs the command that the words name on a diagram that was kept: the arguments behind `names_size` are those of causal_run, and what
  * is answered is what the command answers on the text that was kept, with the same statuses and texts.

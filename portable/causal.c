@@ -12,6 +12,7 @@ I causal_inputs_code(L, L, L, L, L, L, L);
 I causal_keep_code(L, L, L, L, L, L);
 I causal_separated_code(L, L, L, L);
 I causal_is_identifiable_code(L, L, L);
+I causal_is_admissible_code(L, L, L, L);
 I causal_ask_code(L, L, L, L, L, L, L, L, L, L, L, L, L, L);
 
 #define AS_IT_IS (UINTPTR_MAX > 0xffffffffu && !BIG_ENDIAN_MEMORY)
@@ -252,4 +253,12 @@ uint8_t causal_is_identifiable(const causal_diagram *diagram, uint64_t x, uint64
 #endif
   READY
   return (uint8_t)causal_is_identifiable_code(KEPT(diagram), x, y);
+}
+
+uint8_t causal_is_admissible(const causal_diagram *diagram, uint64_t x, uint64_t y, uint64_t set) {
+#if !AS_IT_IS
+  L kept[DIAGRAM];
+#endif
+  READY
+  return (uint8_t)causal_is_admissible_code(KEPT(diagram), x, y, set);
 }

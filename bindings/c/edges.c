@@ -204,6 +204,15 @@ static void kept(void) {
     HOLDS(causal_keep((const uint8_t *)bow, sizeof bow - 1, &confounded, NULL, 0, &size) == CAUSAL_YES);
     HOLDS(causal_is_identifiable(&confounded, 1, 2) == CAUSAL_NO && causal_is_identifiable(&confounded, 1, 4) == CAUSAL_NO);
     HOLDS(causal_is_identifiable(&confounded, 2, 4) == CAUSAL_YES && causal_is_identifiable(&confounded, 3, 4) == CAUSAL_YES);
+    /* whether a set is admissible; neither x nor y may be empty */
+    static const char fork[] = "dag{A<-B->C A->C}";
+    causal_diagram forked = {0};
+    HOLDS(causal_is_admissible(&confounded, 2, 4, 0) == CAUSAL_YES && causal_is_admissible(&confounded, 1, 4, 0) == CAUSAL_NO);
+    HOLDS(causal_is_admissible(&confounded, 1, 4, 2) == CAUSAL_NO && causal_is_admissible(&confounded, 0, 4, 2) == CAUSAL_GRAPH);
+    HOLDS(causal_is_admissible(&confounded, 1, 0, 2) == CAUSAL_GRAPH && causal_is_admissible(&confounded, 1, 4, 4) == CAUSAL_GRAPH);
+    HOLDS(causal_is_admissible(&confounded, 1, 4, 8) == CAUSAL_GRAPH);
+    HOLDS(causal_keep((const uint8_t *)fork, sizeof fork - 1, &forked, NULL, 0, &size) == CAUSAL_YES);
+    HOLDS(causal_is_admissible(&forked, 1, 4, 2) == CAUSAL_YES && causal_is_admissible(&forked, 1, 4, 0) == CAUSAL_NO);
     /* a text that is refused changes nothing */
     HOLDS(causal_keep((const uint8_t *)other, sizeof other - 1, &diagram, names, sizeof names, &size) == CAUSAL_GRAPH && size == 0);
     HOLDS(graph->vertices == 3 && causal_separated(&diagram, 1, 4, 2) == CAUSAL_YES && memcmp(names, lines, sizeof lines - 1) == 0);

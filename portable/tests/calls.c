@@ -129,6 +129,11 @@ I causal_is_identifiable_code(L d, L x, L y) {
   hold_words(d, 2000);
   return (I)(2 * x + y);
 }
+I causal_is_admissible_code(L d, L x, L y, L set) {
+  HOLDS(IS_READY);
+  hold_words(d, 2000);
+  return (I)(3 * x + 2 * y + set);
+}
 
 /* --- the heap */
 
@@ -243,6 +248,8 @@ static void test_calls(void) {
   HOLDS(causal_separated(&diagram, 1, 2, 4) == 21);
   begun = 0;
   HOLDS(causal_is_identifiable(&diagram, 1, 2) == 4);
+  begun = 0;
+  HOLDS(causal_is_admissible(&diagram, 1, 2, 4) == 11);
 #if !AS_IT_IS
   diagram = filled(1000);
   after = filled(1000);

@@ -239,6 +239,7 @@ def calls_of(case: dict[str, Any]) -> list[str]:
         rows.append(row_of("causal_keep", kept, at_text, len(content), KEPT, NAMES, NAMES_ROOM, SIZES))
         rows += [row_of("causal_separated", "-", KEPT, *sets) for sets in ((1, 2, 0), (1, 2, 4), (1, 4, 2), (2, 8, 4))]
         rows += [row_of("causal_is_identifiable", "-", KEPT, *sets) for sets in ((1, 2), (1, 4), (2, 1))]
+        rows += [row_of("causal_is_admissible", "-", KEPT, *sets) for sets in ((1, 2, 0), (1, 2, 4), (2, 4, 1))]
         rows.append(row_of("causal_ask", written, KEPT, NAMES, f"@{SIZES}", *asked))
     return rows
 

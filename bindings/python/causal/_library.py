@@ -63,7 +63,7 @@ def library_path() -> str:
 
 
 class _Calls(NamedTuple):
-    """The module `ctypes`, and the calls of the library; `inputs`, `explain` or `identifiable` is None where it is of a version without it."""
+    """The module `ctypes`, and the calls of the library; one behind `ask` is None where it is of a version without it."""
 
     ctypes: Any
     run: Any
@@ -73,6 +73,7 @@ class _Calls(NamedTuple):
     inputs: Any
     explain: Any
     identifiable: Any
+    admissible: Any
 
 
 @functools.lru_cache(maxsize=None)
@@ -86,7 +87,8 @@ def _load() -> _Calls:
         known = library.causal_run, library.causal_keep, library.causal_separated, library.causal_ask
     except (OSError, AttributeError) as cause:
         raise LibraryMissing(f"the library at {path} can't be used: {cause}") from cause
-    calls = _Calls(ctypes, *known, *(getattr(library, name, None) for name in ("causal_inputs", "causal_explain", "causal_is_identifiable")))
+    later = "causal_inputs", "causal_explain", "causal_is_identifiable", "causal_is_admissible"
+    calls = _Calls(ctypes, *known, *(getattr(library, name, None) for name in later))
     size, spans, room, bits = ctypes.c_size_t, ctypes.c_void_p, ctypes.c_char_p, ctypes.c_uint64
     asked = [ctypes.c_char_p, size, spans, size, spans, size, room, size, room, size, ctypes.c_void_p]
     calls.run.argtypes = asked
@@ -99,6 +101,8 @@ def _load() -> _Calls:
         calls.explain.argtypes = asked
     if calls.identifiable is not None:
         calls.identifiable.argtypes = [ctypes.c_void_p, bits, bits]
+    if calls.admissible is not None:
+        calls.admissible.argtypes = [ctypes.c_void_p, bits, bits, bits]
     for call in calls[1:]:
         if call is not None:
             call.restype = ctypes.c_uint8
@@ -270,6 +274,8 @@ class KeptDiagram:
     (True, False, None)
     >>> chain.identifiable(["A"], ["C"]), chain.identifiable(["A"], [])
     (True, None)
+    >>> chain.admissible(["A"], ["C"], []), chain.admissible(["A"], ["C"], ["B"]), chain.admissible([], ["C"], ["B"])
+    (True, False, None)
     >>> chain.run(["identify", "chain", "--x", "A", "--y", "C"]).out
     b'P(C|do(A)) = sum{B} P(B|A) * P(C|B)\\n'
     """
@@ -279,6 +285,7 @@ class KeptDiagram:
         calls = _load()
         self._separated = calls.separated
         self._identifiable = calls.identifiable
+        self._admissible = calls.admissible
         self._diagram = _diagram_type()()
         self._bits = {name: 1 << place for place, name in enumerate(observed)}
         room, size = calls.ctypes.create_string_buffer(len(text)), calls.ctypes.c_size_t()
@@ -318,6 +325,16 @@ class KeptDiagram:
             return None
         try:
             status = self._identifiable(self._place, self._mask(x), self._mask(y))
+        except KeyError:
+            return None
+        return None if status > 1 else status == 0
+
+    def admissible(self, x: Iterable[str], y: Iterable[str], members: Iterable[str]) -> Optional[bool]:
+        """Whether a set is admissible for the effect; None where that can't be asked: `run` says why."""
+        if self._admissible is None:
+            return None
+        try:
+            status = self._admissible(self._place, self._mask(x), self._mask(y), self._mask(members))
         except KeyError:
             return None
         return None if status > 1 else status == 0

@@ -373,6 +373,22 @@ class Diagram(DataQuestions, GraphQuestions):
         answer = self._keep().identifiable(x, y)
         return bool(self.identify(x, y)) if answer is None else answer
 
+    def is_admissible(self, set: Names, x: Names, y: Names) -> bool:
+        """Whether a set may be adjusted for: `adjusts` without the formula, for many questions about one diagram.
+
+        It is proved that yes comes exactly where the set meets the adjustment criterion, which is so exactly where its formula equals the
+        effect in every positive finite model of the diagram's observed graph. No memory is asked for, and a question takes some
+        microseconds.
+
+        >>> from causal import Diagram
+        >>> fork = Diagram("dag { Z -> X Z -> Y X -> Y }")
+        >>> fork.is_admissible("Z", "X", "Y"), fork.is_admissible([], "X", "Y")
+        (True, False)
+        """
+        members, x, y = names_of(set), names_of(x), names_of(y)
+        answer = self._keep().admissible(x, y, members)
+        return bool(self.adjusts(members, x, y)) if answer is None else answer
+
     def _keep(self) -> KeptDiagram:
         """The diagram as the library keeps it, which reads the text at the first question."""
         if self._kept is None:

@@ -215,6 +215,17 @@ class Kept(unittest.TestCase):
                     bow.is_identifiable(x, y)
                 self.assertEqual(str(caught.exception), str(wanted.exception))
 
+    def test_admissible(self):
+        fork = Diagram("dag { Z -> X Z -> Y X -> M -> Y U [latent] U -> M }")
+        self.assertEqual([fork.is_admissible(members, "X", "Y") for members in ("Z", (), "M", ["Z", "M"])], [True, False, False, False])
+        for members, x, y in (("U", "X", "Y"), ("Z", "X", ()), ("Z", (), "Y"), ("X", "X", "Y"), ("Q", "X", "Y"), (("Z", "Z"), "X", "Y")):
+            with self.subTest(members=members, x=x, y=y):
+                with self.assertRaises(causal.TargetError) as wanted:
+                    fork.adjusts(members, x, y)
+                with self.assertRaises(causal.TargetError) as caught:
+                    fork.is_admissible(members, x, y)
+                self.assertEqual(str(caught.exception), str(wanted.exception))
+
     def test_copies(self):
         diagram = Diagram("dag { A -> B -> C }")
         self.assertTrue(diagram.is_separated("A", "C", "B"))

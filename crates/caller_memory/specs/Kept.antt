@@ -44,7 +44,7 @@ pub data IsNoGraphText (bytes : List ℕ) : Type 0 where
   too_long : 1048576 < length bytes → IsNoGraphText bytes
   faulty : (fault : GraphFault) → length bytes ≤ 1048576 → (fault ≡ NoMemory → ⊥) → Reads bytes (Err fault) → IsNoGraphText bytes
 
--- a separation may be asked of the sets that these masks hold: they are within the graph and pairwise disjoint, and the first two have members
+-- a separation, or a set to adjust for, may be asked of the sets that these masks hold: they are within the graph and pairwise disjoint, and the first two have members
 pub record AreAskable (n x y given : ℕ) : Type 0 where
   pub sets : AreThreeSets n (has x) (has y) (has given)
   pub some_x : x ≢ 0

@@ -9,7 +9,7 @@ mod kept;
 mod naming;
 mod reading;
 
-pub use asking::{Identification, Separation};
+pub use asking::{Adjustment, Identification, Separation};
 pub use kept::{KeptDiagram, KeptGraph};
 pub use naming::NamesFault;
 pub use reading::{KeepFault, ReadDiagram};

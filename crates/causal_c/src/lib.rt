@@ -5,6 +5,11 @@ ghost use Rattle.std.specs.Prelude.{◌≡◌, ◌≤◌, ◌⊎◌, List, ℕ, 
 ghost use Rattle.mixed_graph.specs.Bits.{has};
 ghost use Rattle.m_separation.specs.Walks.{IsSeparated, HasOpenWalk};
 ghost use Rattle.dag_reader.specs.declared.graph.ReadGraph.{ReadGraph};
+ghost use Rattle.prob_expr.specs.Failing.{FailsSomewhere};
+ghost use Rattle.prob_expr.specs.Tree.{effect_on};
+ghost use Rattle.prob_expr.specs.Values.{EqualsEffect};
+ghost use Rattle.adjustment.specs.Criteria.{IsAdmissible};
+ghost use Rattle.adjustment.specs.Formulas.{adjustment_formula};
 ghost use Rattle.identify.specs.Deciding.{IsIdentifiable, IsNotIdentifiable};
 ghost use Rattle.caller_memory.specs.Kept.{AreAskable, AreEffectSets, KeepsText, IsNoGraphText, Keeps, graph_in};
 ghost use Rattle.span_call.specs.Called.{Called, LacksInput};
@@ -14,7 +19,9 @@ ghost use Rattle.span_call.specs.Wanted.{TellsInputs, AskForNothing};
 ghost use Rattle.caller_memory.specs.Words.{AreTexts, IsNoText};
 ghost use Rattle.explain_call.specs.Calls.{Explained};
 
-use caller_memory::kept::{Identification, KeepFault, KeptDiagram, ReadDiagram, Separation};
+use caller_memory::kept::{
+    Adjustment, Identification, KeepFault, KeptDiagram, ReadDiagram, Separation,
+};
 use caller_memory::spans::{Input, Span};
 use explain_call::explain_spans;
 use mixed_graph::VSet;
@@ -172,6 +179,24 @@ pub extern "C" fn causal_is_identifiable(kept: &KeptDiagram, x: u64, y: u64) -> 
         Identification::Identifiable => 0,
         Identification::NotIdentifiable => 1,
         Identification::Refused => 3,
+    }
+}
+
+/// Whether a set is admissible for the effect of x on y, in a diagram that is kept: 0 or 1; 3 where that can't be asked of these sets.
+#[unsafe(no_mangle)]
+pub extern "C" fn causal_is_admissible(kept: &KeptDiagram, x: u64, y: u64, set: u64) -> u8
+    ensures yes { result ≡ 0 → IsAdmissible (graph_in kept.now.observed) (has x) (has y) (has set) }
+    ensures effect { result ≡ 0 → EqualsEffect (graph_in kept.now.observed) (effect_on x y) (adjustment_formula x y set) }
+    ensures no { result ≡ 1 → FailsSomewhere (graph_in kept.now.observed) (effect_on x y) (adjustment_formula x y set) }
+    ensures askable { result ≤ 1 → AreAskable kept.now.observed.vertices x y set }
+    ensures refused { result ≡ 3 → AreAskable kept.now.observed.vertices x y set → ⊥ }
+    ensures known { (result ≤ 1) ⊎ (result ≡ 3) }
+{
+    let (x, y, set) = (VSet::of_bits(x), VSet::of_bits(y), VSet::of_bits(set));
+    match kept.observed.adjustment(x, y, set) {
+        Adjustment::Admissible => 0,
+        Adjustment::NotAdmissible => 1,
+        Adjustment::Refused => 3,
     }
 }
 

@@ -41,6 +41,9 @@ use Rattle.hidden_models.specs.Unfolding.{FailsSomewhereAsDrawn}
 use Rattle.count_rows.specs.Rows.{Table}
 use Rattle.count_table.specs.Cells.{total}
 use Rattle.count_eval.specs.Programs.{weights_in, is_used}
+use Rattle.natural_bounds.specs.Bounds.{HasNoModel}
+use Rattle.natural_bounds.specs.Drawn.{HasNoModelAsDrawn}
+use Rattle.natural_bounds.proofs.Drawn.{no_model_is_as_drawn}
 use Rattle.implications.specs.Separable.{only}
 use Rattle.implications.specs.declared.pairs.Implication.{Implication}
 use Rattle.implied_differences.specs.Laws.{IsZeroIfMatched}
@@ -87,6 +90,7 @@ use Rattle.separation_commands.specs.RuleRight.{IsRuleAnswer}
 use Rattle.separation_commands.specs.declared.rule.answer.Answer.{Answer as RuleAnswer}
 use Rattle.separation_commands.specs.declared.rule.answer.Answer.TheVariants as ruled
 use Rattle.implications_command.specs.Pairs.{ArePairs, pairs_in}
+use Rattle.implications_command.specs.Differences.{first_broken}
 use Rattle.implications_command.specs.Right.{IsForGraph, IsForCounts}
 use Rattle.implications_command.specs.declared.differences.Measured.{Measured}
 use Rattle.implications_command.specs.declared.answer.Answer.{Answer as ImplicationsAnswer}
@@ -105,7 +109,7 @@ use Rattle.check_command.specs.declared.answer.Answer.TheVariants as checked
 use Rattle.causal_cli.specs.AsDrawn.{IsTreatedAsDrawn, IsUnevaluatedAsDrawn, IsCheckedAsDrawn}
 use Rattle.causal_cli.specs.AsDrawn.{IsRightAsDrawn, IsNotIdentifiable, IsNotIdentifiableOver, IsJointLost, IdentifiesAsDrawn, AdjustsAsDrawn}
 use Rattle.causal_cli.specs.AsDrawn.{IsAdjustedAsDrawn, IsSurrogateAsDrawn, IsSeparatedAsDrawn, IsRuledAsDrawn, IsIndependentAsDrawn, IsZeroAsDrawn}
-use Rattle.causal_cli.specs.AsDrawn.{ArePairsAsDrawn, AreZeroAsDrawn, AreDifferencesAsDrawn}
+use Rattle.causal_cli.specs.AsDrawn.{ArePairsAsDrawn, AreZeroAsDrawn, IsRefutedAsDrawn, AreDifferencesAsDrawn}
 use Rattle.causal_cli.proofs.TwoModels.{two_models}
 
 -- the observed graph of a diagram is that of the graph that was read
@@ -423,10 +427,29 @@ measures d list count other (implied.Differences t measured) h =
     (λ (m : Measured). IsZeroAsDrawn d.read (graph_of d.observed.graph) t m.difference)
     (λ m e. zero_as_drawn d.read (graph_of d.observed.graph) (observed d) t m.difference e) measured.items h.1.matched
 
+-- what no model of the observed graph has, none of the diagram as drawn has
+refuted_drawn : (d : Diagram) (list : List Implication) (count : Option Text) (other : List ℕ) (a : ImplicationsAnswer)
+    → IsForCounts (pairs_in d.observed list) count other (Ok a) → IsRefutedAsDrawn d a
+refuted_drawn d list count other implied.NoPairs h = tt
+refuted_drawn d list count other (implied.Pairs pairs) h = tt
+refuted_drawn d list count other (implied.Differences t measured) h = where_some (first_broken measured.items)
+    (HasNoModel (graph_of d.observed.graph) (is_used t) (weights_in d.observed.graph.n t) (total t.rows))
+    (HasNoModelAsDrawn (graph_of d.read.graph) (has d.read.latent.bits) (is_used t) (weights_in d.observed.graph.n t) (total t.rows))
+    (no_model_is_as_drawn (graph_of d.read.graph) d.read.graph.valid (has d.read.latent.bits) (graph_of d.observed.graph) (observed d) (is_used t)
+    (weights_in d.observed.graph.n t) (total t.rows)) h.2
+  where
+    where_some : (o : Option Implication) (P Q : Type 0) → (P → Q) → IfSome o (λ i. P) → IfSome o (λ i. Q)
+    where_some None P Q f h = tt
+    where_some (Some i) P Q f h = f h
+
 -- and one over counts
 pub implies_over_counts : (count : Option Text) (other : List ℕ) (d : Diagram) (list : List Implication) (a : ImplicationsAnswer)
     → ArePairs (pairs_in d.observed list) → IsForCounts (pairs_in d.observed list) count other (Ok a) → AreDifferencesAsDrawn d list a
-implies_over_counts count other d list a are h = record { independent = independent d list are; zero = measures d list count other a h }
+implies_over_counts count other d list a are h = record {
+  independent = independent d list are;
+  zero = measures d list count other a h;
+  no_model = refuted_drawn d list count other a h;
+}
 
 -- ---- evaluate
 

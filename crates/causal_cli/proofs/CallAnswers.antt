@@ -11,7 +11,7 @@ use Rattle.replies.specs.Outcomes.{code_of}
 use Rattle.command_run.specs.Answers.{WordsAnswer, Defined, DefinedWith}
 use Rattle.command_run.specs.Commands.{Request, of, command_of, file_of, second_of, IsRequest, Asks}
 use Rattle.command_run.specs.Run.{Run, Answers, by_words, by_file, by_both, Ends}
-use Rattle.command_run.proofs.Deliveries.{mapped}
+use Rattle.command_run.proofs.Deliveries.{mapped, told}
 use Rattle.command_run.proofs.OneRequest.{words_ask_once}
 use Rattle.causal_cli.specs.Calls.{Call, call_of, IsCallOf, WrittenFor}
 use Rattle.causal_cli.specs.Commands.{commands, form_of, table, row_for}
@@ -25,8 +25,16 @@ pub data CallAnswer (r : Call) (c : Command) (uses : List Use) (o : Outcome) (te
   on_file : (q : (form_of c).Request) → IsRequest commands uses (of c q) → (file : Text) → file_of commands (of c q) ≡ Some file
       → IfSome (r.held file) (λ bytes. Defined commands (of c q) bytes o text) → CallAnswer r c uses o text
   on_both : (q : (form_of c).Request) → IsRequest commands uses (of c q) → (file second : Text) → file_of commands (of c q) ≡ Some file
-      → second_of commands (of c q) ≡ Some second
-      → IfSome (r.held file) (λ bytes. IfSome (r.held_second second) (λ other. DefinedWith commands (of c q) bytes other o text)) → CallAnswer r c uses o text
+      → second_of commands (of c q) ≡ Some second → (other : List ℕ) → IfSome (r.held_second second) (λ all. other ≡ all)
+      → IfSome (r.held file) (λ bytes. DefinedWith commands (of c q) bytes other o text) → CallAnswer r c uses o text
+
+-- what is answered on both inputs is answered on what is held of both
+pub on_held : (r : Call) (w : Request commands) (o : Outcome) (text : Told) (file second : Text) (other : List ℕ)
+    → IfSome (r.held_second second) (λ all. other ≡ all) → IfSome (r.held file) (λ bytes. DefinedWith commands w bytes other o text)
+    → IfSome (r.held file) (λ bytes. IfSome (r.held_second second) (λ more. DefinedWith commands w bytes more o text))
+on_held r w o text file second other all = mapped (r.held file) (λ bytes. DefinedWith commands w bytes other o text)
+    (λ bytes. IfSome (r.held_second second) (λ more. DefinedWith commands w bytes more o text))
+    (λ bytes d. told (r.held_second second) other (λ more. DefinedWith commands w bytes more o text) all d)
 
 -- what a call gave: the answer of the command whose call the words are, written whole
 pub record Gave (r : Call) (o : Outcome) (text : Told) : Type 0 where
@@ -60,10 +68,10 @@ module _ (r : Call) (c : Command) (uses : List Use) (o : Outcome) (text : Told) 
   for_file (of d q) e is file names defined = subst (λ (k : Command). CallAnswer r k uses o text) e (on_file q is file names defined)
 
   pub for_both : (w : Request commands) → command_of commands w ≡ c → IsRequest commands uses w → (file second : Text) → file_of commands w ≡ Some file
-      → second_of commands w ≡ Some second
-      → IfSome (r.held file) (λ bytes. IfSome (r.held_second second) (λ other. DefinedWith commands w bytes other o text)) → CallAnswer r c uses o text
-  for_both (of d q) e is file second names names_second defined = subst (λ (k : Command). CallAnswer r k uses o text) e
-      (on_both q is file second names names_second defined)
+      → second_of commands w ≡ Some second → (other : List ℕ) → IfSome (r.held_second second) (λ all. other ≡ all)
+      → IfSome (r.held file) (λ bytes. DefinedWith commands w bytes other o text) → CallAnswer r c uses o text
+  for_both (of d q) e is file second names names_second other all defined = subst (λ (k : Command). CallAnswer r k uses o text) e
+      (on_both q is file second names names_second other all defined)
 
 -- ---- runs
 
@@ -76,7 +84,7 @@ call_answer r o text (by_file a) c uses call =
     a.file a.names_it a.defined
 call_answer r o text (by_both a) c uses call =
     for_both (call_of r) c uses o text a.request (is_of (call_of r) c uses call a.request a.asks) (by_them (call_of r) c uses call a.request a.asks)
-    a.file a.second a.names_it a.names_second a.defined
+    a.file a.second a.names_it a.names_second a.other a.all a.defined
 
 -- a run that ends with yes or no gave its answer
 pub gave : (r : Run) (code : ℕ) (o : Outcome) (text : Told) → code ≡ code_of o → Ends commands r o text → code ≤ 1 → Gave (call_of r) o text
@@ -118,4 +126,4 @@ module _ (r : Call) (c : Command) (uses : List Use) (o : Outcome) (text : Told) 
         (sym (names q) ∙ named) h;
     whole = whole;
   }
-  written_for whole (on_both q is name second named named_second h) = absurd (none-some second (sym (single q) ∙ named_second))
+  written_for whole (on_both q is name second named named_second other all h) = absurd (none-some second (sym (single q) ∙ named_second))

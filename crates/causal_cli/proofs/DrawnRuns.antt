@@ -88,7 +88,7 @@ use Rattle.causal_cli.proofs.AsDrawn.{identifies, adjusts, surrogates, treats, s
 use Rattle.causal_cli.proofs.DrawnBounds.{bounds_drawn}
 use Rattle.causal_cli.proofs.DrawnCounts.{evaluates}
 use Rattle.causal_cli.proofs.NaturalDrawn.{natural}
-use Rattle.causal_cli.proofs.CallAnswers.{CallAnswer, on_words, on_file, on_both, Gave, under_name, under_names, written_for}
+use Rattle.causal_cli.proofs.CallAnswers.{CallAnswer, on_words, on_file, on_both, on_held, Gave, under_name, under_names, written_for}
 use Rattle.causal_cli.proofs.ToldAnswers.{answered, answered_on_both}
 
 -- names that are refused have status 3
@@ -188,13 +188,14 @@ module _ (r : Call) (code : ℕ) (text : Told) (status : code ≡ 0) where
         (λ bytes. HoldsAnswer commands (of Implications q) bytes Yes text) (λ bytes a. a) names h);
     whole = whole;
   }
-  implied uses whole (on_both q is name second names names_second h) = record {
+  implied uses whole (on_both q is name second names names_second other all h) = record {
     request = q;
     told = text;
     asks = is;
     right = both q q.counts second names_second
         (under_name r.held q.file name (λ bytes. IfSome (r.held_second second) (λ other. DefinedWith commands (of Implications q) bytes other Yes text))
-        (λ bytes. IfSome (r.held_second second) (λ other. DefinedWith commands (of Implications q) bytes other Yes text)) (λ bytes a. a) names h);
+        (λ bytes. IfSome (r.held_second second) (λ other. DefinedWith commands (of Implications q) bytes other Yes text)) (λ bytes a. a) names
+        (on_held r (of Implications q) Yes text name second other all h));
     whole = whole;
   }
 
@@ -235,7 +236,7 @@ module _ (r : Call) (uses : List Use) (code : ℕ) (o : Outcome) (text : Told) (
         absurd (not_first b.diagram q.experiments code o b.answer.answer b.answer.right status small b.answer.ends)) names h;
     whole = whole;
   }
-  checked (on_both q is file second names names_second h) = record {
+  checked (on_both q is file second names names_second other all h) = record {
     request = q;
     told = text;
     asks = is;
@@ -243,7 +244,8 @@ module _ (r : Call) (uses : List Use) (code : ℕ) (o : Outcome) (text : Told) (
         (λ bytes other. IsChecked q bytes other code text)
         (λ bytes other d. answered_on_both check_telling certificate_refusal certificate_refused (plain_form q.format) bytes code o text status small other
         (λ d. AreExperimentsOn d.read.names d.observed.names q.experiments) (λ d. IsForCertificate (graph_of d.observed.graph) d.observed.names)
-        IsCheckedAsDrawn (λ d zs a are h. checks other d zs a h) d.0 d.1 d.3.0 d.3.1 d.3.2) names names_second h;
+        IsCheckedAsDrawn (λ d zs a are h. checks other d zs a h) d.0 d.1 d.3.0 d.3.1 d.3.2) names names_second
+        (on_held r (of Check q) o text file second other all h);
     whole = whole;
   }
 
@@ -273,7 +275,7 @@ module _ (r : Call) (uses : List Use) (code : ℕ) (text : Told) (status : code 
         (λ bytes b. absurd (no_values_alone q.way b.diagram q.x q.y b.answer.answer b.answer.right b.answer.ends)) names h;
     whole = whole;
   }
-  evaluated (on_both q is file second names names_second h) = record {
+  evaluated (on_both q is file second names names_second other all h) = record {
     request = q;
     told = text;
     asks = is;
@@ -283,7 +285,7 @@ module _ (r : Call) (uses : List Use) (code : ℕ) (text : Told) (status : code 
         (omega (arith, status)) other (λ d. Identifies q.way d q.x q.y) (λ d e. evaluations_right.IsForCounts q.exact q.zero e q.count)
         IsEvaluatedAsDrawn (λ d e a identifies h. evaluates q.way q.x q.y q.exact q.zero q.count other d e a identifies h) d.0 d.1 d.3.0 d.3.1
         (subst (λ (names : List (List ℕ)). Tells evaluate_telling values_refusal (evaluations_right.IsForCounts q.exact q.zero d.3.0 q.count other) (plain_form q.format)
-        names Yes text) d.3.1.names d.3.2)) names names_second h;
+        names Yes text) d.3.1.names d.3.2)) names names_second (on_held r (of Evaluate q) Yes text file second other all h);
     whole = whole;
   }
 
@@ -298,31 +300,25 @@ module _ (r : Call) (uses : List Use) (code : ℕ) (text : Told) (status : code 
   no_over_counts exact zero e count other (Err fault) right n = let c : 1 ≡ code_of (values_refusal.outcome fault) = ap code_of n in
       omega (arith, c, values_refused fault)
 
-  if_told : (other : Option (List ℕ)) (P : Type 0) → P → IfSome other (λ bytes. P)
-  if_told (Some other) P p = p
-  if_told None P p = tt
-
   pub not_evaluated : CallAnswer r Evaluate uses No text
-      → WrittenForBoth evaluate_requests.IsRequest (λ q. q.file) (λ q. q.counts) (λ q bytes other. IsUnevaluated q bytes code) r uses
+      → WrittenFor evaluate_requests.IsRequest (λ q. q.file) (λ q bytes. IsUnevaluated q bytes code) r uses
   not_evaluated (on_words q is h) = absurd h
   not_evaluated (on_file q is file names h) = record {
     request = q;
     told = text;
     asks = is;
     right = under_name r.held q.file file (λ bytes. HoldsAnswer commands (of Evaluate q) bytes No text)
-        (λ bytes. IfSome (r.held_second q.counts) (λ other. IsUnevaluated q bytes code text))
-        (λ bytes b. if_told (r.held_second q.counts) (IsUnevaluated q bytes code text)
-        (answered evaluate_telling target_refusal target_refused (plain_form q.format) bytes code No text status (omega (arith, status))
-        (λ d. IsForDiagram q.way d q.x q.y) (IsUnevaluatedAsDrawn q.way) (unevaluated q.way q.x q.y) b.diagram b.holds b.answer)) names h;
+        (λ bytes. IsUnevaluated q bytes code text)
+        (λ bytes b. answered evaluate_telling target_refusal target_refused (plain_form q.format) bytes code No text status (omega (arith, status))
+        (λ d. IsForDiagram q.way d q.x q.y) (IsUnevaluatedAsDrawn q.way) (unevaluated q.way q.x q.y) b.diagram b.holds b.answer) names h;
     whole = whole;
   }
-  not_evaluated (on_both q is file second names names_second h) = record {
+  not_evaluated (on_both q is file second names names_second other all h) = record {
     request = q;
     told = text;
     asks = is;
-    right = under_names r.held r.held_second q.file file q.counts second (λ bytes other. DefinedWith commands (of Evaluate q) bytes other No text)
-        (λ bytes other. IsUnevaluated q bytes code text)
-        (λ bytes other d. absurd (no_over_counts q.exact q.zero d.3.0 q.count other d.3.2.answer d.3.2.right d.3.2.ends)) names names_second h;
+    right = under_name r.held q.file file (λ bytes. DefinedWith commands (of Evaluate q) bytes other No text) (λ bytes. IsUnevaluated q bytes code text)
+        (λ bytes d. absurd (no_over_counts q.exact q.zero d.3.0 q.count other d.3.2.answer d.3.2.right d.3.2.ends)) names h;
     whole = whole;
   }
 
@@ -354,7 +350,7 @@ module _ (r : Call) (uses : List Use) (code : ℕ) (text : Told) (status : code 
         (λ bytes b. absurd (no_bounds_alone b.answer.answer b.answer.ends)) names h;
     whole = whole;
   }
-  bounded (on_both q is file second names names_second h) = record {
+  bounded (on_both q is file second names names_second other all h) = record {
     request = q;
     told = text;
     asks = is;
@@ -363,7 +359,8 @@ module _ (r : Call) (uses : List Use) (code : ℕ) (text : Told) (status : code 
         (λ bytes other d. answered_on_both bounds_telling (bounds_refusal d.0.observed.names) (bounds_refused d.0.observed.names) (plain_form q.format) bytes
         code Yes text status (omega (arith, status)) other (λ d. IsAsked (graph_of d.observed.graph) (lists_of q d))
         (λ d b. bounds_right.IsBounded q.exact (graph_of d.observed.graph) d.observed.names b q.count)
-        IsBoundedAsDrawn (λ d b a asked h. bounds_drawn q.exact d b q.count other a h) d.0 d.1 d.3.0 d.3.1 d.3.2) names names_second h;
+        IsBoundedAsDrawn (λ d b a asked h. bounds_drawn q.exact d b q.count other a h) d.0 d.1 d.3.0 d.3.1 d.3.2) names names_second
+        (on_held r (of Bounds q) Yes text file second other all h);
     whole = whole;
   }
 

@@ -184,7 +184,7 @@ module _ (r : Run) (code : ℕ) (uses : List Use) (call : IsCallOf identify_row 
       let told_bytes = subst (λ (n : Text). IfSome (option_or r.kept (r.held n)) (λ bytes. Defined commands (of Identify a.request) bytes o told))
       (sym named) there in
       on_bytes o told (subst (λ (m : Option (List ℕ)). IfSome m (λ bytes. Defined commands (of Identify a.request) bytes o told)) a.held told_bytes) e
-  of_request o told (on_both q is input other names names_other h) e = absurd (none-some other names_other)
+  of_request o told (on_both q is input other names names_other bytes all h) e = absurd (none-some other names_other)
 
   -- nothing failed where no read of the file did
   file_alone : (name : Text) → (w : Request commands) → command_of commands w ≡ Identify → IsRequestOf commands uses w → ReadsName commands r w name

@@ -1,6 +1,6 @@
 -- What an answer says of the diagram as drawn, with its hidden vertices: of the models of the graph that was read, whatever the mechanisms of these.
 -- What it says of the observed graph stands with the answers that are right, in the crate of each command.
-use Rattle.std.specs.Prelude.{ℕ, ◌≡◌, ◌<◌, Bool, true, false, List, All, IsTrue, pos}
+use Rattle.std.specs.Prelude.{ℕ, ◌≡◌, ◌<◌, Bool, true, false, List, All, IsTrue, IfSome, pos}
 use Rattle.mixed_graph.specs.Bits.{has}
 use Rattle.mixed_graph.specs.Graphs.{MixedGraph}
 use Rattle.mixed_graph.specs.Shown.{graph_of}
@@ -46,6 +46,7 @@ use Rattle.separation_commands.specs.declared.separate.answer.Answer.{Answer as 
 use Rattle.separation_commands.specs.declared.separate.answer.Answer.TheVariants as separated
 use Rattle.separation_commands.specs.declared.rule.answer.Answer.{Answer as RuleAnswer}
 use Rattle.separation_commands.specs.declared.rule.answer.Answer.TheVariants as ruled
+use Rattle.implications_command.specs.Differences.{first_broken}
 use Rattle.implications_command.specs.declared.differences.Measured.{Measured}
 use Rattle.implications_command.specs.declared.answer.Answer.{Answer as ImplicationsAnswer}
 use Rattle.implications_command.specs.declared.answer.Answer.TheVariants as implied
@@ -199,10 +200,17 @@ AreZeroAsDrawn d implied.NoPairs = Unit {0}
 AreZeroAsDrawn d (implied.Pairs list) = Unit {0}
 AreZeroAsDrawn d (implied.Differences t measured) = All (λ (m : Measured). IsZeroAsDrawn d.read (graph_of d.observed.graph) t m.difference) measured.items
 
+-- where one of them isn't 0, no model of the diagram as drawn, positive or not, has the counts
+abbrev pub IsRefutedAsDrawn : Diagram → ImplicationsAnswer → Type 0
+IsRefutedAsDrawn d (implied.Differences t measured) = IfSome (first_broken measured.items) (λ i. HasNoModelAsDrawn (graph_of d.read.graph)
+    (has d.read.latent.bits) (is_used t) (weights_in d.observed.graph.n t) (total t.rows))
+IsRefutedAsDrawn d a = Unit {0}
+
 -- so are the pairs that are kept for the counts, and their differences
 pub record AreDifferencesAsDrawn (d : Diagram) (list : List Implication) (a : ImplicationsAnswer) : Type 0 where
   pub independent : All (IsIndependentAsDrawn d.read) list
   pub zero : AreZeroAsDrawn d a
+  pub no_model : IsRefutedAsDrawn d a
 
 -- ---- evaluate
 

@@ -138,7 +138,7 @@ IsBounded q = IsAnsweredOnBoth bounds_telling (λ d. IsAsked (graph_of d.observe
 
 -- What is written with status 0 or 1 for `identify`, `adjust`, `surrogate`, `treated`, `natural`, `separate`, `rule`, `check` and `evaluate`, and with
 -- status 0 for `implications` and `bounds`, is told of a right answer, which is so in the diagram as drawn. A status of 1 of `evaluate` is one of the
--- diagram alone.
+-- diagram alone, whatever its counts hold.
 pub record RightAsDrawn (r : Call) (code : ℕ) : Type 0 where
   pub identified : (uses : List Use) → IsCallOf identify_row r.words uses → code ≤ 1
       → WrittenFor identify_requests.IsRequest (λ q. q.file) (λ q bytes. IsIdentifiedAsDrawn q bytes code) r uses
@@ -160,6 +160,6 @@ pub record RightAsDrawn (r : Call) (code : ℕ) : Type 0 where
   pub evaluated : (uses : List Use) → IsCallOf evaluate_row r.words uses → code ≡ 0
       → WrittenForBoth evaluate_requests.IsRequest (λ q. q.file) (λ q. q.counts) (λ q bytes other. IsEvaluated q bytes other code) r uses
   pub unevaluated : (uses : List Use) → IsCallOf evaluate_row r.words uses → code ≡ 1
-      → WrittenForBoth evaluate_requests.IsRequest (λ q. q.file) (λ q. q.counts) (λ q bytes other. IsUnevaluated q bytes code) r uses
+      → WrittenFor evaluate_requests.IsRequest (λ q. q.file) (λ q bytes. IsUnevaluated q bytes code) r uses
   pub bounded : (uses : List Use) → IsCallOf bounds_row r.words uses → code ≡ 0
       → WrittenForBoth bounds_requests.IsRequest (λ q. q.file) (λ q. q.counts) (λ q bytes other. IsBounded q bytes other code) r uses

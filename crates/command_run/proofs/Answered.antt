@@ -12,13 +12,17 @@ use Rattle.command_run.specs.Commands.{CommandSet, Request, of, second_of}
 use Rattle.command_run.specs.Laws.{AreLawful}
 use Rattle.command_run.specs.Answers.{WordsAnswer, DiagramAnswer, NeedsSecond, SecondAnswer, GivesSecond, IsAnsweredWith, IsLeft}
 
+-- bytes that are more than a limit
+abbrev pub long : ℕ → List ℕ
+long limit = replicate (suc limit) 0
+
+pub long_more : (limit : ℕ) → limit < length (long limit)
+long_more limit = let e : length (long limit) ≡ suc limit = length-replicate (suc limit) 0 in omega (arith, e)
+
 -- the outcome of the answer on all bytes of a second input that are more than its limit
 pub long_answered : (l : Remainder) (reply : Reply) → IsAnsweredWith l → ((other : List ℕ) → l.limit < length other → GivesSecond l other reply)
     → IsAnswered reply.outcome
-long_answered l reply only gives =
-    let long : List ℕ = replicate (suc l.limit) 0 in
-    let e : length long ≡ suc l.limit = length-replicate (suc l.limit) 0 in
-    only long reply.outcome (told_of reply) (gives long (omega (arith, e)))
+long_answered l reply only gives = only (long l.limit) reply.outcome (told_of reply) (gives (long l.limit) (long_more l.limit))
 
 module _ (s : CommandSet) where
   -- the answer on the bytes of the second input

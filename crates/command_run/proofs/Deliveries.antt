@@ -32,7 +32,7 @@ use Rattle.command_run.specs.Run.{Stream, Run, Answers, Received, ReceivedLine, 
 use Rattle.command_run.specs.Shown.{object_in, shown}
 use Rattle.command_run.specs.Ends.{FailedRead, Replied, RepliesWith, IsTextOf, IsOfFile, WereRead, IsReadOf, TellsUnread, IsMade, GivesOnRead, written_for}
 use Rattle.command_run.specs.Ends.{EndsWith, Delivers, written, unwritten, silent, IsTooLongAs, Proceeds, replied, unread, no_memory}
-use Rattle.command_run.proofs.Answered.{words_answered, diagram_answered, long_answered, names_left, needs, second_answer}
+use Rattle.command_run.proofs.Answered.{long, long_more, words_answered, diagram_answered, long_answered, names_left, needs, second_answer}
 use Rattle.command_run.proofs.Definitions.{defined_on}
 
 -- what holds of the bytes that were read holds of those that are held, where they are told
@@ -43,6 +43,12 @@ told (Some all) items P h p = subst P h p
 pub mapped : (held : Option (List ℕ)) (P Q : List ℕ → Type 0) → ((all : List ℕ) → P all → Q all) → IfSome held P → IfSome held Q
 mapped None P Q f h = tt
 mapped (Some all) P Q f h = f all h
+
+-- bytes that are more than a limit: those that are held, where they are told
+more_than : (limit : ℕ) (held : Option (List ℕ)) → IfSome held (λ all. limit < length all)
+    → (other : List ℕ) × (limit < length other) × IfSome held (λ all. other ≡ all)
+more_than limit None h = (long limit, long_more limit, tt)
+more_than limit (Some all) h = (all, h, refl)
 
 -- a test that can't be true is false
 pub not_true : (b : Bool) → (b ≡ true → ⊥) → b ≡ false
@@ -143,7 +149,7 @@ module _ (s : CommandSet) (laws : AreLawful s) where
       answer_with all other holds gives = (d, holds, needs s w d l is, second_answer s w d l other reply is gives)
 
       pub proceeded : Proceeds held lacks faults r.read_faults_after l reply → RepliesWith s r reply
-      proceeded (replied only second_there gives) = an_answer r reply.outcome (told_of reply) only (by_both (record {
+      proceeded (replied only second_there other all gives) = an_answer r reply.outcome (told_of reply) only (by_both (record {
         request = w;
         asks = asks;
         file = file;
@@ -153,10 +159,10 @@ module _ (s : CommandSet) (laws : AreLawful s) where
         there = stands.there;
         second_there = subst (λ f. f l.second ≡ false) same_lacks second_there;
         accepted = accepted_file;
-        defined = mapped (option_or r.kept (r.held file)) (λ all. HoldsDiagram all d)
-            (λ all. IfSome (r.held l.second) (λ other. DefinedWith s w all other reply.outcome (told_of reply)))
-            (λ all holds. mapped (r.held l.second) (λ other. GivesSecond l other reply) (λ other. DefinedWith s w all other reply.outcome (told_of reply))
-            (λ other g. answer_with all other holds g) (subst (λ h. IfSome (h l.second) (λ other. GivesSecond l other reply)) same_held gives)) stands.holds;
+        other = other;
+        all = subst (λ h. IfSome (h l.second) (λ bytes. other ≡ bytes)) same_held all;
+        defined = mapped (option_or r.kept (r.held file)) (λ bytes. HoldsDiagram bytes d)
+            (λ bytes. DefinedWith s w bytes other reply.outcome (told_of reply)) (λ bytes holds. answer_with bytes other holds gives) stands.holds;
       }))
       proceeded (unread same rose) =
           let failed : FailedRead s r = record {
@@ -243,10 +249,9 @@ module _ (held : Text → Option (List ℕ)) (lacks : Text → Bool) (faults fau
       → IsReadOf (held l.second) (lacks l.second) (faults l.second) (faults_after l.second) (l.limit) read → GivesOnRead l read reply
       → Proceeds held lacks faults faults_after l reply
   given_on reply (Ok other) h gives = replied (only other.items reply.outcome (told_of reply) gives)
-      (not_true (lacks l.second) (λ t. let e = h.lacked t in cc e))
-      (told (held l.second) other.items (λ all. GivesSecond l all reply) h.answer.1 gives)
-  given_on reply (Err (TooLong most)) h gives = replied (long_answered l reply only gives) (not_true (lacks l.second) (λ t. let e = h.lacked t in cc e))
-      (mapped (held l.second) (λ all. l.limit < length all) (λ all. GivesSecond l all reply) gives h.answer.1)
+      (not_true (lacks l.second) (λ t. let e = h.lacked t in cc e)) other.items h.answer.1 gives
+  given_on reply (Err (TooLong most)) h gives = let long = more_than l.limit (held l.second) h.answer.1 in
+      replied (long_answered l reply only gives) (not_true (lacks l.second) (λ t. let e = h.lacked t in cc e)) long.0 long.2 (gives long.0 long.1)
   given_on reply (Err Fault) h is = unread is (h.failed refl)
   given_on reply (Err NoMemory) h is = absurd is
 

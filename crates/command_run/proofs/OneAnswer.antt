@@ -170,8 +170,9 @@ module _ (s : CommandSet) (laws : AreLawful s) where
         subst (λ (q : Request s). IfSome (of_file r a.file) (λ bytes. Continues s q bytes)) e a.accepted in
         let held = file_told r told w asks a.file names a.there in
         let held_second = told w asks a.second (ReadsName.second a.file names names_second a.there accepted) a.second_there in
-        let defined = of_told (of_file r a.file) held.0 (λ bytes. IfSome (r.held a.second) (λ other. DefinedWith s w bytes other o text)) held.1
-        (subst (λ (q : Request s). IfSome (of_file r a.file) (λ bytes. IfSome (r.held a.second) (λ other. DefinedWith s q bytes other o text))) e a.defined) in
+        let all : a.other ≡ held_second.0 = of_told (r.held a.second) held_second.0 (λ (bytes : List ℕ). a.other ≡ bytes) held_second.1 a.all in
+        let defined = of_told (of_file r a.file) held.0 (λ bytes. DefinedWith s w bytes a.other o text) held.1
+        (subst (λ (q : Request s). IfSome (of_file r a.file) (λ bytes. DefinedWith s q bytes a.other o text)) e a.defined) in
         record {
           file = a.file;
           second = a.second;
@@ -184,7 +185,7 @@ module _ (s : CommandSet) (laws : AreLawful s) where
           held = held.1;
           held_second = held_second.1;
           accepted = of_told (of_file r a.file) held.0 (λ bytes. Continues s w bytes) held.1 accepted;
-          defined = of_told (r.held a.second) held_second.0 (λ other. DefinedWith s w held.0 other o text) held_second.1 defined;
+          defined = subst (λ (other : List ℕ). DefinedWith s w held.0 other o text) all defined;
         }
 
     from_any : Answers s r o text → ByAny s r w o text

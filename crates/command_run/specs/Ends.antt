@@ -122,9 +122,9 @@ pub record ReadsBeside (s : CommandSet) (w : Request s) (d : Diagram) (held : Te
   pub not_again : before ≡ true → IsNotRead q file
   pub once : (name : Text) → IsReadAtMostOnce held q name
 
--- the reply where the second input is read: that on the bytes that it holds; or a read failed; or memory was refused
+-- the reply where the second input is read: that on some bytes, which are all that it holds where it tells; or a read failed; or memory was refused
 pub data Proceeds (held : Text → Option (List ℕ)) (lacks : Text → Bool) (faults faults_after : Text → ℕ) (l : Remainder) (reply : Reply) : Type 0 where
-  replied : IsAnswered reply.outcome → lacks l.second ≡ false → IfSome (held l.second) (λ other. GivesSecond l other reply)
+  replied : IsAnswered reply.outcome → lacks l.second ≡ false → (other : List ℕ) → IfSome (held l.second) (λ all. other ≡ all) → GivesSecond l other reply
       → Proceeds held lacks faults faults_after l reply
   unread : reply.outcome ≡ Read → Rose (faults l.second) (faults_after l.second) → Proceeds held lacks faults faults_after l reply
   no_memory : reply.outcome ≡ Memory → Proceeds held lacks faults faults_after l reply

@@ -70,7 +70,8 @@ pub record AnswersFile (s : CommandSet) (r : Run) (o : Outcome) (told : Told) : 
   pub there : r.kept ≡ None → r.lacks file ≡ false
   pub defined : IfSome (option_or r.kept (r.held file)) (λ bytes. Defined s request bytes o told)
 
--- the words ask for a request whose file was read and accepted, and whose second input was read, and on the bytes of both this is the defined answer
+-- The words ask for a request whose file was read and accepted, and whose second input was read, and on the bytes of both this is the defined answer. What
+-- was read of the second input is all that it holds, where it tells.
 pub record AnswersBoth (s : CommandSet) (r : Run) (o : Outcome) (told : Told) : Type 0 where
   pub request : Request s
   pub asks : Asks s r.words request
@@ -81,7 +82,9 @@ pub record AnswersBoth (s : CommandSet) (r : Run) (o : Outcome) (told : Told) : 
   pub there : r.kept ≡ None → r.lacks file ≡ false
   pub second_there : r.lacks second ≡ false
   pub accepted : IfSome (option_or r.kept (r.held file)) (λ bytes. Continues s request bytes)
-  pub defined : IfSome (option_or r.kept (r.held file)) (λ bytes. IfSome (r.held second) (λ other. DefinedWith s request bytes other o told))
+  pub other : List ℕ
+  pub all : IfSome (r.held second) (λ all. other ≡ all)
+  pub defined : IfSome (option_or r.kept (r.held file)) (λ bytes. DefinedWith s request bytes other o told)
 
 -- the defined answer: by the words alone, by the file alone, or by both inputs
 pub data Answers (s : CommandSet) (r : Run) (o : Outcome) (told : Told) : Type 0 where

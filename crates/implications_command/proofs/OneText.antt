@@ -1,11 +1,11 @@
 -- Of the pairs of a graph one thing is told, and so it is of their differences over the bytes of counts.
-use Rattle.std.proofs.Common.{◌≡◌, ◌≢◌, ◌<◌, ◌≤◌, ◌*◌, ◌⊎◌, ℕ, Bool, List, [], ◌∷◌, ◌++◌, Option, Some, None, Ok, Err, length, map, get_or, inl, inr, refl, sym, ap, ap₂}
+use Rattle.std.proofs.Common.{◌≡◌, ◌≢◌, ◌<◌, ◌≤◌, ◌*◌, ◌⊎◌, ℕ, Bool, true, false, cond, List, [], ◌∷◌, ◌++◌, Option, Some, None, Ok, Err, length, map, get_or, inl, inr, refl, sym, ap, ap₂}
 use Rattle.std.proofs.Common.{◌∙◌, subst, arith}
 use mathlib.Core.Path.{fun_ext}
-use Rattle.std.specs.Prelude.{All, ℤ, pos, ◌-ℤ◌, slice_index_or, codes}
+use Rattle.std.specs.Prelude.{All, ℤ, pos, ◌-ℤ◌, slice_index_or, codes, option_map}
 use Rattle.std.specs.Fmt.{signed_decimal}
 use Rattle.std.specs.Int.{abs_diff}
-use Rattle.std.specs.List.{flat_map, filter}
+use Rattle.std.specs.List.{flat_map, filter, find}
 use Rattle.std.proofs.lemmas.Bool.{cases_lt, cases_eq}
 use Rattle.std.proofs.lemmas.Option.{same_Some}
 use Rattle.std.proofs.lemmas.List.Elements.{All-nil, All-cons, All-head, All-tail}
@@ -32,6 +32,7 @@ use Rattle.count_answers.proofs.OneReading.{AreAlike, one_table}
 use Rattle.count_rows.specs.declared.fault.CountFault.{CountFault}
 use Rattle.count_table.specs.Reading.{text_fault}
 use Rattle.implications.specs.declared.pairs.Implication.{Implication}
+use Rattle.broken_pairs.specs.Broken.{is_apart}
 use Rattle.implied_differences.specs.declared.largest.Difference.{Difference}
 use Rattle.implied_differences.specs.Differences.{IsLargest, axes_in, whole_of, first_of_pair, second_of_pair, distance, difference}
 use Rattle.json.specs.Json.{Json, string}
@@ -54,7 +55,8 @@ use Rattle.implications_command.specs.declared.answer.Answer.TheVariants.{NoPair
 use Rattle.implications_command.specs.declared.fault.CountsFault.{CountsFault}
 use Rattle.implications_command.specs.declared.fault.CountsFault.TheVariants.{TooLong, Faulty, NoMemory}
 use Rattle.implications_command.specs.Lines.{pair_line, pair_lines, vertices_of, value_text, measured_lines}
-use Rattle.implications_command.specs.Objects.{pairs_json, listed_json, differences_json}
+use Rattle.implications_command.specs.Differences.{first_broken}
+use Rattle.implications_command.specs.Objects.{pairs_json, listed_members, broken_members, differences_json}
 use Rattle.implications_command.specs.declared.differences.Measured.{Measured}
 use Rattle.implications_command.specs.Pairs.{ArePairs, pairs_of, pairs_in}
 use Rattle.implications_command.specs.Used.{used_in}
@@ -151,17 +153,36 @@ object_in names s = object_of (
     ∷ (codes "difference", string (signed_decimal s.value))
     ∷ (codes "cell", array_of (map (λ v. array_of (vertex_json names v ∷ text_json (level_in s v) ∷ [])) (vertices_of s.pair))) ∷ [])
 
+-- the first whose difference isn't 0
+abbrev broken_in : List Shown → Option Implication
+broken_in ss = option_map (λ s. s.pair) (find (λ s. is_apart s.value) ss)
+
+found_shown : (t : Table) (b : Bool) (m : Measured) (x : Option Shown) (y : Option Measured)
+    → option_map (λ (s : Shown). s.pair) x ≡ option_map (λ (k : Measured). k.pair) y
+    → option_map (λ (s : Shown). s.pair) (cond b (Some (shown t m)) x) ≡ option_map (λ (k : Measured). k.pair) (cond b (Some m) y)
+found_shown t true m x y e = refl
+found_shown t false m x y e = e
+
+broken_shown : (t : Table) (ms : List Measured) → broken_in (map (shown t) ms) ≡ first_broken ms
+broken_shown t [] = refl
+broken_shown t (m ∷ ms) = found_shown t (is_apart m.difference.value) m (find (λ s. is_apart s.value) (map (shown t) ms))
+    (find (λ (k : Measured). is_apart k.difference.value) ms) (broken_shown t ms)
+
 -- what is told of all
+abbrev told_with : Format → List (List ℕ) → (text : List ℕ) → List Json → Option Implication → Told
+told_with format names text objects broken =
+    answer_of (text_in format text (json_line (object_of (listed_members (codes "implications") objects ++ broken_members names broken))))
+
 abbrev told_of_shown : Format → List (List ℕ) → List Shown → Told
-told_of_shown format names ss =
-    answer_of (text_in format (flat_map (lines_of names) ss) (json_line (listed_json (codes "implications") (map (object_in names) ss))))
+told_of_shown format names ss = told_with format names (flat_map (lines_of names) ss) (map (object_in names) ss) (broken_in ss)
 
 told_is : (format : Format) (names : List (List ℕ)) (t : Table) (ms : List Measured)
     → answer_of (text_in format (flat_map (measured_lines names t) ms) (json_line (differences_json names t ms)))
     ≡ told_of_shown format names (map (shown t) ms)
 told_is format names t ms =
-    ap₂ (λ (text : List ℕ) (objects : List Json). answer_of (text_in format text (json_line (listed_json (codes "implications") objects))))
+    ap₂ (λ (text : List ℕ) (objects : List Json). told_with format names text objects (first_broken ms))
     (sym (flat_map-map (lines_of names) (shown t) ms)) (sym (map-map (object_in names) (shown t) ms))
+    ∙ ap (told_with format names (flat_map (lines_of names) (map (shown t) ms)) (map (object_in names) (map (shown t) ms))) (sym (broken_shown t ms))
 
 abbrev Counter : Type 0
 Counter = (ℕ → Bool) → (ℕ → ℕ) → ℕ

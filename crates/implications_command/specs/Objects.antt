@@ -1,5 +1,5 @@
 -- The objects of the answers of `implications`.
-use Rattle.std.specs.Prelude.{ℕ, List, [], ◌∷◌, ◌++◌, map, codes}
+use Rattle.std.specs.Prelude.{ℕ, List, [], ◌∷◌, ◌++◌, Option, Some, None, map, codes}
 use Rattle.std.specs.Fmt.{signed_decimal}
 use Rattle.json.specs.Json.{Json, string}
 use Rattle.count_rows.specs.Rows.{Table}
@@ -10,6 +10,7 @@ use Rattle.answer_json.specs.Progress.{array_of, object_of}
 use Rattle.answer_json.specs.Values.{vertex_json, set_json}
 use Rattle.count_json.specs.Cells.{cell_json}
 use Rattle.implications_command.specs.declared.differences.Measured.{Measured}
+use Rattle.implications_command.specs.Differences.{first_broken}
 use Rattle.implications_command.specs.Lines.{vertices_of}
 
 -- the answer in a word, and pairs
@@ -45,6 +46,16 @@ difference_members names t i d =
 abbrev pub measured_json : List (List ℕ) → Table → Measured → Json
 measured_json names t m = object_of (pair_members names m.pair ++ difference_members names t m.pair m.difference)
 
--- the pairs with their differences
+-- the pair by which no model has the counts, where there is one
+abbrev pub broken_members : List (List ℕ) → Option Implication → List (List ℕ × Json)
+broken_members names None = []
+broken_members names (Some i) = (codes "no_model", pair_json names i) ∷ []
+
+-- the pairs with their differences, and the first whose difference isn't 0
+abbrev pub differences_members : List (List ℕ) → Table → List Measured → List (List ℕ × Json)
+differences_members names t measured =
+    listed_members (codes "implications") (map (measured_json names t) measured) ++ broken_members names (first_broken measured)
+
+-- their object
 abbrev pub differences_json : List (List ℕ) → Table → List Measured → Json
-differences_json names t measured = listed_json (codes "implications") (map (measured_json names t) measured)
+differences_json names t measured = object_of (differences_members names t measured)

@@ -1,5 +1,5 @@
 -- Which answers of `implications` are right: the pairs of observed vertices that some set separates, and how far counts are from each.
-use Rattle.std.specs.Prelude.{ℕ, ◌≡◌, ◌≢◌, ◌<◌, ◌≤◌, List, length, Option, Some, None, Result, Ok, Err}
+use Rattle.std.specs.Prelude.{ℕ, ◌≡◌, ◌≢◌, ◌<◌, ◌≤◌, List, length, Option, Some, None, Result, Ok, Err, IfSome}
 use Rattle.command_words.specs.Form.{Text}
 use Rattle.mixed_graph.specs.Graphs.{MixedGraph}
 use Rattle.mixed_graph.specs.Shown.{graph_of}
@@ -8,12 +8,17 @@ use Rattle.targets.specs.declared.fault.TargetFault.{TargetFault}
 use Rattle.count_rows.specs.Records.{Field}
 use Rattle.count_rows.specs.declared.fault.CountFault.{CountFault}
 use Rattle.count_rows.specs.declared.fault.CountFault.TheVariants as counts
+use Rattle.count_rows.specs.Rows.{Table}
+use Rattle.count_table.specs.Cells.{total}
 use Rattle.count_table.specs.Reading.{text_fault}
+use Rattle.count_eval.specs.Programs.{weights_in, is_used}
+use Rattle.natural_bounds.specs.Bounds.{HasNoModel}
 use Rattle.count_answers.specs.Reads.{HoldsCounts}
 use Rattle.implications.specs.Separable.{IsSeparable, AreIndependentGivenSome}
 use Rattle.implications_command.specs.Pairs.{PlainPairs, ArePairs, pairs_in}
 use Rattle.implications_command.specs.Used.{used_in}
-use Rattle.implications_command.specs.Differences.{AreMeasured}
+use Rattle.implications_command.specs.Differences.{AreMeasured, first_broken}
+use Rattle.implications_command.specs.declared.differences.Measured.{Measured}
 use Rattle.implications_command.specs.declared.answer.Answer.{Answer}
 use Rattle.implications_command.specs.declared.answer.Answer.TheVariants.{NoPairs, Pairs, Differences}
 use Rattle.implications_command.specs.declared.fault.CountsFault.{CountsFault}
@@ -45,9 +50,14 @@ IsForGraph counts g (Err fault) = ⊥
 
 -- ---- over the bytes of counts
 
+-- where one of these differences isn't 0, no model that fits the graph, positive or not, has the counts
+abbrev pub IsRefuted : MixedGraph → Table → List Measured → Type 0
+IsRefuted g t measured = IfSome (first_broken measured) (λ i. HasNoModel g (is_used t) (weights_in g.vertices t) (total t.rows))
+
 -- the pairs with their differences over the table of the bytes
 abbrev pub Measures : PlainPairs → Option Field → List ℕ → Answer → Type 0
 Measures p count bytes (Differences t measured) = HoldsCounts p.names (used_in p.list) count bytes t × AreMeasured p.graph t p.list measured.items
+    × IsRefuted p.graph t measured.items
 Measures p count bytes a = ⊥
 
 -- the bytes are no counts of the vertices of the pairs: their text has this fault

@@ -6,7 +6,7 @@ use Rattle.replies.specs.declared.outcome.Outcome.{Outcome}
 use Rattle.replies.specs.declared.outcome.Outcome.TheVariants.{Yes, No}
 use Rattle.told.specs.Telling.{Telling}
 use Rattle.implications_command.specs.Lines.{none_line, pair_lines, measured_lines}
-use Rattle.implications_command.specs.Objects.{listed_members, pair_json, measured_json}
+use Rattle.implications_command.specs.Objects.{listed_members, pair_json, differences_members}
 use Rattle.implications_command.specs.declared.answer.Answer.{Answer}
 use Rattle.implications_command.specs.declared.answer.Answer.TheVariants.{NoPairs, Pairs, Differences}
 
@@ -26,7 +26,7 @@ answer_text names (Differences t measured) = flat_map (measured_lines names t) m
 abbrev pub answer_members : List (List ℕ) → Answer → List (List ℕ × Json)
 answer_members names NoPairs = listed_members (codes "none") []
 answer_members names (Pairs list) = listed_members (codes "implications") (map (pair_json names) list.items)
-answer_members names (Differences t measured) = listed_members (codes "implications") (map (measured_json names t) measured.items)
+answer_members names (Differences t measured) = differences_members names t measured.items
 
 -- all of these
 abbrev pub implications_telling : Telling Answer

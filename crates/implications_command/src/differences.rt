@@ -5,8 +5,9 @@ ghost use Rattle.mixed_graph.specs.Bits.{has, members_below};
 ghost use Rattle.mixed_graph.specs.Shown.{graph_of};
 ghost use Rattle.implications_command.specs.Pairs.{ArePairs, pairs_in};
 ghost use Rattle.implications_command.specs.Used.{used_in};
-ghost use Rattle.implications_command.specs.Differences.{AreMeasured};
+ghost use Rattle.implications_command.specs.Differences.{AreMeasured, first_broken};
 
+use broken_pairs::is_apart;
 use count_table::Counts;
 use dag_reader::ReadGraph;
 use implications::Implication;
@@ -42,4 +43,14 @@ pub fn largest_differences(
         })?;
     }
     Ok(all)
+}
+
+/// The first of the pairs whose difference isn't 0: no model of the graph has the counts then.
+pub fn first_broken(measured: &[Measured]) -> Option<Implication>
+    ensures { result ≡ first_broken measured.now }
+{
+    measured
+        .iter()
+        .find(|m| is_apart(m.difference.value))
+        .map(|m| m.pair)
 }

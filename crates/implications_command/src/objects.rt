@@ -7,9 +7,9 @@ ghost use Rattle.count_eval.specs.Programs.{cell_of};
 ghost use Rattle.answer_json.specs.Progress.{with_value, with_values, with_member, with_members, array_of};
 ghost use Rattle.count_json.specs.Cells.{level_json, cell_json};
 ghost use Rattle.implications_command.specs.Lines.{vertices_of};
-ghost use Rattle.implications_command.specs.Objects.{listed_members, pair_members, pair_json, difference_members, measured_json};
+ghost use Rattle.implications_command.specs.Objects.{listed_members, pair_members, pair_json, difference_members, measured_json, broken_members, differences_members};
 
-use crate::differences::Measured;
+use crate::differences::{Measured, first_broken};
 use answer_json::Object;
 use count_answers::{entries, number_at};
 use count_json::{push_level, push_levels};
@@ -189,6 +189,23 @@ fn differences_at(
     Ok(())
 }
 
+/// The member of the pair by which no model has the counts, where there is one.
+fn push_broken(
+    object: &mut Object,
+    names: &Names,
+    broken: Option<Implication>,
+) -> Result<(), AllocError>
+    ensures { OnOk result (object.new ≡ with_members (broken_members names.now broken) object.old) }
+{
+    match broken {
+        Some(pair) => {
+            object.key("no_model")?;
+            push_pair(object, names, &pair)
+        }
+        None => Ok(()),
+    }
+}
+
 /// The members of pairs with their differences.
 pub fn push_differences(
     object: &mut Object,
@@ -196,8 +213,9 @@ pub fn push_differences(
     counts: &Counts,
     measured: &[Measured],
 ) -> Result<(), AllocError>
-    ensures { OnOk result (object.new ≡ with_members (listed_members (codes "implications") (map (measured_json names.now counts.now) measured.now)) object.old) }
+    ensures { OnOk result (object.new ≡ with_members (differences_members names.now counts.now measured.now) object.old) }
 {
     object.word_at("answer", "implications")?;
-    differences_at(object, names, counts, measured)
+    differences_at(object, names, counts, measured)?;
+    push_broken(object, names, first_broken(measured))
 }

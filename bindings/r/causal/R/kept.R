@@ -23,6 +23,16 @@ is_identifiable <- function(diagram, x, y) {
   if (status > 1L) identify_effect(diagram, x, y)$identifiable else status == 0L
 }
 
+is_admissible <- function(diagram, set, x, y) {
+  diagram <- as_causal_diagram(diagram)
+  kept <- keep(diagram)
+  sets <- list(places(x), places(y), places(set))
+  # where that can't be asked, `adjusts` says why
+  if (is.null(kept) || anyNA(unlist(sets))) return(adjusts(diagram, set, x, y)$holds)
+  status <- .Call(call_admissible, kept, sets[[1]], sets[[2]], sets[[3]])
+  if (status > 1L) adjusts(diagram, set, x, y)$holds else status == 0L
+}
+
 # What the library keeps of the diagram, which it reads unless it is the last one; NULL where its text is refused.
 keep <- function(diagram) {
   if (!identical(last$diagram$text, diagram$text)) {

@@ -38,6 +38,6 @@ lead_here <- function(package, ...) {
 
 # The calls that begin with a diagram.
 own_calls <- c("project", "separated", "is_separated", "rule_holds", "identify_effect", "is_identifiable", "treated_effect", "natural_effect", "surrogate",
-               "check_certificate", "adjustment_sets", "adjusts", "instruments", "equivalent", "implications", "counts_query", "evaluate",
+               "check_certificate", "adjustment_sets", "adjusts", "is_admissible", "instruments", "equivalent", "implications", "counts_query", "evaluate",
                "bounds_effect", "contrast", "effect_means", "pin_spread", "test_implications", "support", "estimate", "mediate", "compare", "report", "parents", "children",
                "ancestors", "descendants", "paths", "direct_effect")

@@ -1,6 +1,7 @@
 \name{adjustment_sets}
 \alias{adjustment_sets}
 \alias{adjusts}
+\alias{is_admissible}
 \alias{as.list.causal_sets}
 \alias{as.data.frame.causal_sets}
 \title{What May Be Adjusted For?}
@@ -11,6 +12,7 @@
 \usage{
 adjustment_sets(diagram, x = NULL, y = NULL, most = 100)
 adjusts(diagram, set, x = NULL, y = NULL, back_door = FALSE)
+is_admissible(diagram, set, x, y)
 }
 \arguments{
   \item{diagram}{a diagram, or what \code{\link{as_causal_diagram}} takes.}
@@ -23,6 +25,10 @@ adjusts(diagram, set, x = NULL, y = NULL, back_door = FALSE)
   Proved: the listed sets are minimal sets that meet the adjustment criterion, each once, and all of them where there are no
   more than \code{most}. A yes means that the set meets the criterion, and that the formula equals the effect in every positive
   finite model that fits the diagram; a no comes with the vertex, or the open path, that breaks the criterion.
+
+  \code{is_admissible} gives \code{TRUE} or \code{FALSE} alone, and so is the fastest for many questions about one diagram.
+  Proved: \code{TRUE} comes exactly where the set meets the adjustment criterion, and \code{FALSE} exactly where its formula isn't
+  the effect in some positive finite model of the observed graph. It asks for no memory.
 }
 \value{
   From \code{adjustment_sets} a list of the class \code{causal_sets}: \code{sets}, a list of character vectors (\code{as.list}

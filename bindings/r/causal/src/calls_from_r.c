@@ -112,10 +112,16 @@ static SEXP call_identifiable(SEXP kept, SEXP x, SEXP y) {
   return ScalarInteger(causal_is_identifiable(diagram_in(kept), set_of(x), set_of(y)));
 }
 
+/* kept: what call_keep gave; x, y, set: integer vectors of vertices. The status of the library. */
+static SEXP call_admissible(SEXP kept, SEXP x, SEXP y, SEXP set) {
+  return ScalarInteger(causal_is_admissible(diagram_in(kept), set_of(x), set_of(y), set_of(set)));
+}
+
 static const R_CallMethodDef calls[] = {{"call_causal", (DL_FUNC)&call_causal, 5},
                                         {"call_keep", (DL_FUNC)&call_keep, 1},
                                         {"call_separated", (DL_FUNC)&call_separated, 4},
                                         {"call_identifiable", (DL_FUNC)&call_identifiable, 3},
+                                        {"call_admissible", (DL_FUNC)&call_admissible, 4},
                                         {NULL, NULL, 0}};
 
 void R_init_causal(DllInfo *dll) {

@@ -70,3 +70,11 @@ for (sets in list(list("U", "Y"), list("X", character()), list("X", "X"), list("
   faults <- lapply(list(is_identifiable, identify_effect), function(ask) tryCatch(ask(bow, sets[[1]], sets[[2]]), causal_fault = conditionMessage))
   stopifnot(is.character(faults[[1]]), identical(faults[[1]], faults[[2]]))
 }
+
+# Whether a set may be adjusted for, alone
+fork <- causal_diagram("dag { Z -> X Z -> Y X -> M -> Y U [latent] U -> M }")
+same(c(is_admissible(fork, "Z", "X", "Y"), is_admissible(fork, character(), "X", "Y"), is_admissible(fork, c("Z", "M"), "X", "Y")), c(TRUE, FALSE, FALSE))
+for (sets in list(list("U", "X", "Y"), list("Z", "X", character()), list("X", "X", "Y"), list("Q", "X", "Y"), list(c("Z", "Z"), "X", "Y"))) {
+  faults <- lapply(list(is_admissible, adjusts), function(ask) tryCatch(ask(fork, sets[[1]], sets[[2]], sets[[3]]), causal_fault = conditionMessage))
+  stopifnot(is.character(faults[[1]]), identical(faults[[1]], faults[[2]]))
+}

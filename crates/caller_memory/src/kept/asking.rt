@@ -1,14 +1,20 @@
-//! Separations and effects asked of a kept diagram.
+//! Separations, effects and sets to adjust for, asked of a kept diagram.
 
 ghost use Rattle.std.specs.Prelude.{◌≡◌, ◌↔◌, IsTrue};
 ghost use Rattle.mixed_graph.specs.Bits.{has};
 ghost use Rattle.mixed_graph.specs.Sets.{Within, Apart};
 ghost use Rattle.mixed_graph.specs.Shown.{graph_of};
 ghost use Rattle.m_separation.specs.Walks.{IsSeparated, HasOpenWalk};
+ghost use Rattle.prob_expr.specs.Failing.{FailsSomewhere};
+ghost use Rattle.prob_expr.specs.Tree.{effect_on};
+ghost use Rattle.prob_expr.specs.Values.{EqualsEffect};
+ghost use Rattle.adjustment.specs.Criteria.{IsAdmissible};
+ghost use Rattle.adjustment.specs.Formulas.{adjustment_formula};
 ghost use Rattle.identify.specs.Deciding.{IsIdentifiable, IsNotIdentifiable};
 ghost use Rattle.caller_memory.specs.Kept.{AreAskable, AreEffectSets, graph_in};
 
 use crate::kept::kept::KeptGraph;
+use adjustment::adjusts;
 use do_rules::are_three_sets;
 use identify::is_identifiable;
 use m_separation::separated;
@@ -33,6 +39,17 @@ pub enum Identification {
     /// It has none: two models agree on all observations, and differ on it.
     NotIdentifiable,
     /// A set isn't within the graph, the two have a common member, or y has none.
+    Refused,
+}
+
+/// What is answered of a set to adjust for.
+#[derive(Clone, Copy, Debug, PartialEq, Eq)]
+pub enum Adjustment {
+    /// It is admissible: its formula is the effect in every positive model.
+    Admissible,
+    /// It isn't: its formula isn't the effect in some positive model.
+    NotAdmissible,
+    /// A set isn't within the graph, two have a common member, or x or y has none.
     Refused,
 }
 
@@ -84,6 +101,24 @@ impl KeptGraph {
             Identification::Identifiable
         } else {
             Identification::NotIdentifiable
+        }
+    }
+
+    /// Whether a set is admissible for the effect of x on y (Shpitser, VanderWeele and Robins, 2010).
+    pub fn adjustment(&self, x: VSet, y: VSet, set: VSet) -> Adjustment
+        ensures yes { result ≡ Adjustment.Admissible → IsAdmissible (graph_in self.now) (has x.bits) (has y.bits) (has set.bits) }
+        ensures effect { result ≡ Adjustment.Admissible → EqualsEffect (graph_in self.now) (effect_on x.bits y.bits) (adjustment_formula x.bits y.bits set.bits) }
+        ensures no { result ≡ Adjustment.NotAdmissible → FailsSomewhere (graph_in self.now) (effect_on x.bits y.bits) (adjustment_formula x.bits y.bits set.bits) }
+        ensures askable { (result ≡ Adjustment.Refused → ⊥) → AreAskable self.now.vertices x.bits y.bits set.bits }
+        ensures refused { result ≡ Adjustment.Refused → AreAskable self.now.vertices x.bits y.bits set.bits → ⊥ }
+    {
+        let graph = self.graph();
+        if !are_three_sets(&graph, x, y, set) || x.is_empty() || y.is_empty() {
+            return Adjustment::Refused;
+        }
+        match adjusts(&graph, x, y, set) {
+            Ok(()) => Adjustment::Admissible,
+            Err(_) => Adjustment::NotAdmissible,
         }
     }
 }
