@@ -1,5 +1,5 @@
 -- One coordinate of a box after the other.
-use Rattle.std.proofs.Common.{ℕ, zero, suc, ◌+◌, ◌-◌, ◌≡◌, ◌<◌, ◌≤◌, Bool, true, false, cond, eqb, refl, sym, ap, ◌∙◌, subst, Result, Ok, Err, arith, eqb-true}
+use Rattle.std.proofs.Common.{ℕ, zero, suc, ◌+◌, ◌≡◌, ◌<◌, ◌≤◌, Bool, true, false, cond, eqb, refl, sym, ap, ◌∙◌, subst, Result, Ok, Err, arith, eqb-true}
 use Rattle.std.proofs.Common.{List, length, set}
 use mathlib.Core.Path.{fun_ext}
 use Rattle.count_eval.specs.Programs.{cell_of}

@@ -1,5 +1,5 @@
 -- What the value of a bound covers, and what it says of models.
-use Rattle.std.proofs.Common.{ℕ, zero, suc, ◌≡◌, ◌<◌, ◌≤◌, Bool, true, false, cond, eqb, refl, sym, ap, ◌∙◌, subst, Result, Ok, Err, arith}
+use Rattle.std.proofs.Common.{ℕ, zero, suc, ◌≡◌, ◌<◌, ◌≤◌, Bool, true, false, cond, eqb, refl, sym, ◌∙◌, subst, Result, Ok, Err, arith}
 use Rattle.fractions.specs.Fractions.{Fraction, over, add, add_below, mul}
 use Rattle.finite_models.specs.Sums.{set_at}
 use Rattle.prob_expr.specs.Values.{Weights, add_over}
@@ -8,9 +8,11 @@ use Rattle.quantity.specs.Lawful.{Keeps}
 use Rattle.quantity.specs.declared.fault.QuantityFault.{QuantityFault}
 use Rattle.natural_bounds.specs.declared.ends.End.{End}
 use Rattle.natural_bounds.specs.Bounds.{Asked, joint, treated, share, condition, BoundsHold}
-use Rattle.natural_bounds.specs.Orders.{trivial, Bounds}
+use Rattle.natural_bounds.specs.Orders.{trivial}
 use Rattle.natural_bounds.proofs.Orders.{trivial_bottom}
 use Rattle.natural_bounds.proofs.Strata.{stratum_bottom}
+use Rattle.crossed_bounds.specs.Crossed.{PairedBoundsHold}
+use Rattle.crossed_bounds.proofs.Sharper.{paired_bottom}
 use Rattle.adjusted_bounds.specs.Adjusted.{adjusted_at, AdjustedBoundsHold}
 use Rattle.mixed_graph.specs.Graphs.{MixedGraph, IsMixedGraph}
 use Rattle.mixed_graph.specs.Sets.{Apart}
@@ -22,7 +24,8 @@ use Rattle.count_table.specs.Cells.{total}
 use Rattle.count_eval.specs.Programs.{weights_in, is_used}
 use Rattle.natural_bounds.specs.Bounds.{BoundsEffect}
 use Rattle.bound_values.specs.declared.questions.Method.{Method}
-use Rattle.bound_values.specs.declared.questions.Method.TheVariants.{Instruments, Adjustment}
+use Rattle.bound_values.specs.declared.questions.Method.TheVariants.{Instruments, LevelPairs, Adjustment}
+use Rattle.bound_values.specs.Questions.{HasPairs}
 use Rattle.bound_values.specs.Values.{plus, total_below, total_over, bound_by, bound_of, MayBeUsed, term_value, bound_value, BoundsInModels}
 
 -- ---- the bound of a stratum
@@ -35,12 +38,14 @@ adjusted_bottom end n q s = go (eqb (treated n q s) 0) refl
 
 pub bound_bottom : (method : Method) (end : End) (n : Weights) (q : Asked) (s : ℕ → ℕ) → 1 ≤ (bound_by method end n q s).bottom
 bound_bottom Instruments end n q s = stratum_bottom end n q s
+bound_bottom LevelPairs end n q s = paired_bottom end n q s
 bound_bottom Adjustment end n q s = adjusted_bottom end n q s
 
 -- the bound of an effect is the sum over the strata
 sum_is : (method : Method) (end : End) (n : Weights) (q : Asked) (s : ℕ → ℕ)
     → bound_of method end n q s ≡ add_over q.u n.size n.vertices (λ t. mul (share n q t) (bound_by method end n q t)) s
 sum_is Instruments end n q s = refl
+sum_is LevelPairs end n q s = refl
 sum_is Adjustment end n q s = refl
 
 -- ---- values
@@ -92,22 +97,25 @@ condition_stays n t q k apart c i x free h = h ∙ sym (counted_local t.vertices
     other v given true e = absurd (not_both (q.u v) (subst (λ j. q.u j ≡ true) (let s : i ≡ v = grind (arith, e) in s) free) (apart v given))
 
 -- ---- in models
-pub bound_holds : BoundsHold → AdjustedBoundsHold → (method : Method) (end : End) (n : ℕ) (t : Table) (q : Asked) (s : ℕ → ℕ) → 1 ≤ condition (weights_in n t) q s
+pub bound_holds : BoundsHold → PairedBoundsHold → AdjustedBoundsHold → (method : Method) (end : End) (n : ℕ) (t : Table) (q : Asked) (s : ℕ → ℕ)
+    → (method ≡ LevelPairs → HasPairs n t q) → 1 ≤ condition (weights_in n t) q s
     → (g : MixedGraph) → IsMixedGraph g → MayBeUsed method g (is_used t) q
     → BoundsEffect end g q.x q.y q.c (is_used t) (weights_in n t) (total t.rows) s (bound_of method end (weights_in n t) q s)
-bound_holds law adjusted Instruments end n t q s some g ok may = law end g ok (is_used t) q may (weights_in n t) (total t.rows) s some
-bound_holds law adjusted Adjustment end n t q s some g ok may = adjusted end g ok (is_used t) q may (weights_in n t) (total t.rows) s
+bound_holds law paired adjusted Instruments end n t q s pairs some g ok may = law end g ok (is_used t) q may (weights_in n t) (total t.rows) s some
+bound_holds law paired adjusted LevelPairs end n t q s pairs some g ok may =
+    paired end g ok (is_used t) q may (weights_in n t) (pairs refl).two_valued (total t.rows) s some
+bound_holds law paired adjusted Adjustment end n t q s pairs some g ok may = adjusted end g ok (is_used t) q may (weights_in n t) (total t.rows) s
 
 -- what an outcome says of models
-pub bounds_in_models : {Q : Type 0} (numbers : Q → Pair) (kind : Kind) (covers : Pair → Fraction → Type 0) → Keeps kind covers → BoundsHold → AdjustedBoundsHold
-    → (method : Method) (end : End) (n : ℕ) (t : Table) (q : Asked) (s : ℕ → ℕ) → Apart q.c q.u → 1 ≤ condition (weights_in n t) q s
+pub bounds_in_models : {Q : Type 0} (numbers : Q → Pair) (kind : Kind) (covers : Pair → Fraction → Type 0) → Keeps kind covers → BoundsHold → PairedBoundsHold
+    → AdjustedBoundsHold → (method : Method) (end : End) (n : ℕ) (t : Table) (q : Asked) (s : ℕ → ℕ) → (method ≡ LevelPairs → HasPairs n t q) → Apart q.c q.u → 1 ≤ condition (weights_in n t) q s
     → (r : Result Q QuantityFault) → gives numbers r ≡ bound_value kind method end (weights_in n t) q s
     → IfOk r (λ v. BoundsInModels covers method end n t q s (numbers v))
-bounds_in_models numbers kind covers keeps law adjusted method end n t q s apart some (Ok v) e =
+bounds_in_models numbers kind covers keeps law paired adjusted method end n t q s pairs apart some (Ok v) e =
     let w = weights_in n t in record {
       covered = bound_covered kind covers keeps method end w q s (λ c. condition w q s ≡ condition w q c)
           (condition_stays n t q (condition w q s) apart) refl
           (λ c same. subst (λ k. 1 ≤ k) same some) (numbers v) (sym e);
-      bounds = bound_holds law adjusted method end n t q s some;
+      bounds = bound_holds law paired adjusted method end n t q s pairs some;
     }
-bounds_in_models numbers kind covers keeps law adjusted method end n t q s apart some (Err fault) e = tt
+bounds_in_models numbers kind covers keeps law paired adjusted method end n t q s pairs apart some (Err fault) e = tt

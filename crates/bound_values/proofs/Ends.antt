@@ -1,12 +1,10 @@
 -- What the told ends of bounds say of models.
-use Rattle.std.proofs.Common.{◌≡◌, ℕ, ◌+◌, ◌*◌, ◌<◌, ◌≤◌, Bool, true, false, cond, eqb, List, [], ◌∷◌, Result, Ok, Err, All, refl, sym, ap, subst, ◌∙◌, arith, eq-eqb}
+use Rattle.std.proofs.Common.{◌≡◌, ℕ, ◌≤◌, Bool, true, false, cond, eqb, List, [], ◌∷◌, Result, Ok, Err, All, refl, sym, ap, subst, ◌∙◌, arith}
 use Rattle.std.proofs.lemmas.List.Elements.{All-nil, All-cons}
 use Rattle.mixed_graph.specs.Sets.{Apart}
-use Rattle.finite_models.specs.Sums.{set_at}
-use Rattle.finite_models.specs.Models.{total as model_total, probability}
-use Rattle.finite_models.proofs.Bools.{not_both}
-use Rattle.fractions.specs.Fractions.{Fraction, over, IsEqual}
-use Rattle.quantity.specs.Kinds.{Pair, Kind}
+use Rattle.finite_models.specs.Models.{probability}
+use Rattle.fractions.specs.Fractions.{Fraction, over}
+use Rattle.quantity.specs.Kinds.{Pair}
 use Rattle.quantity.specs.Lawful.{Keeps}
 use Rattle.quantity.specs.Exacts.{Equals}
 use Rattle.quantity.specs.Intervals.{Covers}
@@ -14,24 +12,25 @@ use Rattle.quantity.specs.Laws.Exact.{exact_lawful}
 use Rattle.quantity.specs.Laws.Interval.{bounds_lawful}
 use Rattle.quantity.specs.declared.fault.QuantityFault.{QuantityFault}
 use Rattle.count_rows.specs.Rows.{Table}
-use Rattle.count_eval.specs.Programs.{weights_in, is_used, cell_of}
-use Rattle.count_eval.proofs.TableLaws.{counted_local}
+use Rattle.count_eval.specs.Programs.{weights_in, cell_of}
 use Rattle.natural_bounds.specs.declared.ends.End.{End}
 use Rattle.natural_bounds.specs.declared.ends.End.TheVariants.{AtLeast, AtMost}
 use Rattle.natural_bounds.specs.Bounds.{Asked, condition, BoundsHold}
-use Rattle.natural_bounds.specs.Orders.{Bounds, IsAtMost}
+use Rattle.natural_bounds.specs.Orders.{Bounds}
 use Rattle.natural_bounds.proofs.Orders.{equal_at_most, equal_at_least, bounds_trans}
+use Rattle.crossed_bounds.specs.Crossed.{PairedBoundsHold}
 use Rattle.adjusted_bounds.specs.Adjusted.{AdjustedBoundsHold}
 use Rattle.bound_values.specs.declared.questions.Method.{Method}
+use Rattle.bound_values.specs.declared.questions.Method.TheVariants.{LevelPairs}
 use Rattle.bound_values.specs.declared.values.Value.{Value}
 use Rattle.bound_values.specs.declared.values.CellBounds.{CellBounds}
 use Rattle.bound_values.specs.declared.values.CellFault.{CellFault}
-use Rattle.bound_values.specs.declared.values.CellFault.TheVariants.{NoRecords, TooWide}
+use Rattle.bound_values.specs.declared.values.CellFault.TheVariants.{NoRecords}
 use Rattle.bound_values.specs.Values.{bound_value, bound_of}
 use Rattle.std.proofs.Common.{◌++◌}
 use Rattle.std.specs.Global.{Vec}
 use Rattle.bound_values.specs.declared.questions.Question.{Question}
-use Rattle.bound_values.specs.Questions.{asked_of}
+use Rattle.bound_values.specs.Questions.{asked_of, HasPairs}
 use Rattle.bound_values.specs.Cells.{printed_cells}
 use Rattle.bound_values.specs.Found.{AreBounds}
 use Rattle.bound_values.specs.Told.{Appends, kind_of, number_of, value_in, told_value, end_value, both_ends, cell_bounds, in_front, bounds_at, IsEnd, AreEnds}
@@ -63,7 +62,8 @@ told_of : (is_exact : Bool) (end : End) (r : Result Pair QuantityFault) (v : Val
 told_of is_exact end (Ok p) v e = record { pair = p; was = refl; is = (let s : value_in is_exact end p ≡ v = cc in s) }
 told_of is_exact end (Err fault) v e = absurd (cc)
 
-module _ (law : BoundsHold) (adjusted : AdjustedBoundsHold) (is_exact : Bool) (method : Method) (n : ℕ) (t : Table) (q : Asked) (apart : Apart q.c q.u) where
+module _ (law : BoundsHold) (paired : PairedBoundsHold) (adjusted : AdjustedBoundsHold) (is_exact : Bool) (method : Method) (n : ℕ) (t : Table) (q : Asked)
+    (pairs : method ≡ LevelPairs → HasPairs n t q) (apart : Apart q.c q.u) where
   end_holds : (end : End) (cell : List ℕ) (v : Value) → 1 ≤ condition (weights_in n t) q (cell_of cell)
       → end_value is_exact method end (weights_in n t) q (cell_of cell) ≡ Ok v → IsEnd method end n t q cell v
   end_holds end cell v some e =
@@ -75,7 +75,7 @@ module _ (law : BoundsHold) (adjusted : AdjustedBoundsHold) (is_exact : Bool) (m
       λ g ok may m fit matched within. bounds_trans end (number_of v) (bound_of method end w q (cell_of cell)) (probability m q.x q.y q.c (cell_of cell))
       (subst (λ k. Bounds end (number_of k) (bound_of method end w q (cell_of cell))) told.is
       (end_bounds is_exact end told.pair (bound_of method end w q (cell_of cell)) covered))
-      (bound_holds law adjusted method end n t q (cell_of cell) some g ok may m fit matched within)
+      (bound_holds law paired adjusted method end n t q (cell_of cell) pairs some g ok may m fit matched within)
 
   ends_of : (cell : List ℕ) (b : CellBounds) (low high : Result Value QuantityFault) → 1 ≤ condition (weights_in n t) q (cell_of cell)
       → end_value is_exact method AtLeast (weights_in n t) q (cell_of cell) ≡ low → end_value is_exact method AtMost (weights_in n t) q (cell_of cell) ≡ high
@@ -110,11 +110,12 @@ module _ (law : BoundsHold) (adjusted : AdjustedBoundsHold) (is_exact : Bool) (m
       (λ cs k. all_ends cells cs k) e
 
 -- bounds that are appended to none are those of a question
-pub are_bounds : BoundsHold → AdjustedBoundsHold → (is_exact : Bool) (n : ℕ) (t : Table) (q : Question) → Apart (asked_of q).c (asked_of q).u
+pub are_bounds : BoundsHold → PairedBoundsHold → AdjustedBoundsHold → (is_exact : Bool) (n : ℕ) (t : Table) (q : Question)
+    → (q.method ≡ LevelPairs → HasPairs n t (asked_of q)) → Apart (asked_of q).c (asked_of q).u
     → (bounds : Vec CellBounds) (before : List CellBounds) → before ≡ []
     → Appends is_exact q.method n t (asked_of q) (printed_cells t q) before bounds.items → AreBounds is_exact n t q bounds
-are_bounds law adjusted is_exact n t q apart bounds before none appended =
+are_bounds law paired adjusted is_exact n t q pairs apart bounds before none appended =
     let same : bounds.items ≡ appended.list = appended.items ∙ ap (λ (bs : List CellBounds). bs ++ appended.list) none in
     let are : bounds_at (cell_bounds is_exact q.method n t (asked_of q)) (printed_cells t q) ≡ Ok bounds.items =
     appended.are ∙ ap (λ (bs : List CellBounds). Ok bs) (sym same) in
-    record { are = are; ends = all_ends law adjusted is_exact q.method n t (asked_of q) apart (printed_cells t q) bounds.items are }
+    record { are = are; ends = all_ends law paired adjusted is_exact q.method n t (asked_of q) pairs apart (printed_cells t q) bounds.items are }

@@ -1,12 +1,12 @@
 -- The first cell in whose stratum bounds cross.
-use Rattle.std.proofs.Common.{◌≡◌, ℕ, zero, suc, ◌+◌, ◌-◌, ◌*◌, ◌<◌, ◌≤◌, Bool, true, false, cond, List, [], ◌∷◌, ◌++◌, length, set, get_or, drop, refl, ap, sym}
-use Rattle.std.proofs.Common.{Option, Some, None, nat_lt, ◌∙◌, arith, subst}
+use Rattle.std.proofs.Common.{◌≡◌, ℕ, ◌+◌, ◌-◌, ◌<◌, ◌≤◌, Bool, true, false, cond, List, [], ◌∷◌, ◌++◌, length, set, get_or, drop, refl, ap, sym}
+use Rattle.std.proofs.Common.{Some, None, ◌∙◌}
 use Rattle.std.specs.Option.{option_or}
 use Rattle.std.specs.List.{find, flat_map, range_with_len}
 use Rattle.std.proofs.lemmas.List.Folds.{find-append}
 use Rattle.count_rows.specs.Rows.{Table}
 use Rattle.bound_values.specs.Cells.{cells_along, level_count}
-use Rattle.bound_values.proofs.CellLists.{cells_at_none, cells_at_first, numbers_more, numbers_around}
+use Rattle.bound_values.proofs.CellLists.{cells_at_first, numbers_more, numbers_around}
 
 module _ {A : Type 0} (p : A → Bool) where
   pub found_here : (x : A) → p x ≡ true → find p (x ∷ []) ≡ Some x

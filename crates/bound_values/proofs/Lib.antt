@@ -1,3 +1,9 @@
+mod Pairing
+mod Exactly
+mod TwoValued
+mod Outcomes
+mod Dividing
+mod Quotients
 pub mod Sums
 mod Boxes
 pub mod Covered

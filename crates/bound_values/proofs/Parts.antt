@@ -1,23 +1,29 @@
 -- Parts of the bounds at a stratum.
-use Rattle.std.proofs.Common.{ℕ, ◌+◌, ◌-◌, ◌*◌, ◌≡◌, ◌<◌, ◌≤◌, Bool, true, false, cond, eqb, ◌||◌, ◌++◌, List, All, refl, sym, ap, subst, ◌∙◌, arith, eqb-true}
-use Rattle.std.proofs.lemmas.Bool.{leb-false}
+use Rattle.std.proofs.Common.{ℕ, ◌*◌, ◌≡◌, Bool, true, false, cond, eqb, ◌||◌, ◌++◌, List, All, inl, inr, refl, sym, ap, ap₂, ◌∙◌, eqb-true}
+use Rattle.std.proofs.lemmas.Bool.{ltb-true, lt-ltb, le-ltb, lt-leb, le-leb, cases_lt}
 use Rattle.std.proofs.lemmas.List.Elements.{All-append}
-use Rattle.std.specs.Prelude.{nat_le}
+use Rattle.std.specs.Prelude.{nat_le, nat_lt, not, ◌≢◌}
 use Rattle.mixed_graph.specs.Bits.{has, members_below}
 use Rattle.fractions.specs.Fractions.{Fraction, over}
 use Rattle.prob_expr.specs.Values.{Weights}
 use Rattle.count_rows.specs.Rows.{Table}
-use Rattle.count_eval.specs.Programs.{is_used}
+use Rattle.count_table.specs.Cells.{total}
+use Rattle.count_table.specs.Tables.{HasLevels}
+use Rattle.count_eval.specs.Programs.{weights_in, is_used, cell_of}
 use Rattle.natural_bounds.specs.declared.ends.End.{End}
 use Rattle.natural_bounds.specs.declared.ends.End.TheVariants.{AtLeast, AtMost}
 use Rattle.natural_bounds.specs.Orders.{trivial}
-use Rattle.natural_bounds.specs.Bounds.{Asked, fixed, joint, treated, level, said, bound_at, stratum_bound, AreCrossed}
+use Rattle.natural_bounds.specs.Bounds.{Asked, joint, treated, level, said, bound_at, stratum_bound, CrossedHaveNoModel}
+use Rattle.crossed_bounds.specs.Crossed.{paired_bound, PairedCrossedHaveNoModel}
 use Rattle.adjusted_bounds.specs.Adjusted.{adjusted_at}
 use Rattle.bound_values.specs.declared.questions.Question.{Question}
+use Rattle.bound_values.specs.declared.questions.Method.{Method}
+use Rattle.bound_values.specs.declared.questions.Method.TheVariants.{Instruments, LevelPairs, Adjustment}
 use Rattle.bound_values.specs.declared.ratios.Ratio.{Ratio}
 use Rattle.bound_values.specs.Cells.{printed_vertices, crossing_vertices}
-use Rattle.bound_values.specs.Questions.{asked_of, joint_set, level_set, IsCounted}
-use Rattle.bound_values.specs.Values.{fraction_of}
+use Rattle.bound_values.specs.Questions.{asked_of, level_set, IsCounted, HasPairs}
+use Rattle.bound_values.specs.Values.{fraction_of, bound_by, DeniesModels}
+use Rattle.bound_values.specs.Found.{are_crossed}
 use Rattle.bound_values.proofs.Sums.{in_fixed, in_given}
 use Rattle.bound_values.proofs.Used.{all_members}
 use Rattle.std.proofs.lemmas.Bool.{or_left, or_right}
@@ -38,12 +44,30 @@ adjusted_said end n q s some = go (eqb (treated n q s) 0) refl
     go true e = absurd (some (eqb-true (treated n q s) 0 e))
     go false e = refl
 
--- bounds cross where the lower one isn't at most the upper one
-pub crossed_at : (n : Weights) (q : Asked) (s : ℕ → ℕ) (low high : Ratio) → fraction_of low ≡ stratum_bound AtLeast n q s
-    → fraction_of high ≡ stratum_bound AtMost n q s → nat_le (low.top * high.bottom) (high.top * low.bottom) ≡ false → AreCrossed n q s
-crossed_at n q s low high el eh h =
-    subst (λ (f : Fraction). (stratum_bound AtMost n q s).top * f.bottom < f.top * (stratum_bound AtMost n q s).bottom) el
-    (subst (λ (f : Fraction). f.top * low.bottom < low.top * f.bottom) eh (leb-false (low.top * high.bottom) (high.top * low.bottom) h))
+-- bounds cross exactly where the lower one isn't at most the upper one
+pub crossed_is : (method : Method) (n : Weights) (q : Asked) (s : ℕ → ℕ) (low high : Ratio) → fraction_of low ≡ bound_by method AtLeast n q s
+    → fraction_of high ≡ bound_by method AtMost n q s → are_crossed method n q s ≡ not (nat_le (low.top * high.bottom) (high.top * low.bottom))
+crossed_is method n q s low high el eh =
+    sym (ap₂ (λ (f h : Fraction). nat_lt (h.top * f.bottom) (f.top * h.bottom)) el eh) ∙ turned (low.top * high.bottom) (high.top * low.bottom)
+  where
+    turned : (a b : ℕ) → nat_lt b a ≡ not (nat_le a b)
+    turned a b = elim (cases_lt b a) [ inl lt ↦ lt-ltb b a lt ∙ sym (ap not (lt-leb a b lt)) | inr le ↦ le-ltb b a le ∙ sym (ap not (le-leb a b le)) ]
+
+-- no model has counts whose bounds cross
+pub denied : CrossedHaveNoModel → PairedCrossedHaveNoModel → (method : Method) (n : ℕ) (t : Table) (q : Asked) (cell : List ℕ)
+    → (method ≡ LevelPairs → HasPairs n t q) → (method ≢ Adjustment) → HasLevels t (is_used t) cell → are_crossed method (weights_in n t) q (cell_of cell) ≡ true
+    → DeniesModels method n t q (cell_of cell)
+denied law paired Instruments n t q cell pairs other levels crossed g ok may outside =
+    law g ok (is_used t) q may (weights_in n t) (total t.rows) (cell_of cell)
+    (record { inside = λ v lt used. (levels v used).1; outside = outside })
+    (ltb-true ((stratum_bound AtMost (weights_in n t) q (cell_of cell)).top * (stratum_bound AtLeast (weights_in n t) q (cell_of cell)).bottom)
+    ((stratum_bound AtLeast (weights_in n t) q (cell_of cell)).top * (stratum_bound AtMost (weights_in n t) q (cell_of cell)).bottom) crossed)
+denied law paired LevelPairs n t q cell pairs other levels crossed g ok may outside =
+    paired g ok (is_used t) q may (weights_in n t) (pairs refl).two_valued (total t.rows) (cell_of cell)
+    (record { inside = λ v lt used. (levels v used).1; outside = outside })
+    (ltb-true ((paired_bound AtMost (weights_in n t) q (cell_of cell)).top * (paired_bound AtLeast (weights_in n t) q (cell_of cell)).bottom)
+    ((paired_bound AtLeast (weights_in n t) q (cell_of cell)).top * (paired_bound AtMost (weights_in n t) q (cell_of cell)).bottom) crossed)
+denied law paired Adjustment n t q cell pairs other levels crossed g ok may outside = absurd (other refl)
 
 -- ---- the vertices that vary
 module _ (t : Table) (q : Question) (asked : IsCounted t (asked_of q)) where

@@ -1,5 +1,5 @@
 -- The sums that a question asks for.
-use Rattle.std.proofs.Common.{ℕ, ◌+◌, ◌-◌, ◌≡◌, ◌<◌, ◌≤◌, Bool, true, false, ◌||◌, eqb, refl, sym, ap, ◌∙◌, subst, List, length, set, get_or, eqb-true, arith, IsTrue}
+use Rattle.std.proofs.Common.{ℕ, ◌≡◌, ◌<◌, ◌≤◌, Bool, true, false, ◌||◌, eqb, refl, sym, ap, ◌∙◌, subst, List, length, set, get_or, eqb-true, arith}
 use Rattle.std.proofs.Common.{get_or-set_same, get_or-set_other}
 use mathlib.Core.Path.{fun_ext}
 use Rattle.std.proofs.lemmas.Bool.{or_left, or_right}
@@ -7,14 +7,14 @@ use Rattle.mixed_graph.specs.Bits.{has}
 use Rattle.mixed_graph.specs.Sets.{Apart}
 use Rattle.finite_models.proofs.Bools.{either, not_both}
 use Rattle.count_rows.specs.Rows.{Table, counted}
-use Rattle.count_table.specs.Cells.{total}
 use Rattle.count_table.specs.Tables.{AreCounts, HasLevels, levels_in}
 use Rattle.count_table.specs.Sums.{Margins}
 use Rattle.count_eval.specs.Programs.{weights_in, is_used, cell_of}
 use Rattle.count_eval.proofs.CountedLaws.{counted_shrinks, counted_small}
 use Rattle.count_eval.proofs.TableLaws.{counted_local}
 use Rattle.natural_bounds.specs.Bounds.{Asked, fixed, joint, treated, level, stratum, condition}
-use Rattle.bound_values.specs.Questions.{level_set, treated_set, joint_set, IsCounted, IsScope}
+use Rattle.bound_values.specs.declared.questions.Method.{Method}
+use Rattle.bound_values.specs.Questions.{level_set, treated_set, joint_set, IsScope}
 
 -- ---- parts of what is asked of
 pub in_level : (q : Asked) (v : ℕ) → level_set q v ≡ true → joint_set q v ≡ true
@@ -33,7 +33,7 @@ pub in_given : (q : Asked) (v : ℕ) → q.c v ≡ true → joint_set q v ≡ tr
 in_given q v i = in_fixed q v (or_left (q.c v) (q.u v) i)
 
 -- ---- sums
-pub has_levels : (t : Table) (sums : Margins) (q : Asked) (n mask : ℕ) (of : ℕ → Bool) (cell : List ℕ) → IsScope n t q sums
+pub has_levels : {method : Method} (t : Table) (sums : Margins) (q : Asked) (n mask : ℕ) (of : ℕ → Bool) (cell : List ℕ) → IsScope n t method q sums
     → ((v : ℕ) → has mask v ≡ of v) → ((v : ℕ) → of v ≡ true → joint_set q v ≡ true) → HasLevels t (is_used t) cell → HasLevels sums.table (has mask) cell
 has_levels t sums q n mask of cell scope same inside levels =
     subst (λ k. HasLevels k (has mask) cell) (sym scope.same) (λ v i. levels v (scope.asked v (inside v (sym (same v) ∙ i))))

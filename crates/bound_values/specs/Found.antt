@@ -1,15 +1,15 @@
 -- What is found of an effect over counts.
-use Rattle.std.specs.Prelude.{ℕ, ◌≡◌, ◌*◌, nat_lt, Bool, false, List, All, Option, Some, None, Ok, Err}
+use Rattle.std.specs.Prelude.{ℕ, ◌≡◌, ◌*◌, nat_lt, Bool, false, List, All, Option, Some, None, Ok}
 use Rattle.std.specs.Global.{Vec}
 use Rattle.std.specs.List.{find}
 use Rattle.prob_expr.specs.Values.{Weights}
 use Rattle.count_rows.specs.Rows.{Table}
 use Rattle.count_eval.specs.Programs.{weights_in, is_used, cell_of}
 use Rattle.natural_bounds.specs.declared.ends.End.TheVariants.{AtLeast, AtMost}
-use Rattle.natural_bounds.specs.Bounds.{Asked, stratum_bound}
+use Rattle.natural_bounds.specs.Bounds.{Asked}
 use Rattle.bound_values.specs.declared.questions.Question.{Question}
 use Rattle.bound_values.specs.declared.questions.Method.{Method}
-use Rattle.bound_values.specs.declared.questions.Method.TheVariants.{Instruments, Adjustment}
+use Rattle.bound_values.specs.declared.questions.Method.TheVariants.{Instruments, LevelPairs, Adjustment}
 use Rattle.bound_values.specs.declared.values.CellBounds.{CellBounds}
 use Rattle.bound_values.specs.declared.values.CellFault.{CellFault}
 use Rattle.bound_values.specs.declared.values.CellFault.TheVariants.{NoMemory}
@@ -18,39 +18,40 @@ use Rattle.bound_values.specs.declared.found.Found.{Found}
 use Rattle.bound_values.specs.declared.found.Found.TheVariants.{Crossed, Bounded}
 use Rattle.bound_values.specs.Questions.{asked_of}
 use Rattle.bound_values.specs.Cells.{printed_cells, crossing_cells}
-use Rattle.bound_values.specs.Values.{fraction_of, DeniesModels}
+use Rattle.bound_values.specs.Values.{fraction_of, bound_by, DeniesModels}
 use Rattle.bound_values.specs.Told.{cell_bounds, bounds_at, AreEnds, IsFaultAt}
 
 -- whether the bounds of the stratum of s cross
-abbrev pub are_crossed : Weights → Asked → (ℕ → ℕ) → Bool
-are_crossed n q s = nat_lt ((stratum_bound AtMost n q s).top * (stratum_bound AtLeast n q s).bottom)
-    ((stratum_bound AtLeast n q s).top * (stratum_bound AtMost n q s).bottom)
+abbrev pub are_crossed : Method → Weights → Asked → (ℕ → ℕ) → Bool
+are_crossed method n q s = nat_lt ((bound_by method AtMost n q s).top * (bound_by method AtLeast n q s).bottom)
+    ((bound_by method AtLeast n q s).top * (bound_by method AtMost n q s).bottom)
 
 -- the first of these cells in whose stratum bounds cross
-abbrev pub first_crossed : ℕ → Table → Asked → List (List ℕ) → Option (List ℕ)
-first_crossed n t q cells = find (λ cell. are_crossed (weights_in n t) q (cell_of cell)) cells
+abbrev pub first_crossed : Method → ℕ → Table → Asked → List (List ℕ) → Option (List ℕ)
+first_crossed method n t q cells = find (λ cell. are_crossed method (weights_in n t) q (cell_of cell)) cells
 
 -- the crossing at a cell: its bounds, for which no model of a graph has the counts
-pub record IsCrossing (n : ℕ) (t : Table) (q : Asked) (c : CellCrossing) : Type 0 where
-  pub lower : fraction_of c.crossing.lower ≡ stratum_bound AtLeast (weights_in n t) q (cell_of c.cell)
-  pub upper : fraction_of c.crossing.upper ≡ stratum_bound AtMost (weights_in n t) q (cell_of c.cell)
-  pub model : DeniesModels n t q (cell_of c.cell)
+pub record IsCrossing (method : Method) (n : ℕ) (t : Table) (q : Asked) (c : CellCrossing) : Type 0 where
+  pub lower : fraction_of c.crossing.lower ≡ bound_by method AtLeast (weights_in n t) q (cell_of c.cell)
+  pub upper : fraction_of c.crossing.upper ≡ bound_by method AtMost (weights_in n t) q (cell_of c.cell)
+  pub model : DeniesModels method n t q (cell_of c.cell)
   pub others : (v : ℕ) → is_used t v ≡ false → cell_of c.cell v ≡ 0
 
 -- that of the first cell that has one, or none
-abbrev pub IsFirstCrossing : ℕ → Table → Asked → List (List ℕ) → Option CellCrossing → Type 0
-IsFirstCrossing n t q cells None = first_crossed n t q cells ≡ None
-IsFirstCrossing n t q cells (Some c) = (first_crossed n t q cells ≡ Some c.cell) × IsCrossing n t q c
+abbrev pub IsFirstCrossing : Method → ℕ → Table → Asked → List (List ℕ) → Option CellCrossing → Type 0
+IsFirstCrossing method n t q cells None = first_crossed method n t q cells ≡ None
+IsFirstCrossing method n t q cells (Some c) = (first_crossed method n t q cells ≡ Some c.cell) × IsCrossing method n t q c
 
 -- the first crossing of a question; bounds by adjustment don't cross
 abbrev pub crossing_in : Method → ℕ → Table → Question → Option (List ℕ)
-crossing_in Instruments n t q = first_crossed n t (asked_of q) (crossing_cells t q)
+crossing_in Instruments n t q = first_crossed Instruments n t (asked_of q) (crossing_cells t q)
+crossing_in LevelPairs n t q = first_crossed LevelPairs n t (asked_of q) (crossing_cells t q)
 crossing_in Adjustment n t q = None
 
 -- what a question's first crossing is: there is none, or it is this one
 abbrev pub IsCrossingOf : ℕ → Table → Question → Option CellCrossing → Type 0
 IsCrossingOf n t q None = crossing_in q.method n t q ≡ None
-IsCrossingOf n t q (Some c) = ((q.method ≡ Instruments) × (crossing_in q.method n t q ≡ Some c.cell)) × IsCrossing n t (asked_of q) c
+IsCrossingOf n t q (Some c) = (crossing_in q.method n t q ≡ Some c.cell) × IsCrossing q.method n t (asked_of q) c
 
 -- the bounds at the printed cells: each bounds the effect in every model that has the counts
 pub record AreBounds (is_exact : Bool) (n : ℕ) (t : Table) (q : Question) (bounds : Vec CellBounds) : Type 0 where

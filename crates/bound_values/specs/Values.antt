@@ -11,10 +11,13 @@ use Rattle.count_rows.specs.Rows.{Table}
 use Rattle.count_table.specs.Cells.{total}
 use Rattle.count_eval.specs.Programs.{weights_in, is_used}
 use Rattle.natural_bounds.specs.Bounds.{Asked, share, stratum_bound, effect_bound, IsAskedOf, BoundsEffect, HasNoModel}
+use Rattle.crossed_bounds.specs.Crossed.{paired_bound, paired_effect}
 use Rattle.adjusted_bounds.specs.Adjusted.{adjusted_at, adjusted_bound, IsAdjusted}
 use Rattle.bound_values.specs.declared.ratios.Ratio.{Ratio}
 use Rattle.bound_values.specs.declared.questions.Method.{Method}
-use Rattle.bound_values.specs.declared.questions.Method.TheVariants.{Instruments, Adjustment}
+use Rattle.bound_values.specs.declared.questions.Method.TheVariants.{Instruments, LevelPairs, Adjustment}
+use Rattle.bound_values.specs.declared.questions.Question.{Question}
+use Rattle.bound_values.specs.Questions.{has_pairs}
 
 -- a ratio as a fraction
 abbrev pub fraction_of : Ratio → Fraction
@@ -43,16 +46,19 @@ total_over kind u s (suc n) f b = if u n then (total_below kind (s n) (λ x. tot
 -- the bound of a stratum
 abbrev pub bound_by : Method → End → Weights → Asked → (ℕ → ℕ) → Fraction
 bound_by Instruments = stratum_bound
+bound_by LevelPairs = paired_bound
 bound_by Adjustment = adjusted_at
 
 -- each stratum's share times its bound, summed over the strata
 abbrev pub bound_of : Method → End → Weights → Asked → (ℕ → ℕ) → Fraction
 bound_of Instruments = effect_bound
+bound_of LevelPairs = paired_effect
 bound_of Adjustment = adjusted_bound
 
 -- the method may be used for these sets of the graph: they are an instrument's, or the strata are those of an admissible set
 abbrev pub MayBeUsed : Method → MixedGraph → (used : ℕ → Bool) → Asked → Type 0
 MayBeUsed Instruments = IsAskedOf
+MayBeUsed LevelPairs = IsAskedOf
 MayBeUsed Adjustment = IsAdjusted
 
 -- a stratum's share times its bound
@@ -72,6 +78,22 @@ pub record BoundsInModels (covers : Pair → Fraction → Type 0) (method : Meth
       → BoundsEffect end g q.x q.y q.c (is_used t) (weights_in n t) (total t.rows) s (bound_of method end (weights_in n t) q s)
 
 -- no model of such a graph has the counts, where the cell has 0 for each vertex that isn't used
-abbrev pub DeniesModels : ℕ → Table → Asked → (ℕ → ℕ) → Type 0
-DeniesModels n t q s = (g : MixedGraph) → IsMixedGraph g → IsAskedOf g (is_used t) q → ((v : ℕ) → is_used t v ≡ false → s v ≡ 0)
+abbrev pub DeniesModels : Method → ℕ → Table → Asked → (ℕ → ℕ) → Type 0
+DeniesModels method n t q s = (g : MixedGraph) → IsMixedGraph g → MayBeUsed method g (is_used t) q → ((v : ℕ) → is_used t v ≡ false → s v ≡ 0)
     → HasNoModel g (is_used t) (weights_in n t) (total t.rows)
+
+-- ---- the method over a table
+
+-- pairs of levels in place of levels, where they are used
+abbrev pub in_place : Method → (pairs : Bool) → Method
+in_place Instruments pairs = if pairs then LevelPairs else Instruments
+in_place LevelPairs pairs = if pairs then LevelPairs else Instruments
+in_place Adjustment pairs = Adjustment
+
+-- the method over a table
+abbrev pub method_over : Table → Question → Method
+method_over t q = in_place q.method (has_pairs t q)
+
+-- the question by this method
+abbrev pub over_table : Table → Question → Question
+over_table t q = record { x = q.x; y = q.y; given = q.given; instruments = q.instruments; strata = q.strata; method = method_over t q }

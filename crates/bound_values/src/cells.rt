@@ -11,13 +11,14 @@ ghost use Rattle.adjusted_bounds.specs.Adjusted.{adjusted_at};
 ghost use Rattle.bound_values.specs.Questions.{asked_of, IsScope};
 ghost use Rattle.bound_values.specs.Values.{fraction_of, bound_by};
 
+use crate::pairs::paired_bound;
 use crate::questions::{Method, Scope};
 use crate::ratios::Ratio;
 use natural_bounds::End;
 
 /// What the records of a level say that the effect is at least: P(x, y | z, w).
 fn least_bound(scope: &Scope, cell: &[u32; 64], records: u64) -> Ratio
-    requires scope { IsScope scope.now.n scope.now.counts.now (asked_of scope.now.question) scope.now.sums.now }
+    requires scope { IsScope scope.now.n scope.now.counts.now scope.now.question.method (asked_of scope.now.question) scope.now.sums.now }
     requires levels { HasLevels scope.now.counts.now (is_used scope.now.counts.now) cell.now }
     requires records { records ≡ level (weights_in scope.now.n scope.now.counts.now) (asked_of scope.now.question) (cell_of cell.now) }
     requires some { 1 ≤ records }
@@ -25,14 +26,14 @@ fn least_bound(scope: &Scope, cell: &[u32; 64], records: u64) -> Ratio
 {
     let joint = scope.sums.sum(scope.question.joint(), cell);
     Ratio {
-        top: joint,
-        bottom: records,
+        top: joint as u128,
+        bottom: records as u128,
     }
 }
 
 /// What they say that it is at most: P(x, y | z, w) + 1 - P(x | z, w).
 fn most_bound(scope: &Scope, cell: &[u32; 64], records: u64) -> Ratio
-    requires scope { IsScope scope.now.n scope.now.counts.now (asked_of scope.now.question) scope.now.sums.now }
+    requires scope { IsScope scope.now.n scope.now.counts.now scope.now.question.method (asked_of scope.now.question) scope.now.sums.now }
     requires levels { HasLevels scope.now.counts.now (is_used scope.now.counts.now) cell.now }
     requires records { records ≡ level (weights_in scope.now.n scope.now.counts.now) (asked_of scope.now.question) (cell_of cell.now) }
     requires some { 1 ≤ records }
@@ -41,14 +42,14 @@ fn most_bound(scope: &Scope, cell: &[u32; 64], records: u64) -> Ratio
     let joint = scope.sums.sum(scope.question.joint(), cell);
     let treated = scope.sums.sum(scope.question.treated(), cell);
     Ratio {
-        top: joint + (records - treated),
-        bottom: records,
+        top: (joint + (records - treated)) as u128,
+        bottom: records as u128,
     }
 }
 
 /// What the level of the instruments in a cell says of the effect in the cell's stratum.
 fn level_bound(scope: &Scope, end: End, cell: &[u32; 64]) -> Ratio
-    requires scope { IsScope scope.now.n scope.now.counts.now (asked_of scope.now.question) scope.now.sums.now }
+    requires scope { IsScope scope.now.n scope.now.counts.now scope.now.question.method (asked_of scope.now.question) scope.now.sums.now }
     requires levels { HasLevels scope.now.counts.now (is_used scope.now.counts.now) cell.now }
     ensures { fraction_of result ≡ bound_at end (weights_in scope.now.n scope.now.counts.now) (asked_of scope.now.question) (cell_of cell.now) }
 {
@@ -64,7 +65,7 @@ fn level_bound(scope: &Scope, end: End, cell: &[u32; 64]) -> Ratio
 
 /// The tightest of what the levels of the instruments below v say.
 fn tightest(scope: &Scope, end: End, v: u8, cell: [u32; 64]) -> Ratio
-    requires scope { IsScope scope.now.n scope.now.counts.now (asked_of scope.now.question) scope.now.sums.now }
+    requires scope { IsScope scope.now.n scope.now.counts.now scope.now.question.method (asked_of scope.now.question) scope.now.sums.now }
     requires levels { HasLevels scope.now.counts.now (is_used scope.now.counts.now) cell }
     requires vertex { v ≤ 64 }
     ensures { fraction_of result ≡ tightest_over end (has scope.now.question.instruments.bits) (weights_in scope.now.n scope.now.counts.now).size v
@@ -96,7 +97,7 @@ pub fn vertex_count(scope: &Scope) -> u8
 
 /// The bound of the stratum of a cell: the tightest over the levels of the instruments.
 pub fn stratum_bound(scope: &Scope, end: End, cell: [u32; 64]) -> Ratio
-    requires scope { IsScope scope.now.n scope.now.counts.now (asked_of scope.now.question) scope.now.sums.now }
+    requires scope { IsScope scope.now.n scope.now.counts.now scope.now.question.method (asked_of scope.now.question) scope.now.sums.now }
     requires levels { HasLevels scope.now.counts.now (is_used scope.now.counts.now) cell }
     ensures { fraction_of result ≡ stratum_bound end (weights_in scope.now.n scope.now.counts.now) (asked_of scope.now.question) (cell_of cell) }
 {
@@ -105,7 +106,7 @@ pub fn stratum_bound(scope: &Scope, end: End, cell: [u32; 64]) -> Ratio
 
 /// What the records of the arm say of the effect in the stratum of a cell.
 fn adjusted_bound(scope: &Scope, end: End, cell: &[u32; 64]) -> Ratio
-    requires scope { IsScope scope.now.n scope.now.counts.now (asked_of scope.now.question) scope.now.sums.now }
+    requires scope { IsScope scope.now.n scope.now.counts.now scope.now.question.method (asked_of scope.now.question) scope.now.sums.now }
     requires levels { HasLevels scope.now.counts.now (is_used scope.now.counts.now) cell.now }
     ensures { fraction_of result ≡ adjusted_at end (weights_in scope.now.n scope.now.counts.now) (asked_of scope.now.question) (cell_of cell.now) }
 {
@@ -115,19 +116,20 @@ fn adjusted_bound(scope: &Scope, end: End, cell: &[u32; 64]) -> Ratio
         return Ratio::trivial(end);
     }
     Ratio {
-        top: scope.sums.sum(question.joint(), cell),
-        bottom: treated,
+        top: scope.sums.sum(question.joint(), cell) as u128,
+        bottom: treated as u128,
     }
 }
 
 /// The bound of the stratum of a cell, by the question's method.
 pub fn bound_by(scope: &Scope, end: End, cell: [u32; 64]) -> Ratio
-    requires scope { IsScope scope.now.n scope.now.counts.now (asked_of scope.now.question) scope.now.sums.now }
+    requires scope { IsScope scope.now.n scope.now.counts.now scope.now.question.method (asked_of scope.now.question) scope.now.sums.now }
     requires levels { HasLevels scope.now.counts.now (is_used scope.now.counts.now) cell }
     ensures { fraction_of result ≡ bound_by scope.now.question.method end (weights_in scope.now.n scope.now.counts.now) (asked_of scope.now.question) (cell_of cell) }
 {
     match scope.question.method {
         Method::Instruments => stratum_bound(scope, end, cell),
+        Method::LevelPairs => paired_bound(scope, end, cell),
         Method::Adjustment => adjusted_bound(scope, end, &cell),
     }
 }

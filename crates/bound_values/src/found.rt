@@ -1,15 +1,17 @@
 //! The bounds at all cells, or a crossing.
 
-ghost use Rattle.std.specs.Prelude.{ℕ, ◌≡◌, ◌≤◌, ◌<◌, ◌∷◌, [], All, true, IfOk, IfErr, OnOk};
+ghost use Rattle.std.specs.Prelude.{ℕ, ◌≡◌, ◌≢◌, ◌≤◌, ◌<◌, ◌∷◌, [], All, true, IfOk, IfErr, OnOk};
 ghost use Rattle.mixed_graph.specs.Sets.{Apart};
 ghost use Rattle.mixed_graph.specs.Bits.{has};
 ghost use Rattle.count_eval.specs.Programs.{is_used};
 ghost use Rattle.bound_values.specs.Cells.{IsCell, cells_along, printed_vertices, crossing_vertices};
 ghost use Rattle.bound_values.specs.Questions.{asked_of, IsCounted, IsScope};
 ghost use Rattle.bound_values.specs.Told.{Appends, IsFaultAt};
+ghost use Rattle.bound_values.specs.Values.{over_table};
 ghost use Rattle.bound_values.specs.Found.{IsFirstCrossing, IsCrossingOf, AreBounds, IsFaultOf, IsFound, IsUnfound};
 
 use crate::crossings::{Crossing, crossing_at};
+use crate::methods::method_over;
 use crate::questions::{Method, Question, Scope};
 use crate::values::{CellBounds, CellFault, bounds_at};
 use count_table::Counts;
@@ -34,9 +36,10 @@ pub enum Found {
 
 /// The crossing of the bounds of a cell's stratum.
 fn one_crossing(scope: &Scope, cell: [u32; 64]) -> Option<CellCrossing>
-    requires scope { IsScope scope.now.n scope.now.counts.now (asked_of scope.now.question) scope.now.sums.now }
+    requires scope { IsScope scope.now.n scope.now.counts.now scope.now.question.method (asked_of scope.now.question) scope.now.sums.now }
     requires cell { IsCell scope.now.counts.now cell }
-    ensures { IsFirstCrossing scope.now.n scope.now.counts.now (asked_of scope.now.question) (cell ∷ []) result }
+    requires instruments { scope.now.question.method ≢ Method.Adjustment }
+    ensures { IsFirstCrossing scope.now.question.method scope.now.n scope.now.counts.now (asked_of scope.now.question) (cell ∷ []) result }
 {
     match crossing_at(scope, cell) {
         Some(crossing) => Some(CellCrossing { cell, crossing }),
@@ -46,10 +49,11 @@ fn one_crossing(scope: &Scope, cell: [u32; 64]) -> Option<CellCrossing>
 
 /// The first of all cells that differ from `cell` at most in these vertices, in whose stratum the bounds cross.
 fn first_crossing(scope: &Scope, vertices: &[u8], cell: [u32; 64]) -> Option<CellCrossing>
-    requires scope { IsScope scope.now.n scope.now.counts.now (asked_of scope.now.question) scope.now.sums.now }
+    requires scope { IsScope scope.now.n scope.now.counts.now scope.now.question.method (asked_of scope.now.question) scope.now.sums.now }
     requires vertices { All (λ v. is_used scope.now.counts.now v ≡ true) vertices.now }
     requires cell { IsCell scope.now.counts.now cell }
-    ensures { IsFirstCrossing scope.now.n scope.now.counts.now (asked_of scope.now.question) (cells_along scope.now.counts.now cell vertices.now) result }
+    requires instruments { scope.now.question.method ≢ Method.Adjustment }
+    ensures { IsFirstCrossing scope.now.question.method scope.now.n scope.now.counts.now (asked_of scope.now.question) (cells_along scope.now.counts.now cell vertices.now) result }
 {
     let [v, rest @ ..] = vertices else {
         return one_crossing(scope, cell);
@@ -73,7 +77,7 @@ fn push_bounds(
     vertices: &[u8],
     cell: [u32; 64],
 ) -> Result<(), CellFault>
-    requires scope { IsScope scope.now.n scope.now.counts.now (asked_of scope.now.question) scope.now.sums.now }
+    requires scope { IsScope scope.now.n scope.now.counts.now scope.now.question.method (asked_of scope.now.question) scope.now.sums.now }
     requires apart { Apart (has scope.now.question.given.bits) (has scope.now.question.strata.bits) }
     requires vertices { All (λ v. is_used scope.now.counts.now v ≡ true) vertices.now }
     requires cell { IsCell scope.now.counts.now cell }
@@ -103,7 +107,7 @@ fn push_cell(
     exact: bool,
     cell: [u32; 64],
 ) -> Result<(), CellFault>
-    requires scope { IsScope scope.now.n scope.now.counts.now (asked_of scope.now.question) scope.now.sums.now }
+    requires scope { IsScope scope.now.n scope.now.counts.now scope.now.question.method (asked_of scope.now.question) scope.now.sums.now }
     requires apart { Apart (has scope.now.question.given.bits) (has scope.now.question.strata.bits) }
     requires cell { IsCell scope.now.counts.now cell }
     ensures bounds { OnOk result (Appends exact scope.now.question.method scope.now.n scope.now.counts.now (asked_of scope.now.question)
@@ -144,12 +148,12 @@ fn crossing_vertices(alloc: Global, question: Question) -> Result<Vec<u8>, Alloc
 
 /// The first crossing of the bounds by instruments; none where the effect is bounded by adjustment.
 fn crossing_of(alloc: Global, scope: &Scope) -> Result<Option<CellCrossing>, AllocError>
-    requires { IsScope scope.now.n scope.now.counts.now (asked_of scope.now.question) scope.now.sums.now }
+    requires { IsScope scope.now.n scope.now.counts.now scope.now.question.method (asked_of scope.now.question) scope.now.sums.now }
     ensures { IfOk result (IsCrossingOf scope.now.n scope.now.counts.now scope.now.question) }
 {
     match scope.question.method {
         Method::Adjustment => Ok(None),
-        Method::Instruments => {
+        Method::Instruments | Method::LevelPairs => {
             let vertices = crossing_vertices(alloc, scope.question)?;
             Ok(first_crossing(scope, &vertices, [0; 64]))
         }
@@ -158,13 +162,14 @@ fn crossing_of(alloc: Global, scope: &Scope) -> Result<Option<CellCrossing>, All
 
 /// The bounds at all printed cells.
 fn bounds_of(alloc: Global, scope: &Scope, exact: bool) -> Result<Vec<CellBounds>, CellFault>
-    requires scope { IsScope scope.now.n scope.now.counts.now (asked_of scope.now.question) scope.now.sums.now }
+    requires scope { IsScope scope.now.n scope.now.counts.now scope.now.question.method (asked_of scope.now.question) scope.now.sums.now }
     requires apart { Apart (has scope.now.question.given.bits) (has scope.now.question.strata.bits) }
     ensures bounds { IfOk result (AreBounds exact scope.now.n scope.now.counts.now scope.now.question) }
     ensures fault { IfErr result (IsFaultOf exact scope.now.n scope.now.counts.now scope.now.question) }
 {
-    // The clauses `effect` are needed: what the bounds of either method say of models.
+    // The clauses `effect` are needed: what the bounds of each method say of models.
     natural_bounds::laws();
+    crossed_bounds::laws();
     adjusted_bounds::laws();
     let Ok(vertices) = printed_vertices(alloc, scope.question) else {
         return Err(CellFault::NoMemory);
@@ -178,7 +183,7 @@ fn bounds_of(alloc: Global, scope: &Scope, exact: bool) -> Result<Vec<CellBounds
 
 /// The same, where no bounds cross.
 fn found_in(alloc: Global, scope: &Scope, exact: bool) -> Result<Found, CellFault>
-    requires scope { IsScope scope.now.n scope.now.counts.now (asked_of scope.now.question) scope.now.sums.now }
+    requires scope { IsScope scope.now.n scope.now.counts.now scope.now.question.method (asked_of scope.now.question) scope.now.sums.now }
     requires apart { Apart (has scope.now.question.given.bits) (has scope.now.question.strata.bits) }
     ensures found { IfOk result (IsFound exact scope.now.n scope.now.counts.now scope.now.question) }
     ensures fault { IfErr result (IsUnfound exact scope.now.n scope.now.counts.now scope.now.question) }
@@ -215,6 +220,8 @@ fn sums_for<'a>(
 
 /// What counts of n vertices say of an effect: its bounds at each level of x, of what is given and of y, or a stratum where bounds cross.
 ///
+/// Where the question is by instruments, x is one vertex with two levels, and pairs of levels are few, these sharpen the bounds.
+///
 /// `NoRecords`: the first printed cell where what is given has no records. `TooWide`: a number would be over 2^127 - 1.
 pub fn bounds_over(
     alloc: Global,
@@ -227,19 +234,22 @@ pub fn bounds_over(
     requires few { n ≤ 64 }
     requires below { (v : ℕ) → is_used counts.now v ≡ true → v < n }
     requires apart { Apart (has question.given.bits) (has question.strata.bits) }
-    ensures found { IfOk result (IsFound exact n counts.now question) }
-    ensures fault { IfErr result (IsUnfound exact n counts.now question) }
+    ensures found { IfOk result (IsFound exact n counts.now (over_table counts.now question)) }
+    ensures fault { IfErr result (IsUnfound exact n counts.now (over_table counts.now question)) }
 {
     // The clause `table` of `used` is needed: each used vertex has a level, and none other.
     let _used = counts.used();
     let Ok(sums) = sums_for(alloc, counts, question) else {
         return Err(CellFault::NoMemory);
     };
+    let Ok(method) = method_over(alloc, counts, question) else {
+        return Err(CellFault::NoMemory);
+    };
     let scope = Scope {
         counts,
         sums: &sums,
         n,
-        question,
+        question: Question { method, ..question },
     };
     found_in(alloc, &scope, exact)
 }

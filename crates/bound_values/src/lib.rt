@@ -5,12 +5,16 @@
 #![tactic(auto)]
 
 mod cells;
+mod comparing;
 mod crossings;
 mod found;
+mod methods;
+mod pairs;
 mod questions;
 mod ratios;
 mod strata;
 mod values;
+mod wide;
 
 pub use crossings::{Crossing, crossing_at};
 pub use found::{CellCrossing, Found, bounds_over};
@@ -19,3 +23,4 @@ pub use questions::{Method, Question, Scope};
 pub use ratios::Ratio;
 pub use strata::effect_bound;
 pub use values::{CellBounds, CellFault, Value, bounds_at};
+pub use wide::OfRatio;

@@ -14,6 +14,8 @@ use mixed_graph::VSet;
 pub enum Method {
     /// By the levels of the instruments, of which there may be none (Robins 1989; Manski 1990; Balke and Pearl 1997).
     Instruments,
+    /// By these, and by pairs of levels, for a treatment with two values (Balke and Pearl 1997; Richardson and Robins 2014).
+    LevelPairs,
     /// By the records of the arm, where the strata are those of a set that may be adjusted for.
     Adjustment,
 }

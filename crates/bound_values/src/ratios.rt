@@ -1,22 +1,37 @@
-//! Fractions of counts.
+//! Fractions of counts and of their products.
 
 ghost use Rattle.std.specs.Prelude.{ℕ, ◌≡◌, ◌≤◌, ◌*◌, ◌^◌, nat_le};
 
+use crate::comparing::is_at_most;
 use natural_bounds::End;
 
-/// The fraction top / bottom of counts, at most 1.
+/// The fraction top / bottom of counts, or of sums of products of two of them. It is at most 4.
 #[derive(Clone, Copy, Debug, PartialEq, Eq)]
 pub struct Ratio {
-    pub top: u64,
-    pub bottom: u64,
+    pub top: u128,
+    pub bottom: u128,
     pub ghost positive: { 1 ≤ bottom },
-    pub ghost at_most_one: { top ≤ bottom },
-    pub ghost small: { bottom ≤ 10 ^ 15 },
+    pub ghost at_most_four: { top ≤ 4 * bottom },
+    pub ghost small: { bottom ≤ 10 ^ 30 },
 }
 
+/// The most that a count is.
+const MOST_COUNT: u128 = 1_000_000_000_000_000;
+
 impl Ratio {
+    ghost use Rattle.fractions.specs.Fractions.{over};
     ghost use Rattle.natural_bounds.specs.Orders.{trivial, tighter};
     ghost use Rattle.bound_values.specs.Values.{fraction_of};
+
+    /// The fraction top / bottom.
+    pub fn new(top: u128, bottom: u128) -> Ratio
+        requires positive { 1 ≤ bottom }
+        requires at_most_four { top ≤ 4 * bottom }
+        requires small { bottom ≤ 10 ^ 30 }
+        ensures { fraction_of result ≡ over top bottom }
+    {
+        Ratio { top, bottom }
+    }
 
     /// What bounds each probability.
     pub fn trivial(end: End) -> Ratio
@@ -32,7 +47,11 @@ impl Ratio {
     pub fn is_at_most(self, other: Ratio) -> bool
         ensures { result ≡ nat_le (self.top * other.bottom) (other.top * self.bottom) }
     {
-        self.top as u128 * other.bottom as u128 <= other.top as u128 * self.bottom as u128
+        if self.bottom <= MOST_COUNT && other.bottom <= MOST_COUNT {
+            self.top * other.bottom <= other.top * self.bottom
+        } else {
+            is_at_most(self.top, self.bottom, other.top, other.bottom)
+        }
     }
 
     /// The tighter of two bounds.

@@ -12,12 +12,13 @@ ghost use Rattle.bound_values.specs.Values.{term_value, total_over, bound_value,
 
 use crate::cells::{bound_by, vertex_count};
 use crate::questions::Scope;
+use crate::wide::OfRatio;
 use natural_bounds::End;
-use quantity::{Quantity, QuantityFault};
+use quantity::QuantityFault;
 
 /// A stratum's share of the condition, times its bound.
-fn term<Q: Quantity>(scope: &Scope, end: End, cell: [u32; 64]) -> Result<Q, QuantityFault>
-    requires scope { IsScope scope.now.n scope.now.counts.now (asked_of scope.now.question) scope.now.sums.now }
+fn term<Q: OfRatio>(scope: &Scope, end: End, cell: [u32; 64]) -> Result<Q, QuantityFault>
+    requires scope { IsScope scope.now.n scope.now.counts.now scope.now.question.method (asked_of scope.now.question) scope.now.sums.now }
     requires levels { HasLevels scope.now.counts.now (is_used scope.now.counts.now) cell }
     requires some { 1 ≤ condition (weights_in scope.now.n scope.now.counts.now) (asked_of scope.now.question) (cell_of cell) }
     ensures { gives Q.numbers result ≡ term_value Q.kind scope.now.question.method end (weights_in scope.now.n scope.now.counts.now)
@@ -28,17 +29,17 @@ fn term<Q: Quantity>(scope: &Scope, end: End, cell: [u32; 64]) -> Result<Q, Quan
     let condition = scope.sums.sum(question.given, &cell);
     let share = Q::from_ratio(stratum, condition);
     let bound = bound_by(scope, end, cell);
-    share.mul(&Q::from_ratio(bound.top, bound.bottom))
+    share.mul(&Q::of_ratio(bound))
 }
 
 /// The sum over the strata that differ from the cell's below v.
-fn strata_below<Q: Quantity>(
+fn strata_below<Q: OfRatio>(
     scope: &Scope,
     end: End,
     v: u8,
     cell: [u32; 64],
 ) -> Result<Q, QuantityFault>
-    requires scope { IsScope scope.now.n scope.now.counts.now (asked_of scope.now.question) scope.now.sums.now }
+    requires scope { IsScope scope.now.n scope.now.counts.now scope.now.question.method (asked_of scope.now.question) scope.now.sums.now }
     requires levels { HasLevels scope.now.counts.now (is_used scope.now.counts.now) cell }
     requires some { 1 ≤ condition (weights_in scope.now.n scope.now.counts.now) (asked_of scope.now.question) (cell_of cell) }
     requires apart { Apart (has scope.now.question.given.bits) (has scope.now.question.strata.bits) }
@@ -73,12 +74,12 @@ fn strata_below<Q: Quantity>(
 ///
 /// The entries of the cell are the numbers of levels, one for each vertex; those of vertices that aren't asked of don't count. The condition
 /// has to have records at the cell. `TooWide`: a number would be over 2^127 - 1.
-pub fn effect_bound<Q: Quantity>(
+pub fn effect_bound<Q: OfRatio>(
     scope: &Scope,
     end: End,
     cell: [u32; 64],
 ) -> Result<Q, QuantityFault>
-    requires scope { IsScope scope.now.n scope.now.counts.now (asked_of scope.now.question) scope.now.sums.now }
+    requires scope { IsScope scope.now.n scope.now.counts.now scope.now.question.method (asked_of scope.now.question) scope.now.sums.now }
     requires levels { HasLevels scope.now.counts.now (is_used scope.now.counts.now) cell }
     requires some { 1 ≤ condition (weights_in scope.now.n scope.now.counts.now) (asked_of scope.now.question) (cell_of cell) }
     requires apart { Apart (has scope.now.question.given.bits) (has scope.now.question.strata.bits) }
@@ -87,8 +88,9 @@ pub fn effect_bound<Q: Quantity>(
     ensures effect { IfOk result (λ q. BoundsInModels Q.covers scope.now.question.method end scope.now.n scope.now.counts.now
         (asked_of scope.now.question) (cell_of cell) (Q.numbers q)) }
 {
-    // The clauses `effect` are needed: what the bounds of either method say of models.
+    // The clauses `effect` are needed: what the bounds of each method say of models.
     natural_bounds::laws();
+    crossed_bounds::laws();
     adjusted_bounds::laws();
     strata_below(scope, end, vertex_count(scope), cell)
 }

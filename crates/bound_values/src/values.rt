@@ -45,7 +45,7 @@ pub enum CellFault {
 
 /// An end in exact fractions.
 fn exact_end(scope: &Scope, end: End, cell: [u32; 64]) -> Result<Value, QuantityFault>
-    requires scope { IsScope scope.now.n scope.now.counts.now (asked_of scope.now.question) scope.now.sums.now }
+    requires scope { IsScope scope.now.n scope.now.counts.now scope.now.question.method (asked_of scope.now.question) scope.now.sums.now }
     requires levels { HasLevels scope.now.counts.now (is_used scope.now.counts.now) cell }
     requires some { 1 ≤ condition (weights_in scope.now.n scope.now.counts.now) (asked_of scope.now.question) (cell_of cell) }
     requires apart { Apart (has scope.now.question.given.bits) (has scope.now.question.strata.bits) }
@@ -73,7 +73,7 @@ fn outer(end: End, bounds: Bounds) -> Value
 
 /// An end in units of 10^-18.
 fn rounded_end(scope: &Scope, end: End, cell: [u32; 64]) -> Result<Value, QuantityFault>
-    requires scope { IsScope scope.now.n scope.now.counts.now (asked_of scope.now.question) scope.now.sums.now }
+    requires scope { IsScope scope.now.n scope.now.counts.now scope.now.question.method (asked_of scope.now.question) scope.now.sums.now }
     requires levels { HasLevels scope.now.counts.now (is_used scope.now.counts.now) cell }
     requires some { 1 ≤ condition (weights_in scope.now.n scope.now.counts.now) (asked_of scope.now.question) (cell_of cell) }
     requires apart { Apart (has scope.now.question.given.bits) (has scope.now.question.strata.bits) }
@@ -88,7 +88,7 @@ fn rounded_end(scope: &Scope, end: End, cell: [u32; 64]) -> Result<Value, Quanti
 
 /// An end in exact fractions, or else in units of 10^-18.
 fn end_value(scope: &Scope, exact: bool, end: End, cell: [u32; 64]) -> Result<Value, QuantityFault>
-    requires scope { IsScope scope.now.n scope.now.counts.now (asked_of scope.now.question) scope.now.sums.now }
+    requires scope { IsScope scope.now.n scope.now.counts.now scope.now.question.method (asked_of scope.now.question) scope.now.sums.now }
     requires levels { HasLevels scope.now.counts.now (is_used scope.now.counts.now) cell }
     requires some { 1 ≤ condition (weights_in scope.now.n scope.now.counts.now) (asked_of scope.now.question) (cell_of cell) }
     requires apart { Apart (has scope.now.question.given.bits) (has scope.now.question.strata.bits) }
@@ -103,7 +103,7 @@ fn end_value(scope: &Scope, exact: bool, end: End, cell: [u32; 64]) -> Result<Va
 
 /// The bounds at a cell, or why there are none.
 pub fn bounds_at(scope: &Scope, exact: bool, cell: [u32; 64]) -> Result<CellBounds, CellFault>
-    requires scope { IsScope scope.now.n scope.now.counts.now (asked_of scope.now.question) scope.now.sums.now }
+    requires scope { IsScope scope.now.n scope.now.counts.now scope.now.question.method (asked_of scope.now.question) scope.now.sums.now }
     requires levels { HasLevels scope.now.counts.now (is_used scope.now.counts.now) cell }
     requires apart { Apart (has scope.now.question.given.bits) (has scope.now.question.strata.bits) }
     ensures { result ≡ cell_bounds exact scope.now.question.method scope.now.n scope.now.counts.now (asked_of scope.now.question) cell }

@@ -11,11 +11,12 @@ use Rattle.natural_bounds.specs.declared.ends.End.TheVariants.{AtLeast, AtMost}
 use Rattle.natural_bounds.specs.Bounds.{Asked, condition}
 use Rattle.bound_values.specs.declared.questions.Question.{Question}
 use Rattle.bound_values.specs.declared.questions.Method.{Method}
-use Rattle.bound_values.specs.declared.questions.Method.TheVariants.{Instruments, Adjustment}
+use Rattle.bound_values.specs.declared.questions.Method.TheVariants.{Instruments, LevelPairs, Adjustment}
 use Rattle.bound_values.specs.declared.values.CellBounds.{CellBounds}
 use Rattle.bound_values.specs.declared.values.CellFault.{CellFault}
 use Rattle.bound_values.specs.declared.values.CellFault.TheVariants.{NoRecords}
 use Rattle.bound_values.specs.Questions.{asked_of}
+use Rattle.bound_values.specs.Values.{over_table}
 use Rattle.bound_values.specs.Cells.{cells_along, first_cell, printed_vertices, crossing_vertices, printed_cells}
 use Rattle.bound_values.specs.Told.{end_value, both_ends, cell_bounds, bounds_at}
 use Rattle.bound_values.specs.Found.{are_crossed, crossing_in}
@@ -24,6 +25,10 @@ use Rattle.bound_values.specs.Found.{are_crossed, crossing_in}
 abbrev bounds_in : (is_exact : Bool) → Method → Weights → Asked → List ℕ → Result CellBounds CellFault
 bounds_in is_exact method w q cell = cond (condition w q (cell_of cell) == 0) (Err (NoRecords cell))
     (both_ends cell (end_value is_exact method AtLeast w q (cell_of cell)) (end_value is_exact method AtMost w q (cell_of cell)))
+
+-- they have the same method
+pub same_over : (t u : Table) → AreAlike t u → (q : Question) → over_table u q ≡ over_table t q
+same_over t u alike q = λ i. over_table (record { vertices = alike.vertices i; levels = alike.levels i; rows = t.rows }) q
 
 module _ (n : ℕ) (t u : Table) (alike : AreAlike t u) where
   same_weights : weights_in n u ≡ weights_in n t
@@ -38,7 +43,9 @@ module _ (n : ℕ) (t u : Table) (alike : AreAlike t u) where
 
   pub same_crossing : (method : Method) (q : Question) → crossing_in method n u q ≡ crossing_in method n t q
   same_crossing Instruments q =
-      λ i. find (λ cell. are_crossed (same_weights i) (asked_of q) (cell_of cell)) (same_cells first_cell (crossing_vertices q) i)
+      λ i. find (λ cell. are_crossed Instruments (same_weights i) (asked_of q) (cell_of cell)) (same_cells first_cell (crossing_vertices q) i)
+  same_crossing LevelPairs q =
+      λ i. find (λ cell. are_crossed LevelPairs (same_weights i) (asked_of q) (cell_of cell)) (same_cells first_cell (crossing_vertices q) i)
   same_crossing Adjustment q = λ i. None
 
   pub same_bounds : (is_exact : Bool) (method : Method) (q : Question) → bounds_at (cell_bounds is_exact method n u (asked_of q)) (printed_cells u q)

@@ -19,6 +19,7 @@ use Rattle.bound_values.specs.declared.found.Found.{Found}
 use Rattle.bound_values.specs.declared.found.Found.TheVariants.{Crossed, Bounded}
 use Rattle.bound_values.specs.Questions.{asked_of, joint_mask}
 use Rattle.bound_values.specs.Cells.{printed_cells}
+use Rattle.bound_values.specs.Values.{over_table}
 use Rattle.bound_values.specs.Told.{cell_bounds, bounds_at}
 use Rattle.bound_values.specs.Found.{crossing_in, IsFound, IsUnfound}
 use Rattle.bounds_command.specs.declared.answer.Answer.{Answer}
@@ -30,7 +31,7 @@ use Rattle.bounds_command.specs.Faults.{bounds_refusal}
 use Rattle.bounds_command.specs.First.{unmet_telling, IsNotAsked}
 use Rattle.bounds_command.specs.Asking.{AskedLists, IsAsked}
 use Rattle.bounds_command.specs.Right.{IsOverTable, IsFaultOver, IsForCounts, IsFaultFor, IsBounded}
-use Rattle.bounds_command.proofs.Alike.{same_crossing, same_bounds}
+use Rattle.bounds_command.proofs.Alike.{same_over, same_crossing, same_bounds}
 use Rattle.bounds_command.proofs.OneQuestion.{not_unmet, no_asked_fault, no_unmet_fault}
 
 -- ---- before the counts
@@ -55,16 +56,28 @@ module _ (is_exact : Bool) (n : ℕ) (q : Question) (t u : Table) (alike : AreAl
   crossing_none : crossing_in q.method n u q ≡ None → crossing_in q.method n t q ≡ None
   crossing_none h = sym (same_crossing n t u alike q.method q) ∙ h
 
-  found_alike : (a b : Found) → IsFound is_exact n t q a → IsFound is_exact n u q b → found_outcome a ≡ found_outcome b
-  found_alike (Bounded a) (Bounded b) f h = refl
-  found_alike (Crossed a) (Crossed b) f h = refl
-  found_alike (Bounded a) (Crossed b) f h = absurd (none-some b.cell (sym f.0 ∙ sym (same_crossing n t u alike q.method q) ∙ h.0.1))
-  found_alike (Crossed a) (Bounded b) f h = absurd (none-some a.cell (sym (crossing_none h.0) ∙ f.0.1))
+  found_alike_by : (a b : Found) → IsFound is_exact n t q a → IsFound is_exact n u q b → found_outcome a ≡ found_outcome b
+  found_alike_by (Bounded a) (Bounded b) f h = refl
+  found_alike_by (Crossed a) (Crossed b) f h = refl
+  found_alike_by (Bounded a) (Crossed b) f h = absurd (none-some b.cell (sym f.0 ∙ sym (same_crossing n t u alike q.method q) ∙ h.0))
+  found_alike_by (Crossed a) (Bounded b) f h = absurd (none-some a.cell (sym (crossing_none h.0) ∙ f.0))
 
-  found_unfound : (a : Found) (e : CellFault) → IsFound is_exact n t q a → crossing_in q.method n u q ≡ None
+  found_unfound_by : (a : Found) (e : CellFault) → IsFound is_exact n t q a → crossing_in q.method n u q ≡ None
       → bounds_at (cell_bounds is_exact q.method n u (asked_of q)) (printed_cells u q) ≡ Err e → ⊥
-  found_unfound (Crossed a) e f none stops = none-some a.cell (sym (crossing_none none) ∙ f.0.1)
-  found_unfound (Bounded a) e f none stops = ok_err a.items e _ f.1.are (sym (same_bounds n t u alike is_exact q.method q) ∙ stops)
+  found_unfound_by (Crossed a) e f none stops = none-some a.cell (sym (crossing_none none) ∙ f.0)
+  found_unfound_by (Bounded a) e f none stops = ok_err a.items e _ f.1.are (sym (same_bounds n t u alike is_exact q.method q) ∙ stops)
+
+-- by the method over either table
+module _ (is_exact : Bool) (n : ℕ) (q : Question) (t u : Table) (alike : AreAlike t u) where
+  found_alike : (a b : Found) → IsFound is_exact n t (over_table t q) a → IsFound is_exact n u (over_table u q) b → found_outcome a ≡ found_outcome b
+  found_alike a b f h = found_alike_by is_exact n (over_table t q) t u alike a b f
+      (subst (λ (p : Question). IsFound is_exact n u p b) (same_over t u alike q) h)
+
+  found_unfound : (a : Found) (e : CellFault) → IsFound is_exact n t (over_table t q) a → crossing_in (over_table u q).method n u (over_table u q) ≡ None
+      → bounds_at (cell_bounds is_exact (over_table u q).method n u (asked_of q)) (printed_cells u q) ≡ Err e → ⊥
+  found_unfound a e f none stops = found_unfound_by is_exact n (over_table t q) t u alike a e f
+      (subst (λ (p : Question). crossing_in p.method n u p ≡ None) (same_over t u alike q) none)
+      (subst (λ (p : Question). bounds_at (cell_bounds is_exact p.method n u (asked_of p)) (printed_cells u p) ≡ Err e) (same_over t u alike q) stops)
 
 -- ---- over the bytes of counts
 module _ (is_exact : Bool) (g : MixedGraph) (names : List (List ℕ)) (q : Question) (count : Option Field) (bytes : List ℕ) where

@@ -25,7 +25,7 @@ use Rattle.bound_values.specs.declared.values.CellFault.TheVariants as cell
 use Rattle.bound_values.specs.declared.found.Found.{Found}
 use Rattle.bound_values.specs.declared.found.Found.TheVariants.{Crossed, Bounded}
 use Rattle.bound_values.specs.Questions.{asked_of, joint_mask}
-use Rattle.bound_values.specs.Values.{MayBeUsed}
+use Rattle.bound_values.specs.Values.{MayBeUsed, over_table}
 use Rattle.bound_values.specs.Told.{number_of}
 use Rattle.bound_values.specs.Found.{IsFound, IsUnfound}
 use Rattle.bounds_command.specs.declared.answer.Answer.{Answer}
@@ -66,18 +66,18 @@ pub record IsKnown (g : MixedGraph) (names : List (List ℕ)) (q : Question) : T
 abbrev pub IsCounted : Question → Table → Type 0
 IsCounted q t = t.vertices ≡ members_below (has (joint_mask q)) 64
 
--- the answer over a table
+-- the answer over a table: by pairs of levels in place of levels, where they are used
 pub record IsOverTable (is_exact : Bool) (g : MixedGraph) (q : Question) (t : Table) (a : Answer) : Type 0 where
   pub table : a.counts ≡ t
   pub question : a.question ≡ q
   pub exact : a.exact ≡ is_exact
-  pub found : IsFound is_exact g.vertices t q a.found
+  pub found : IsFound is_exact g.vertices t (over_table t q) a.found
   pub models : HoldsInModels g q t a.found
 
 -- there is none: what is given has no records at the first such printed cell, or a number is too wide
 abbrev pub IsFaultOver : (is_exact : Bool) → MixedGraph → Question → Table → BoundsFault → Type 0
-IsFaultOver is_exact g q t (NoRecords counts given at) = ((counts ≡ t) × (given ≡ q.given)) × IsUnfound is_exact g.vertices t q (cell.NoRecords at)
-IsFaultOver is_exact g q t TooWide = IsUnfound is_exact g.vertices t q cell.TooWide
+IsFaultOver is_exact g q t (NoRecords counts given at) = ((counts ≡ t) × (given ≡ q.given)) × IsUnfound is_exact g.vertices t (over_table t q) (cell.NoRecords at)
+IsFaultOver is_exact g q t TooWide = IsUnfound is_exact g.vertices t (over_table t q) cell.TooWide
 IsFaultOver is_exact g q t fault = ⊥
 
 -- ---- over the bytes of counts

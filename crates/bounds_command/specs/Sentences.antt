@@ -9,7 +9,7 @@ use Rattle.replies.specs.Lines.{open_text}
 use Rattle.natural_bounds.specs.declared.instruments.InstrumentFault.{InstrumentFault}
 use Rattle.natural_bounds.specs.declared.instruments.InstrumentFault.TheVariants.{Moved, Open}
 use Rattle.bound_values.specs.declared.questions.Method.{Method}
-use Rattle.bound_values.specs.declared.questions.Method.TheVariants.{Instruments, Adjustment}
+use Rattle.bound_values.specs.declared.questions.Method.TheVariants.{Instruments, LevelPairs, Adjustment}
 use Rattle.bound_values.specs.declared.questions.Question.{Question}
 use Rattle.bound_values.specs.Questions.{fixed_mask}
 
@@ -30,6 +30,7 @@ why_members names (Open p) = (codes "open", path_json names p.vertices p.marks p
 -- the sets by which x and y are asked for: the instruments and the strata; or the set that is adjusted for
 abbrev pub method_members : List (List ℕ) → Question → Method → List (List ℕ × Json)
 method_members names q Instruments = (codes "instrument", set_json names q.instruments.bits) ∷ (codes "strata", set_json names q.strata.bits) ∷ []
+method_members names q LevelPairs = (codes "instrument", set_json names q.instruments.bits) ∷ (codes "strata", set_json names q.strata.bits) ∷ []
 method_members names q Adjustment = (codes "set", set_json names q.strata.bits) ∷ []
 
 -- the sets that are asked of

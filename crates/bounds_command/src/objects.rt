@@ -28,7 +28,7 @@ fn push_method(object: &mut Object, names: &Names, question: Question) -> Result
     ensures { OnOk result (object.new ≡ with_members (method_members names.now question question.method) object.old) }
 {
     match question.method {
-        Method::Instruments => {
+        Method::Instruments | Method::LevelPairs => {
             object.set_at("instrument", names, question.instruments)?;
             object.set_at("strata", names, question.strata)
         }

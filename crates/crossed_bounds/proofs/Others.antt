@@ -3,7 +3,7 @@ use Rattle.std.proofs.Common.{ℕ, zero, suc, ◌+◌, ◌-◌, ◌*◌, ◌≡�
 use mathlib.Core.Path.{fun_ext}
 use Rattle.std.proofs.lemmas.Bool.{cases_lt, or_left, or_right}
 use Rattle.mixed_graph.specs.Graphs.{MixedGraph, IsMixedGraph}
-use Rattle.fractions.specs.Fractions.{over}
+use Rattle.fractions.specs.Fractions.{Fraction, over}
 use Rattle.fractions.proofs.FractionLaws.{equal_refl}
 use Rattle.finite_models.specs.Sums.{sum_over}
 use Rattle.finite_models.specs.Models.{FiniteModel, Fits, IsAssignment, agree, event_weight, intervene, weight_of, total}
@@ -29,8 +29,8 @@ use Rattle.natural_bounds.proofs.Natural.{unmoved_weight}
 use Rattle.natural_bounds.proofs.Orders.{times-le, cancelled, at_most_same, equal_at_most, bounds_trans, bounds_same, trivial_bottom}
 use Rattle.natural_bounds.proofs.Orders.{tighter_one, tighter_first, tighter_second, add_over_bounds, at_most_trans}
 use Rattle.natural_bounds.proofs.Strata.{Holds, some, counted_stratum, cell_within}
-use Rattle.crossed_bounds.specs.Crossed.{IsTwoValued, levels_bound, paired_bound, others_least, rest_of, others_bound, sharper_bound, AreSharperCrossed}
-use Rattle.crossed_bounds.specs.Crossed.{SharperIsTight, SharperCrossedHaveNoModel}
+use Rattle.crossed_bounds.specs.Crossed.{IsTwoValued, levels_bound, paired_bound, others_least, rest_of, others_bound, sharper_bound, AreSharperCrossed, ArePairedCrossed}
+use Rattle.crossed_bounds.specs.Crossed.{SharperIsTight, SharperCrossedHaveNoModel, PairedCrossedHaveNoModel}
 use Rattle.crossed_bounds.proofs.Sharper.{paired_bottom, paired_is_natural, paired_is_levels, paired_holds, paired_trivial, trivial_holds}
 
 -- ---- bottoms
@@ -251,17 +251,30 @@ module _ (g : MixedGraph) (ok : IsMixedGraph g) (used : ℕ → Bool) (q : Asked
   sharper_trivial AtLeast none = paired_trivial g ok used q asked m fit n all match b s within AtLeast none
   sharper_trivial AtMost none = ap₂ (λ f h. tighter AtMost f h) (paired_trivial g ok used q asked m fit n all match b s within AtMost none) (others_trivial none)
 
-  -- so bounds don't cross
-  pub not_sharper_crossed : AreSharperCrossed n q s → ⊥
-  not_sharper_crossed crossed = go (here_at s) refl
+  -- so bounds that hold, and are trivial where the stratum has no weight, don't cross
+  not_crossed : (low high : Fraction) → (here_at s ≡ 0 → low ≡ trivial AtLeast) → (here_at s ≡ 0 → high ≡ trivial AtMost)
+      → Holds AtLeast low (here_at s) (done_at s) → Holds AtMost high (here_at s) (done_at s) → high.top * low.bottom < low.top * high.bottom → ⊥
+  not_crossed low high low_trivial high_trivial low_holds high_holds crossed = go (here_at s) refl
     where
       go : (k : ℕ) → here_at s ≡ k → ⊥
-      go zero e = apart_trivial (subst (λ f. (trivial AtMost).top * f.bottom < f.top * (trivial AtMost).bottom) (sharper_trivial AtLeast e)
-          (subst (λ f. f.top * (sharper_bound AtLeast n q s).bottom < (sharper_bound AtLeast n q s).top * f.bottom) (sharper_trivial AtMost e) crossed))
+      go zero e = apart_trivial (subst (λ (f : Fraction). (trivial AtMost).top * f.bottom < f.top * (trivial AtMost).bottom) (low_trivial e)
+          (subst (λ (f : Fraction). f.top * low.bottom < low.top * f.bottom) (high_trivial e) crossed))
       go (suc k) e =
-          let le = crossed_numbers (sharper_bound AtLeast n q s).top (sharper_bound AtLeast n q s).bottom (sharper_bound AtMost n q s).top
-          (sharper_bound AtMost n q s).bottom (here_at s) (done_at s) (omega (arith, e)) (sharper_holds AtLeast) (sharper_holds AtMost) in
+          let le = crossed_numbers low.top low.bottom high.top high.bottom (here_at s) (done_at s) (omega (arith, e)) low_holds high_holds in
           absurd (omega (arith, le, crossed))
+
+  pub not_sharper_crossed : AreSharperCrossed n q s → ⊥
+  not_sharper_crossed crossed = not_crossed (sharper_bound AtLeast n q s) (sharper_bound AtMost n q s) (sharper_trivial AtLeast) (sharper_trivial AtMost)
+      (sharper_holds AtLeast) (sharper_holds AtMost) crossed
+
+  pub not_paired_crossed : ArePairedCrossed n q s → ⊥
+  not_paired_crossed crossed = not_crossed (paired_bound AtLeast n q s) (paired_bound AtMost n q s)
+      (paired_trivial g ok used q asked m fit n all match b s within AtLeast) (paired_trivial g ok used q asked m fit n all match b s within AtMost)
+      (paired_holds g ok used q asked m fit n all match b s within AtLeast) (paired_holds g ok used q asked m fit n all match b s within AtMost) crossed
+
+pub paired_crossed_have_no_model : PairedCrossedHaveNoModel
+paired_crossed_have_no_model g ok used q asked n b all s cell crossed m fit match =
+    not_paired_crossed g ok used q asked m fit n all match b s (cell_within g used m fit n all match s cell) crossed
 
 pub sharper_crossed_have_no_model : SharperCrossedHaveNoModel
 sharper_crossed_have_no_model g ok used q asked n b all s cell crossed m fit match =

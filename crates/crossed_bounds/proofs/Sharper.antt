@@ -36,11 +36,11 @@ crossed_bottom end n q s = tightest_bottom end q.z n.size n.vertices (λ r. tigh
     (λ r. tightest_bottom end q.z n.size n.vertices (levels_bound end n q r) s (λ t. levels_bottom end n q r t))
 
 pub paired_bottom : (end : End) (n : Weights) (q : Asked) (s : ℕ → ℕ) → 1 ≤ (paired_bound end n q s).bottom
-paired_bottom end n q s = tighter_one end (stratum_bound end n q s) (crossed_bound end n q s) (λ f. 1 ≤ f.bottom) (stratum_bottom end n q s)
-    (crossed_bottom end n q s)
+paired_bottom end n q s = tighter_one end (crossed_bound end n q s) (stratum_bound end n q s) (λ f. 1 ≤ f.bottom) (crossed_bottom end n q s)
+    (stratum_bottom end n q s)
 
 pub paired_is_natural : (end : End) (n : Weights) (q : Asked) (s : ℕ → ℕ) → Bounds end (stratum_bound end n q s) (paired_bound end n q s)
-paired_is_natural end n q s = tighter_first end (stratum_bound end n q s) (crossed_bound end n q s) (stratum_bottom end n q s) (crossed_bottom end n q s)
+paired_is_natural end n q s = tighter_second end (crossed_bound end n q s) (stratum_bound end n q s) (crossed_bottom end n q s) (stratum_bottom end n q s)
 
 pub paired_is_levels : (end : End) (n : Weights) (q : Asked) (s r t : ℕ → ℕ) → IsIn q.z n.size n.vertices s r → IsIn q.z n.size n.vertices s t
     → Bounds end (levels_bound end n q r t) (paired_bound end n q s)
@@ -49,7 +49,7 @@ paired_is_levels end n q s r t r_in t_in = bounds_trans end (levels_bound end n 
     (tightest_is_tightest end q.z n.size n.vertices (levels_bound end n q r) s t (λ t. levels_bottom end n q r t) t_in)
     (tightest_is_tightest end q.z n.size n.vertices (λ r. tightest_over end q.z n.size n.vertices (levels_bound end n q r) s) s r
     (λ r. tightest_bottom end q.z n.size n.vertices (levels_bound end n q r) s (λ t. levels_bottom end n q r t)) r_in))
-    (tighter_second end (stratum_bound end n q s) (crossed_bound end n q s) (stratum_bottom end n q s) (crossed_bottom end n q s))
+    (tighter_first end (crossed_bound end n q s) (stratum_bound end n q s) (crossed_bottom end n q s) (stratum_bottom end n q s))
 
 times_none : (a b : ℕ) → a ≡ 0 → a * b ≡ 0
 times_none a b e = subst (λ i. i * b ≡ 0) (sym e) (omega arith)
@@ -100,8 +100,8 @@ module _ (g : MixedGraph) (ok : IsMixedGraph g) (used : ℕ → Bool) (q : Asked
         ]
 
     pub paired_holds : (end : End) → Holds end (paired_bound end n q s) (here_at s) (done_at s)
-    paired_holds end = tighter_one end (stratum_bound end n q s) (crossed_bound end n q s) (λ f. Holds end f (here_at s) (done_at s))
-        (stratum_holds g ok used q asked m fit n all match end s within) (crossed_holds end)
+    paired_holds end = tighter_one end (crossed_bound end n q s) (stratum_bound end n q s) (λ f. Holds end f (here_at s) (done_at s))
+        (crossed_holds end) (stratum_holds g ok used q asked m fit n all match end s within)
 
     -- ---- where the stratum has no weight
     no_level : (r : ℕ → ℕ) → IsIn q.z n.size n.vertices s r → here_at s ≡ 0 → level n q r ≡ 0
@@ -137,7 +137,7 @@ module _ (g : MixedGraph) (ok : IsMixedGraph g) (used : ℕ → Bool) (q : Asked
         ]
 
     pub paired_trivial : (end : End) → here_at s ≡ 0 → paired_bound end n q s ≡ trivial end
-    paired_trivial end none = ap₂ (λ f h. tighter end f h) (natural_trivial end none) (crossed_trivial end none) ∙ go end
+    paired_trivial end none = ap₂ (λ f h. tighter end f h) (crossed_trivial end none) (natural_trivial end none) ∙ go end
       where
         go : (end : End) → tighter end (trivial end) (trivial end) ≡ trivial end
         go AtLeast = refl

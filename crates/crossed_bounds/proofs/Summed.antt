@@ -1,9 +1,9 @@
--- The sharper bounds of the strata, summed, bound the effect.
+-- Bounds of the strata, summed, bound the effect.
 use Rattle.std.proofs.Common.{ℕ, ◌*◌, ◌≡◌, ◌<◌, ◌≤◌, Bool, true, false, ◌||◌, refl, sym, ap, ◌∙◌, subst, arith}
 use Rattle.std.proofs.lemmas.Bool.{or_left, or_right}
 use mathlib.Core.Path.{fun_ext}
 use Rattle.mixed_graph.specs.Graphs.{MixedGraph, IsMixedGraph}
-use Rattle.fractions.specs.Fractions.{over, IsEqual, mul}
+use Rattle.fractions.specs.Fractions.{Fraction, over, IsEqual, mul}
 use Rattle.fractions.proofs.FractionLaws.{equal_refl}
 use Rattle.finite_models.specs.Sums.{sum_over}
 use Rattle.finite_models.specs.Models.{FiniteModel, Fits, IsAssignment, event_weight, intervene, weight_of, probability, total}
@@ -26,9 +26,10 @@ use Rattle.natural_bounds.specs.Bounds.{Asked, fixed, share, stratum, condition,
 use Rattle.natural_bounds.proofs.Effects.{sum_over_sizes, positive_left}
 use Rattle.natural_bounds.proofs.Natural.{unmoved_weight}
 use Rattle.natural_bounds.proofs.Orders.{positive-times, bounds_equal, add_over_bounds}
-use Rattle.natural_bounds.proofs.Strata.{term_lower, term_upper, some, counted, counted_stratum}
-use Rattle.crossed_bounds.specs.Crossed.{IsTwoValued, sharper_bound, sharper_effect, SharperBoundsHold}
+use Rattle.natural_bounds.proofs.Strata.{Holds, term_lower, term_upper, some, counted, counted_stratum}
+use Rattle.crossed_bounds.specs.Crossed.{paired_bound, PairedBoundsHold, sharper_bound, SharperBoundsHold}
 use Rattle.crossed_bounds.proofs.Others.{sharper_bottom, sharper_holds}
+use Rattle.crossed_bounds.proofs.Sharper.{paired_bottom, paired_holds}
 
 or_assoc : (p q r : Bool) → (p || (q || r)) ≡ ((p || q) || r)
 or_assoc true q r = refl
@@ -36,7 +37,9 @@ or_assoc false q r = refl
 
 module _ (g : MixedGraph) (ok : IsMixedGraph g) (used : ℕ → Bool) (q : Asked) (asked : IsAskedOf g used q) (m : FiniteModel) (fit : Fits g m) (n : Weights)
     (all : ℕ) (match : AreProportional used n all (weights_of m) (total m)) (s : ℕ → ℕ) (within : IsAssignment m.vertices m.size s)
-    (b : IsTwoValued n q.x) (has_weight : 1 ≤ condition n q s) where
+    (has_weight : 1 ≤ condition n q s) (end : End) (bound : (ℕ → ℕ) → Fraction) (bottom : (t : ℕ → ℕ) → 1 ≤ (bound t).bottom)
+    (hold : (t : ℕ → ℕ) → IsAssignment m.vertices m.size t
+    → Holds end (bound t) (weight_of m nothing (fixed q) t) (weight_of m q.x (λ v. q.y v || fixed q v) t)) where
   -- an assignment with the values of s outside the strata
   abbrev Alike : (ℕ → ℕ) → Type 0
   Alike t = IsAssignment m.vertices m.size t × ((v : ℕ) → q.u v ≡ false → t v ≡ s v)
@@ -90,21 +93,28 @@ module _ (g : MixedGraph) (ok : IsMixedGraph g) (used : ℕ → Bool) (q : Asked
   condition_some : (t : ℕ → ℕ) → Alike t → 1 ≤ condition n q t
   condition_some t p = positive_left (condition n q t) (total m) (weight_of m q.x q.c s) all (sym (given_at t p)) given_some match.some
 
-  term : (end : End) (t : ℕ → ℕ) → Alike t → Bounds end (mul (share n q t) (sharper_bound end n q t)) (over (joint_at t) (weight_of m q.x q.c s))
-  term AtLeast t p = record {
-    left_bottom = positive-times (condition n q t) (sharper_bound AtLeast n q t).bottom (condition_some t p) (sharper_bottom AtLeast n q t);
-    right_bottom = given_some;
-    products = term_lower (stratum n q t) (condition n q t) (sharper_bound AtLeast n q t).top (sharper_bound AtLeast n q t).bottom
-        (weight_of m nothing (fixed q) t) (weight_of m q.x q.c s) (joint_at t) all (total m) (some g ok used q asked m fit n all match)
-        (counted_stratum g ok used q asked m fit n all match t p.0) (given_at t p) (sharper_holds g ok used q asked m fit n all match b t p.0 AtLeast);
-  }
-  term AtMost t p = record {
-    left_bottom = given_some;
-    right_bottom = positive-times (condition n q t) (sharper_bound AtMost n q t).bottom (condition_some t p) (sharper_bottom AtMost n q t);
-    products = term_upper (stratum n q t) (condition n q t) (sharper_bound AtMost n q t).top (sharper_bound AtMost n q t).bottom
-        (weight_of m nothing (fixed q) t) (weight_of m q.x q.c s) (joint_at t) all (total m) (some g ok used q asked m fit n all match)
-        (counted_stratum g ok used q asked m fit n all match t p.0) (given_at t p) (sharper_holds g ok used q asked m fit n all match b t p.0 AtMost);
-  }
+  term : (t : ℕ → ℕ) → Alike t → Bounds end (mul (share n q t) (bound t)) (over (joint_at t) (weight_of m q.x q.c s))
+  term t p = at_end end (hold t p.0)
+    where
+      some_here : 1 ≤ (mul (share n q t) (bound t)).bottom
+      some_here = positive-times (condition n q t) (bound t).bottom (condition_some t p) (bottom t)
+
+      at_end : (end : End) → Holds end (bound t) (weight_of m nothing (fixed q) t) (joint_at t)
+          → Bounds end (mul (share n q t) (bound t)) (over (joint_at t) (weight_of m q.x q.c s))
+      at_end AtLeast h = record {
+        left_bottom = some_here;
+        right_bottom = given_some;
+        products = term_lower (stratum n q t) (condition n q t) (bound t).top (bound t).bottom
+            (weight_of m nothing (fixed q) t) (weight_of m q.x q.c s) (joint_at t) all (total m) (some g ok used q asked m fit n all match)
+            (counted_stratum g ok used q asked m fit n all match t p.0) (given_at t p) h;
+      }
+      at_end AtMost h = record {
+        left_bottom = given_some;
+        right_bottom = some_here;
+        products = term_upper (stratum n q t) (condition n q t) (bound t).top (bound t).bottom
+            (weight_of m nothing (fixed q) t) (weight_of m q.x q.c s) (joint_at t) all (total m) (some g ok used q asked m fit n all match)
+            (counted_stratum g ok used q asked m fit n all match t p.0) (given_at t p) h;
+      }
 
   summed : sum_over q.u n.size n.vertices joint_at s ≡ weight_of m q.x (λ v. q.y v || q.c v) s
   summed =
@@ -139,14 +149,19 @@ module _ (g : MixedGraph) (ok : IsMixedGraph g) (used : ℕ → Bool) (q : Asked
       (add_over_whole q.u n.size Alike n.vertices (weight_of m q.x q.c s) (λ t. over (joint_at t) (weight_of m q.x q.c s)) joint_at s given_some stable start
       (λ t p. equal_refl (over (joint_at t) (weight_of m q.x q.c s)) given_some))
 
-  pub effect_holds : (end : End) → Bounds end (sharper_effect end n q s) (probability m q.x q.y q.c s)
-  effect_holds end = bounds_equal end (sharper_effect end n q s)
+  pub effect_holds : Bounds end (add_over q.u n.size n.vertices (λ t. mul (share n q t) (bound t)) s) (probability m q.x q.y q.c s)
+  effect_holds = bounds_equal end (add_over q.u n.size n.vertices (λ t. mul (share n q t) (bound t)) s)
       (add_over q.u n.size n.vertices (λ t. over (joint_at t) (weight_of m q.x q.c s)) s) (probability m q.x q.y q.c s)
       (add_over_bounds end q.u n.size Alike n.vertices
-      (λ t. mul (share n q t) (sharper_bound end n q t)) (λ t. over (joint_at t) (weight_of m q.x q.c s)) s stable start
-      (λ t p. term end t p))
+      (λ t. mul (share n q t) (bound t)) (λ t. over (joint_at t) (weight_of m q.x q.c s)) s stable start term)
       whole
 
 pub sharper_bounds_hold : SharperBoundsHold
 sharper_bounds_hold end g ok used q asked n b all s has_weight m fit match within =
-    effect_holds g ok used q asked m fit n all match s within b has_weight end
+    effect_holds g ok used q asked m fit n all match s within has_weight end (sharper_bound end n q) (sharper_bottom end n q)
+    (λ t inside. sharper_holds g ok used q asked m fit n all match b t inside end)
+
+pub paired_bounds_hold : PairedBoundsHold
+paired_bounds_hold end g ok used q asked n b all s has_weight m fit match within =
+    effect_holds g ok used q asked m fit n all match s within has_weight end (paired_bound end n q) (paired_bottom end n q)
+    (λ t inside. paired_holds g ok used q asked m fit n all match b t inside end)

@@ -53,9 +53,18 @@ levels_bound end n q r t = if level n q r * level n q t == 0 then trivial end el
 abbrev pub crossed_bound : End → Weights → Asked → (ℕ → ℕ) → Fraction
 crossed_bound end n q s = tightest_over end q.z n.size n.vertices (λ r. tightest_over end q.z n.size n.vertices (levels_bound end n q r) s) s
 
--- the tighter of this and of the natural bound
+-- the tighter of this and of the natural bound, which is taken where both are equal
 abbrev pub paired_bound : End → Weights → Asked → (ℕ → ℕ) → Fraction
-paired_bound end n q s = tighter end (stratum_bound end n q s) (crossed_bound end n q s)
+paired_bound end n q s = tighter end (crossed_bound end n q s) (stratum_bound end n q s)
+
+-- the bound of P(y | do(x), c) by pairs of levels: each stratum's share times its bound, summed over the strata
+abbrev pub paired_effect : End → Weights → Asked → (ℕ → ℕ) → Fraction
+paired_effect end n q s = add_over q.u n.size n.vertices (λ t. mul (share n q t) (paired_bound end n q t)) s
+
+-- the bounds of the stratum of s by pairs of levels cross
+abbrev pub ArePairedCrossed : Weights → Asked → (ℕ → ℕ) → Type 0
+ArePairedCrossed n q s = (paired_bound AtMost n q s).top * (paired_bound AtLeast n q s).bottom
+    < (paired_bound AtLeast n q s).top * (paired_bound AtMost n q s).bottom
 
 -- what the other values of y are at least, summed
 abbrev pub others_least : Weights → Asked → (ℕ → ℕ) → Fraction
@@ -90,6 +99,21 @@ abbrev pub TwoLevelsBound : Type 0
 TwoLevelsBound = (end : End) (g : MixedGraph) → IsMixedGraph g → (used : ℕ → Bool) (q : Asked) → IsAskedOf g used q → (n : Weights) → IsTwoValued n q.x
     → (all : ℕ) (s r t : ℕ → ℕ) → IsIn q.z n.size n.vertices s r → IsIn q.z n.size n.vertices s t → 1 ≤ level n q r → 1 ≤ level n q t
     → BoundsEffect end g q.x q.y (fixed q) used n all s (two_levels end n q r t)
+
+-- the bound of an effect by pairs of levels bounds it, wherever the condition has weight
+abbrev pub PairedBoundsHold : Type 0
+PairedBoundsHold = (end : End) (g : MixedGraph) → IsMixedGraph g → (used : ℕ → Bool) (q : Asked) → IsAskedOf g used q → (n : Weights) → IsTwoValued n q.x
+    → (all : ℕ) (s : ℕ → ℕ) → 1 ≤ condition n q s → BoundsEffect end g q.x q.y q.c used n all s (paired_effect end n q s)
+
+-- a stratum's bound by pairs is as tight as the natural one, and as what each pair of levels says
+abbrev pub PairedIsTight : Type 0
+PairedIsTight = (end : End) (n : Weights) (q : Asked) (s : ℕ → ℕ) → Bounds end (stratum_bound end n q s) (paired_bound end n q s)
+    × ((r t : ℕ → ℕ) → IsIn q.z n.size n.vertices s r → IsIn q.z n.size n.vertices s t → Bounds end (levels_bound end n q r t) (paired_bound end n q s))
+
+-- where the bounds of a stratum by pairs cross, no model of the graph has the weights
+abbrev pub PairedCrossedHaveNoModel : Type 0
+PairedCrossedHaveNoModel = (g : MixedGraph) → IsMixedGraph g → (used : ℕ → Bool) (q : Asked) → IsAskedOf g used q → (n : Weights) → IsTwoValued n q.x
+    → (all : ℕ) (s : ℕ → ℕ) → IsCellOf used n s → ArePairedCrossed n q s → HasNoModel g used n all
 
 -- the sharper bound of an effect bounds it, wherever the condition has weight
 abbrev pub SharperBoundsHold : Type 0

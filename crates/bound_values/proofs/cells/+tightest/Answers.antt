@@ -1,4 +1,4 @@
-use Rattle.std.proofs.Common.{ℕ, suc, ◌≡◌, ◌≤◌, ◌<◌, ◌-◌, ◌∙◌, ap, sym, set, length, true, arith}
+use Rattle.std.proofs.Common.{◌≡◌, ◌<◌, ◌-◌, ◌∙◌, ap, sym, set, length, arith}
 use Rattle.mixed_graph.specs.Bits.{has}
 use Rattle.count_eval.specs.Programs.{weights_in, cell_of}
 use Rattle.natural_bounds.specs.Bounds.{bound_at}

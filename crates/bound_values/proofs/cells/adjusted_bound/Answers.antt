@@ -1,4 +1,4 @@
-use Rattle.std.proofs.Common.{ℕ, ◌≡◌, ◌≤◌, ◌∙◌, ap₂, arith}
+use Rattle.std.proofs.Common.{◌≡◌, ◌∙◌, ap₂, arith}
 use Rattle.fractions.specs.Fractions.{over}
 use Rattle.count_eval.specs.Programs.{weights_in, cell_of}
 use Rattle.natural_bounds.specs.Bounds.{joint, treated}
@@ -22,7 +22,7 @@ invariant_of-result c =
     let n = c.args.scope.now.n in let t = c.args.scope.now.counts.now in let q = asked_of c.args.scope.now.question in let s = cell_of c.args.cell.now in
     let j = joint_is at in let x = treated_is at in let a = joint_less n t q s in let most = small t c.requires.scope.table (treated_set q) s in
     let some = c.if-treated-eq0.false in
-    record { positive = omega (arith, some); at_most_one = omega (arith, j, x, a); small = omega (arith, x, most) }
+    record { positive = omega (arith, some); at_most_four = omega (arith, j, x, a); small = omega (arith, x, most) }
 
 pub returns : goal.returns
 returns c =

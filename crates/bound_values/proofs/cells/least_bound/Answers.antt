@@ -1,4 +1,4 @@
-use Rattle.std.proofs.Common.{ℕ, ◌≡◌, ◌≤◌, ap₂, arith}
+use Rattle.std.proofs.Common.{◌≡◌, ap₂, arith}
 use Rattle.fractions.specs.Fractions.{over}
 use Rattle.count_eval.specs.Programs.{weights_in, cell_of}
 use Rattle.natural_bounds.specs.Bounds.{joint}
@@ -19,7 +19,7 @@ invariant_of-result c =
     let records = c.requires.records in
     record {
       positive = c.requires.some;
-      at_most_one = omega (arith, j, a, b, records);
+      at_most_four = omega (arith, j, a, b, records);
       small = omega (arith, most, records);
     }
 

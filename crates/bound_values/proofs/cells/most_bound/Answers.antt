@@ -1,4 +1,4 @@
-use Rattle.std.proofs.Common.{ℕ, ◌≡◌, ◌≤◌, ◌+◌, ◌-◌, ap, ap₂, arith}
+use Rattle.std.proofs.Common.{ℕ, ◌≡◌, ◌≤◌, ◌+◌, ◌-◌, ap₂, arith}
 use Rattle.fractions.specs.Fractions.{over}
 use Rattle.count_eval.specs.Programs.{weights_in, cell_of}
 use Rattle.natural_bounds.specs.Bounds.{joint, treated}
@@ -39,7 +39,7 @@ pub invariant_of-result : goal.invariant_of-result
 invariant_of-result c =
     let o = in_order (goal.at.invariant_of-result c).After-sum-treated in
     let a = o.joint in let b = o.treated in let d = o.small in
-    record { positive = c.requires.some; at_most_one = omega (arith, a, b); small = omega (arith, d) }
+    record { positive = c.requires.some; at_most_four = omega (arith, a, b); small = omega (arith, d) }
 
 pub returns : goal.returns
 returns c =

@@ -9,5 +9,5 @@ abbrev pub decreases-first_crossing : goal.decreases-first_crossing
 decreases-first_crossing l = length l.vertices.now
 
 abbrev pub invariant-loop-k : goal.invariant-loop-k
-invariant-loop-k l = first_crossed l.scope.n l.scope.counts.now (asked_of l.scope.question)
+invariant-loop-k l = first_crossed l.scope.question.method l.scope.n l.scope.counts.now (asked_of l.scope.question)
     (flat_map (λ j. cells_along l.scope.counts.now (set l.cell l.v j) l.rest) (range_with_len 0 l.k)) ≡ None

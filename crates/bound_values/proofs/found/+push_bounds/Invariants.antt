@@ -1,4 +1,4 @@
-use Rattle.std.proofs.Common.{◌≡◌, set, length}
+use Rattle.std.proofs.Common.{set, length}
 use Rattle.std.specs.List.{flat_map, range_with_len}
 use Rattle.bound_values.specs.Questions.{asked_of}
 use Rattle.bound_values.specs.Cells.{cells_along}

@@ -1,6 +1,6 @@
-use Rattle.std.proofs.Common.{◌≡◌, ◌<◌, ◌≤◌, ◌∙◌, ℕ, true, List, All, sym, subst, ap, arith}
+use Rattle.std.proofs.Common.{◌≡◌, ◌∙◌, ℕ, true, List, All, sym, subst, arith}
 use Rattle.count_eval.specs.Programs.{is_used}
-use Rattle.bound_values.specs.Cells.{IsCell, cells_along, first_cell}
+use Rattle.bound_values.specs.Cells.{cells_along, first_cell}
 use Rattle.bound_values.specs.Told.{Appends, IsFaultAt}
 use Rattle.bound_values.proofs.Ends.{are_bounds}
 use Rattle.bound_values.specs.Questions.{asked_of}
@@ -25,7 +25,7 @@ returns-in-Ok-push_bounds-clause-bounds c =
     let vertices = c.deref.ensures.value ∙ c.in-Ok.ensures in
     let appended = subst (λ (vs : List ℕ). Appends c.args.exact q.method n t (asked_of q) (cells_along t first_cell vs) c.new-bounds.result.items
     c.push_bounds.new.out.items) vertices c.in-Ok-push_bounds.ensures.bounds in
-    are_bounds c.laws.ensures.effect c.laws-2.ensures.effect c.args.exact n t q c.requires.apart c.push_bounds.new.out c.new-bounds.result.items
+    are_bounds c.laws.ensures.effect c.laws-2.ensures.paired c.laws-3.ensures.effect c.args.exact n t q c.requires.scope.pairs c.requires.apart c.push_bounds.new.out c.new-bounds.result.items
     c.new-bounds.ensures.items appended
 
 pub returns-clause-fault : goal.returns-clause-fault

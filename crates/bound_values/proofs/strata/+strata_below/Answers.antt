@@ -1,13 +1,12 @@
-use Rattle.std.proofs.Common.{ℕ, suc, ◌≡◌, ◌≤◌, ◌<◌, ◌-◌, ◌∙◌, ap, sym, subst, set, length, true, Ok, Err, List, refl, rules, arith}
-use Rattle.std.proofs.lemmas.List.{length-set}
+use Rattle.std.proofs.Common.{◌≡◌, ◌≤◌, ◌<◌, ◌-◌, ◌∙◌, ap, sym, subst, set, length, Ok, Err, rules, arith}
 use Rattle.mixed_graph.specs.Bits.{has}
 use Rattle.quantity.specs.Kinds.{gives}
-use Rattle.count_eval.specs.Programs.{weights_in, is_used, cell_of}
+use Rattle.count_eval.specs.Programs.{weights_in, cell_of}
 use Rattle.natural_bounds.specs.Bounds.{condition}
 use Rattle.bound_values.specs.Questions.{asked_of}
 use Rattle.bound_values.specs.Values.{total_below, total_over, term_value}
 use Rattle.bound_values.proofs.Boxes.{total_done, total_err, total_err_add}
-use Rattle.bound_values.proofs.Sums.{levels_set, condition_same}
+use Rattle.bound_values.proofs.Sums.{condition_same}
 use Rattle.bound_values.proofs.strata.+strata_below.Goals as goal
 
 pub strata_below-requires-in-loop-x : goal.strata_below-requires-in-loop-x

@@ -1,7 +1,7 @@
-use Rattle.std.proofs.Common.{ℕ, ◌≡◌, ◌≤◌, ◌∙◌, ap, ap₂, refl, arith}
+use Rattle.std.proofs.Common.{◌∙◌, ap, ap₂, refl, arith}
 use Rattle.mixed_graph.specs.Bits.{has}
-use Rattle.count_eval.specs.Programs.{weights_in, cell_of}
-use Rattle.natural_bounds.specs.Bounds.{fixed, stratum, condition}
+use Rattle.count_eval.specs.Programs.{cell_of}
+use Rattle.natural_bounds.specs.Bounds.{fixed}
 use Rattle.bound_values.specs.Questions.{asked_of}
 use Rattle.bound_values.specs.Values.{in_kind}
 use Rattle.bound_values.proofs.Sums.{sum_is, stratum_less, small}
@@ -34,4 +34,4 @@ returns g c =
     c.sum-stratum.ensures in
     let two = sum_is t sums q.given.bits (has q.given.bits) cell c.sum-condition.result c.requires.scope.same (λ v. refl) c.sum-condition.ensures in
     c.mul.ensures
-    ∙ ap₂ kind.mul (c.from_ratio-share.ensures ∙ ap₂ kind.from_ratio one two) (c.from_ratio.ensures ∙ ap (in_kind kind) c.bound_by-bound.ensures)
+    ∙ ap₂ kind.mul (c.from_ratio-share.ensures ∙ ap₂ kind.from_ratio one two) (c.of_ratio.ensures ∙ ap (in_kind kind) c.bound_by-bound.ensures)
