@@ -61,6 +61,25 @@ parts_study <- function(n) {
   list(seen = data.frame(V, W, Y = flip(stats::plogis(-1 + 1.2 * W + 0.7 * V))), trial = data.frame(X, W = flip(0.2 + 0.4 * X + 0.2 * flip(rep(0.5, n / 2)))))
 }
 parts_truth <- 0.4 * mean(stats::plogis(0.2 + 0.7 * 0:1) - stats::plogis(-1 + 0.7 * 0:1))
+# a mediator with a confounder, a logistic truth
+through <- causal_diagram("dag { X [exposure] Y [outcome] C -> X -> M -> Y X -> Y C -> M C -> Y }")
+mediator <- function(c, x) stats::plogis(-1 + 1.2 * x + 0.8 * c)
+mediated_outcome <- function(c, x, m) stats::plogis(-1.5 + 0.6 * x + m + 0.7 * c)
+mediated_study <- function(n) {
+  C <- flip(rep(0.5, n))
+  X <- flip(0.3 + 0.4 * C)
+  M <- flip(mediator(C, X))
+  data.frame(C, X, M, Y = flip(mediated_outcome(C, X, M)))
+}
+world <- function(x, other) {
+  cells <- expand.grid(C = 0:1, M = 0:1)
+  chance <- mediator(cells$C, other)
+  sum(ifelse(cells$M == 1, chance, 1 - chance) * mediated_outcome(cells$C, x, cells$M)) / 2
+}
+part_by_models <- function(measure) {
+  answer <- mediate(through, mediated_study(500), through = "M", treated = 1, control = 0, outcome = 1, model = "logistic")
+  unlist(as.data.frame(answer)[answer$measure == measure, c("conf_low", "conf_high")])
+}
 school_study <- function(schools) {
   school <- rep(seq_len(schools), each = 20)
   C <- flip(0.3 + 0.4 * stats::runif(schools)[school])
@@ -82,6 +101,8 @@ scenarios <- list(
     study <- parts_study(600)
     difference(estimate(parts, study$seen, trials = list(X = study$trial)))
   }),
+  direct_models_500 = list(world(1, 0) - world(0, 0), function() part_by_models("direct")),
+  indirect_models_500 = list(world(1, 1) - world(1, 0), function() part_by_models("indirect")),
   schools_40 = list(0.2, function() difference(estimate(confounded, school_study(40), method = "aipw", clusters = "school"))),
   aipw_1000 = list(logistic_truth, function() difference(estimate(two, logistic_study(1000), method = "aipw"))),
   aipw_wrong_outcome = list(logistic_truth, function() difference(estimate(two, logistic_study(1000), method = "aipw", model = list(Y = ~ X, "logistic")))),
