@@ -60,7 +60,7 @@ pair_steps t q = cells_under t q.instruments.bits * cells_under t q.y.bits * cel
 -- pairs of levels are used: there are instruments, x has two values, neither x nor y meets the instruments or what a stratum fixes, and the steps are few
 abbrev pub has_pairs : Table → Question → Bool
 has_pairs t q = not (is_empty q.instruments.bits) && (is_apart (union q.x.bits q.y.bits) (level_mask q)
-    && (is_two_valued t (members_below (has q.x.bits) 64) && nat_le (pair_steps t q) 4194304))
+    && (is_two_valued t (members_below (has q.x.bits) 64) && nat_le (pair_steps t q) 1048576))
 
 -- what is known where they are
 pub record HasPairs (n : ℕ) (t : Table) (q : Asked) : Type 0 where

@@ -32,7 +32,7 @@ fn pair_steps(alloc: Global, counts: &Counts, question: Question) -> Result<usiz
 }
 
 /// The most steps that bounds by pairs of levels may cost.
-const MOST_STEPS: usize = 4_194_304;
+const MOST_STEPS: usize = 1_048_576;
 
 /// Whether pairs of levels are used.
 fn has_pairs(alloc: Global, counts: &Counts, question: Question) -> Result<bool, AllocError>
