@@ -9,6 +9,7 @@ const QUICK_MS = 400; // a layout that took longer isn't computed the other way 
 const MOST_STRETCH = 2.2;
 const MOST_EDGES = 150; // beyond it edges may run behind vertices
 const DENSE = 300; // edges beyond which those that longer ways make superfluous don't count, since dagre takes seconds for them
+const RANK_GAP = 84; // pixels
 const WIDER = 1.15; // how much a layout grows at once, so that no edge does
 const MOST_ROUNDS = 8;
 
@@ -29,11 +30,24 @@ export function arrange(outline, quickMs = QUICK_MS) {
 
 /** A layout of many edges, or a circle where that shows it larger. */
 function arrangeDense({ vertices, edges, room }) {
-  const outline = { vertices, edges: reduced(edges) }, sideways = arrangeBy("LR", outline);
-  if (!room) return sideways;
-  const round = circle(vertices.map(({ name }) => name), new Map(vertices.map(({ name, width }) => [name, width / 2])));
-  const all = [sideways, arrangeBy("TB", outline), vertices.map((v) => ({ ...v, ...round.get(v.name) }))];
-  return all.reduce((best, other) => (scaleIn(room, other) > scaleIn(room, best) ? other : best));
+  const outline = { vertices, edges: reduced(edges) };
+  if (!room) return arrangeBy("LR", outline);
+  const places = circle(vertices.map(({ name }) => name), new Map(vertices.map(({ name, width }) => [name, width / 2])));
+  const round = vertices.map((v) => ({ ...v, ...places.get(v.name) }));
+  if (scaleIn(room, round) > mostIn(room, outline)) return round;
+  return [round, arrangeBy("LR", outline), arrangeBy("TB", outline)].reduce((best, other) => (scaleIn(room, other) > scaleIn(room, best) ? other : best));
+}
+
+/** How large a layout in ranks is shown at the most: they stand side by side, or one above the other. */
+function mostIn(room, { vertices, edges }) {
+  const next = new Map(), known = new Map();
+  for (const [a, b] of edges) next.set(a, [...(next.get(a) ?? []), b]);
+  const ranksFrom = (name) => {
+    if (!known.has(name)) known.set(name, 1 + Math.max(0, ...(next.get(name) ?? []).map(ranksFrom)));
+    return known.get(name);
+  };
+  const ranks = Math.max(...vertices.map(({ name }) => ranksFrom(name))), span = (side) => ranks * Math.min(...vertices.map((v) => v[side])) + (ranks - 1) * RANK_GAP;
+  return Math.max(room.width / span("width"), room.height / span("height"));
 }
 
 /** The arrows of a graph without cycles that no longer way makes superfluous. @param {[string, string][]} edges */
@@ -64,7 +78,7 @@ const listed = (placed) => placed.map(({ name, x, y }) => [name, { x, y }]);
 
 function arrangeBy(rankdir, { vertices, edges }) {
   const graph = new dagre.graphlib.Graph();
-  graph.setGraph({ rankdir, ranksep: 84, nodesep: 54 });
+  graph.setGraph({ rankdir, ranksep: RANK_GAP, nodesep: 54 });
   graph.setDefaultEdgeLabel(() => ({}));
   for (const { name, width, height } of vertices) graph.setNode(name, { width, height });
   for (const [a, b] of edges) graph.setEdge(a, b, {});
