@@ -62,9 +62,9 @@ class AgainstOthers(unittest.TestCase):
         data = study(500)
         data["death"] = [min(2, death + (k % 5 == 0)) for k, death in enumerate(data["death"])]
         frame = pandas.DataFrame(data)
-        model = statsmodels.formula.api.mnlogit("death ~ drug + age + sex", frame).fit(disp=0, gtol=1e-12, maxiter=100)
+        model = statsmodels.formula.api.mnlogit("death ~ drug + age + sex", frame).fit(disp=0, tol=1e-14, maxiter=100)
         found = STUDY.estimate(data, treated=1, control=0, outcome=2)
-        self.assertAlmostEqual(float(found.treated), model.predict(frame.assign(drug=1))[2].mean(), delta=1e-9)
+        self.assertAlmostEqual(float(found.treated), model.predict(frame.assign(drug=1))[2].mean(), delta=1e-10)
 
     @needs_statsmodels
     def test_a_mean(self):
