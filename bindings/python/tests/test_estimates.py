@@ -64,7 +64,7 @@ class AgainstOthers(unittest.TestCase):
         frame = pandas.DataFrame(data)
         model = statsmodels.formula.api.mnlogit("death ~ drug + age + sex", frame).fit(disp=0, tol=1e-14, maxiter=100)
         found = STUDY.estimate(data, treated=1, control=0, outcome=2)
-        self.assertAlmostEqual(float(found.treated), model.predict(frame.assign(drug=1))[2].mean(), delta=1e-9)
+        self.assertAlmostEqual(float(found.treated), model.predict(frame.assign(drug=1))[2].mean(), delta=1e-10)
 
     @needs_statsmodels
     def test_a_mean(self):
