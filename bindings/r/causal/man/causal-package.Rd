@@ -10,10 +10,11 @@
 \details{
   A diagram (\code{\link{causal_diagram}}) is asked whether sets of vertices are separated (\code{\link{separated}}), whether a rule
   of do-calculus applies (\code{\link{rule_holds}}), whether an effect can be computed from observations
-  (\code{\link{identify_effect}}) or from experiments on other variables (\code{\link{surrogate}}), whether somebody's derivation is
+  (\code{\link{identify_effect}}; among the treated \code{\link{treated_effect}}, with mediators held \code{\link{natural_effect}}) or from experiments on other variables (\code{\link{surrogate}}), whether somebody's derivation is
   right (\code{\link{check_certificate}}), what may be adjusted for (\code{\link{adjustment_sets}}, \code{\link{adjusts}}), which vertices are
   instruments (\code{\link{instruments}}), what it implies of data (\code{\link{implications}}), and whether it implies the same as another (\code{\link{equivalent}}). Over a data frame
-  \code{\link{evaluate}} gives the value of an effect, \code{\link{pin_spread}} its values where a variable may be pinned at any
+  \code{\link{evaluate}} gives the value of an effect, \code{\link{bounds_effect}} what is known of one that has no formula,
+  \code{\link{mediate}} natural direct and indirect effects, \code{\link{pin_spread}} its values where a variable may be pinned at any
   level, \code{\link{contrast}} differences and ratios of effects and \code{\link{effect_means}} means of a numeric outcome, with
   intervals, and \code{\link{test_implications}} tests of what the diagram implies. The data may stay in a database
   (\code{\link{database_table}}). \code{\link{support}} shows where records lack; there \code{\link{estimate}} fills in by models, which are never
