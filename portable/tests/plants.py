@@ -133,7 +133,9 @@ class Base:
             self.run("random_programs.py", "--keep", f"{self.kept}/random", PROGRAMS)
         if "main.c" in files:
             for source in "causal", "causal_code":
-                subprocess.run(["gcc", "-O0", "-I", "include", "-c", f"portable/{source}.c", "-o", f"{room}/{source}.o"], cwd=TOP, check=True)
+                # (gcc takes half a minute; and it has no function by which tcc makes a double of an integer)
+                words = ["tcc", "-w", "-DSOFT_DOUBLES", "-I", "include", "-c", f"portable/{source}.c", "-o", f"{room}/{source}.o"]
+                subprocess.run(words, cwd=TOP, check=True)
             if not self.link(TOP, self.base):
                 sys.exit("plants: gcc doesn't link the program as it is")
             os.makedirs(self.kept, exist_ok=True)
