@@ -1,5 +1,5 @@
 -- What the counts cover in the diagram as drawn.
-use Rattle.std.proofs.Common.{◌≡◌, ℕ, ◌<◌, Bool, true, false, ◌||◌, List, Option, Ok, refl, sym, ap₂, subst}
+use Rattle.std.proofs.Common.{◌≡◌, ℕ, ◌<◌, Bool, true, false, ◌||◌, List, Option, Some, None, Ok, refl, sym, ap₂, subst}
 use Rattle.std.specs.Prelude.{All}
 use Rattle.std.proofs.lemmas.List.Elements.{All-weaker}
 use Rattle.mixed_graph.specs.Bits.{has}
@@ -24,11 +24,14 @@ use Rattle.quantity.specs.Laws.Interval.{bounds_lawful}
 use Rattle.count_rows.specs.Rows.{Table}
 use Rattle.count_table.specs.Cells as cells
 use Rattle.count_eval.specs.Programs.{weights_in, is_used, cell_of}
+use Rattle.implications.specs.declared.pairs.Implication.{Implication}
+use Rattle.natural_bounds.proofs.Drawn.{no_model_is_as_drawn}
 use Rattle.diagram.specs.Observed.{IsObservedGraph}
 use Rattle.command_words.specs.Form.{Text}
 use Rattle.diagram.specs.Sets.{Names}
 use Rattle.diagram.specs.declared.diagram.Diagram.{Diagram}
 use Rattle.diagram.proofs.ObservedParts.{part_of}
+use Rattle.evaluate_command.specs.Breaks.{IsBreak}
 use Rattle.evaluate_command.specs.Cells.{CellValue}
 use Rattle.evaluate_command.specs.Effects.{PlainEffect, target_of, Identifies}
 use Rattle.evaluate_command.specs.Right.{CoversEffect, IsOverTable, IsForTable, IsForCounts}
@@ -37,7 +40,7 @@ use Rattle.evaluate_command.specs.declared.answer.Values.{Values}
 use Rattle.evaluate_command.specs.declared.answer.Values.TheVariants as values
 use Rattle.evaluate_command.specs.declared.answer.Answer.{Answer}
 use Rattle.evaluate_command.specs.declared.answer.Answer.TheVariants as evaluated
-use Rattle.causal_cli.specs.AsDrawn.{CoversAsDrawn, EachCoversAsDrawn, AreCoveredAsDrawn, IsEvaluatedAsDrawn}
+use Rattle.causal_cli.specs.AsDrawn.{CoversAsDrawn, EachCoversAsDrawn, AreCoveredAsDrawn, IsBreakAsDrawn, IsUnmatchedAsDrawn, IsEvaluatedAsDrawn}
 use Rattle.causal_cli.proofs.AsDrawn.{drawn}
 
 -- an effect depends on the values of the model's vertices alone
@@ -79,20 +82,37 @@ each_covers false zero g e t (values.Bounds list) is ok h = subst (All (CoversAs
 each_covers true zero g e t (values.Bounds list) is ok h = absurd h
 each_covers false zero g e t (values.Exact list) is ok h = absurd h
 
+-- where the counts break a pair of the observed graph, no model of the diagram as drawn has them
+break_as_drawn : (matched : Bool) (g : ReadGraph) (e : PlainEffect) (t : Table) (broken : Option Implication) → IsObservedGraph g e.graph
+    → IsBreak matched e.graph t broken → IsBreakAsDrawn g e t broken
+break_as_drawn true g e t (Some i) is h =
+    no_model_is_as_drawn (graph_of g.graph) g.graph.valid (has g.latent.bits) e.graph is (is_used t) (weights_in e.graph.vertices t) (cells.total t.rows)
+    h.no_model
+break_as_drawn true g e t None is h = tt
+break_as_drawn false g e t broken is h = subst (IsBreakAsDrawn g e t) (sym h) tt
+
 -- a right answer of `evaluate` over counts
-pub evaluates : (way : Way) (x y : Names) (is_exact zero : Bool) (count : Option Text) (other : List ℕ) (d : Diagram) (e : PlainEffect) (a : Answer)
-    → Identifies way d x y e → IsForCounts is_exact zero e count other (Ok a) → IsEvaluatedAsDrawn d e a
-evaluates way x y is_exact zero count other d e a identifies h = record {
+pub evaluates : (way : Way) (x y : Names) (is_exact zero matched : Bool) (count : Option Text) (other : List ℕ) (d : Diagram) (e : PlainEffect) (a : Answer)
+    → Identifies way d x y e → IsForCounts is_exact zero matched e count other (Ok a) → IsEvaluatedAsDrawn d e a
+evaluates way x y is_exact zero matched count other d e a identifies h = record {
   formula = drawn d.read e.graph seen (target_of e) e.formula identifies.identified.effect;
   values = covered a h.answer;
+  no_model = unmatched a h.answer;
 }
   where
     seen : IsObservedGraph d.read e.graph
     seen = subst (IsObservedGraph d.read) (sym identifies.graph) (part_of d).graph
 
-    covered : (b : Answer) → IsForTable is_exact zero e h.table b → AreCoveredAsDrawn d e b
+    covered : (b : Answer) → IsForTable is_exact zero matched e h.table b → AreCoveredAsDrawn d e b
     covered (evaluated.Values v) k = subst (λ (t : Table). EachCoversAsDrawn d.read e t v.values) (sym k.table)
         (each_covers is_exact zero d.read e h.table v.values seen identifies.identified.graph k.values)
     covered (evaluated.Hedge k) f = absurd f
     covered (evaluated.Joint t settled k) f = absurd f
     covered (evaluated.NotAdmissible s fault) f = absurd f
+
+    unmatched : (b : Answer) → IsForTable is_exact zero matched e h.table b → IsUnmatchedAsDrawn d e b
+    unmatched (evaluated.Values v) k = subst (λ (t : Table). IsBreakAsDrawn d.read e t v.broken) (sym k.table)
+        (break_as_drawn matched d.read e h.table v.broken seen k.broken)
+    unmatched (evaluated.Hedge k) f = absurd f
+    unmatched (evaluated.Joint t settled k) f = absurd f
+    unmatched (evaluated.NotAdmissible s fault) f = absurd f

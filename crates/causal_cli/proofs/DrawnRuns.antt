@@ -282,22 +282,22 @@ module _ (r : Call) (uses : List Use) (code : ℕ) (text : Told) (status : code 
     right = under_names r.held r.held_second q.file file q.counts second (λ bytes other. DefinedWith commands (of Evaluate q) bytes other Yes text)
         (λ bytes other. IsEvaluated q bytes other code text)
         (λ bytes other d. answered_on_both evaluate_telling values_refusal values_refused (plain_form q.format) bytes code Yes text status
-        (omega (arith, status)) other (λ d. Identifies q.way d q.x q.y) (λ d e. evaluations_right.IsForCounts q.exact q.zero e q.count)
-        IsEvaluatedAsDrawn (λ d e a identifies h. evaluates q.way q.x q.y q.exact q.zero q.count other d e a identifies h) d.0 d.1 d.3.0 d.3.1
-        (subst (λ (names : List (List ℕ)). Tells evaluate_telling values_refusal (evaluations_right.IsForCounts q.exact q.zero d.3.0 q.count other) (plain_form q.format)
-        names Yes text) d.3.1.names d.3.2)) names names_second (on_held r (of Evaluate q) Yes text file second other all h);
+        (omega (arith, status)) other (λ d. Identifies q.way d q.x q.y) (λ d e. evaluations_right.IsForCounts q.exact q.zero q.matched e q.count)
+        IsEvaluatedAsDrawn (λ d e a identifies h. evaluates q.way q.x q.y q.exact q.zero q.matched q.count other d e a identifies h) d.0 d.1 d.3.0 d.3.1
+        (subst (λ (names : List (List ℕ)). Tells evaluate_telling values_refusal (evaluations_right.IsForCounts q.exact q.zero q.matched d.3.0 q.count other)
+        (plain_form q.format) names Yes text) d.3.1.names d.3.2)) names names_second (on_held r (of Evaluate q) Yes text file second other all h);
     whole = whole;
   }
 
 -- a no is given on the diagram alone
 module _ (r : Call) (uses : List Use) (code : ℕ) (text : Told) (status : code ≡ 1) (whole : Appends r.before r.after text.text) where
-  no_over_counts : (exact zero : Bool) (e : PlainEffect) (count : Option Text) (other : List ℕ) (k : Result EvaluateAnswer ValuesFault)
-      → evaluations_right.IsForCounts exact zero e count other k → No ≡ outcome_in evaluate_telling values_refusal k → ⊥
-  no_over_counts exact zero e count other (Ok (evaluations.Values a)) right n = let c : 1 ≡ 0 = ap code_of n in omega (arith, c)
-  no_over_counts exact zero e count other (Ok (evaluations.Hedge h)) right n = right.answer
-  no_over_counts exact zero e count other (Ok (evaluations.Joint t settled h)) right n = right.answer
-  no_over_counts exact zero e count other (Ok (evaluations.NotAdmissible s fault)) right n = right.answer
-  no_over_counts exact zero e count other (Err fault) right n = let c : 1 ≡ code_of (values_refusal.outcome fault) = ap code_of n in
+  no_over_counts : (exact zero matched : Bool) (e : PlainEffect) (count : Option Text) (other : List ℕ) (k : Result EvaluateAnswer ValuesFault)
+      → evaluations_right.IsForCounts exact zero matched e count other k → No ≡ outcome_in evaluate_telling values_refusal k → ⊥
+  no_over_counts exact zero matched e count other (Ok (evaluations.Values a)) right n = let c : 1 ≡ 0 = ap code_of n in omega (arith, c)
+  no_over_counts exact zero matched e count other (Ok (evaluations.Hedge h)) right n = right.answer
+  no_over_counts exact zero matched e count other (Ok (evaluations.Joint t settled h)) right n = right.answer
+  no_over_counts exact zero matched e count other (Ok (evaluations.NotAdmissible s fault)) right n = right.answer
+  no_over_counts exact zero matched e count other (Err fault) right n = let c : 1 ≡ code_of (values_refusal.outcome fault) = ap code_of n in
       omega (arith, c, values_refused fault)
 
   pub not_evaluated : CallAnswer r Evaluate uses No text
@@ -318,7 +318,7 @@ module _ (r : Call) (uses : List Use) (code : ℕ) (text : Told) (status : code 
     told = text;
     asks = is;
     right = under_name r.held q.file file (λ bytes. DefinedWith commands (of Evaluate q) bytes other No text) (λ bytes. IsUnevaluated q bytes code text)
-        (λ bytes d. absurd (no_over_counts q.exact q.zero d.3.0 q.count other d.3.2.answer d.3.2.right d.3.2.ends)) names h;
+        (λ bytes d. absurd (no_over_counts q.exact q.zero q.matched d.3.0 q.count other d.3.2.answer d.3.2.right d.3.2.ends)) names h;
     whole = whole;
   }
 

@@ -399,5 +399,5 @@ texts_are_one = record {
       (one_measuring q.format q.count other o) d e s text line a b);
   evaluate_before_counts = λ q other o bytes. on_bytes bytes (λ d. evaluate_command.by_diagram q d) o (alone_once (plain_form q.format) q.way other o q.x q.y);
   evaluate_over_counts = λ q fixed o bytes other. on_bytes bytes (λ d. evaluate_command.by_both q d other) o
-      (one_evaluation q.format q.exact q.zero q.way fixed q.x q.y q.count other o);
+      (one_evaluation q.format q.exact q.zero q.matched q.way fixed q.x q.y q.count other o);
 }

@@ -1,6 +1,6 @@
 -- What an answer says of the diagram as drawn, with its hidden vertices: of the models of the graph that was read, whatever the mechanisms of these.
 -- What it says of the observed graph stands with the answers that are right, in the crate of each command.
-use Rattle.std.specs.Prelude.{ℕ, ◌≡◌, ◌<◌, Bool, true, false, List, All, IsTrue, IfSome, pos}
+use Rattle.std.specs.Prelude.{ℕ, ◌≡◌, ◌<◌, Bool, true, false, List, Option, All, IsTrue, IfSome, pos}
 use Rattle.mixed_graph.specs.Bits.{has}
 use Rattle.mixed_graph.specs.Graphs.{MixedGraph}
 use Rattle.mixed_graph.specs.Shown.{graph_of}
@@ -245,10 +245,21 @@ abbrev pub AreCoveredAsDrawn : Diagram → PlainEffect → EvaluateAnswer → Ty
 AreCoveredAsDrawn d e (evaluated.Values a) = EachCoversAsDrawn d.read e a.counts a.values
 AreCoveredAsDrawn d e a = Unit {0}
 
--- the formula of the effect is right, and the values over counts are so
+-- where a pair is told that the counts break, no model of the diagram as drawn has them
+abbrev pub IsBreakAsDrawn : ReadGraph → PlainEffect → Table → Option Implication → Type 0
+IsBreakAsDrawn g e t broken = IfSome broken (λ i. HasNoModelAsDrawn (graph_of g.graph) (has g.latent.bits) (is_used t) (weights_in e.graph.vertices t)
+    (total t.rows))
+
+-- those of an answer
+abbrev pub IsUnmatchedAsDrawn : Diagram → PlainEffect → EvaluateAnswer → Type 0
+IsUnmatchedAsDrawn d e (evaluated.Values a) = IsBreakAsDrawn d.read e a.counts a.broken
+IsUnmatchedAsDrawn d e a = Unit {0}
+
+-- the formula of the effect is right, the values over counts are so, and so is what is told of a pair that they break
 pub record IsEvaluatedAsDrawn (d : Diagram) (e : PlainEffect) (a : EvaluateAnswer) : Type 0 where
   pub formula : IsRightAsDrawn d.read (target_of e) e.formula
   pub values : AreCoveredAsDrawn d e a
+  pub no_model : IsUnmatchedAsDrawn d e a
 
 -- ---- check
 

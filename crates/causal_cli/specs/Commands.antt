@@ -118,8 +118,8 @@ request_of (request.Natural q) = of command.Natural (of_natural.request_of q)
 -- what is left to answer on a diagram
 abbrev pub left_of : Diagram → SecondInput → Remainder
 left_of d (input.Check experiments certificate format) = check_left format d (masks_of experiments.items) certificate.now
-left_of d (input.Evaluate found counts count exact zero format) =
-    evaluate_left format (effect_in d.observed found) counts.now (option_map (λ s. s.now) count) exact zero
+left_of d (input.Evaluate found counts count exact zero matched format) =
+    evaluate_left format (effect_in d.observed found) counts.now (option_map (λ s. s.now) count) exact zero matched
 left_of d (input.Equivalent sets second format) = equivalent_left format d sets second.now
 left_of d (input.Implications pairs counts count format) = implications_left format d pairs.items counts.now (option_map (λ s. s.now) count)
 left_of d (input.Bounds question counts count exact format) = bounds_left format d.observed question counts.now (option_map (λ s. s.now) count) exact

@@ -123,7 +123,7 @@ IsChecked q = IsAnsweredOnBoth check_telling (λ d. AreExperimentsOn d.read.name
 -- the answer to a request of `evaluate` over counts
 abbrev pub IsEvaluated : evaluate_requests.Request → (bytes other : List ℕ) (code : ℕ) (told : Told) → Type 0
 IsEvaluated q = IsAnsweredOnBoth evaluate_telling (λ d. Identifies q.way d q.x q.y)
-    (λ d e. evaluate_right.IsForCounts q.exact q.zero e q.count) IsEvaluatedAsDrawn (plain_form q.format)
+    (λ d e. evaluate_right.IsForCounts q.exact q.zero q.matched e q.count) IsEvaluatedAsDrawn (plain_form q.format)
 
 -- and before they are read
 abbrev pub IsUnevaluated : evaluate_requests.Request → (bytes : List ℕ) (code : ℕ) (told : Told) → Type 0

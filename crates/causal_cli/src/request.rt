@@ -238,6 +238,7 @@ fn evaluate_over<'a>(
             count: asked.count,
             exact: asked.exact,
             zero: asked.zero,
+            matched: asked.matched,
             format: asked.format,
         })),
     }

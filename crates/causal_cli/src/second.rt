@@ -25,13 +25,15 @@ pub enum SecondInput<'a> {
         certificate: &'a str,
         format: Format,
     },
-    /// The values of an effect over counts, whose column may have a name, in exact fractions or in bounds, and by which rule for products.
+    /// The values of an effect over counts, whose column may have a name, in exact fractions or in bounds, and by which rule for products;
+    /// and whether a pair is told by which no model has the counts.
     Evaluate {
         found: Identified,
         counts: &'a str,
         count: Option<&'a [u8]>,
         exact: bool,
         zero: bool,
+        matched: bool,
         format: Format,
     },
     /// Whether a second graph is equivalent, and what both say of sets that are asked about.
@@ -92,9 +94,12 @@ impl<'a> command_run::SecondInput for SecondInput<'a> {
                 count,
                 exact,
                 zero,
+                matched,
                 format,
                 ..
-            } => evaluate_reply(alloc, diagram, found, *count, *exact, *zero, other, *format),
+            } => evaluate_reply(
+                alloc, diagram, found, *count, *exact, *zero, *matched, other, *format,
+            ),
             SecondInput::Equivalent { sets, format, .. } => equivalent_reply(
                 alloc, diagram, *sets, other, *format,
             ),

@@ -10,8 +10,9 @@ use Rattle.evaluate_command.specs.declared.answer.Answer.{Answer}
 use Rattle.evaluate_command.specs.declared.faults.ValuesFault.{ValuesFault}
 use Rattle.evaluate_command.specs.declared.faults.ValuesFault.TheVariants.{TooLong, Counts, NoValue, NoMemory}
 
-module _ (is_exact zero : Bool) (e : PlainEffect) (count : Option Field) (bytes : List ℕ) (t : Table) (holds : HoldsCounts e.names (used_in e) count bytes t) where
-  pub values_of_bytes : (r : Result Answer ValuesFault) → IfOk r (IsForTable is_exact zero e t) → IfOk r (HasValues is_exact zero e count bytes)
+module _ (is_exact zero matched : Bool) (e : PlainEffect) (count : Option Field) (bytes : List ℕ) (t : Table)
+    (holds : HoldsCounts e.names (used_in e) count bytes t) where
+  pub values_of_bytes : (r : Result Answer ValuesFault) → IfOk r (IsForTable is_exact zero matched e t) → IfOk r (HasValues is_exact zero matched e count bytes)
   values_of_bytes (Ok a) h = record { table = t; holds = holds; answer = h }
   values_of_bytes (Err f) h = tt
 

@@ -226,14 +226,14 @@ stopped : (is_exact zero : Bool) (e : PlainEffect) (t : Table) (fault : EvalFaul
 stopped true zero e t fault h = (h.0, h.1)
 stopped false zero e t fault h = (h.0, h.1)
 
-module _ (is_exact zero : Bool) (e : PlainEffect) (count : Option Field) (bytes : List ℕ) where
-  is_yes : (a : Answer) → HasValues is_exact zero e count bytes a → evaluate_telling.outcome a ≡ Yes
+module _ (is_exact zero matched : Bool) (e : PlainEffect) (count : Option Field) (bytes : List ℕ) where
+  is_yes : (a : Answer) → HasValues is_exact zero matched e count bytes a → evaluate_telling.outcome a ≡ Yes
   is_yes (answers.Values a) h = refl
   is_yes (answers.Hedge k) h = absurd h.answer
   is_yes (answers.Joint t settled k) h = absurd h.answer
   is_yes (answers.NotAdmissible s fault) h = absurd h.answer
 
-  all_or_stop : (a : Answer) (names : Bor (List (List ℕ))) (u : Table) (fault : EvalFault) → HasValues is_exact zero e count bytes a
+  all_or_stop : (a : Answer) (names : Bor (List (List ℕ))) (u : Table) (fault : EvalFault) → HasValues is_exact zero matched e count bytes a
       → LackValues is_exact zero e count bytes (NoValue names u fault) → ⊥
   all_or_stop (answers.Values a) names u fault h k =
       let x = evaluated is_exact zero e h.table a.values h.answer.values in
@@ -251,7 +251,7 @@ module _ (is_exact zero : Bool) (e : PlainEffect) (count : Option Field) (bytes 
   read_or_fault : (t : Table) (fault : CountFault) → HoldsCounts e.names (used_in e) count bytes t → AreNoCounts e count bytes fault → ⊥
   read_or_fault t fault h f = none-some fault (sym h.fits ∙ f.found)
 
-  values_or_fault : (a : Answer) (fault : ValuesFault) → HasValues is_exact zero e count bytes a → IsCountsFault is_exact zero e count bytes fault → ⊥
+  values_or_fault : (a : Answer) (fault : ValuesFault) → HasValues is_exact zero matched e count bytes a → IsCountsFault is_exact zero e count bytes fault → ⊥
   values_or_fault a TooLong h f = read_or_long h.table h.holds f
   values_or_fault a (Counts fault) h f = read_or_fault h.table fault h.holds f
   values_or_fault a (NoValue names t fault) h f = all_or_stop a names t fault h f
@@ -271,7 +271,7 @@ module _ (is_exact zero : Bool) (e : PlainEffect) (count : Option Field) (bytes 
   faults_alike NoMemory g x y = absurd x
   faults_alike f NoMemory x y = absurd y
 
-  pub counts_alike : (a b : Result Answer ValuesFault) → IsForCounts is_exact zero e count bytes a → IsForCounts is_exact zero e count bytes b
+  pub counts_alike : (a b : Result Answer ValuesFault) → IsForCounts is_exact zero matched e count bytes a → IsForCounts is_exact zero matched e count bytes b
       → outcome_in evaluate_telling values_refusal a ≡ outcome_in evaluate_telling values_refusal b
   counts_alike (Ok a) (Ok b) f g = is_yes a f ∙ sym (is_yes b g)
   counts_alike (Ok a) (Err fault) f g = absurd (values_or_fault a fault f g)

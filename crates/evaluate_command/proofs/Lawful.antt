@@ -52,6 +52,7 @@ one_request uses q r a b = λ i. record {
   count = (sym b.count ∙ a.count) i;
   exact = (sym b.exact ∙ a.exact) i;
   zero = (sym b.zero ∙ a.zero) i;
+  matched = (sym b.matched ∙ a.matched) i;
   format = (b.format ∙ sym a.format) i;
 }
 
@@ -70,19 +71,20 @@ refused NoMemory = tt
 -- what is right for a request over both inputs
 abbrev IsForBoth : Request → Diagram → List ℕ → Outcome → Told → Type 0
 IsForBoth q d other o told = (e : PlainEffect) × Identifies q.way d q.x q.y e
-    × Tells evaluate_telling values_refusal (IsForCounts q.exact q.zero e q.count other) (plain_form q.format) e.names o told
+    × Tells evaluate_telling values_refusal (IsForCounts q.exact q.zero q.matched e q.count other) (plain_form q.format) e.names o told
 
 both_once : (q : Request) → FixesFormula q.way → (bytes other : List ℕ) → OneOutcome (IsAnswerOn bytes (λ d. IsForBoth q d other))
 both_once q fixed bytes other = one_on_diagram bytes (λ d. IsForBoth q d other) (λ d e s o p told line a b.
-    a.2.ends ∙ counts_alike q.exact q.zero a.0 q.count other a.2.answer b.2.answer a.2.right
-    (subst (λ (f : PlainEffect). IsForCounts q.exact q.zero f q.count other b.2.answer) (same_effect q.way fixed d e s q.x q.y a.0 b.0 a.1 b.1) b.2.right)
+    a.2.ends ∙ counts_alike q.exact q.zero q.matched a.0 q.count other a.2.answer b.2.answer a.2.right
+    (subst (λ (f : PlainEffect). IsForCounts q.exact q.zero q.matched f q.count other b.2.answer)
+    (same_effect q.way fixed d e s q.x q.y a.0 b.0 a.1 b.1) b.2.right)
     ∙ sym b.2.ends)
 
 -- what holds of each command holds of it
 pub evaluate_lawful : IsLawful evaluate_command
 evaluate_lawful = lawful_on_two_inputs_where one_request
     (λ q d. told_answered evaluate_telling target_refusal answered (λ fault. tt) (IsForDiagram q.way d q.x q.y) (plain_form q.format) d.observed.names)
-    (λ q d other o told a. told_answered evaluate_telling values_refusal answered refused (IsForCounts q.exact q.zero a.0 q.count other)
+    (λ q d other o told a. told_answered evaluate_telling values_refusal answered refused (IsForCounts q.exact q.zero q.matched a.0 q.count other)
     (plain_form q.format) a.0.names o told a.2)
     (λ q bytes. one_on_diagram bytes
     (λ d. Tells evaluate_telling target_refusal (IsForDiagram q.way d q.x q.y) (plain_form q.format) d.observed.names)
@@ -91,5 +93,5 @@ evaluate_lawful = lawful_on_two_inputs_where one_request
     (λ q name d e same names o told a n. first_alone q.way d e same q.x q.y a.answer n.0 a.right n.1)
 
 pub evaluate_is_left : (q : Request) (d : Diagram) (e : PlainEffect) → Identifies q.way d q.x q.y e
-    → IsLeft evaluate_command q d (evaluate_left q.format e q.counts q.count q.exact q.zero)
+    → IsLeft evaluate_command q d (evaluate_left q.format e q.counts q.count q.exact q.zero q.matched)
 evaluate_is_left q d e is = record { named = refl; continues = (e, is); known = is.identified; answers = λ other o told a. (e, is, a) }

@@ -9,6 +9,7 @@ pub mod Evaluable
 mod NoWays
 mod RightFormulas
 mod Counted
+mod OneBreak
 pub mod Unmet
 pub mod Adjusted
 pub mod OneEffect

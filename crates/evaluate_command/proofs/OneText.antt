@@ -17,12 +17,13 @@ use Rattle.count_table.specs.Tables.{AreCounts}
 use Rattle.diagram.proofs.OneDiagram.{AreSameDiagrams}
 use Rattle.diagram.specs.Sets.{Names}
 use Rattle.diagram.specs.declared.diagram.Diagram.{Diagram}
+use Rattle.evaluate_command.proofs.OneBreak.{one_break}
 use Rattle.evaluate_command.proofs.OneEffect.{same_values, same_effect}
 use Rattle.evaluate_command.proofs.Stops.{words_of_stop, why_digit, support_text, stop_told}
 use Rattle.evaluate_command.proofs.Tables.{member_used}
 use Rattle.evaluate_command.specs.Cells.{CellValue, printed_cells, value_in, values_at}
 use Rattle.evaluate_command.specs.Effects.{PlainEffect, target_of, Identifies, used_in}
-use Rattle.evaluate_command.specs.Lines.{sign_of, value_line, cells_text, pinned_lines}
+use Rattle.evaluate_command.specs.Lines.{sign_of, value_line, cells_text, pinned_lines, broken_line}
 use Rattle.evaluate_command.specs.Listed.{plain_of, plain_in, exact_numbers, bounds_numbers}
 use Rattle.evaluate_command.specs.Listings.{cells_lines, effect_object}
 use Rattle.evaluate_command.specs.Objects.{value_json, cells_json, effect_members, values_members}
@@ -39,6 +40,8 @@ use Rattle.evaluate_command.specs.declared.answer.Values.{Values}
 use Rattle.evaluate_command.specs.declared.faults.ValuesFault.TheVariants.{TooLong, Counts, NoValue, NoMemory}
 use Rattle.evaluate_command.specs.declared.faults.ValuesFault.{ValuesFault}
 use Rattle.identify_text.specs.Answers.{free_beside}
+use Rattle.implications.specs.declared.pairs.Implication.{Implication}
+use Rattle.implications_command.specs.Objects.{broken_members}
 use Rattle.json.specs.Json.{Json, number}
 use Rattle.mixed_graph.specs.Bits.{has, members_below}
 use Rattle.prob_expr.specs.View.{target_view}
@@ -65,20 +68,20 @@ use Rattle.evaluate_command.specs.declared.answer.Answer.TheVariants as answers
 
 -- ---- values
 
--- the lines of what is pinned, and those of the cells
-abbrev values_text : Kind → (is_exact : Bool) → PlainEffect → Table → List CellValue → List ℕ
-values_text kind is_exact e t values = pinned_lines e.names t (free_beside (target_of e) e.formula)
-    ++ flat_map (value_line kind (sign_of is_exact) e.names (target_of e) t) values
+-- the lines of what is pinned, those of the cells, and that of a broken pair
+abbrev values_text : Kind → (is_exact : Bool) → PlainEffect → Table → List CellValue → Option Implication → List ℕ
+values_text kind is_exact e t values broken = pinned_lines e.names t (free_beside (target_of e) e.formula)
+    ++ (flat_map (value_line kind (sign_of is_exact) e.names (target_of e) t) values ++ broken_line e.names broken)
 
 -- their object
-abbrev values_json : (is_exact : Bool) → PlainEffect → Table → List CellValue → Json
-values_json is_exact e t values = object_of (effect_members is_exact e.names (target_of e) t (free_beside (target_of e) e.formula)
-    ++ (codes "cells", array_of (map (value_json is_exact e.names (target_of e) t) values)) ∷ [])
+abbrev values_json : (is_exact : Bool) → PlainEffect → Table → List CellValue → Option Implication → Json
+values_json is_exact e t values broken = object_of (effect_members is_exact e.names (target_of e) t (free_beside (target_of e) e.formula)
+    ++ (codes "cells", array_of (map (value_json is_exact e.names (target_of e) t) values)) ∷ broken_members e.names broken)
 
--- what is told of values: the lines of what is pinned and of the cells, or one object
-abbrev values_told : Format → Kind → (is_exact : Bool) → PlainEffect → Table → List CellValue → Told
-values_told format kind is_exact e t values =
-    answer_of (text_in format (values_text kind is_exact e t values) (json_line (values_json is_exact e t values)))
+-- what is told of values: the lines of what is pinned, of the cells and of a broken pair, or one object
+abbrev values_told : Format → Kind → (is_exact : Bool) → PlainEffect → Table → List CellValue → Option Implication → Told
+values_told format kind is_exact e t values broken =
+    answer_of (text_in format (values_text kind is_exact e t values broken) (json_line (values_json is_exact e t values broken)))
 
 lines_listed : {Q : Type 0} (f : CellValue → List ℕ) (numbers : Q → Pair) (values : List (Valued Q))
     → flat_map (λ v. f (plain_of numbers v)) values ≡ flat_map f (plain_in numbers values)
@@ -95,9 +98,9 @@ module _ (format : Format) (e : PlainEffect) (t : Table) (a : EffectValues) (of 
   values_plain : {Q : Type 0} (numbers : Q → Pair) (kind : Kind) (is_exact : Bool) (values : List (Valued Q)) (list : List CellValue)
       → plain_in numbers values ≡ list
       → answer_of (text_in format (pinned_lines e.names a.counts a.pinned.bits
-      ++ cells_text numbers kind is_exact e.names (target_view a.target) a.counts values)
-      (json_line (object_of (values_members numbers is_exact e.names (target_view a.target) a.counts a.pinned.bits values))))
-      ≡ values_told format kind is_exact e t list
+      ++ (cells_text numbers kind is_exact e.names (target_view a.target) a.counts values ++ broken_line e.names a.broken))
+      (json_line (object_of (values_members numbers is_exact e.names (target_view a.target) a.counts a.pinned.bits values a.broken))))
+      ≡ values_told format kind is_exact e t list a.broken
   values_plain numbers kind is_exact values list is =
       let free = free_beside (target_of e) e.formula in
       let line = value_line kind (sign_of is_exact) e.names (target_of e) t in
@@ -105,21 +108,23 @@ module _ (format : Format) (e : PlainEffect) (t : Table) (a : EffectValues) (of 
       let lines : cells_text numbers kind is_exact e.names (target_of e) t values ≡ flat_map line list =
       lines_listed line numbers values ∙ ap (flat_map line) is in
       let objects : cells_json numbers is_exact e.names (target_of e) t values ≡ map json list = objects_listed json numbers values ∙ ap (map json) is in
-      (λ i. answer_of (text_in format (pinned_lines e.names (table i) (pinned i) ++ cells_text numbers kind is_exact e.names (of i) (table i) values)
-      (json_line (object_of (values_members numbers is_exact e.names (of i) (table i) (pinned i) values)))))
-      ∙ (λ i. answer_of (text_in format (pinned_lines e.names t free ++ lines i)
-      (json_line (object_of (effect_members is_exact e.names (target_of e) t free ++ (codes "cells", array_of (objects i)) ∷ [])))))
+      (λ i. answer_of (text_in format (pinned_lines e.names (table i) (pinned i)
+      ++ (cells_text numbers kind is_exact e.names (of i) (table i) values ++ broken_line e.names a.broken))
+      (json_line (object_of (values_members numbers is_exact e.names (of i) (table i) (pinned i) values a.broken)))))
+      ∙ (λ i. answer_of (text_in format (pinned_lines e.names t free ++ (lines i ++ broken_line e.names a.broken))
+      (json_line (object_of (effect_members is_exact e.names (target_of e) t free
+      ++ (codes "cells", array_of (objects i)) ∷ broken_members e.names a.broken)))))
 
 -- the kind of quantity
 abbrev kind_of : (is_exact : Bool) → Kind
 kind_of true = exact
 kind_of false = bounds
 
--- what is told shows the values at the printed cells
-record ShowsValues (format : Format) (is_exact zero : Bool) (e : PlainEffect) (t : Table) (told : Told) : Type 0 where
+-- what is told shows the values at the printed cells, and this broken pair
+record ShowsValues (format : Format) (is_exact zero : Bool) (e : PlainEffect) (t : Table) (broken : Option Implication) (told : Told) : Type 0 where
   values : List CellValue
   evaluated : values_at (value_in (rule_of (kind_of is_exact) zero) e t) (printed_cells e t) ≡ Ok values
-  prints : told ≡ values_told format (kind_of is_exact) is_exact e t values
+  prints : told ≡ values_told format (kind_of is_exact) is_exact e t values broken
 
 -- what is told shows the stop at the first that has none
 record ShowsStop (is_exact zero : Bool) (e : PlainEffect) (t : Table) (told : Told) : Type 0 where
@@ -130,7 +135,8 @@ record ShowsStop (is_exact zero : Bool) (e : PlainEffect) (t : Table) (told : To
 module _ (format : Format) (e : PlainEffect) (t : Table) (a : EffectValues) (of : target_view a.target ≡ target_of e)
     (pinned : a.pinned.bits ≡ free_beside (target_of e) e.formula) (table : a.counts ≡ t) where
   values_shown : (is_exact zero : Bool) (values : Values) → IsOverTable is_exact zero e t values
-      → ShowsValues format is_exact zero e t (answer_of (text_in format (pinned_lines e.names a.counts a.pinned.bits ++ cells_lines e.names a values)
+      → ShowsValues format is_exact zero e t a.broken
+      (answer_of (text_in format (pinned_lines e.names a.counts a.pinned.bits ++ (cells_lines e.names a values ++ broken_line e.names a.broken))
       (json_line (object_of (effect_object e.names a values)))))
   values_shown true zero (Exact values) h = record {
     values = h.values.values;
@@ -214,12 +220,13 @@ module _ (e : PlainEffect) (t u : Table) (alike : AreAlike t u) where
 
   module _ (is_exact zero : Bool) (evaluated : values_at (value_in (rule_of (kind_of is_exact) zero) e u) (printed_cells e u)
       ≡ values_at (value_in (rule_of (kind_of is_exact) zero) e t) (printed_cells e t)) where
-    values_tell : (format : Format) (told other : Told) → ShowsValues format is_exact zero e t told → ShowsValues format is_exact zero e u other → other ≡ told
-    values_tell format told other a b =
+    values_tell : (format : Format) (x y : Option Implication) → y ≡ x → (told other : Told) → ShowsValues format is_exact zero e t x told
+        → ShowsValues format is_exact zero e u y other → other ≡ told
+    values_tell format x y one told other a b =
         let same : b.values ≡ a.values = ap values_of (sym b.evaluated ∙ evaluated ∙ a.evaluated) in
         b.prints
-        ∙ printed_same (λ k. values_told format (kind_of is_exact) is_exact e k b.values) (λ rows more vs ls. refl)
-        ∙ ap (values_told format (kind_of is_exact) is_exact e t) same
+        ∙ printed_same (λ k. values_told format (kind_of is_exact) is_exact e k b.values y) (λ rows more vs ls. refl)
+        ∙ ap₂ (values_told format (kind_of is_exact) is_exact e t) same one
         ∙ sym a.prints
 
     stops_tell : (told other : Told) → ShowsStop is_exact zero e t told → ShowsStop is_exact zero e u other → other ≡ told
@@ -230,19 +237,21 @@ module _ (e : PlainEffect) (t u : Table) (alike : AreAlike t u) where
 
 -- ---- over the bytes of counts
 
-module _ (format : Format) (is_exact zero : Bool) (e : PlainEffect) (count : Option Field) (bytes : List ℕ) where
+module _ (format : Format) (is_exact zero matched : Bool) (e : PlainEffect) (count : Option Field) (bytes : List ℕ) where
   tables_alike : (t u : Table) → HoldsCounts e.names (used_in e) count bytes t → HoldsCounts e.names (used_in e) count bytes u → AreAlike t u
   tables_alike t u a b = one_table bytes e.names (used_in e) count t u a.reads b.reads
 
   -- of the values over counts one thing is told
-  answers_same : (a b : Answer) → IsForCounts is_exact zero e count bytes (Ok a) → IsForCounts is_exact zero e count bytes (Ok b)
+  answers_same : (a b : Answer) → IsForCounts is_exact zero matched e count bytes (Ok a) → IsForCounts is_exact zero matched e count bytes (Ok b)
       → told_in evaluate_telling values_refusal (plain_form format) e.names (Ok b)
       ≡ told_in evaluate_telling values_refusal (plain_form format) e.names (Ok a)
   answers_same (answers.Values a) (answers.Values b) x y =
       let k = x.answer in
       let m = y.answer in
-      values_tell e x.table y.table (tables_alike x.table y.table x.holds y.holds) is_exact zero
+      let alike = tables_alike x.table y.table x.holds y.holds in
+      values_tell e x.table y.table alike is_exact zero
       (same_values (rule_of (kind_of is_exact) zero) e bytes count x.table y.table x.holds.reads y.holds.reads) format
+      a.broken b.broken (one_break matched e.graph x.table y.table alike a.broken b.broken k.broken m.broken)
       (told_in evaluate_telling values_refusal (plain_form format) e.names (Ok (answers.Values a)))
       (told_in evaluate_telling values_refusal (plain_form format) e.names (Ok (answers.Values b)))
       (values_shown format e x.table a k.target k.pinned k.table is_exact zero a.values k.values)
@@ -266,7 +275,7 @@ module _ (format : Format) (is_exact zero : Bool) (e : PlainEffect) (count : Opt
       (stop_shown is_exact zero e x.table k.counts (has (used_in e)) x.holds.reads.vertices fault k.value)
 
   -- bytes have one fault
-  faults_same : (f k : ValuesFault) → IsForCounts is_exact zero e count bytes (Err f) → IsForCounts is_exact zero e count bytes (Err k)
+  faults_same : (f k : ValuesFault) → IsForCounts is_exact zero matched e count bytes (Err f) → IsForCounts is_exact zero matched e count bytes (Err k)
       → values_refusal.told k ≡ values_refusal.told f
   faults_same TooLong TooLong x y = refl
   faults_same (Counts f) (Counts k) x y = ap (λ (c : CountFault). values_refusal.told (Counts c)) (same_Some k f (sym y.found ∙ x.found))
@@ -296,19 +305,20 @@ more_than_no (NoValue names t f) = omega arith
 more_than_no NoMemory = omega arith
 
 -- the answer over counts for an effect that the lists name
-abbrev pub IsEvaluated : Format → (is_exact zero : Bool) → Way → (x y : Names) → Option Field → (bytes : List ℕ) → Outcome → Diagram → Told → Type 0
-IsEvaluated format is_exact zero way x y count bytes o d told = (e : PlainEffect) × Identifies way d x y e
-    × Tells evaluate_telling values_refusal (IsForCounts is_exact zero e count bytes) (plain_form format) e.names o told
+abbrev pub IsEvaluated : Format → (is_exact zero matched : Bool) → Way → (x y : Names) → Option Field → (bytes : List ℕ) → Outcome → Diagram → Told → Type 0
+IsEvaluated format is_exact zero matched way x y count bytes o d told = (e : PlainEffect) × Identifies way d x y e
+    × Tells evaluate_telling values_refusal (IsForCounts is_exact zero matched e count bytes) (plain_form format) e.names o told
 
 -- one thing is told of it, whatever the outcome
-pub one_evaluation : (format : Format) (is_exact zero : Bool) (way : Way) → FixesFormula way → (x y : Names) (count : Option Field) (bytes : List ℕ)
-    (o : Outcome) (d d' : Diagram) → AreSameDiagrams d d' → (told other : Told) → IsEvaluated format is_exact zero way x y count bytes o d told
-    → IsEvaluated format is_exact zero way x y count bytes o d' other → other ≡ told
-one_evaluation format is_exact zero way fixed x y count bytes o d d' s told other a b =
+pub one_evaluation : (format : Format) (is_exact zero matched : Bool) (way : Way) → FixesFormula way → (x y : Names) (count : Option Field) (bytes : List ℕ)
+    (o : Outcome) (d d' : Diagram) → AreSameDiagrams d d' → (told other : Told) → IsEvaluated format is_exact zero matched way x y count bytes o d told
+    → IsEvaluated format is_exact zero matched way x y count bytes o d' other → other ≡ told
+one_evaluation format is_exact zero matched way fixed x y count bytes o d d' s told other a b =
     let e = a.0 in
-    let other_too = subst (λ (f : PlainEffect). Tells evaluate_telling values_refusal (IsForCounts is_exact zero f count bytes) (plain_form format) f.names o other)
+    let other_too = subst (λ (f : PlainEffect). Tells evaluate_telling values_refusal (IsForCounts is_exact zero matched f count bytes)
+    (plain_form format) f.names o other)
     (same_effect way fixed d d' s x y e b.0 a.1 b.1) b.2 in
     one_told evaluate_telling values_refusal (record { answered = yes_or_no; refused = more_than_no }) (plain_form format) e.names e.names
-    (IsForCounts is_exact zero e count bytes) (IsForCounts is_exact zero e count bytes)
-    (λ p q f g same. answers_same format is_exact zero e count bytes p q f g) (faults_same format is_exact zero e count bytes)
+    (IsForCounts is_exact zero matched e count bytes) (IsForCounts is_exact zero matched e count bytes)
+    (λ p q f g same. answers_same format is_exact zero matched e count bytes p q f g) (faults_same format is_exact zero matched e count bytes)
     o told other a.2 other_too

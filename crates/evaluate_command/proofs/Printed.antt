@@ -138,10 +138,13 @@ module _ (rule : Rule) (covers : Pair → Fraction → Type 0) (p : Preparation)
         values = v ∷ [];
         evaluated = values_one (value_by rule p) cell q is;
         counts = λ first. All-cons (λ (w : CellValue). CoversCounts covers p.vertices p.counts p.formula (cell_of w.cell) w.quantity) v [] (counts first)
-            (All-nil _);
-        zeros = All-cons (λ (w : CellValue). CoversWithZeros covers p.vertices p.counts p.formula (cell_of w.cell) w.quantity) v [] zeros (All-nil _);
-        each = All-cons (λ (w : CellValue). IsCell p.vertices p.counts w.cell) v [] at (All-nil _);
-        matches = All-cons (λ (w : CellValue). CoversMatches covers p.vertices p.counts p.formula (cell_of w.cell) w.quantity) v [] matches (All-nil _);
+            (All-nil (λ (w : CellValue). CoversCounts covers p.vertices p.counts p.formula (cell_of w.cell) w.quantity));
+        zeros = All-cons (λ (w : CellValue). CoversWithZeros covers p.vertices p.counts p.formula (cell_of w.cell) w.quantity) v [] zeros
+            (All-nil (λ (w : CellValue). CoversWithZeros covers p.vertices p.counts p.formula (cell_of w.cell) w.quantity));
+        each = All-cons (λ (w : CellValue). IsCell p.vertices p.counts w.cell) v [] at
+            (All-nil (λ (w : CellValue). IsCell p.vertices p.counts w.cell));
+        matches = All-cons (λ (w : CellValue). CoversMatches covers p.vertices p.counts p.formula (cell_of w.cell) w.quantity) v [] matches
+            (All-nil (λ (w : CellValue). CoversMatches covers p.vertices p.counts p.formula (cell_of w.cell) w.quantity));
         list = list;
       }
 

@@ -20,15 +20,15 @@ evaluate_command = on_two_inputs_where Request IsRequest (λ q. q.format) (λ q.
     (λ q d. Tells evaluate_telling target_refusal (IsForDiagram q.way d q.x q.y) (plain_form q.format) d.observed.names)
     (λ q d. (e : PlainEffect) × Identifies q.way d q.x q.y e)
     (λ q d other o told. (e : PlainEffect) × Identifies q.way d q.x q.y e
-    × Tells evaluate_telling values_refusal (IsForCounts q.exact q.zero e q.count other) (plain_form q.format) e.names o told)
+    × Tells evaluate_telling values_refusal (IsForCounts q.exact q.zero q.matched e q.count other) (plain_form q.format) e.names o told)
     (λ q. FixesFormula q.way)
 
 -- what is left once the effect has a formula: its values over the counts, whose column may have a name, in exact fractions or in bounds, by one of
--- the two rules for products
-abbrev pub evaluate_left : Format → PlainEffect → (counts : Text) (count : Option Text) (exact zero : Bool) → Remainder
-evaluate_left format e counts count exact zero = record {
+-- the two rules for products, and where it is asked for the pair by which no model has the counts
+abbrev pub evaluate_left : Format → PlainEffect → (counts : Text) (count : Option Text) (exact zero matched : Bool) → Remainder
+evaluate_left format e counts count exact zero matched = record {
   second = counts;
   limit = 67108864;
   known = IsIdentified e;
-  answer = λ other. Tells evaluate_telling values_refusal (IsForCounts exact zero e count other) (plain_form format) e.names;
+  answer = λ other. Tells evaluate_telling values_refusal (IsForCounts exact zero matched e count other) (plain_form format) e.names;
 }

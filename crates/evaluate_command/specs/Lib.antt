@@ -6,6 +6,7 @@ pub mod Lines
 pub mod Objects
 pub mod Stopped
 pub mod Listings
+pub mod Breaks
 pub mod Telling
 pub mod ValuesFaults
 pub mod Printing

@@ -1,5 +1,5 @@
 -- The lines that `evaluate` prints.
-use Rattle.std.specs.Prelude.{ℕ, List, [], ◌∷◌, ◌++◌, codes, Bool, true, false, if◌then◌else◌}
+use Rattle.std.specs.Prelude.{ℕ, List, [], ◌∷◌, ◌++◌, codes, Bool, true, false, if◌then◌else◌, Option, Some, None}
 use Rattle.std.specs.List.{flat_map}
 use Rattle.mixed_graph.specs.Bits.{has, members_below}
 use Rattle.mixed_graph.specs.Masks.{is_empty}
@@ -8,6 +8,8 @@ use Rattle.quantity.specs.Kinds.{Pair, Kind}
 use Rattle.count_rows.specs.Rows.{Table}
 use Rattle.count_eval.specs.Programs.{cell_of}
 use Rattle.count_answers.specs.Lines.{assignment, assignments}
+use Rattle.implications.specs.declared.pairs.Implication.{Implication}
+use Rattle.implications_command.specs.Lines.{pair_line}
 use Rattle.evaluate_command.specs.Cells.{CellValue}
 use Rattle.evaluate_command.specs.Listed.{plain_of}
 use Rattle.evaluate_command.specs.declared.answer.Valued.{Valued}
@@ -46,3 +48,8 @@ pinned_line names t v = codes "pinned " ++ (assignment names t (λ u. 0) v ++ co
 -- the lines of vertices at their first levels, in index order
 abbrev pub pinned_lines : List (List ℕ) → Table → (pinned : ℕ) → List ℕ
 pinned_lines names t pinned = flat_map (pinned_line names t) (members_below (has pinned) 64)
+
+-- `no model of the diagram has these counts: A from C given {B}`, where there is such a pair
+abbrev pub broken_line : List (List ℕ) → Option Implication → List ℕ
+broken_line names None = []
+broken_line names (Some i) = codes "no model of the diagram has these counts: " ++ pair_line names i

@@ -1,5 +1,5 @@
 -- The members of the object of an effect's values.
-use Rattle.std.specs.Prelude.{ℕ, Bool, true, false, List, [], ◌∷◌, ◌++◌, map, codes}
+use Rattle.std.specs.Prelude.{ℕ, Bool, true, false, List, [], ◌∷◌, ◌++◌, Option, map, codes}
 use Rattle.json.specs.Json.{Json, string, boolean}
 use Rattle.mixed_graph.specs.Bits.{has, members_below}
 use Rattle.prob_expr.specs.Tree.{PlainTarget}
@@ -10,6 +10,8 @@ use Rattle.count_eval.specs.Programs.{cell_of}
 use Rattle.answer_json.specs.Progress.{array_of, object_of}
 use Rattle.answer_json.specs.Values.{set_json}
 use Rattle.count_json.specs.Cells.{cell_json}
+use Rattle.implications.specs.declared.pairs.Implication.{Implication}
+use Rattle.implications_command.specs.Objects.{broken_members}
 use Rattle.evaluate_command.specs.Cells.{CellValue}
 use Rattle.evaluate_command.specs.Listed.{plain_of}
 use Rattle.evaluate_command.specs.declared.answer.Valued.{Valued}
@@ -42,8 +44,8 @@ effect_members is_exact names e t pinned =
     (codes "answer", string (codes "values")) ∷ (codes "exact", boolean is_exact) ∷ (codes "y", set_json names e.y) ∷ (codes "x", set_json names e.x)
     ∷ (codes "given", set_json names e.given) ∷ (codes "pinned", levels_json names t [] pinned) ∷ []
 
--- the values of an effect
+-- the values of an effect, and the pair by which no model has the counts, where there is one
 abbrev pub values_members : {Q : Type 0} → (Q → Pair) → (is_exact : Bool) → List (List ℕ) → PlainTarget → Table → (pinned : ℕ) → List (Valued Q)
-    → List (List ℕ × Json)
-values_members numbers is_exact names e t pinned values =
-    effect_members is_exact names e t pinned ++ (codes "cells", array_of (cells_json numbers is_exact names e t values)) ∷ []
+    → (broken : Option Implication) → List (List ℕ × Json)
+values_members numbers is_exact names e t pinned values broken =
+    effect_members is_exact names e t pinned ++ (codes "cells", array_of (cells_json numbers is_exact names e t values)) ∷ broken_members names broken

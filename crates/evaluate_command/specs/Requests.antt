@@ -9,7 +9,7 @@ use Rattle.replies.specs.Told.{format_of}
 use Rattle.evaluate_command.specs.Ways.{Way, way_of, way_for}
 use Rattle.evaluate_command.specs.declared.request.Request.{Request as CodeRequest}
 
--- `evaluate FILE COUNTS [--x L] [--y L] [--given L] [--set L] [--back-door] [--count NAME] [--exact] [--zero] [--short] [--json]`
+-- `evaluate FILE COUNTS [--x L] [--y L] [--given L] [--set L] [--back-door] [--count NAME] [--exact] [--zero] [--matched] [--short] [--json]`
 abbrev pub evaluate_row : Row
 evaluate_row = record {
   name = codes "evaluate";
@@ -17,7 +17,7 @@ evaluate_row = record {
   optional = [];
   required = [];
   options = codes "x" ∷ codes "y" ∷ codes "given" ∷ codes "set" ∷ codes "count" ∷ [];
-  flags = codes "back-door" ∷ codes "exact" ∷ codes "zero" ∷ codes "short" ∷ codes "json" ∷ [];
+  flags = codes "back-door" ∷ codes "exact" ∷ codes "zero" ∷ codes "matched" ∷ codes "short" ∷ codes "json" ∷ [];
 }
 
 -- a request
@@ -30,6 +30,7 @@ pub record Request : Type 0 where
   pub count : Option Text
   pub exact : Bool
   pub zero : Bool
+  pub matched : Bool
   pub format : Format
 
 -- the request
@@ -43,6 +44,7 @@ request_of r = record {
   count = option_map (λ s. s.now) r.count;
   exact = r.exact;
   zero = r.zero;
+  matched = r.matched;
   format = r.format;
 }
 
@@ -61,4 +63,5 @@ pub record IsRequest (uses : List Use) (r : Request) : Type 0 where
   pub count : value_of uses (codes "count") ≡ r.count
   pub exact : has_flag uses (codes "exact") ≡ r.exact
   pub zero : has_flag uses (codes "zero") ≡ r.zero
+  pub matched : has_flag uses (codes "matched") ≡ r.matched
   pub format : r.format ≡ format_of (has_flag uses (codes "json"))

@@ -27,6 +27,7 @@ use Rattle.count_eval.specs.Rules.{Rule, rule as rule_of}
 use Rattle.count_eval.specs.Stops.{Stop}
 use Rattle.count_eval.specs.declared.failure.EvalFault.{EvalFault}
 use Rattle.count_answers.specs.Reads.{HoldsCounts}
+use Rattle.evaluate_command.specs.Breaks.{IsBreak}
 use Rattle.evaluate_command.specs.Cells.{CellValue, value_in, values_at, printed_cells}
 use Rattle.evaluate_command.specs.Effects.{PlainEffect, target_of, used_in}
 use Rattle.evaluate_command.specs.Listed.{exact_numbers, bounds_numbers, plain_in}
@@ -84,17 +85,19 @@ abbrev pub HasNoValue : (is_exact zero : Bool) → PlainEffect → Table → Eva
 HasNoValue true zero = IsUnvalued (rule_of exact zero)
 HasNoValue false zero = IsUnvalued (rule_of bounds zero)
 
--- the values are those of the effect over the table, and what is pinned is what is free in its formula beside its sets
-pub record AreEffectValues (is_exact zero : Bool) (e : PlainEffect) (t : Table) (a : EffectValues) : Type 0 where
+-- the values are those of the effect over the table, and what is pinned is what is free in its formula beside its sets; where it is asked for, the first
+-- pair that the graph implies and the counts break is told, by which no model has the counts
+pub record AreEffectValues (is_exact zero matched : Bool) (e : PlainEffect) (t : Table) (a : EffectValues) : Type 0 where
   pub target : target_view a.target ≡ target_of e
   pub pinned : a.pinned.bits ≡ free_beside (target_of e) e.formula
   pub table : a.counts ≡ t
   pub values : IsOverTable is_exact zero e t a.values
+  pub broken : IsBreak matched e.graph t a.broken
 
 -- the answer over a table
-abbrev pub IsForTable : (is_exact zero : Bool) → PlainEffect → Table → Answer → Type 0
-IsForTable is_exact zero e t (answers.Values a) = AreEffectValues is_exact zero e t a
-IsForTable is_exact zero e t a = ⊥
+abbrev pub IsForTable : (is_exact zero matched : Bool) → PlainEffect → Table → Answer → Type 0
+IsForTable is_exact zero matched e t (answers.Values a) = AreEffectValues is_exact zero matched e t a
+IsForTable is_exact zero matched e t a = ⊥
 
 -- there is none over a table of counts: the fault says so, with this table and the names of its vertices
 pub record IsStopped (is_exact zero : Bool) (e : PlainEffect) (t : Table) (names : List (List ℕ)) (counted : Table) (fault : EvalFault) : Type 0 where
@@ -111,10 +114,10 @@ IsFaultOver is_exact zero e t fault = ⊥
 -- ---- over the bytes of counts
 
 -- the answer over the table of the bytes
-pub record HasValues (is_exact zero : Bool) (e : PlainEffect) (count : Option Field) (bytes : List ℕ) (a : Answer) : Type 0 where
+pub record HasValues (is_exact zero matched : Bool) (e : PlainEffect) (count : Option Field) (bytes : List ℕ) (a : Answer) : Type 0 where
   pub table : Table
   pub holds : HoldsCounts e.names (used_in e) count bytes table
-  pub answer : IsForTable is_exact zero e table a
+  pub answer : IsForTable is_exact zero matched e table a
 
 -- there is none over the table of the bytes
 pub record LackValues (is_exact zero : Bool) (e : PlainEffect) (count : Option Field) (bytes : List ℕ) (fault : ValuesFault) : Type 0 where
@@ -136,6 +139,6 @@ IsCountsFault is_exact zero e count bytes (NoValue names t fault) = LackValues i
 IsCountsFault is_exact zero e count bytes NoMemory = ⊥
 
 -- the answer, or why there is none
-abbrev pub IsForCounts : (is_exact zero : Bool) → PlainEffect → Option Field → List ℕ → Result Answer ValuesFault → Type 0
-IsForCounts is_exact zero e count bytes (Ok a) = HasValues is_exact zero e count bytes a
-IsForCounts is_exact zero e count bytes (Err fault) = IsCountsFault is_exact zero e count bytes fault
+abbrev pub IsForCounts : (is_exact zero matched : Bool) → PlainEffect → Option Field → List ℕ → Result Answer ValuesFault → Type 0
+IsForCounts is_exact zero matched e count bytes (Ok a) = HasValues is_exact zero matched e count bytes a
+IsForCounts is_exact zero matched e count bytes (Err fault) = IsCountsFault is_exact zero e count bytes fault

@@ -7,6 +7,7 @@ use adjustment::AdjFault;
 use answer_json::Object;
 use count_table::Counts;
 use effect_answers::EffectHedge;
+use implications::Implication;
 use mixed_graph::{Names, VSet};
 use prob_expr::Target;
 use quantity::{Bounds, Exact, Quantity};
@@ -41,6 +42,8 @@ pub struct EffectValues {
     pub pinned: VSet,
     pub counts: Counts,
     pub values: Values,
+    /// The pair by which no model has the counts: none where it isn't asked for.
+    pub broken: Option<Implication>,
 }
 
 /// Cells with the quantities there, in one of two kinds.

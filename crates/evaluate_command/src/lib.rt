@@ -6,6 +6,7 @@
 
 mod adjusting;
 mod answer;
+mod breaks;
 mod cells;
 mod conditional;
 mod evaluating;

@@ -6,7 +6,7 @@ ghost use Rattle.mixed_graph.specs.Bits.{has, members_below};
 ghost use Rattle.mixed_graph.specs.Masks.{is_empty};
 ghost use Rattle.prob_expr.specs.View.{target_view};
 ghost use Rattle.count_eval.specs.Programs.{cell_of};
-ghost use Rattle.evaluate_command.specs.Lines.{doing_text, given_text, effect_text, sign_of, value_line, cells_text, pinned_line, pinned_lines};
+ghost use Rattle.evaluate_command.specs.Lines.{doing_text, given_text, effect_text, sign_of, value_line, cells_text, pinned_line, pinned_lines, broken_line};
 ghost use Rattle.evaluate_command.specs.Listed.{plain_of};
 ghost use Rattle.evaluate_command.specs.Listings.{cells_lines, values_lines};
 
@@ -14,6 +14,8 @@ use crate::answer::{EffectValues, Valued, Values};
 use crate::shown::Shown;
 use count_answers::{push_assignment, push_assignments};
 use count_table::Counts;
+use implications::Implication;
+use implications_command::push_pair;
 use mixed_graph::{Names, VSet};
 use prob_expr::Target;
 use std::alloc::{AllocError, Global};
@@ -177,7 +179,23 @@ fn push_values(
     }
 }
 
-/// The lines of what is pinned, and those of the cells.
+/// Appends the line of the pair by which no model has the counts: nothing where there is none.
+fn push_broken(
+    out: &mut Vec<u8>,
+    names: &Names,
+    broken: Option<Implication>,
+) -> Result<(), AllocError>
+    ensures { OnOk result (out.new.items ≡ out.old.items ++ broken_line names.now broken) }
+{
+    let Some(pair) = broken else {
+        return Ok(());
+    };
+    out.extend_from_slice(b"no model of the diagram has these counts: ")?;
+    push_pair(out, names, &pair)?;
+    Ok(())
+}
+
+/// The lines of what is pinned, those of the cells, and that of the pair by which no model has the counts.
 pub fn values_text(
     alloc: Global,
     names: &Names,
@@ -187,5 +205,6 @@ pub fn values_text(
 {
     let mut text = pinned_lines(alloc, names, &answer.counts, answer.pinned)?;
     push_values(alloc, &mut text, names, answer)?;
+    push_broken(&mut text, names, answer.broken)?;
     Ok(text)
 }

@@ -12,6 +12,7 @@ use crate::shown::Shown;
 use answer_json::Object;
 use count_json::push_cell;
 use count_table::Counts;
+use implications_command::push_broken;
 use mixed_graph::{Names, VSet};
 use prob_expr::Target;
 use std::alloc::AllocError;
@@ -115,11 +116,12 @@ fn push_values<Q: Shown>(
     answer: &EffectValues,
     values: &[Valued<Q>],
 ) -> Result<(), AllocError>
-    ensures { OnOk result (object.new ≡ with_members (values_members Q.numbers Q.IS_EXACT names.now (target_view answer.now.target) answer.now.counts answer.now.pinned.bits values.now) object.old) }
+    ensures { OnOk result (object.new ≡ with_members (values_members Q.numbers Q.IS_EXACT names.now (target_view answer.now.target) answer.now.counts answer.now.pinned.bits values.now answer.now.broken) object.old) }
 {
     let (target, counts) = (&answer.target, &answer.counts);
     begin_values(object, names, target, counts, answer.pinned, Q::IS_EXACT)?;
     cells_at(object, names, target, counts, values)?;
+    push_broken(object, names, answer.broken)?;
     Ok(())
 }
 

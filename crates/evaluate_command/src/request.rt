@@ -16,14 +16,14 @@ use command_words::values::Values;
 use replies::Format;
 use std::alloc::Global;
 
-/// `evaluate FILE COUNTS [--x L] [--y L] [--given L] [--set L] [--back-door] [--count NAME] [--exact] [--zero] [--short] [--json]`
+/// `evaluate FILE COUNTS [--x L] [--y L] [--given L] [--set L] [--back-door] [--count NAME] [--exact] [--zero] [--matched] [--short] [--json]`
 pub const ROW: Entry = Entry {
     name: "evaluate",
     positionals: &["file", "counts"],
     optional: &[],
     required: &[],
     options: &["x", "y", "given", "set", "count"],
-    flags: &["back-door", "exact", "zero", "short", "json"],
+    flags: &["back-door", "exact", "zero", "matched", "short", "json"],
 };
 
 /// What is asked for.
@@ -37,6 +37,7 @@ pub struct Request<'a> {
     pub count: Option<&'a [u8]>,
     pub exact: bool,
     pub zero: bool,
+    pub matched: bool,
     pub format: Format,
 }
 
@@ -55,6 +56,7 @@ impl<'a> Request<'a> {
         let count = value_bytes(values, "count");
         let exact = values.flag("exact");
         let zero = values.flag("zero");
+        let matched = values.flag("matched");
         let format = Format::of(values.flag("json"));
         let set = listed_names(alloc, values, "set")?;
         let given = names_or_empty(alloc, values, "given")?;
@@ -72,6 +74,7 @@ impl<'a> Request<'a> {
             count,
             exact,
             zero,
+            matched,
             format,
         })
     }

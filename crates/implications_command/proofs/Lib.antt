@@ -3,7 +3,7 @@ mod Pieces
 mod Using
 mod Measuring
 mod OneList
-mod SameList
+pub mod SameList
 pub mod Exclusive
 pub mod Lawful
 pub mod OneText

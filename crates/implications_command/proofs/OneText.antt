@@ -188,13 +188,13 @@ abbrev Counter : Type 0
 Counter = (ℕ → Bool) → (ℕ → ℕ) → ℕ
 
 module _ (t u : Table) (same : AreAlike t u) (i : Implication) where
-  axes_same : axes_in u i ≡ axes_in t i
+  pub axes_same : axes_in u i ≡ axes_in t i
   axes_same = ap (λ (vs : List ℕ). axes_with i vs u.levels) same.vertices ∙ ap (λ (ls : List (List Field)). axes_with i t.vertices ls) same.levels
 
   distance_same : (s : ℕ → ℕ) → distance u i s ≡ distance t i s
   distance_same s = ap (λ (w : Counter). abs_diff (w (whole_of i) s * w (has i.given.bits) s) (w (first_of_pair i) s * w (second_of_pair i) s)) same.sums
 
-  difference_same : (s : ℕ → ℕ) → difference u i s ≡ difference t i s
+  pub difference_same : (s : ℕ → ℕ) → difference u i s ≡ difference t i s
   difference_same s = ap (λ (w : Counter). pos (w (whole_of i) s * w (has i.given.bits) s) -ℤ pos (w (first_of_pair i) s * w (second_of_pair i) s)) same.sums
 
   module _ (d e : Difference) (a : IsLargest t i d) (b : IsLargest u i e) where

@@ -17,6 +17,8 @@ mod used;
 pub use answer::Answer;
 pub use differences::Measured;
 pub use fault::CountsFault;
+pub use lines::push_pair;
 pub use listing::{PairsOrReply, counted_pairs, pairs_answer, pairs_reply};
+pub use objects::push_broken;
 pub use reply::{differences_answer, differences_reply, long_counts};
 pub use request::{ROW, Request};

@@ -15,8 +15,8 @@ use implied_differences::Difference;
 use mixed_graph::Names;
 use std::alloc::{AllocError, Global};
 
-/// Appends the line of a pair: `A from C given {B}`.
-fn push_pair(out: &mut Vec<u8>, names: &Names, i: &Implication) -> Result<(), AllocError>
+/// Appends the line of a pair: `A from C given {B}`. The only error is want of memory.
+pub fn push_pair(out: &mut Vec<u8>, names: &Names, i: &Implication) -> Result<(), AllocError>
     ensures { OnOk result (out.new.items ≡ out.old.items ++ pair_line names.now i.now) }
 {
     push_vertex(out, names, i.a)?;

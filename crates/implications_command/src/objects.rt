@@ -189,8 +189,8 @@ fn differences_at(
     Ok(())
 }
 
-/// The member of the pair by which no model has the counts, where there is one.
-fn push_broken(
+/// The member of the pair by which no model has the counts, where there is one. The only error is want of memory.
+pub fn push_broken(
     object: &mut Object,
     names: &Names,
     broken: Option<Implication>,

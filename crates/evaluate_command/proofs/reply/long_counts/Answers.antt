@@ -13,11 +13,11 @@ use Rattle.evaluate_command.proofs.reply.long_counts.Goals as goal
 
 long_told : {E : Type 0} (r : Result Reply E) → IfOk r (λ (p : Reply). p.outcome ≡ values_refusal.outcome TooLong)
     → IfOk r (λ (p : Reply). told_of p ≡ values_refusal.told TooLong)
-    → IfOk r (λ (k : Reply). (form : Form) (exact zero : Bool) (e : PlainEffect) (count : Option Field) (bytes : List ℕ) (names : List (List ℕ))
+    → IfOk r (λ (k : Reply). (form : Form) (exact zero matched : Bool) (e : PlainEffect) (count : Option Field) (bytes : List ℕ) (names : List (List ℕ))
     → 67108864 < length bytes
-    → Tells evaluate_telling values_refusal (IsForCounts exact zero e count bytes) form names k.outcome (told_of k))
+    → Tells evaluate_telling values_refusal (IsForCounts exact zero matched e count bytes) form names k.outcome (told_of k))
 long_told (Err e) outcome told = tt
-long_told (Ok k) outcome told = λ form exact zero e count bytes names long. record { answer = Err TooLong; right = long; ends = outcome; prints = told }
+long_told (Ok k) outcome told = λ form exact zero matched e count bytes names long. record { answer = Err TooLong; right = long; ends = outcome; prints = told }
 
 pub returns : goal.returns
 returns c = long_told c.refuse.result c.refuse.ensures.outcome c.refuse.ensures.told

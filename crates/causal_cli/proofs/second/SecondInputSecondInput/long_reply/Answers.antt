@@ -53,12 +53,13 @@ returns-in-Evaluate c =
     subst (λ (it : SecondInput). IfOk c.long_counts.result (λ r. (other : List ℕ) → (left_of d it).limit < length other
     → (left_of d it).answer other r.outcome (told_of r))) (sym c.in-Evaluate.is)
     (IfOk-weaker c.long_counts.result
-    (λ r. (form : Form) (exact zero : Bool) (e : PlainEffect) (count : Option Field) (bytes : List ℕ) (names : List (List ℕ)) → 67108864 < length bytes
-    → Tells evaluate_telling values_refusal (evaluations.IsForCounts exact zero e count bytes) form names r.outcome (told_of r))
+    (λ r. (form : Form) (exact zero matched : Bool) (e : PlainEffect) (count : Option Field) (bytes : List ℕ) (names : List (List ℕ)) → 67108864 < length bytes
+    → Tells evaluate_telling values_refusal (evaluations.IsForCounts exact zero matched e count bytes) form names r.outcome (told_of r))
     (λ r. (other : List ℕ) → 67108864 < length other
-    → Tells evaluate_telling values_refusal (evaluations.IsForCounts c.in-Evaluate.exact c.in-Evaluate.zero e count other)
+    → Tells evaluate_telling values_refusal (evaluations.IsForCounts c.in-Evaluate.exact c.in-Evaluate.zero c.in-Evaluate.matched e count other)
     (plain_form c.in-Evaluate.format) e.names r.outcome (told_of r))
-    (λ r h other long. h (plain_form c.in-Evaluate.format) c.in-Evaluate.exact c.in-Evaluate.zero e count other e.names long) c.long_counts.ensures)
+    (λ r h other long. h (plain_form c.in-Evaluate.format) c.in-Evaluate.exact c.in-Evaluate.zero c.in-Evaluate.matched e count other e.names long)
+    c.long_counts.ensures)
 
 pub returns-in-Equivalent : goal.returns-in-Equivalent
 returns-in-Equivalent c =

@@ -61,5 +61,6 @@ returns-clause-ok c = λ uses g. let s = c.in_ok-file.ensures.ok evaluate_row us
   count = sym (c.value_bytes-count.ensures evaluate_row uses g refl);
   exact = sym (c.flag-exact.ensures evaluate_row uses g refl);
   zero = sym (c.flag-zero.ensures evaluate_row uses g refl);
+  matched = sym (c.flag-matched.ensures evaluate_row uses g refl);
   format = c.of-format.ensures ∙ ap format_of (c.flag.ensures evaluate_row uses g refl);
 }
