@@ -39,9 +39,9 @@ fn has_pairs(alloc: Global, counts: &Counts, question: Question) -> Result<bool,
     ensures value { IfOk result (λ has. has ≡ has_pairs counts.now question) }
     ensures pairs { IfOk result (λ has. (n : ℕ) → IsTrue has → HasPairs n counts.now (asked_of question)) }
 {
-    let treatment = question.x.union(question.y);
+    let effect = question.x.union(question.y);
     if question.instruments.is_empty()
-        || !treatment.is_apart(question.level())
+        || !effect.is_apart(question.level())
         || !is_two_valued(counts, question.x)
     {
         return Ok(false);
