@@ -1,32 +1,44 @@
 """Bounds of effects over data: what is known where an effect may have no formula."""
 from __future__ import annotations
 
-from dataclasses import dataclass, field
+import random
+from dataclasses import dataclass, field, replace
 from fractions import Fraction
-from typing import TYPE_CHECKING, Any, Dict, Iterator, List, Mapping, Optional, Sequence, Tuple, Union, overload
+from typing import TYPE_CHECKING, Any, Callable, Dict, Iterator, List, Mapping, Optional, Sequence, Tuple, Union, overload
 
 from causal.answers import Adjustment, Path
 from causal.columns import Data, path_of
 from causal.display import Printed, html_table
+from causal.draws import drawn_numbers, seed_of
 from causal.effects import Level, LevelOf, Value, cell_text, digits, levels_at, typed_order
-from causal.errors import CausalError, RequestError
+from causal.errors import CausalError, DataWarning, EvaluationError, RequestError
+from causal.events import many_lost
 from causal.files import read_bytes
 from causal.framed import Shown
+from causal.frequencies import doubt_frequencies
+from causal.intervals import Interval, check_asked, range_interval
 from causal.names import Names, list_word, names_of, printed_name, printed_set
 from causal.objects import Told, name_in
 from causal.reading import read_adjustment
 from causal.tables import Table, check_request, table_of, table_of_file
-from causal.vocabulary import needed
+from causal.vocabulary import check_progress, needed, warn
 
 if TYPE_CHECKING:
     import pandas
 
+    from causal.bootstrap import Progress
     from causal.diagram import Diagram
+
+# What each effect of a draw is at least and at most, in the order of the effects.
+Ends = Tuple[Tuple[float, float], ...]
+CONF = ("conf_low", "conf_high")
+LOST = "bounds cross there, or records are few at some levels"
 
 
 @dataclass(frozen=True)
 class EffectBound(Printed):
-    """What one probability `P(y | do(x), given)` is at least and at most, with the levels of y, of x and of what is given."""
+    """What one probability `P(y | do(x), given)` is at least and at most, with the levels of y, of x and of what is given. The `interval`, where
+    resamples were asked for, is for the whole range between both ends: see `EffectBounds`."""
 
     y: Dict[str, Level]
     x: Dict[str, Level]
@@ -35,6 +47,7 @@ class EffectBound(Printed):
     at_most: Fraction
     # Exact fractions, and not numbers of 18 digits.
     exact: bool = False
+    interval: Optional[Interval] = None
 
     @property
     def cell(self) -> str:
@@ -52,7 +65,8 @@ class EffectBound(Printed):
         return Value(self.at_least, self.at_most)
 
     def __str__(self) -> str:
-        return f"{self.cell} at least {end_text(self.at_least, self.exact)}, at most {end_text(self.at_most, self.exact)}"
+        ends = f"at least {end_text(self.at_least, self.exact)}, at most {end_text(self.at_most, self.exact)}"
+        return f"{self.cell} {with_interval(ends, self.interval)}"
 
 
 def end_text(end: Fraction, exact: bool) -> str:
@@ -64,6 +78,60 @@ def end_text(end: Fraction, exact: bool) -> str:
     ('1/2', '0.500000000000000000')
     """
     return f"{end.numerator}/{end.denominator}" if exact else digits(end)
+
+
+def with_interval(ends: str, interval: Optional[Interval]) -> str:
+    """Ends with their interval behind them, where there is one.
+
+    >>> from causal.bounds import with_interval
+    >>> from causal.intervals import Interval
+    >>> with_interval("at least 1/2, at most 3/4", Interval(0.25, 0.875, 100))
+    'at least 1/2, at most 3/4 [0.25, 0.875]'
+    """
+    return ends if interval is None else f"{ends} {interval}"
+
+
+@dataclass(frozen=True)
+class BoundsDraws:
+    """The ends of bounds over tables of counts that were drawn anew, and None for a draw that has no bounds: some condition has no record, or
+    bounds cross. They are computed from pseudorandom draws, and nothing about them is proved.
+
+    >>> from causal.bounds import BoundsDraws
+    >>> drawn = BoundsDraws((((0.25, 0.5),), None, ((0.5, 0.75),)), 0.5, 0)
+    >>> drawn.resamples, drawn.without_value, drawn.interval(lambda ends: ends[0])
+    (3, 1, Interval(lower=0.3125, upper=0.6875, draws=2))
+    """
+
+    draws: Tuple[Optional[Ends], ...]
+    level: float
+    seed: int
+
+    @property
+    def resamples(self) -> int:
+        """How many draws were made."""
+        return len(self.draws)
+
+    @property
+    def without_value(self) -> int:
+        """How many draws had no bounds."""
+        return sum(draw is None for draw in self.draws)
+
+    def interval(self, ends_of: Callable[[Ends], Tuple[float, float]]) -> Optional[Interval]:
+        """The interval for a range, of which the ends are computed of those of a draw."""
+        ends = [ends_of(draw) for draw in self.draws if draw is not None]
+        return range_interval([least for least, _ in ends], [most for _, most in ends], self.level)
+
+    @property
+    def notes(self) -> Tuple[str, ...]:
+        """What the intervals rest on."""
+        drawn = f"{self.resamples} resamples, of which {self.without_value} had no value; seed {self.seed}"
+        whole = "each interval is for the whole range from the lower to the upper bound: computed, and not proved"
+        return (f"{100 * self.level:g}% percentile intervals of {drawn}", whole, *self.doubts)
+
+    @property
+    def doubts(self) -> Tuple[str, ...]:
+        """That many draws had no bounds, where they hadn't."""
+        return many_lost(self.without_value, self.resamples, LOST)
 
 
 @dataclass(frozen=True)
@@ -87,6 +155,11 @@ class EffectBounds(Sequence[EffectBound]):
     records, positive or not. It isn't claimed that no better bounds can be had. How far the shares of a sample are from those of the
     population isn't in them.
 
+    That is in the intervals, where `resamples` were asked for: from the lower percentile of what `at_least` is over the draws to the upper
+    one of what `at_most` is. Each is for the whole range: it covers that from the true lower to the true upper bound in about `level` of large
+    samples. It does so far less often where an end is the tightest of several numbers that are nearly equal, as where an instrument hardly
+    goes with x, and less often where many draws have no bounds (`without_value`). This is computed, and not proved. `drawn` has the draws.
+
     >>> from causal import Diagram
     >>> trial = {"Z": [0] * 4 + [1] * 4, "X": [0, 0, 0, 0, 0, 1, 1, 1], "Y": [0, 0, 0, 1, 0, 1, 1, 0]}
     >>> bounds = Diagram("dag { Z -> X -> Y X <-> Y }").bounds(trial, "X", "Y", instrument="Z", exact=True)
@@ -105,6 +178,8 @@ class EffectBounds(Sequence[EffectBound]):
     dropped: int = 0
     # The exposures and the outcomes in the order in which they were typed.
     typed: Tuple[Optional[Tuple[str, ...]], Optional[Tuple[str, ...]]] = field(default=(None, None), repr=False, compare=False)
+    # The draws that the intervals are of.
+    drawn: Optional[BoundsDraws] = field(default=None, repr=False)
 
     def __hash__(self) -> int:
         return hash(str(self))
@@ -125,32 +200,67 @@ class EffectBounds(Sequence[EffectBound]):
         return iter(self.bounds)
 
     def __str__(self) -> str:
-        return "\n".join([*self.notes, *map(str, self.bounds)])
+        return "\n".join([*self._left_out, *map(str, self.bounds), *(self.drawn.notes if self.drawn else ())])
 
     @property
     def notes(self) -> Tuple[str, ...]:
-        """How many records were left out."""
+        """How many records were left out, and what the intervals rest on."""
+        return (*self._left_out, *(self.drawn.notes if self.drawn else ()))
+
+    @property
+    def _left_out(self) -> Tuple[str, ...]:
         return (f"{self.dropped} records left out that lack a value",) if self.dropped else ()
+
+    @property
+    def resamples(self) -> int:
+        """How many draws the intervals are of: 0 where none were asked for."""
+        return self.drawn.resamples if self.drawn else 0
+
+    @property
+    def without_value(self) -> int:
+        """How many of the draws had no bounds."""
+        return self.drawn.without_value if self.drawn else 0
+
+    def with_draws(self, drawn: BoundsDraws) -> "EffectBounds":
+        """The same bounds, with intervals of these draws."""
+
+        def with_ends(place: int, bound: EffectBound) -> EffectBound:
+            return replace(bound, interval=drawn.interval(lambda ends: ends[place]))
+
+        return replace(self, bounds=tuple(with_ends(*it) for it in enumerate(self.bounds)), drawn=drawn)
 
     def at(self, y: Any, x: Any, given: Optional[Mapping[str, Level]] = None) -> EffectBound:
         """The bounds at these levels, which are given as in `Diagram.contrast`."""
+        return self.bounds[self._place(y, x, given)]
+
+    def _place(self, y: Any, x: Any, given: Optional[Mapping[str, Level]]) -> int:
         wanted = levels_at(self.asked.y, y, self.typed[1]), levels_at(self.asked.x, x, self.typed[0]), dict(given or {})
-        for bound in self.bounds:
+        for place, bound in enumerate(self.bounds):
             if (bound.y, bound.x, bound.given) == wanted:
-                return bound
+                return place
         raise RequestError(f"there are no bounds of {cell_text(*wanted)}; there are those of {', '.join(it.cell for it in self.bounds)}")
 
     def difference(self, y: Any, treated: Any, control: Any, given: Optional[Mapping[str, Level]] = None) -> EffectDifference:
-        """What the difference of two effects is at least and at most: of the lower end and the other's upper one."""
-        first, second = self.at(y, treated, given), self.at(y, control, given)
-        return EffectDifference(first, second, first.at_least - second.at_most, first.at_most - second.at_least)
+        """What the difference of two effects is at least and at most: of the lower end and the other's upper one. Its interval is of the
+        same numbers over the draws."""
+        one, other = self._place(y, treated, given), self._place(y, control, given)
+        first, second = self.bounds[one], self.bounds[other]
+
+        def apart(ends: Ends) -> Tuple[float, float]:
+            return ends[one][0] - ends[other][1], ends[one][1] - ends[other][0]
+
+        interval = self.drawn.interval(apart) if self.drawn else None
+        return EffectDifference(first, second, first.at_least - second.at_most, first.at_most - second.at_least, interval)
 
     def frame(self) -> "pandas.DataFrame":
-        """A DataFrame with a row for each effect (it needs pandas): the levels, and `at_least` and `at_most`."""
+        """A DataFrame with a row for each effect (it needs pandas): the levels, `at_least` and `at_most`, and with resamples `conf_low` and
+        `conf_high`."""
         pandas = needed("pandas", "a DataFrame")
-        rows = [[*it.under.values(), *it.y.values(), *self._ends(it)] for it in self.bounds]
-        frame = pandas.DataFrame(rows, columns=[*self._names, "at_least", "at_most"])
+        frame = pandas.DataFrame(self._rows(float("nan")), columns=[*self._names, "at_least", "at_most", *(CONF if self.drawn else ())])
         frame.attrs.update(dropped=self.dropped, notes=list(self.notes))
+        if self.drawn:
+            frame.attrs.update(level=self.drawn.level, interval="percentile", resamples=self.resamples, seed=self.drawn.seed)
+            frame.attrs.update(without_value=self.without_value)
         return frame
 
     def to_frame(self) -> "pandas.DataFrame":
@@ -164,24 +274,35 @@ class EffectBounds(Sequence[EffectBound]):
     def _ends(self, bound: EffectBound) -> Tuple[Any, Any]:
         return (bound.at_least, bound.at_most) if self.exact else bound.value.floats()
 
+    def _rows(self, none: Optional[float], shown: Callable[[Any], Any] = lambda end: end) -> List[List[Any]]:
+        """The levels, the ends and with resamples those of the interval, or `none` where there is none."""
+        found: List[List[Any]] = []
+        for it in self.bounds:
+            ends: List[Any] = [it.interval.lower, it.interval.upper] if it.interval else [none, none]
+            found.append([*it.under.values(), *it.y.values(), *map(shown, self._ends(it)), *(ends if self.drawn else ())])
+        return found
+
     def _repr_html_(self) -> str:
-        rows = [[*it.under.values(), *it.y.values(), *map(str, self._ends(it))] for it in self.bounds]
-        return html_table([*self._names, "at least", "at most"], rows, self.notes)
+        return html_table([*self._names, "at least", "at most", *(CONF if self.drawn else ())], self._rows(None, str), self.notes)
 
 
 @dataclass(frozen=True)
 class EffectDifference(Printed):
-    """What the difference of two effects is at least and at most, by the bounds of each. It holds wherever these do."""
+    """What the difference of two effects is at least and at most, by the bounds of each. It holds wherever these do. The `interval`, where
+    resamples were asked for, is for the whole range between both ends: see `EffectBounds`."""
 
     treated: EffectBound
     control: EffectBound
     at_least: Fraction
     at_most: Fraction
+    interval: Optional[Interval] = None
 
     def __str__(self) -> str:
         if self.treated.exact:
-            return f"at least {end_text(self.at_least, True)}, at most {end_text(self.at_most, True)}"
-        return f"at least {float(self.at_least):.6g}, at most {float(self.at_most):.6g}"
+            ends = f"at least {end_text(self.at_least, True)}, at most {end_text(self.at_most, True)}"
+        else:
+            ends = f"at least {float(self.at_least):.6g}, at most {float(self.at_most):.6g}"
+        return with_interval(ends, self.interval)
 
 
 @dataclass(frozen=True)
@@ -271,33 +392,76 @@ class BoundsQuestion:
         def read(told: Told) -> Bounded:
             return read_bounds(told, level_of, dropped, self.typed)
 
-        return self.diagram._ask(read, "bounds", *self.words, *words, *self.ending, second=text, level_of=level_of)
+        return self.diagram._ask(read, "bounds", *self.words, *words, second=text, level_of=level_of)
 
     def over_file(self, text: bytes) -> Bounded:
         """The answer over the text of a CSV file, which is sent as it is."""
-        return self.over_text(text, [] if self.count is None else [f"--count={self.count}"], lambda name, level: level)
+        words = [] if self.count is None else [f"--count={self.count}"]
+        return self.over_text(text, [*words, *self.ending], lambda name, level: level)
 
     def over_table(self, table: Table) -> Bounded:
         """The answer over a table."""
         table.check_size()
-        return self.over_text(table.text(), [f"--count={table.count_column}"], table.level, table.dropped)
+        return self.over_text(table.text(), [f"--count={table.count_column}", *self.ending], table.level, table.dropped)
 
-    def over(self, data: Data, missing: str) -> Bounded:
-        """The answer over data of any form."""
+    def table(self, data: Data, missing: str) -> Table:
+        """The table of data of any form."""
         check_request(self.used, self.count, missing)
         path = path_of(data)
         if path is None:
-            return self.over_table(table_of(data, self.used, self.count, missing, self.outcomes))
-        return self.over_table(
-            table_of_file(
-                read_bytes(path),
-                self.used,
-                self.count,
-                missing,
-                lambda it: _told(self.over_file(it)),
-                lambda table: _told(self.over_table(table)),
-            )
+            return table_of(data, self.used, self.count, missing, self.outcomes)
+        return table_of_file(
+            read_bytes(path),
+            self.used,
+            self.count,
+            missing,
+            lambda it: _told(self.over_file(it)),
+            lambda table: _told(self.over_table(table)),
         )
+
+    def over(
+        self, data: Data, missing: str, resamples: int = 0, level: float = 0.95, seed: Optional[int] = 0, progress: Optional["Progress"] = None
+    ) -> Bounded:
+        """The answer over data of any form, with intervals of resamples where it is bounds."""
+        check_asked(resamples, level, "percentile", least=0)
+        check_progress(progress)
+        if resamples and self.count is not None:
+            doubt_frequencies(data, self.count)
+        table = self.table(data, missing)
+        found = self.over_table(table)
+        if not resamples or not isinstance(found, EffectBounds):
+            return found
+        drawn = self.over_draws(table, found, resamples, level, seed_of(seed), progress)
+        for doubt in drawn.doubts:
+            warn(doubt, DataWarning)
+        return found.with_draws(drawn)
+
+    def over_draws(
+        self, table: Table, found: EffectBounds, resamples: int, level: float, seed: int, progress: Optional["Progress"]
+    ) -> BoundsDraws:
+        """The ends over draws of as many records as the table has."""
+        counts, source = list(table.counts.values()), random.Random(seed)
+        draws: List[Optional[Ends]] = []
+        while len(draws) < resamples:
+            draws.append(self.ends_over(table, found, drawn_numbers(source, counts)))
+            if progress is not None:
+                progress(len(draws), resamples)
+        return BoundsDraws(tuple(draws), level, seed)
+
+    def ends_over(self, table: Table, found: EffectBounds, numbers: Sequence[int]) -> Optional[Ends]:
+        """The ends over other counts of a table, or None where there are no bounds. The levels of x, y and what is given are the table's; of
+        any other variable there are those that have a record."""
+        counts = {cell: number for cell, number in zip(table.counts, numbers) if number}
+        text = table.text(counts, {*found.asked.x, *found.asked.y, *found.asked.given})
+        try:
+            other = self.over_text(text, [f"--count={table.count_column}"], table.level)
+        except EvaluationError:
+            return None
+        if not isinstance(other, EffectBounds):
+            return None
+        if [it.cell for it in other] != [it.cell for it in found]:
+            raise CausalError("a resample has other effects than the data")
+        return tuple((float(it.at_least), float(it.at_most)) for it in other)
 
 
 def _told(answer: Bounded) -> object:

@@ -190,6 +190,10 @@ class DataQuestions:
         count: Optional[str] = None,
         exact: bool = False,
         missing: str = "error",
+        resamples: int = 0,
+        level: float = 0.95,
+        seed: Optional[int] = 0,
+        progress: Optional[Progress] = None,
     ) -> Bounded:
         """What the effects of x on y are at least and at most in the data, whether or not there is a formula.
 
@@ -203,14 +207,24 @@ class DataQuestions:
         it can't be adjusted for (`Adjustment`, with the reason), and where no model of the diagram has these counts (`NoModel`): all are
         proved too.
 
+        With `resamples` each effect has an `interval` for the whole range between its ends, by percentiles of both over as many draws, as
+        `EffectBounds` says; `level`, `seed` and `progress` are as in `bootstrap`. A draw has the levels of x, of y and of what is given that
+        the data has. One that has no bounds (a condition lacks records, or bounds cross) is left out and counted (`without_value`): where
+        these are many, a `DataWarning` says so. The bounds of the data are proved; the draws and the intervals are computed.
+
         >>> from causal import Diagram
         >>> study = {"X": [0, 0, 0, 1, 1, 1], "Y": [0, 0, 1, 0, 1, 1]}
         >>> print(Diagram("dag { X -> Y X <-> Y }").bounds(study, "X", "Y", exact=True).at(1, 1))
         P(Y=1|do(X=1)) at least 1/3, at most 5/6
+        >>> many = {name: levels * 50 for name, levels in study.items()}
+        >>> taken = Diagram("dag { X -> Y X <-> Y }").bounds(many, "X", "Y", resamples=200, seed=1).at(1, 1)
+        >>> 0.25 < taken.interval.lower < 1/3, 5/6 < taken.interval.upper < 0.9
+        (True, True)
         """
         from causal.bounds import BoundsQuestion
 
-        return BoundsQuestion(self._diagram, x, y, given, instrument, strata, count, exact, set).over(data, missing)
+        question = BoundsQuestion(self._diagram, x, y, given, instrument, strata, count, exact, set)
+        return question.over(data, missing, resamples, level, seed, progress)
 
     def pin_spread(
         self,

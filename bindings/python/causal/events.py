@@ -60,8 +60,8 @@ def lost_text(lost: int, resamples: int, what: str = "value") -> str:
     return f"{lost} of {resamples} resamples had no {what}" if lost else ""
 
 
-def many_lost(lost: int, resamples: int) -> Tuple[str, ...]:
-    """That many resamples had no value, where they had: what is left of them says less.
+def many_lost(lost: int, resamples: int, since: str = "records are few at some levels") -> Tuple[str, ...]:
+    """That many resamples had no value, where they had, and why: what is left of them says less.
 
     >>> from causal.events import many_lost
     >>> many_lost(3, 200), many_lost(100, 200)
@@ -69,7 +69,7 @@ def many_lost(lost: int, resamples: int) -> Tuple[str, ...]:
     """
     if lost <= MANY_LOST * resamples:
         return ()
-    return (f"{100 * lost / resamples:.0f}% of the resamples have no value, since records are few at some levels: the intervals say little",)
+    return (f"{100 * lost / resamples:.0f}% of the resamples have no value, since {since}: the intervals say little",)
 
 
 def in_one(texts: Sequence[str]) -> str:

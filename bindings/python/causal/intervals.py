@@ -68,6 +68,18 @@ def interval_of(values: Sequence[Optional[float]], level: float) -> Optional[Int
     return Interval(percentile(ordered, tail), percentile(ordered, 1 - tail), len(ordered))
 
 
+def range_interval(least: Sequence[float], most: Sequence[float], level: float) -> Optional[Interval]:
+    """The interval for a range, of the lower and the upper end that each draw has: from the lower percentile of the lower ends to the upper
+    one of the upper ends; None where fewer than two draws have them.
+
+    >>> from causal.intervals import range_interval
+    >>> range_interval([0.0, 1.0, 2.0], [4.0, 5.0, 6.0], 0.5)
+    Interval(lower=0.5, upper=5.5, draws=3)
+    """
+    low, high = interval_of(least, level), interval_of(most, level)
+    return None if low is None or high is None else Interval(low.lower, high.upper, low.draws)
+
+
 def corrected_interval(
     values: Sequence[Optional[float]], estimate: Optional[float], left_out: Sequence[Tuple[int, Optional[float]]], level: float
 ) -> Optional[Interval]:

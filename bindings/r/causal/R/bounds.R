@@ -1,7 +1,9 @@
 # What effects are at least and at most over a table of counts. Each end is the library's; what is made of it as a number of R is rounded.
 
 bounds_effect <- function(diagram, data, x = NULL, y = NULL, given = NULL, instrument = NULL, strata = NULL, count = NULL, exact = FALSE,
-                          missing = c("error", "drop", "level"), treated = NULL, control = NULL, outcome = NULL, set = NULL) {
+                          missing = c("error", "drop", "level"), treated = NULL, control = NULL, outcome = NULL, set = NULL, resamples = 0,
+                          level = 0.95, seed = 0, progress = NULL) {
+  check_numbers(level, resamples)
   diagram <- as_causal_diagram(diagram)
   check_exposures(diagram, x)
   if (is.null(instrument) && !is.null(strata)) refuse("`strata` are those of an instrument, which `instrument` names")
@@ -17,27 +19,61 @@ bounds_effect <- function(diagram, data, x = NULL, y = NULL, given = NULL, instr
   if (object$answer == "not admissible") return(new_answer("causal_adjustment", read_adjustment(object), told, diagram))
   read <- read_bounds(object)
   if (read$answer == "bounds") {
-    if (is.null(treated) && is.null(control)) return(bounds_frame(read, table, outcome))
-    return(compared_bounds(read, table, x, treated, control, outcome))
+    drawn <- if (resamples > 0) drawn_bounds(diagram, words, table, read, cells_of_bounds(told$out), resamples, level, seed, progress)
+    if (is.null(treated) && is.null(control)) return(bounds_frame(read, table, outcome, drawn))
+    return(compared_bounds(read, table, x, treated, control, outcome, drawn))
   }
   if (read$answer == "no instrument")
     return(new_answer("causal_no_instrument", list(holds = FALSE, moved = read$moved, path = read$path), told, diagram))
   new_answer("causal_no_model", list(holds = FALSE, crossed = bounds_frame(read, table)), told, diagram)
 }
 
-bounds_frame <- function(read, table, outcome = NULL) {
+bounds_frame <- function(read, table, outcome = NULL, drawn = NULL) {
+  if (!is.null(drawn)) read[c("conf_low", "conf_high")] <- ends_of_ranges(drawn$least, drawn$most, drawn$level)
   if (!is.null(outcome)) {
     kept <- wanted_cells(read, table, list(y = names(read$y[[1]]), given = names(read$given[[1]]), levels = list()), outcome)
-    for (part in c("x", "y", "given", "at_least", "at_most")) read[[part]] <- read[[part]][kept]
+    for (part in c("x", "y", "given", "at_least", "at_most", "conf_low", "conf_high")) read[[part]] <- read[[part]][kept]
   }
   columns <- c(columns_of(read$x, table), columns_of(read$given, table), columns_of(read$y, table))
   ends <- list(at_least = number_in(read$at_least), at_most = number_in(read$at_most))
+  if (!is.null(drawn)) ends <- c(ends, read[c("conf_low", "conf_high")])
   if (read$exact) ends <- c(ends, list(at_least_exact = read$at_least, at_most_exact = read$at_most))
-  structure(frame_of(c(columns, ends)), class = c("causal_bounds", "data.frame"), dropped = table$dropped)
+  new_bounds(frame_of(c(columns, ends)), table$dropped, drawn)
 }
 
+# Where resamples were drawn, with what the intervals rest on.
+new_bounds <- function(frame, dropped, drawn) {
+  structure(frame, class = c("causal_bounds", "data.frame"), dropped = dropped, level = drawn$level, interval = drawn$interval,
+            resamples = drawn$resamples, without_value = drawn$without_value, seed = drawn$seed)
+}
+
+# What each effect is at least and at most over resamples of the table, a row for each: NA where a resample has no bounds, since a condition
+# has no record, or since they cross.
+drawn_bounds <- function(diagram, words, table, read, cells, resamples, level, seed, progress) {
+  whole <- unique(unlist(lapply(read[c("x", "y", "given")], function(part) names(part[[1]]))))
+  words <- c(words, "--count", count_name(table))
+  one <- function(counts) {
+    told <- ask_counts(diagram, words, counts_text(table, counts, whole), hand_back = 5, command = "bounds")
+    if (told$status != 0) return(rep(NA_real_, 2 * length(read$y)))
+    if (!identical(cells_of_bounds(told$out), cells)) refuse("a resample has other cells than the data", kind = "internal")
+    c(bounds_in(told$out, "at_least"), bounds_in(told$out, "at_most"))
+  }
+  values <- function(counts) t(apply(counts, 2, one))
+  seed <- seed_or_drawn(seed)
+  ends <- with_seed(seed, drawn_worlds(told_by(values, progress, resamples), table, resamples))
+  lost <- sum(is.na(ends[, 1]))
+  if (lost >= 0.05 * resamples && lost > 0)
+    doubt(lost, " of ", resamples, " resamples had no value, so that the intervals are too narrow: bounds cross there, or records are few at some levels")
+  first <- seq_along(read$y)
+  list(least = ends[, first, drop = FALSE], most = ends[, -first, drop = FALSE], level = level, interval = "percentile", resamples = resamples,
+       without_value = lost, seed = seed)
+}
+
+# An answer without its ends, which have another form where they are exact.
+cells_of_bounds <- function(out) gsub('"(at_least|at_most)":"[0-9./]+"|"exact":(true|false)', "", out)
+
 # Of both arms and of their difference: it is at least what the ends that are farthest apart leave, and no narrower bounds are claimed.
-compared_bounds <- function(read, table, x, treated, control, outcome) {
+compared_bounds <- function(read, table, x, treated, control, outcome, drawn = NULL) {
   found <- bounds_frame(read, table)
   asked <- list(x = if (is.null(x)) names(read$x[[1]]) else as.character(x), typed = !is.null(x), y = names(read$y[[1]]), given = names(read$given[[1]]), levels = list())
   effects <- list(x = read$x, y = read$y, given = read$given)
@@ -51,9 +87,17 @@ compared_bounds <- function(read, table, x, treated, control, outcome) {
     b <- ends(other[k])
     levels <- as.list(found)[c(names(read$given[[1]]), names(read$y[[1]]))]
     frame_of(c(lapply(levels, function(column) rep(column[arms$treated[k]], 3)), list(treated = rep(told$treated, 3), control = rep(told$control, 3),
-               measure = c("risk_treated", "risk_control", "difference"), at_least = c(a[1], b[1], a[1] - b[2]), at_most = c(a[2], b[2], a[2] - b[1]))))
+               measure = c("risk_treated", "risk_control", "difference"), at_least = c(a[1], b[1], a[1] - b[2]), at_most = c(a[2], b[2], a[2] - b[1])),
+               if (!is.null(drawn)) ends_of_arms(drawn, arms$treated[k], other[k])))
   })
-  structure(do.call(rbind, rows), class = c("causal_bounds", "data.frame"), dropped = attr(found, "dropped"))
+  new_bounds(do.call(rbind, rows), attr(found, "dropped"), drawn)
+}
+
+# The intervals of the risks in both arms, and of their difference over the same resamples.
+ends_of_arms <- function(drawn, one, other) {
+  least <- drawn$least[, c(one, other), drop = FALSE]
+  most <- drawn$most[, c(one, other), drop = FALSE]
+  ends_of_ranges(cbind(least, least[, 1] - most[, 2]), cbind(most, most[, 1] - least[, 2]), drawn$level)
 }
 
 # The nearest number of R to a fraction or to digits.

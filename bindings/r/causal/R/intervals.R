@@ -17,6 +17,14 @@ percentile_interval <- function(draws, level) {
   if (length(draws) > 1) stats::quantile(draws, c(1 - level, 1 + level) / 2, names = FALSE) else c(NA_real_, NA_real_)
 }
 
+# The intervals for ranges, each a column of the lower and one of the upper ends over resamples: from the lower percentile of the lower ends
+# to the upper one of the upper ends.
+ends_of_ranges <- function(least, most, level) {
+  known <- !is.na(least[, 1])
+  list(conf_low = unname(apply(least[known, , drop = FALSE], 2, function(ends) percentile_interval(ends, level)[1])),
+       conf_high = unname(apply(most[known, , drop = FALSE], 2, function(ends) percentile_interval(ends, level)[2])))
+}
+
 # The interval that is corrected for bias and accelerated (BCa); NA where it can't be computed.
 corrected_interval <- function(draws, value, left_out, records, level) {
   below <- if (is.na(value)) NA else mean(draws < value) + mean(draws == value) / 2

@@ -14,6 +14,8 @@ foot_notes <- function(x) {
   c(vapply(without, function(levels) paste0("no value at ", level_text(levels)), ""),
     if (inherits(x, "causal_spread") && nrow(x)) paste("at most", format(widest(x), digits = 4), "apart; in the population every level gives the same"),
     if (inherits(x, c("causal_contrast", "causal_means")) && isTRUE(attr(x, "resamples") > 0)) paste0(interval_note(x), if (!is.null(attr(x, "frequencies"))) paste0("; ", attr(x, "frequencies"))),
+    if (inherits(x, "causal_bounds") && "conf_low" %in% names(x))
+      c(interval_note(x), "each interval is for the whole range from the lower to the upper bound: computed, and not proved"),
     if ("note" %in% names(x)) row_notes(x))
 }
 
