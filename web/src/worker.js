@@ -3,7 +3,7 @@
 //   {name, text}             a file that later questions may name; text is null where it goes
 //   {id, text, questions}    lists of words about diagram.dag with this text, those of the call that explains behind the
 //                            word `explain`; answered by {id, answers}
-//   {id, compute: "draws", text, words, name, ..}   values over draws of a table, which the words name; {id, values}
+//   {id, compute: "draws", text, words, name, ..}   values or bounds over draws of a table, which the words name; {id, values}
 //   {id, compute: "tests", table, pairs, seed}      tests of independences; {id, tests}
 import { load } from "./causal.mjs";
 import { AS_JSON, DIAGRAM, EXPLAIN } from "./names.js";

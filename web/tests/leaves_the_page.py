@@ -108,6 +108,14 @@ def reports_bounds(s):
     html = file.read_text()
     for part in ("by the instrument assigned", "at least", "0.4727", "0.8607", "no confidence interval", "causal bounds diagram.dag cholestyramine.csv --instrument assigned"):
         s.check(f"the report has {part}", part in html, html[-3000:])
+    s.check("and no interval", "95% interval" not in html, html[-3000:])
+    s.write(over_tables.TRIAL.replace("}", "assigned }"))
+    s.soon("the same bounds", lambda: "--instrument assigned" in s.command() and len(over_tables.bounded(s)) == 4, s.panel)
+    s.check("with intervals", over_tables.has_range(s), s.panel())
+    html = saved_report(s)
+    for part in ("95% interval", "for the whole range, computed in the page by the bootstrap, not proved", *over_tables.ranges(s)):
+        s.check(f"the report has {part}", part in html, html[-3000:])
+    s.check("in place of a sentence", "no confidence interval" not in html, html[-3000:])
     s.tab("effect")
 
 

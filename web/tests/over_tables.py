@@ -339,6 +339,62 @@ def gives_bounds_by_a_set(s):
     s.tab("effect")
 
 
+def ranges(s):
+    """The intervals, where there are draws."""
+    return s.run("return [...document.querySelectorAll('table.bounds .range + small')].map((el) => el.textContent)")
+
+
+def has_range(s):
+    """Whether the draws of bounds are made, in two minutes; they are asked for."""
+    def drawn():
+        if s.all("#draw"):
+            s.one("#draw").click()
+        return ranges(s) and all(" to " in text for text in ranges(s))
+
+    return wait(drawn, 120)
+
+
+def near(text, wanted):
+    """Whether an interval is this one, but for what another thousand draws would change."""
+    return all(abs(float(end) - about) < 0.02 for end, about in zip(text.split(" to "), wanted, strict=True))
+
+
+TRIAL = "dag { assigned -> taken [exposure] -> improved [outcome] taken <-> improved }"
+
+
+def draws_over_bounds(s):
+    """Intervals for the whole range, when they are asked for; expected is what draws in Python give, by the bounds' definition."""
+    s.tab("data")
+    s.example("noncompliance")
+    s.write(TRIAL)
+    drop(s, "trial.csv", (EXAMPLES / "cholestyramine.csv").read_text())
+    choose(s, "instrument", "assigned")
+    s.soon("bounds by an instrument", lambda: "--instrument assigned" in s.command() and len(bounded(s)) == 4, s.panel)
+    contrast(s, y="improved=yes", a="taken=yes", b="taken=no")
+    s.check("their intervals", has_range(s), s.panel())
+    row = ["taken=yes", "improved=yes", "0.472726/55", "between 0.4727 and 0.8607", "0.8607142/165"]
+    s.check("the ends stay", row in bounded(s), bounded(s))
+    s.check("from the lower percentile of one to the upper of the other", near(ranges(s)[bounded(s).index(row)], (0.4037, 0.9091)), ranges(s))
+    s.check("whiskers", len(s.all("table.bounds .whiskers")) == 4, len(s.all("table.bounds .whiskers")))
+    difference = s.one("#bounded-difference").text
+    s.check("the difference's too", near(difference.split("95% interval: ")[1].rstrip("."), (0.2999, 0.8276)) and "at least 0.3913 and at most 0.7793" in difference, difference)
+    told = s.one("#interval").text
+    s.check("said what it is", "for the whole range, computed in the page by the bootstrap, not proved" in told, told)
+    s.check("draws that cross are counted", 320 < int(told.split("are left out: ")[1].rstrip(".")) < 460, told)
+    s.one("[data-key='instrument assigned']").click()
+    s.soon("other bounds have none before they are asked for", lambda: "--instrument" not in s.command() and s.all("#draw") and not s.all(".whiskers"), s.panel)
+    s.check("nor is it told", not s.all("#interval"), s.panel())
+    drop(s, "rare.csv", "assigned,taken,improved,count\nyes,yes,yes,30\nyes,no,no,20\nno,no,yes,1\n")
+    by(s, "bounds")
+    choose(s, "condition", "assigned")
+    s.soon("bounds in a stratum of one record", lambda: "--given assigned" in s.command() and len(bounded(s)) == 8, s.panel)
+    s.check("which many draws lack", has_range(s), s.panel())
+    told = s.one("#interval").text
+    s.check("and that is counted", 300 < int(told.split("are left out: ")[1].rstrip(".")) < 430, told)
+    by(s, "")
+    s.tab("effect")
+
+
 SMOKING = "dag { Smoking [exposure] Cancer [outcome] Age -> Smoking Age -> Cancer Smoking -> Tar -> Cancer }"
 
 
@@ -472,6 +528,15 @@ def stops_the_draws(s):
         s.check("progress is shown", "of 1000 draws" in s.panel() and s.all("#panel progress"), s.panel())
         s.one("#stop").click()
         s.soon("and can be stopped", lambda: s.all("#draw") or " to " in contrasts(s)[2][2], s.panel)
+    by(s, "bounds")
+    s.soon("draws over bounds aren't made before they are asked for", lambda: s.all("table.bounds") and s.all("#draw") and not s.all("#stop"), s.panel)
+    s.one("#draw").click()
+    if wait(lambda: s.all("#stop"), 2):
+        s.check("their progress is shown", "of 1000 draws" in s.panel() and s.all("#panel progress"), s.panel())
+        s.one("#stop").click()
+        s.soon("and they can be stopped", lambda: s.all("#draw") or s.all(".whiskers"), s.panel)
+    s.check("they go on", has_range(s), s.panel())
+    by(s, "")
     s.example("fork")
     s.tab("effect")
 
@@ -479,5 +544,5 @@ def stops_the_draws(s):
 PARTS = [
     cleans_a_table, matches_columns, tells_what_is_rejected, tests_many_columns, stops_the_draws, drops_a_table, reads_other_tables, contrasts_with_intervals, adjusts_for_less, counts_zero_cells_for_nothing,
     evaluates_under_a_condition, evaluates_the_marked_set, gives_bounds,
-    gives_bounds_by_a_set,
+    gives_bounds_by_a_set, draws_over_bounds,
 ]

@@ -11,7 +11,7 @@ import { codeOfR } from "../src/diagram/code.js";
 import { bend, curve, freePlace, halfHeight, linesOf } from "../src/diagram/geometry.js";
 import { fileName, freeName, Kept, titleOf, whichOf } from "../src/page/kept.js";
 import { naturalTex, nameTex } from "../src/paper.js";
-import { intervalOf } from "../src/statistics/bootstrap.js";
+import { intervalOf, rangeOf } from "../src/statistics/bootstrap.js";
 import { digitsAbove, digitsBelow, fractionOf, minus, nearly } from "../src/statistics/fraction.js";
 import { chiSquaredTail, deviance, holm, testOf } from "../src/statistics/independence.js";
 import { csvOf, tableOf } from "../src/statistics/table.js";
@@ -258,6 +258,9 @@ function testStatistics() {
   near("G²", deviance({ rows: [[3, 1], [2, 4]] }), 2 * (3 * Math.log(3 / 2) + Math.log(1 / 2) + 2 * Math.log(2 / 3) + 4 * Math.log(4 / 3)));
   check("Holm", holm([0.25, 0.125, 0.5]).join() === "0.5,0.375,0.5", holm([0.25, 0.125, 0.5]));
   check("an interval", intervalOf([0, 1, NaN, 2], 0.5).join() === "0.5,1.5", intervalOf([0, 1, NaN, 2], 0.5));
+  const ends = Array.from({ length: 41 }, (_, i) => [40 - i, 200 - 3 * i]); // 0 to 40 and 80 to 200, of which a fortieth is left out at each end
+  check("an interval for a range", rangeOf(ends).map(Math.round).join() === "1,197", rangeOf(ends));
+  check("none over one draw", rangeOf(ends.slice(0, 1)) === null && rangeOf([]) === null, rangeOf(ends.slice(0, 1)));
   const table = tableOf([["B", "A", "n"], ["x,y", "0", "3"], ["z", "1", "4"], ["x,y", "0", "5"]], ["A", "B"], "n");
   check("a table", csvOf(table, "n") === 'A,B,n\n0,"x,y",8\n1,z,4\n', csvOf(table, "n"));
   check("nothing to test", testOf(tableOf([["A", "B"], ["0", "0"], ["0", "1"]], ["A", "B"], ""), { a: "A", b: "B", given: [] }).p === null, "");

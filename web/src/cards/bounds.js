@@ -4,9 +4,11 @@ import { h, svg } from "../dom.js";
 import { isWithoutRecords } from "../faults.js";
 import { DIAGRAM } from "../names.js";
 import { boundsOf, levelsIn, valuesOf } from "../objects.js";
-import { digitsAbove, digitsBelow, fractionOf, minus, nearly } from "../statistics/fraction.js";
+import { rangeOf } from "../statistics/bootstrap.js";
+import { digitsAbove, digitsBelow, minus, nearly } from "../statistics/fraction.js";
 import { listWord, pathText, setText } from "../text/printed.js";
-import { chosenContrast, contrastChoices } from "./contrast.js";
+import { chosenContrast, contrastChoices, intervalText } from "./contrast.js";
+import { DRAWS, SEED, drawsBox, keptDraws, orderOf } from "./draws.js";
 import { instrumentsPart } from "./instruments.js";
 import { fold, listed, pathMarks, sourceOf, verdict, withRole } from "./parts.js";
 import { chosenSet } from "./sets.js";
@@ -16,9 +18,9 @@ const NUMBER_TOO_LARGE = 2; // of the evaluation faults
 const MOST_DIGITS = 15; // of a fraction in the table
 
 /**
- * The bounds that are asked for, and what was said.
- * @typedef {{ctx: import("./parts.js").Context, words: string[], said: import("../objects.js").Said, instrument: string[], strata: string[],
- *   set: string[] | null, points: import("../objects.js").Cell[], pickers: () => Node}} Asked
+ * The bounds that are asked for, by the options for their sets, and what was said.
+ * @typedef {{ctx: import("./parts.js").Context, sets: string[], words: string[], said: import("../objects.js").Said, instrument: string[],
+ *   strata: string[], set: string[] | null, points: import("../objects.js").Cell[], pickers: () => Node}} Asked
  */
 
 /**
@@ -45,7 +47,7 @@ async function asked(ctx, sets, condition) {
   const exact = await ctx.read(exactly), isTooLarge = exact.fault?.stage === "evaluation" && exact.fault.number === NUMBER_TOO_LARGE;
   const [words, said] = isTooLarge ? [inDigits, await ctx.read(inDigits)] : [exactly, exact];
   const formula = await ctx.read(["evaluate", DIAGRAM, table, ...condition, "--short", ...countWords(ctx)]);
-  return { ctx, words, said, points: formula.status === 0 ? valuesOf(formula.object) : [] };
+  return { ctx, sets, words, said, points: formula.status === 0 ? valuesOf(formula.object) : [] };
 }
 
 /** The admissible set by which bounds are asked for, chosen among these; null where none is. */
@@ -115,27 +117,54 @@ function crossedText(crossed) {
 const cellText = ({ y, x, given }) => `P(${y}${x || given ? `|${[...(x ? [`do(${x})`] : []), ...(given ? [given] : [])].join(",")}` : ""})`;
 
 /** @param {Asked} asked */
-function boundsView({ ctx, said: { object }, points, set }) {
-  const cells = boundsOf(object);
+function boundsView(asked) {
+  const { ctx, said: { object }, points, set } = asked, cells = boundsOf(object), difference = differencePart(ctx, cells);
+  const content = (kept) => {
+    difference?.tell(kept);
+    return [h("div", { class: "scroll" }, boundsTable(cells, points, intervalsOf(cells, kept))), kept.isAsked && says(kept)].filter(Boolean);
+  };
   return [
     set && h("p", {}, "Strata of ", set.length ? listed(set) : "nothing", " that have records of a value of the exposure count as usual; the others leave open what would have been seen there."),
     verdict("warn", "At least and at most", "Proved, over the shares of this table: in every model of the diagram that has them, the effect lies between these numbers. ",
       "They are no confidence interval, since a sample's shares aren't those of the population. Better bounds may be had."),
-    h("div", { class: "scroll" }, boundsTable(cells, points)),
-    differencePart(ctx, cells),
+    drawsBox(drawsOf(asked), content, false), difference?.part,
   ];
 }
 
+// ---- Intervals
+
+/** The draws of the table over which the same bounds are asked for. @param {Asked} asked */
+const drawsOf = ({ ctx, sets }) => orderOf(ctx, (name, count) => ["bounds", DIAGRAM, name, ...sets, ...count]);
+
+/** @typedef {import("./draws.js").Kept} Kept */
+
+/** The interval of each cell, as soon as the draws are there. @param {Kept} kept */
+const intervalsOf = (cells, { isReady, values }) => (isReady ? cells.map((_, i) => rangeOf(values.filter(Boolean).map((ends) => ends[i]))) : null);
+
+const HEAD = "95% interval";
+const INTERVAL = `for the whole range, computed in the page by the bootstrap, not proved: from the lower percentile (2.5%) of what it is at least to the upper percentile `
+  + `(97.5%) of what it is at most, over ${DRAWS} draws of the table's records with replacement (seed ${SEED}).`;
+
+/** How many draws are left out, as a sentence. @param {Kept} kept */
+function leftOut({ values, isReady }) {
+  const lost = values.filter((ends) => !ends).length;
+  return isReady && lost ? ` Draws without bounds, as they cross or a condition has no record, are left out: ${lost}.` : "";
+}
+
+/** @param {Kept} kept */
+const says = (kept) => h("p", { class: "small-print", id: "interval" }, `The ${HEAD} is ${INTERVAL} Each draw's bounds are the program's.`, leftOut(kept));
+
 /**
- * A row for each cell, with a bar from low to high, and a point where there is a formula.
- * @param {import("../objects.js").Bound[]} cells @param {import("../objects.js").Cell[]} points
+ * A row for each cell, with a bar from low to high, a point where there is a formula, and the interval under the bar where there are draws.
+ * @param {import("../objects.js").Bound[]} cells @param {import("../objects.js").Cell[]} points @param {([number, number] | null)[] | null} intervals
  */
-function boundsTable(cells, points) {
+function boundsTable(cells, points, intervals) {
   const hasCondition = cells.some((c) => c.given), pointOf = (c) => points.find(({ y, x, given }) => y === c.y && x === c.x && given === c.given);
-  const head = ["when set", ...(hasCondition ? ["among"] : []), "outcome", "at least", "from 0 to 1", "at most", ...(points.length ? ["by the formula"] : [])];
+  const range = ["from 0 to 1", intervals && h("small", {}, HEAD)];
+  const head = ["when set", ...(hasCondition ? ["among"] : []), "outcome", "at least", range, "at most", ...(points.length ? ["by the formula"] : [])];
   const end = ({ text }, digits) => h("td", { class: "number", title: text }, digits, text.includes("/") && text.length <= MOST_DIGITS && h("small", {}, text));
-  const row = (c) => h("tr", {}, h("td", {}, c.x || "–"), hasCondition && h("td", {}, c.given), h("td", {}, c.y),
-    end(c.low, lowDigits(c)), h("td", {}, bar(c, pointOf(c))), end(c.high, highDigits(c)),
+  const row = (c, i) => h("tr", {}, h("td", {}, c.x || "–"), hasCondition && h("td", {}, c.given), h("td", {}, c.y),
+    end(c.low, lowDigits(c)), h("td", {}, bar(c, pointOf(c), intervals?.[i]), intervals && h("small", {}, intervalText(intervals[i]))), end(c.high, highDigits(c)),
     points.length > 0 && h("td", { class: "number" }, pointOf(c)?.value.toFixed(4) ?? "–"));
   return h("table", { class: "bounds" }, h("thead", {}, h("tr", {}, head.map((text) => h("th", { scope: "col" }, text)))), h("tbody", {}, cells.map(row)));
 }
@@ -144,28 +173,32 @@ const lowDigits = ({ low }) => digitsBelow(low), highDigits = ({ high }) => digi
 
 const WIDTH = 120;
 
-/** A rail from 0 to 1, and on it a bar with its ends; and a point. */
-function bar(cell, point) {
-  const place = (value) => 3 + value * (WIDTH - 6), [a, b] = [cell.low, cell.high].map((end) => place(nearly(end)));
+/** A rail from 0 to 1, and on it a bar with its ends; a point; and whiskers to the ends of an interval. */
+function bar(cell, point, interval) {
+  const place = (value) => 3 + value * (WIDTH - 6), [a, b] = [cell.low, cell.high].map((end) => place(nearly(end))), [from, to] = (interval ?? []).map(place);
   return svg("svg", { viewBox: `0 0 ${WIDTH} 16`, class: "range", role: "img", "aria-label": `between ${lowDigits(cell)} and ${highDigits(cell)}` },
     svg("path", { class: "rail", d: `M${place(0)} 8H${place(1)}M${place(0)} 5V11M${place(1)} 5V11` }),
+    interval && svg("path", { class: "whiskers", d: `M${from} 8H${to}M${from} 4V12M${to} 4V12` }),
     svg("path", { class: "bar", d: `M${a} 8H${b}` }), svg("path", { class: "ends", d: `M${a} 2V14M${b} 2V14` }),
     point && svg("circle", { cx: place(point.value), cy: 8, r: 3.5 }));
 }
 
-/** What the difference of two cells is at least and at most, by their ends. */
+/** What the difference of two cells is at least and at most, by their ends; nothing where the exposure has one value. */
 function differencePart(ctx, cells) {
   const choice = chosenContrast({ ctx, cells });
   if (!choice) return null;
-  const at = (x) => cells.find((c) => c.y === choice.y && c.x === x && c.given === choice.among), [first, second] = [at(choice.a), at(choice.b)];
-  if (!first || !second) return null;
-  return h("div", { class: "stack" }, h("h3", {}, "Difference"), contrastChoices({ ctx, cells }, choice),
-    h("p", { id: "bounded-difference" }, "The risk difference is at least ", h("b", {}, digitsBelow(minus(first.low, second.high))), " and at most ",
-      h("b", {}, digitsAbove(minus(first.high, second.low))), ": the differences of these ends."));
+  const at = (x) => cells.findIndex((c) => c.y === choice.y && c.x === x && c.given === choice.among), [i, j] = [at(choice.a), at(choice.b)];
+  if (i < 0 || j < 0) return null;
+  const [first, second] = [cells[i], cells[j]], line = h("p", { id: "bounded-difference" });
+  const tell = ({ isReady, values }) => line.replaceChildren("The risk difference is at least ", h("b", {}, digitsBelow(minus(first.low, second.high))), " and at most ",
+    h("b", {}, digitsAbove(minus(first.high, second.low))), ": the differences of these ends.",
+    isReady ? ` ${HEAD}: ${intervalText(rangeOf(values.filter(Boolean).map((ends) => [ends[i][0] - ends[j][1], ends[i][1] - ends[j][0]])))}.` : "");
+  return { part: h("div", { class: "stack" }, h("h3", {}, "Difference"), contrastChoices({ ctx, cells }, choice), line), tell };
 }
 
 /** The bounds for a report. @param {Asked} asked @returns {import("../report/gather.js").Part[]} */
-export function boundsParts({ said: { status, object, fault }, instrument, strata, set }) {
+export function boundsParts(asked) {
+  const { said: { status, object, fault }, instrument, strata, set } = asked;
   if (fault) return [{ text: `No bounds: ${fault.sentence}` }];
   const by = set ? `adjusting for ${set.join(", ") || "nothing"}, where strata without records leave open what would have been seen there` : instrument.length ? `by the instrument ${instrument.join(", ")}${strata.length ? ` in the strata of ${strata.join(", ")}` : ""}` : "without an instrument";
   if (object.crossed) {
@@ -174,10 +207,11 @@ export function boundsParts({ said: { status, object, fault }, instrument, strat
   }
   if (status === 1 && set) return [{ text: `No bounds: ${set.join(", ") || "nothing"} isn't admissible.` }];
   if (status === 1) return [{ text: `${instrument.join(", ")}: no instrument for this effect${object.open ? `; this path stays open: ${pathText(object.open)}` : ""}.` }];
-  const cells = boundsOf(object), hasCondition = cells.some((c) => c.given);
+  const cells = boundsOf(object), hasCondition = cells.some((c) => c.given), kept = keptDraws(drawsOf(asked)), intervals = intervalsOf(cells, kept);
+  const about = intervals ? `This is proved. The ${HEAD} is ${INTERVAL}${leftOut(kept)}` : "This is proved; it is no confidence interval.";
   return [
-    { text: `What the effect is at least and at most, ${by}: in every model of the diagram that has the shares of the table. This is proved; it is no confidence interval.` },
-    { table: { head: ["when set", ...(hasCondition ? ["among"] : []), "outcome", "at least", "at most"],
-      rows: cells.map((c) => [c.x || "–", ...(hasCondition ? [c.given] : []), c.y, lowDigits(c), highDigits(c)]) } },
+    { text: `What the effect is at least and at most, ${by}: in every model of the diagram that has the shares of the table. ${about}` },
+    { table: { head: ["when set", ...(hasCondition ? ["among"] : []), "outcome", "at least", "at most", ...(intervals ? [HEAD] : [])],
+      rows: cells.map((c, i) => [c.x || "–", ...(hasCondition ? [c.given] : []), c.y, lowDigits(c), highDigits(c), ...(intervals ? [intervalText(intervals[i])] : [])]) } },
   ];
 }

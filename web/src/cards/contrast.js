@@ -1,18 +1,14 @@
 // Differences and ratios of an effect's values, with intervals by the bootstrap. The values over the table and over each draw are
 // the program's; the rest is computed here.
-import { button, h } from "../dom.js";
+import { h } from "../dom.js";
 import { intervalOf } from "../statistics/bootstrap.js";
+import { DRAWS, SEED, draw, drawsBox, keptDraws } from "./draws.js";
 import { zeroPart } from "./formulas.js";
 
-const DRAWS = 1000;
-const PART = 25; // draws in a message to the worker
-const SOON_MS = 4000; // draws that take longer are made when they are asked for
-const SEED = 1;
 const YES = /=(1|yes|true|success)$/i; // the outcome that is looked at first
 
 /** @typedef {import("../objects.js").Cell} Cell */
-/** @typedef {{ctx: import("./parts.js").Context, words: string[], name: string, table: import("../statistics/table.js").Table,
- *   count: string, cells: Cell[], crude: Cell[]}} Order the draws of a table, which the words name */
+/** @typedef {import("./draws.js").Order & {cells: Cell[], crude: Cell[]}} Order with the values over the table itself */
 
 /**
  * What is contrasted: what was chosen, as far as there is such a cell; nothing where the exposure has one value.
@@ -32,9 +28,8 @@ export function chosenContrast({ ctx: { memory }, cells }) {
 export function contrastPart(order) {
   const choice = chosenContrast(order);
   if (!choice) return null;
-  const results = h("div", { class: "contrast" });
-  fill(results, order, choice);
-  return h("div", { class: "stack" }, h("h3", {}, "Difference and ratio"), contrastChoices(order, choice), results);
+  const results = (kept) => [table(order, choice, kept), says(order.ctx, kept)];
+  return h("div", { class: "stack" }, h("h3", {}, "Difference and ratio"), contrastChoices(order, choice), drawsBox(order, results, true));
 }
 
 /** The choice of what is contrasted. */
@@ -49,63 +44,6 @@ export function contrastChoices({ ctx, cells }, choice) {
 }
 
 const unique = (list) => [...new Set(list)];
-
-/** Shows the values now, and their intervals when the draws are there. */
-function fill(box, order, choice) {
-  const kept = keptDraws(order);
-  const goOn = () => {
-    kept.isAsked = true;
-    draw(order, kept);
-    show();
-  };
-  const stop = () => (kept.isStopped = true);
-  const running = () => {
-    const bar = h("progress", { max: DRAWS, "aria-label": "Draws that are made" }), words = h("span", { class: "number" });
-    kept.counted = () => {
-      bar.value = kept.values.length;
-      words.textContent = `${kept.values.length} of ${DRAWS} draws`;
-    };
-    kept.counted();
-    return h("div", { class: "row" }, bar, words, button("Stop", stop, { id: "stop", data: { key: "stop" } }));
-  };
-  const under = () => (kept.isReady ? "" : kept.isRunning ? running() : button(`Intervals (about ${Math.max(1, Math.ceil(kept.left / 1000))} s)`, goOn, { id: "draw", data: { key: "draw" } }));
-  const show = () => box.replaceChildren(table(order, choice, kept), says(order.ctx, kept), under());
-  kept.heard = () => box.isConnected && show();
-  kept.isWanted = order.ctx.isShown;
-  if (!kept.isReady && !kept.left) draw(order, kept);
-  show();
-}
-
-const drawsOf = new Map(); // the last ones, by what they are of
-
-function keptDraws({ ctx, words, table, name }) {
-  const key = JSON.stringify([ctx.text, words, name, table]);
-  if (!drawsOf.has(key)) {
-    if (drawsOf.size > 8) drawsOf.delete(drawsOf.keys().next().value);
-    drawsOf.set(key, { values: [], isReady: false, isRunning: false, isStopped: false, isAsked: false, left: 0, heard: () => {}, counted: () => {}, isWanted: () => true });
-  }
-  return drawsOf.get(key);
-}
-
-/** Draws until there are enough, or until it is seen that this takes long and wasn't asked for. */
-async function draw({ ctx, words, name, table, count }, kept) {
-  if (kept.isRunning) return;
-  Object.assign(kept, { isRunning: true, isStopped: false, left: 0 });
-  const began = performance.now(), had = kept.values.length;
-  while (kept.values.length < DRAWS && kept.isWanted()) {
-    const part = await ctx.compute({ compute: "draws", words, name, table, count, from: kept.values.length, draws: PART, seed: SEED });
-    if (!part.values) break; // the worker was given up for a newer question
-    kept.values.push(...part.values);
-    const left = ((performance.now() - began) / (kept.values.length - had)) * (DRAWS - kept.values.length);
-    if (kept.isStopped || (!kept.isAsked && left > SOON_MS)) {
-      kept.left = left;
-      break;
-    }
-    kept.counted();
-  }
-  Object.assign(kept, { isRunning: false, isReady: kept.values.length >= DRAWS });
-  kept.heard();
-}
 
 /**
  * The values that are contrasted with their differences and ratios: of the table, of its draws, and crude.

@@ -2,15 +2,15 @@ import { button, h } from "../dom.js";
 import { AS_JSON, DIAGRAM } from "../names.js";
 import { levelsIn, saidOf, valuesOf } from "../objects.js";
 import { isWithoutRecords, lacksMark } from "../faults.js";
-import { countName } from "../statistics/table.js";
 import { write } from "../text/edit.js";
 import { levelsText, setText } from "../text/printed.js";
 import { askedBounds, boundsBy, boundsMarks, boundsPart } from "./bounds.js";
 import { contrastPart } from "./contrast.js";
+import { orderOf } from "./draws.js";
 import { BOUNDS, chosenFormula, withoutRecords, zeroPart } from "./formulas.js";
 import { fold, listed, sourceOf, verdict, withRole } from "./parts.js";
 import { dotPlot } from "./plot.js";
-import { asksForTable, cellsOf, countWords, tableName, tableRow } from "./table.js";
+import { asksForTable, countWords, tableName, tableRow } from "./table.js";
 
 const MOST_DIGITS = 15; // of a fraction in the table
 const MOST_TRIED = 4; // sets whose formula is tried where another has no value
@@ -25,7 +25,7 @@ export async function measured(ctx) {
   if (!said || hasNoFormula(way, said)) return { way, asked: await askedBounds(ctx, way.given, minimalSets(ways)) };
   if (said.status !== 0) return { way, fault: said.fault, instead: said.fault && isWithoutRecords(said.fault) ? (await boundsInstead(ctx, { way, ways })) ?? (await askedBounds(ctx, way.given)) : null };
   const crude = way.given.length ? [] : await crudeValues(ctx);
-  return { way, order: orderOf({ ctx, way, crude }, valuesOf(said.object)) };
+  return { way, order: contrastOrder({ ctx, way, crude }, valuesOf(said.object)) };
 }
 
 /** @param {import("./parts.js").Context} ctx */
@@ -128,10 +128,7 @@ const hasLoose = ({ memory: { csv, table: { reading } } }) => (csv.incomplete > 
 // ---- The effect
 
 /** The draws of the table over which values are contrasted. */
-function orderOf({ ctx, way, crude }, cells) {
-  const table = cellsOf(ctx), count = countName(table.names), name = "draw.csv";
-  return { ctx, name, table, count, cells, crude, words: wordsOf(ctx, way, name, [`--count=${count}`]) };
-}
+const contrastOrder = ({ ctx, way, crude }, cells) => ({ ...orderOf(ctx, (name, count) => wordsOf(ctx, way, name, count)), cells, crude });
 
 function values(found) {
   const { ctx, words, exactWords, bounds, exact } = found;
@@ -144,7 +141,7 @@ function values(found) {
     pinned ? h("p", {}, "Pinned at its first level (in a population that fits the diagram the value doesn't "
       + "depend on it; in a sample it may): ", h("code", {}, pinned)) : null,
     h("div", { class: "scroll" }, valuesTable(cells, isExact)),
-    contrastPart(orderOf(found, cells)),
+    contrastPart(contrastOrder(found, cells)),
     isExact ? sourceOf(ctx, exactWords, exact) : sourceOf(ctx, words, bounds),
     isExact && bounds.status === 0 ? fold(ctx, "bounds", "Bounds of 18 digits", () => sourceOf(ctx, words, bounds)) : null,
     isExact ? null : h("p", {}, exact.fault.sentence));

@@ -23,3 +23,12 @@ export function intervalOf(values, level = 0.95) {
   const ordered = values.filter(Number.isFinite).sort((p, q) => p - q), tail = (1 - level) / 2;
   return ordered.length < 2 ? null : [percentile(ordered, tail), percentile(ordered, 1 - tail)];
 }
+
+/**
+ * From the lower percentile of what something is at least to the upper one of what it is at most; null where fewer than two draws have bounds.
+ * @param {[number, number][]} ends both of each draw @returns {[number, number] | null}
+ */
+export function rangeOf(ends) {
+  const [lows, highs] = [0, 1].map((i) => intervalOf(ends.map((end) => end[i])));
+  return lows && highs && [lows[0], highs[1]];
+}
