@@ -359,6 +359,7 @@ def near(text, wanted):
     return all(abs(float(end) - about) < 0.02 for end, about in zip(text.split(" to "), wanted, strict=True))
 
 
+WIDE = "assigned,taken,improved,count\na,yes,yes,120\na,yes,no,20\na,no,no,60\nb,yes,yes,60\nb,yes,no,60\nb,no,yes,80\n"
 TRIAL = "dag { assigned -> taken [exposure] -> improved [outcome] taken <-> improved }"
 
 
@@ -376,14 +377,20 @@ def draws_over_bounds(s):
     s.check("the ends stay", row in bounded(s), bounded(s))
     s.check("from the lower percentile of one to the upper of the other", near(ranges(s)[bounded(s).index(row)], (0.4037, 0.9091)), ranges(s))
     s.check("whiskers", len(s.all("table.bounds .whiskers")) == 4, len(s.all("table.bounds .whiskers")))
-    difference = s.one("#bounded-difference").text
-    s.check("the difference's too", near(difference.split("95% interval: ")[1].rstrip("."), (0.2999, 0.8276)) and "at least 0.3913 and at most 0.7793" in difference, difference)
+    difference = lambda: s.one("#bounded-difference").text.split(" 95% interval: ")
+    s.check("the difference's too", near(difference()[1].rstrip("."), (0.2999, 0.8276)) and "at least 0.3913 and at most 0.7793" in difference()[0], difference())
     told = s.one("#interval").text
     s.check("said what it is", "for the whole range, computed in the page by the bootstrap, not proved" in told, told)
     s.check("draws that cross are counted", 320 < int(told.split("are left out: ")[1].rstrip(".")) < 460, told)
     s.one("[data-key='instrument assigned']").click()
     s.soon("other bounds have none before they are asked for", lambda: "--instrument" not in s.command() and s.all("#draw") and not s.all(".whiskers"), s.panel)
     s.check("nor is it told", not s.all("#interval"), s.panel())
+    choose(s, "instrument", "assigned")
+    drop(s, "wide.csv", WIDE)
+    s.soon("where neither arm has one value", lambda: "at least -0.1000 and at most 0.3000" in difference()[0], s.panel)
+    s.check("intervals again", has_range(s), s.panel())
+    s.check("the difference goes from end to other end", near(difference()[1].rstrip("."), (-0.1436, 0.3651)), difference())
+    s.one("[data-key='instrument assigned']").click()
     drop(s, "rare.csv", "assigned,taken,improved,count\nyes,yes,yes,30\nyes,no,no,20\nno,no,yes,1\n")
     by(s, "bounds")
     choose(s, "condition", "assigned")
@@ -529,8 +536,9 @@ def stops_the_draws(s):
         s.one("#stop").click()
         s.soon("and can be stopped", lambda: s.all("#draw") or " to " in contrasts(s)[2][2], s.panel)
     by(s, "bounds")
-    s.soon("draws over bounds aren't made before they are asked for", lambda: s.all("table.bounds") and s.all("#draw") and not s.all("#stop"), s.panel)
-    s.one("#draw").click()
+    s.soon("draws over bounds aren't made before they are asked for", lambda: s.all("table.bounds") and (s.all("#draw") or ranges(s)), s.panel)
+    if s.all("#draw"):
+        s.one("#draw").click()
     if wait(lambda: s.all("#stop"), 2):
         s.check("their progress is shown", "of 1000 draws" in s.panel() and s.all("#panel progress"), s.panel())
         s.one("#stop").click()
