@@ -11,6 +11,7 @@ from causal.evaluation import Evaluation
 from causal.formula import Formula, Term
 from causal.implications import read_implications
 from causal.instruments import read_instruments
+from causal.names import printed_name, printed_set
 from causal.objects import read_line, text_in
 from causal.natural import read_natural
 from causal.treated import read_treated
@@ -94,7 +95,15 @@ class PrintedAgain(unittest.TestCase):
                     sets = (tuple(told[key]) for key in ("y", "x", "given"))
                     found = effects.read_effects(told, Formula(Term(*sets), ""))
                     printed = case.printed.replace("from 0.000000000000000000 to 0.000000000000000000", "= 0/1")
-                    self.assertEqual((found.text + "\n", found.exact), (printed, "--exact" in case.words))
+                    self.assertEqual((found.text + "\n" + broken_line(told), found.exact), (printed, "--exact" in case.words))
+
+
+def broken_line(told):
+    """The line of a pair by which no model has the counts, where the object has one."""
+    if "no_model" not in told:
+        return ""
+    pair = told["no_model"]
+    return f"no model of the diagram has these counts: {printed_name(pair['x'])} from {printed_name(pair['y'])} given {printed_set(pair['given'])}\n"
 
 
 class OddNames(unittest.TestCase):
