@@ -70,7 +70,16 @@ class BuildLibrary(build_ext):
 
     def build_extension(self, ext):
         ext.extra_compile_args = ["/O1"] if self.compiler.compiler_type == "msvc" else ["-O1", "-g0"]
+        if self.compiler.compiler_type == "unix":
+            self.take_cc()
         super().build_extension(ext)
+
+    def take_cc(self):
+        """Takes `cc` where the compiler that this Python was built with isn't here."""
+        for kind in ("compiler_so", "linker_so"):
+            command = getattr(self.compiler, kind)
+            if not shutil.which(command[0]) and shutil.which("cc"):
+                self.compiler.set_executable(kind, ["cc", *command[1:]])
 
     def get_ext_filename(self, fullname):
         return os.path.join(*fullname.split(".")[:-1], LIBRARY)
