@@ -4,3 +4,5 @@ mod Worlds
 mod Reading
 mod Pair
 mod Witness
+mod Walk
+mod Split

@@ -1,11 +1,17 @@
--- Pairs of models for what no formula tells: a recanting witness.
+-- A recanting witness and a split district give a pair of models that a nested event tells apart.
 use Rattle.std.specs.Prelude.{ℕ}
 use Rattle.mixed_graph.specs.Bits.{has}
 use Rattle.mixed_graph.specs.Graphs.{MixedGraph, IsMixedGraph}
 use Rattle.nested_models.specs.Nested.{IsNestedQuery, IsRecantingWitness}
+use Rattle.nested_models.specs.Split.{IsSplitDistrict}
 use Rattle.twisted_models.specs.Pairs.{AreApart}
 
 -- with a recanting witness there is a model and a twist of it, where the nested event is possible in the one alone (Avin, Shpitser and Pearl 2005)
 abbrev pub WitnessIsApart : Type 0
 WitnessIsApart = (g : MixedGraph) → IsMixedGraph g → (x m y z c : ℕ) → IsNestedQuery g (has x) (has m) (has y) (has z)
     → IsRecantingWitness g (has x) (has m) (has y) c → AreApart g x m y z
+
+-- and so there is with a district that has two children of one treatment, of which one leads to y past m, and one through m (Shpitser 2013)
+abbrev pub SplitIsApart : Type 0
+SplitIsApart = (g : MixedGraph) → IsMixedGraph g → (x m y z p t v w : ℕ) → IsNestedQuery g (has x) (has m) (has y) (has z)
+    → IsSplitDistrict g x m y z p t v w → AreApart g x m y z
