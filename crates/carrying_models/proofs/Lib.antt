@@ -1,0 +1,6 @@
+mod Channels
+mod Core
+mod Worlds
+mod Reading
+mod Pair
+mod Witness
