@@ -7,9 +7,9 @@ mod Late
 pub mod LateSteps
 pub mod Lifted
 pub mod Middle
-mod Near
-mod Nearness
-mod Rare
+pub mod Near
+pub mod Nearness
+pub mod Rare
 mod Solved
 pub mod Stricts
 pub mod Told

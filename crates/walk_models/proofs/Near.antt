@@ -114,13 +114,20 @@ module _ (g : MixedGraph) (m : FiniteModel) (fit : Fits g m) (k : ℕ) (some : 1
       (λ v lt. rw (at_noise v) refl))
 
   -- ---- without noise the model is as before
-  module _ (ok : IsMixedGraph g) (b : ℕ → Bool) (s u : ℕ → ℕ) (calm : (v : ℕ) → v < m.vertices → u (m.causes + v) ≡ 0) where
-    rounds_same : (i v : ℕ) → v < m.vertices → rounds (intervene (noisy k m) b s) i u v ≡ rounds (intervene m b s) i u v
-    rounds_same zero v lt = refl
-    rounds_same (suc i) v lt =
-        ap (λ t. cond (b v) (s v) (cond (eqb t 0) (m.mechanism v (rounds (intervene (noisy k m) b s) i u) u) (t - 1))) (calm v lt)
-        ∙ ap (λ t. cond (b v) (s v) t) (fit.reads v lt (rounds (intervene (noisy k m) b s) i u) (rounds (intervene m b s) i u) u u
-        (λ p a. rounds_same i p (subst (λ t. p < t) (sym fit.vertices) (ok.tail_below p v a))) (λ j jl e. refl))
+  module _ (ok : IsMixedGraph g) (u : ℕ → ℕ) (calm : (v : ℕ) → v < m.vertices → u (m.causes + v) ≡ 0) where
+    module _ (b : ℕ → Bool) (s t : ℕ → ℕ) (alike : (v : ℕ) → v < m.vertices → s v ≡ t v) where
+      rounds_same : (i v : ℕ) → v < m.vertices → rounds (intervene (noisy k m) b s) i u v ≡ rounds (intervene m b t) i u v
+      rounds_same zero v lt = refl
+      rounds_same (suc i) v lt =
+          ap₂ (λ r q. cond (b v) r (cond (eqb q 0) (m.mechanism v (rounds (intervene (noisy k m) b s) i u) u) (q - 1))) (alike v lt) (calm v lt)
+          ∙ ap (λ r. cond (b v) (t v) r) (fit.reads v lt (rounds (intervene (noisy k m) b s) i u) (rounds (intervene m b t) i u) u u
+          (λ p a. rounds_same i p (subst (λ n. p < n) (sym fit.vertices) (ok.tail_below p v a))) (λ j jl e. refl))
 
-    pub agree_same : (a : ℕ → Bool) → agree m.vertices a (solution (intervene (noisy k m) b s) u) s ≡ agree m.vertices a (solution (intervene m b s) u) s
-    agree_same a = agree-congr m.vertices a (solution (intervene (noisy k m) b s) u) (solution (intervene m b s) u) s (λ v lt. rounds_same m.vertices v lt)
+    pub solution_same : (b : ℕ → Bool) (s t : ℕ → ℕ) → ((v : ℕ) → v < m.vertices → s v ≡ t v) → (v : ℕ) → v < m.vertices
+        → solution (intervene (noisy k m) b s) u v ≡ solution (intervene m b t) u v
+    solution_same b s t alike v lt = rounds_same b s t alike m.vertices v lt
+
+    pub agree_same : (b a : ℕ → Bool) (s : ℕ → ℕ) → agree m.vertices a (solution (intervene (noisy k m) b s) u) s
+        ≡ agree m.vertices a (solution (intervene m b s) u) s
+    agree_same b a s = agree-congr m.vertices a (solution (intervene (noisy k m) b s) u) (solution (intervene m b s) u) s
+        (solution_same b s s (λ v lt. refl))

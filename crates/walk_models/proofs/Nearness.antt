@@ -3,7 +3,7 @@ use Rattle.std.proofs.Common.{ℕ, zero, suc, ◌+◌, ◌-◌, ◌*◌, ◌≡�
 use Rattle.std.proofs.Common.{le-ltb, ltb-true, eqb-true, ne_eqb}
 use Rattle.mixed_graph.specs.Graphs.{MixedGraph, IsMixedGraph}
 use Rattle.finite_models.specs.Sums.{sum_below, product_below, sum_over}
-use Rattle.finite_models.specs.Models.{FiniteModel, Fits, IsAssignment, world_weight, agree, solution, rounds, event_weight, weight_of, intervene}
+use Rattle.finite_models.specs.Models.{FiniteModel, Fits, IsAssignment, world_weight, sum_worlds, agree, solution, rounds, event_weight, intervene}
 use Rattle.finite_models.proofs.SumLaws.{over-base, over-term, over-add, over-scale, over-sizes}
 use Rattle.finite_models.proofs.Indicators.{number, all_below_each}
 use Rattle.finite_models.proofs.Positive.{over-mono}
@@ -35,6 +35,10 @@ picked (suc n) f le = go (eqb (f n) 0) refl (picked n f)
     go true e ih = let z = eqb-true (f n) 0 e in let r = ih (omega (arith, le, z)) in (omega (arith, r.0), r.1)
     go false e ih = (omega arith, grind (arith, e))
 
+-- the weight of the worlds that pass the test
+abbrev pub weight_where : FiniteModel → ((ℕ → ℕ) → Bool) → ℕ
+weight_where m e = sum_worlds m (λ u. cond (e u) (world_weight m u) 0)
+
 module _ (g : MixedGraph) (ok : IsMixedGraph g) (m : FiniteModel) (fit : Fits g m) where
   abbrev pub extra_of : ℕ
   extra_of = sum_over (λ j. true) (noisy 1 m).values (m.causes + m.vertices) (world_weight m) (λ j. 0)
@@ -52,52 +56,49 @@ module _ (g : MixedGraph) (ok : IsMixedGraph g) (m : FiniteModel) (fit : Fits g 
     values_new : (v : ℕ) → v < m.vertices → (noisy k m).values (m.causes + v) ≡ suc (m.size v)
     values_new v lt = rw (le-ltb (m.causes + v) m.causes (omega arith), (let e : (m.causes + v) - m.causes ≡ v = omega arith in e)) (omega arith)
 
-    module _ (b a : ℕ → Bool) (s : ℕ → ℕ) where
+    -- a test of worlds with noise, and one without, which are the same where no noise is
+    module _ (e f : (ℕ → ℕ) → Bool) (same : (u : ℕ → ℕ) → ((v : ℕ) → v < m.vertices → u (m.causes + v) ≡ 0) → e u ≡ f u) where
       abbrev counted : (ℕ → ℕ) → ℕ
-      counted u = cond (agree m.vertices a (solution (intervene m b s) u) s) (world_weight m u) 0
+      counted u = cond (f u) (world_weight m u) 0
 
       abbrev counted_noisy : (ℕ → ℕ) → ℕ
-      counted_noisy u = cond (agree m.vertices a (solution (intervene (noisy k m) b s) u) s) (world_weight (noisy k m) u) 0
+      counted_noisy u = cond (e u) (world_weight (noisy k m) u) 0
 
       sum : ((ℕ → ℕ) → ℕ) → ℕ
       sum F = sum_over (λ j. true) (noisy k m).values (m.causes + m.vertices) F (λ j. 0)
 
-      collapsed : sum (λ u. counted u * number (is_quiet u)) ≡ weight_of m b a s
+      collapsed : sum (λ u. counted u * number (is_quiet u)) ≡ weight_where m f
       unfolding sum
       collapsed = over-quiet (noisy k m).values m.size m.causes m.vertices (m.causes + m.vertices) counted refl values_new
           ∙ over-sizes (noisy k m).values m.values m.causes counted (λ j. 0) values_old
 
       at_least : (u : ℕ → ℕ) → scale_of k m.vertices * (counted u * number (is_quiet u)) ≤ counted_noisy u
       at_least u = rw (split g m fit k some u) (count-least (world_weight m u) (noise_weight k m.vertices (λ v. u (m.causes + v))) (scale_of k m.vertices)
-          (is_quiet u)
-          (agree m.vertices a (solution (intervene (noisy k m) b s) u) s) (agree m.vertices a (solution (intervene m b s) u) s)
-          (λ e. noise-quiet k m.vertices (λ v. u (m.causes + v)) e) (λ e. agree_same g m fit k some ok b s u (calm u e) a))
+          (is_quiet u) (e u) (f u) (λ q. noise-quiet k m.vertices (λ v. u (m.causes + v)) q) (λ q. same u (calm u q)))
 
       at_most : (u : ℕ → ℕ) → k * counted_noisy u ≤ scale_of k m.vertices * (k * (counted u * number (is_quiet u)) + world_weight m u)
       at_most u = rw (split g m fit k some u) (count-most (world_weight m u) (noise_weight k m.vertices (λ v. u (m.causes + v))) k (scale_of k m.vertices)
-          (is_quiet u)
-          (agree m.vertices a (solution (intervene (noisy k m) b s) u) s) (agree m.vertices a (solution (intervene m b s) u) s)
-          (λ e. noise-quiet k m.vertices (λ v. u (m.causes + v)) e) (λ e. noise-less k m.vertices (λ v. u (m.causes + v)) some e)
-          (λ e. agree_same g m fit k some ok b s u (calm u e) a))
+          (is_quiet u) (e u) (f u) (λ q. noise-quiet k m.vertices (λ v. u (m.causes + v)) q)
+          (λ q. noise-less k m.vertices (λ v. u (m.causes + v)) some q) (λ q. same u (calm u q)))
 
-      pub least : scale_of k m.vertices * weight_of m b a s ≤ weight_of (noisy k m) b a s
+      pub least : scale_of k m.vertices * weight_where m f ≤ weight_where (noisy k m) e
       unfolding sum
-      least = subst (λ t. t ≤ weight_of (noisy k m) b a s)
+      least = subst (λ t. t ≤ weight_where (noisy k m) e)
           (over-scale (λ j. true) (noisy k m).values (m.causes + m.vertices) (scale_of k m.vertices) (λ u. counted u * number (is_quiet u)) (λ j. 0)
           ∙ ap (λ t. scale_of k m.vertices * t) collapsed)
           (over-mono (λ j. true) (noisy k m).values (m.causes + m.vertices) (λ u. scale_of k m.vertices * (counted u * number (is_quiet u))) counted_noisy
           (λ j. 0) at_least)
 
-      pub most : k * weight_of (noisy k m) b a s ≤ scale_of k m.vertices * (k * weight_of m b a s + extra_of)
+      pub most : k * weight_where (noisy k m) e ≤ scale_of k m.vertices * (k * weight_where m f + extra_of)
       unfolding sum
-      most = subst (λ t. k * weight_of (noisy k m) b a s ≤ t) summed
+      most = subst (λ t. k * weight_where (noisy k m) e ≤ t) summed
           (subst (λ t. t ≤ sum (λ u. scale_of k m.vertices * (k * (counted u * number (is_quiet u)) + world_weight m u)))
           (over-scale (λ j. true) (noisy k m).values (m.causes + m.vertices) k counted_noisy (λ j. 0))
           (over-mono (λ j. true) (noisy k m).values (m.causes + m.vertices) (λ u. k * counted_noisy u)
           (λ u. scale_of k m.vertices * (k * (counted u * number (is_quiet u)) + world_weight m u)) (λ j. 0) at_most))
         where
           summed : sum (λ u. scale_of k m.vertices * (k * (counted u * number
-              (is_quiet u)) + world_weight m u)) ≡ scale_of k m.vertices * (k * weight_of m b a s + extra_of)
+              (is_quiet u)) + world_weight m u)) ≡ scale_of k m.vertices * (k * weight_where m f + extra_of)
           summed =
               over-scale (λ j. true) (noisy k m).values (m.causes + m.vertices) (scale_of k m.vertices)
               (λ u. k * (counted u * number (is_quiet u)) + world_weight m u) (λ j. 0)
@@ -171,6 +172,12 @@ module _ (g : MixedGraph) (ok : IsMixedGraph g) (m : FiniteModel) (fit : Fits g 
             (λ u. cond (agree m.vertices (λ v. true) (solution (noisy k m) u) s) (world_weight (noisy k m) u) 0) world (λ j. 0) beyond,
       )
 
+    abbrev without : (b a : ℕ → Bool) → (ℕ → ℕ) → (ℕ → ℕ) → Bool
+    without b a s u = agree m.vertices a (solution (intervene m b s) u) s
+
+    abbrev in_noise : (b a : ℕ → Bool) → (ℕ → ℕ) → (ℕ → ℕ) → Bool
+    in_noise b a s u = agree m.vertices a (solution (intervene (noisy k m) b s) u) s
+
     pub near : IsNear g m k extra_of (noisy k m)
     near = record {
       fits = noisy_fits g m fit k some;
@@ -180,8 +187,8 @@ module _ (g : MixedGraph) (ok : IsMixedGraph g) (m : FiniteModel) (fit : Fits g 
       size = λ v. refl;
       scale = scale_of k m.vertices;
       some = scale-some k m.vertices some;
-      least = λ b a s within. least b a s;
-      most = λ b a s within. most b a s;
+      least = λ b a s within. least (in_noise b a s) (without b a s) (λ u quiet. agree_same g m fit k some ok u quiet b a s);
+      most = λ b a s within. most (in_noise b a s) (without b a s) (λ u quiet. agree_same g m fit k some ok u quiet b a s);
     }
 
 pub each_is_near : EachIsNearPositive
