@@ -6,3 +6,4 @@ mod Pair
 mod Witness
 mod Walk
 mod Split
+pub mod Differing

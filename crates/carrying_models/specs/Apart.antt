@@ -4,7 +4,7 @@ use Rattle.mixed_graph.specs.Bits.{has}
 use Rattle.mixed_graph.specs.Graphs.{MixedGraph, IsMixedGraph}
 use Rattle.nested_models.specs.Nested.{IsNestedQuery, IsRecantingWitness}
 use Rattle.nested_models.specs.Split.{IsSplitDistrict}
-use Rattle.twisted_models.specs.Pairs.{AreApart}
+use Rattle.twisted_models.specs.Pairs.{AreApart, DifferOnNested}
 
 -- with a recanting witness there is a model and a twist of it, where the nested event is possible in the one alone (Avin, Shpitser and Pearl 2005)
 abbrev pub WitnessIsApart : Type 0
@@ -15,3 +15,12 @@ WitnessIsApart = (g : MixedGraph) → IsMixedGraph g → (x m y z c : ℕ) → I
 abbrev pub SplitIsApart : Type 0
 SplitIsApart = (g : MixedGraph) → IsMixedGraph g → (x m y z p t v w : ℕ) → IsNestedQuery g (has x) (has m) (has y) (has z)
     → IsSplitDistrict g x m y z p t v w → AreApart g x m y z
+
+-- so with either there are two positive models with equal observed probabilities and different P(y[x, m[x']] | z)
+abbrev pub WitnessDiffers : Type 0
+WitnessDiffers = (g : MixedGraph) → IsMixedGraph g → (x m y z c : ℕ) → IsNestedQuery g (has x) (has m) (has y) (has z)
+    → IsRecantingWitness g (has x) (has m) (has y) c → DifferOnNested g x m y z
+
+abbrev pub SplitDiffers : Type 0
+SplitDiffers = (g : MixedGraph) → IsMixedGraph g → (x m y z p t v w : ℕ) → IsNestedQuery g (has x) (has m) (has y) (has z)
+    → IsSplitDistrict g x m y z p t v w → DifferOnNested g x m y z

@@ -1,9 +1,11 @@
 //! The laws of pairs that carry coins.
 
-ghost use Rattle.carrying_models.specs.Apart.{WitnessIsApart, SplitIsApart};
+ghost use Rattle.carrying_models.specs.Apart.{WitnessIsApart, SplitIsApart, WitnessDiffers, SplitDiffers};
 
 /// The laws of pairs that carry coins.
 pub fn laws()
     ensures witness { WitnessIsApart }
     ensures split { SplitIsApart }
+    ensures witness_differs { WitnessDiffers }
+    ensures split_differs { SplitDiffers }
 {}
