@@ -73,9 +73,7 @@ fn push_cited(
     k: u32,
 ) -> Result<(), AllocError> {
     match cited.get(k as usize) {
-        Some(Cited::Number(number)) => {
-            push_placed(alloc, out, place, Some(Move::Cite(*number)))
-        }
+        Some(Cited::Number(number)) => { push_placed(alloc, out, place, Some(Move::Cite(*number))) }
         Some(Cited::Moves(lemma)) => push_lemma(alloc, out, place, lemma),
         None => Ok(()),
     }

@@ -3,7 +3,7 @@
 use crate::held::Held;
 use crate::joins::{Joins, join};
 use crate::parts::{Term, part_at, places, term_at};
-use do_derivation::{BareMove, Move, SetMove, Step, has_product};
+use do_derivation::{BareMove, Move, SetMove, has_product};
 use mixed_graph::{Graph, VSet};
 use prob_expr::Expr;
 use std::alloc::{AllocError, Global};
@@ -62,7 +62,7 @@ fn trim(
     for v in 0..64u8 {
         if term.given.has(v) {
             let alone = VSet::one(v);
-            if held.try_step(alloc, g, place, Step::Make(Move::WithSet(SetMove::Rule1Out, alone)))? {
+            if held.try_move(alloc, g, place, Move::WithSet(SetMove::Rule1Out, alone))? {
                 left = left.difference(alone);
             }
         }
@@ -110,13 +110,13 @@ fn try_move(
             if !is_wrapped(held.expr(), place) {
                 return Ok(false);
             }
-            held.try_step(alloc, g, place, Step::Make(Move::Bare(BareMove::Unwrap)))
+            held.try_move(alloc, g, place, Move::Bare(BareMove::Unwrap))
         }
         Way::Narrow => {
             if !is_sum_of_term(held.expr(), place) {
                 return Ok(false);
             }
-            held.try_step(alloc, g, place, Step::Make(Move::Bare(BareMove::Narrow)))
+            held.try_move(alloc, g, place, Move::Bare(BareMove::Narrow))
         }
         Way::Join => join(alloc, g, held, place, false, &mut seen.joins),
         Way::JoinApart => join(alloc, g, held, place, true, &mut seen.joins),

@@ -10,11 +10,11 @@ use mixed_graph::{Graph, VSet};
 use prob_expr::{Expr, Formula, Target, cap};
 use std::alloc::{AllocError, Global};
 
-/// Does the steps in turn: whether none is refused.
-fn play(alloc: Global, g: &Graph, held: &mut Held, steps: Vec<Placed>) -> Result<bool, AllocError> {
-    for placed in steps {
+/// Does the moves in turn: whether none is refused.
+fn play(alloc: Global, g: &Graph, held: &mut Held, moves: Vec<Placed>) -> Result<bool, AllocError> {
+    for placed in moves {
         let Placed { place, done } = placed;
-        if !held.try_step(alloc, g, place.as_slice(), step)? {
+        if !held.try_move(alloc, g, place.as_slice(), done)? {
             return Ok(false);
         }
     }

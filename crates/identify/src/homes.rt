@@ -33,8 +33,16 @@ fn home_list(alloc: Global, d: VSet, t: VSet, before: VSet) -> Result<Vec<Step>,
     let earlier = d.intersection(before).difference(t);
     let later = d.difference(t).difference(earlier);
     let mut out = Vec::new(alloc);
-    push_with(&mut out, earlier, Step::Make(Move::WithSet(SetMove::Rule2Do, earlier)))?;
-    push_with(&mut out, later, Step::Make(Move::WithSet(SetMove::Rule3In, later)))?;
+    push_with(
+        &mut out,
+        earlier,
+        Step::Make(Move::WithSet(SetMove::Rule2Do, earlier)),
+    )?;
+    push_with(
+        &mut out,
+        later,
+        Step::Make(Move::WithSet(SetMove::Rule3In, later)),
+    )?;
     Ok(out)
 }
 

@@ -83,7 +83,11 @@ fn main_steps(
     let further = d.difference(y);
     let mut rest = rest;
     let mut out = Vec::new(alloc);
-    push_with(&mut out, others, Step::Make(Move::WithSet(SetMove::Rule3In, others)))?;
+    push_with(
+        &mut out,
+        others,
+        Step::Make(Move::WithSet(SetMove::Rule3In, others)),
+    )?;
     if further.is_empty() {
         out.append(&mut rest)?;
         return Ok(out);

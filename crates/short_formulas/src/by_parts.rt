@@ -82,7 +82,7 @@ fn shorten_parts(alloc: Global, g: &Graph, held: &mut Held) -> Result<bool, Allo
     if term.given.is_empty() {
         return shorten_term(alloc, g, held, &[]);
     }
-    if !held.try_step(alloc, g, &[], Step::Make(Move::Bare(BareMove::Split)))? {
+    if !held.try_move(alloc, g, &[], Move::Bare(BareMove::Split))? {
         return Ok(false);
     }
     if !shorten_term(alloc, g, held, &[0])? {

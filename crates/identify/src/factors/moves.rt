@@ -74,9 +74,21 @@ pub fn place_steps(
     let unneeded = earlier.difference(m);
     let mut rest = rest;
     let mut steps = Vec::new(alloc);
-    push_with(&mut steps, idle, Step::Make(Move::WithSet(SetMove::Rule3Out, idle)))?;
-    push_with(&mut steps, acted, Step::Make(Move::WithSet(SetMove::Rule2See, acted)))?;
-    push_with(&mut steps, unneeded, Step::Make(Move::WithSet(SetMove::Rule1Out, unneeded)))?;
+    push_with(
+        &mut steps,
+        idle,
+        Step::Make(Move::WithSet(SetMove::Rule3Out, idle)),
+    )?;
+    push_with(
+        &mut steps,
+        acted,
+        Step::Make(Move::WithSet(SetMove::Rule2See, acted)),
+    )?;
+    push_with(
+        &mut steps,
+        unneeded,
+        Step::Make(Move::WithSet(SetMove::Rule1Out, unneeded)),
+    )?;
     steps.append(&mut rest)?;
     Ok(steps)
 }
@@ -85,7 +97,10 @@ pub fn place_steps(
 pub fn cut_steps(alloc: Global, over: VSet, inner: Vec<Step>) -> Result<Vec<Step>, AllocError>
     ensures { IfOk result (λ s. steps_view s.items ≡ cut_steps over.bits (steps_view inner.items)) }
 {
-    let mut steps = vec![in alloc; Step::Make(Move::WithSet(SetMove::Rule3Out, over)), Step::Make(Move::WithSet(SetMove::Widen, over))]?;
+    let mut steps = vec![in alloc;
+        Step::Make(Move::WithSet(SetMove::Rule3Out, over)),
+        Step::Make(Move::WithSet(SetMove::Widen, over)),
+    ]?;
     push_at(alloc, &mut steps, 0, inner)?;
     Ok(steps)
 }
