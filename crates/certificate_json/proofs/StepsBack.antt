@@ -1,6 +1,6 @@
 -- The value of a step is read again as that step.
 use Rattle.std.proofs.Common.{◌≡◌, ℕ, zero, suc, ◌+◌, ◌^◌, ◌≤◌, Bool, true, false, cond, ◌&&◌, bit_and, eqb, ltb, leb, List, [], ◌∷◌, ◌++◌, length}
-use Rattle.std.proofs.Common.{map, Some, Ok, Err, codes, refl, sym, ap, ◌∙◌, append_assoc, append-nil, length-append, arith, ltb-true, leb-true}
+use Rattle.std.proofs.Common.{map, Some, Ok, Err, codes, refl, sym, ap, ap₂, ◌∙◌, append_assoc, append-nil, length-append, arith, ltb-true, leb-true}
 use Rattle.std.proofs.Common.{lt-ltb}
 use Rattle.mixed_graph.specs.Bits.{has}
 use Rattle.mixed_graph.specs.Names.{AreNames, name_of}
@@ -8,19 +8,19 @@ use Rattle.mixed_graph.proofs.Masks.{has-zero, has-and, zero_from_empty}
 use Rattle.mixed_graph.specs.Masks.{is_below}
 use Rattle.mixed_graph.specs.Masks as masks
 use Rattle.do_derivation.specs.Plans.{Move, Plan, Plans, no_plans, plan, plans_of}
+use Rattle.do_derivation.specs.Words.{set_word, bare_word, set_move_of, bare_move_of}
+use Rattle.do_derivation.specs.declared.moves.SetMove.{SetMove}
+use Rattle.do_derivation.specs.declared.moves.BareMove.{BareMove}
+use Rattle.do_derivation.proofs.WordsBack.{set_word_read, bare_word_read, bare_word_unread}
 use Rattle.serde_json.specs.Data.{array, number, unsigned, Items, no_items, item}
 use Rattle.certificate_json.proofs.Values.{strings, numbers, groups, names_value, set_value, said, move_value, step_value, step_values}
 use Rattle.step_json.specs.Reading.{◌>>=◌, or_form, vertex_of, more_vertices, vertices_in, number_in, each, numbers_in, groups_in, last, argument}
 use Rattle.step_json.specs.Reading.{arguments, step_within, step_in}
-use Rattle.step_json.specs.Words.{set_rule_of, bare_rule_of, other_word_of, word_of, set_move, bare_move}
+use Rattle.step_json.specs.Words.{other_word_of, or_bare, or_set, word_of}
 use Rattle.certificate_json.specs.StepSizes.{are_below, groups_below, is_move_within, is_within, are_within, is_move_short, is_short, are_short, nesting}
 use Rattle.certificate_json.specs.StepSizes.{nesting_each}
 use Rattle.step_json.specs.declared.words.Word.{Word}
 use Rattle.step_json.specs.declared.words.Word.TheVariants as words
-use Rattle.step_json.specs.declared.words.SetRule.{SetRule}
-use Rattle.step_json.specs.declared.words.SetRule.TheVariants as sets
-use Rattle.step_json.specs.declared.words.BareRule.{BareRule}
-use Rattle.step_json.specs.declared.words.BareRule.TheVariants as bares
 use Rattle.step_json.specs.declared.fault.ValueFault.TheVariants.{Form}
 use Rattle.step_json.proofs.Depths.{step_suc}
 use Rattle.certificate_json.proofs.NamesBack.{vertex_back}
@@ -82,56 +82,32 @@ groups_back ls all = each_group_back ls [] all
 
 -- ---- words
 
-abbrev set_word : SetRule → List ℕ
-set_word sets.Rule1In = codes "rule1in"
-set_word sets.Rule1Out = codes "rule1out"
-set_word sets.Rule2See = codes "rule2see"
-set_word sets.Rule2Do = codes "rule2do"
-set_word sets.Rule3In = codes "rule3in"
-set_word sets.Rule3Out = codes "rule3out"
-set_word sets.Widen = codes "widen"
+set_word_back : (kind : SetMove) → word_of (set_word kind) ≡ Some (words.WithSet kind)
+unfolding word_of
+set_word_back kind = ap (λ o. or_set o (or_bare (bare_move_of (set_word kind)) (other_word_of (set_word kind)))) (set_word_read kind)
 
-abbrev bare_word : BareRule → List ℕ
-bare_word bares.Unchain = codes "unchain"
-bare_word bares.Narrow = codes "narrow"
-bare_word bares.Split = codes "split"
-bare_word bares.Unwrap = codes "unwrap"
-
-set_word_back : (r : SetRule) → word_of (set_word r) ≡ Some (words.WithSet r)
-unfolding word_of set_rule_of bare_rule_of other_word_of
-set_word_back sets.Rule1In = refl
-set_word_back sets.Rule1Out = refl
-set_word_back sets.Rule2See = refl
-set_word_back sets.Rule2Do = refl
-set_word_back sets.Rule3In = refl
-set_word_back sets.Rule3Out = refl
-set_word_back sets.Widen = refl
-
-bare_word_back : (r : BareRule) → word_of (bare_word r) ≡ Some (words.Bare r)
-unfolding word_of set_rule_of bare_rule_of other_word_of
-bare_word_back bares.Unchain = refl
-bare_word_back bares.Narrow = refl
-bare_word_back bares.Split = refl
-bare_word_back bares.Unwrap = refl
+bare_word_back : (kind : BareMove) → word_of (bare_word kind) ≡ Some (words.Bare kind)
+unfolding word_of
+bare_word_back kind = ap₂ (λ o b. or_set o (or_bare b (other_word_of (bare_word kind)))) (bare_word_unread kind) (bare_word_read kind)
 
 chain_word : word_of (codes "chain") ≡ Some words.Chain
-unfolding word_of set_rule_of bare_rule_of other_word_of
+unfolding word_of set_move_of bare_move_of other_word_of
 chain_word = refl
 
 group_word : word_of (codes "group") ≡ Some words.Group
-unfolding word_of set_rule_of bare_rule_of other_word_of
+unfolding word_of set_move_of bare_move_of other_word_of
 group_word = refl
 
 cite_word : word_of (codes "cite") ≡ Some words.Cite
-unfolding word_of set_rule_of bare_rule_of other_word_of
+unfolding word_of set_move_of bare_move_of other_word_of
 cite_word = refl
 
 at_word : word_of (codes "at") ≡ Some words.At
-unfolding word_of set_rule_of bare_rule_of other_word_of
+unfolding word_of set_move_of bare_move_of other_word_of
 at_word = refl
 
 then_word : word_of (codes "then") ≡ Some words.Then
-unfolding word_of set_rule_of bare_rule_of other_word_of
+unfolding word_of set_move_of bare_move_of other_word_of
 then_word = refl
 
 -- ---- steps
@@ -142,37 +118,21 @@ said_back : (names : List (List ℕ)) (d : ℕ) (text : List ℕ) (w : Word) (ds
 said_back names d text w ds h =
     step_suc names d (said text ds) ∙ ap (λ o. or_form o >>= λ w. arguments names (step_within names d) w ds) h
 
-with_set_back : (names : List (List ℕ)) (d : ℕ) (r : SetRule) (z : ℕ) → AreNames names → is_below (length names) z ≡ true
-    → step_within names (suc d) (said (set_word r) (item (set_value names z) no_items)) ≡ Ok (Plan.Make (set_move r z))
-with_set_back names d r z are within =
-    said_back names d (set_word r) (words.WithSet r) (item (set_value names z) no_items) (set_word_back r)
-    ∙ ap (λ res. res >>= λ z. last (Plan.Make (set_move r z)) no_items) (set_reads_back names 0 z are within (none_apart z))
-
-bare_back : (names : List (List ℕ)) (d : ℕ) (r : BareRule) → step_within names (suc d) (said (bare_word r) no_items) ≡ Ok (Plan.Make (bare_move r))
-bare_back names d r = said_back names d (bare_word r) (words.Bare r) no_items (bare_word_back r)
-
 move_back : (names : List (List ℕ)) (d : ℕ) (m : Move) → AreNames names → is_move_within (length names) m ≡ true → is_move_short m ≡ true
     → step_within names (suc d) (move_value names m) ≡ Ok (Plan.Make m)
-move_back names d (Move.Rule1In z) are within fits = with_set_back names d sets.Rule1In z are within
-move_back names d (Move.Rule1Out z) are within fits = with_set_back names d sets.Rule1Out z are within
-move_back names d (Move.Rule2See z) are within fits = with_set_back names d sets.Rule2See z are within
-move_back names d (Move.Rule2Do z) are within fits = with_set_back names d sets.Rule2Do z are within
-move_back names d (Move.Rule3In z) are within fits = with_set_back names d sets.Rule3In z are within
-move_back names d (Move.Rule3Out z) are within fits = with_set_back names d sets.Rule3Out z are within
+move_back names d (Move.WithSet kind z) are within fits =
+    said_back names d (set_word kind) (words.WithSet kind) (item (set_value names z) no_items) (set_word_back kind)
+    ∙ ap (λ res. res >>= λ z. last (Plan.Make (Move.WithSet kind z)) no_items) (set_reads_back names 0 z are within (none_apart z))
+move_back names d (Move.Bare kind) are within fits = said_back names d (bare_word kind) (words.Bare kind) no_items (bare_word_back kind)
 move_back names d (Move.Chain o) are within fits =
     said_back names d (codes "chain") words.Chain (item (names_value names o) no_items) chain_word
     ∙ ap (λ r. r >>= λ o. last (Plan.Make (Move.Chain o)) no_items) (vertices_back names o are within fits)
-move_back names d Move.Unchain are within fits = bare_back names d bares.Unchain
 move_back names d (Move.Group l) are within fits =
     said_back names d (codes "group") words.Group (item (array (groups l)) no_items) group_word
     ∙ ap (λ r. r >>= λ l. last (Plan.Make (Move.Group l)) no_items) (groups_back l fits)
-move_back names d (Move.Widen u) are within fits = with_set_back names d sets.Widen u are within
-move_back names d Move.Narrow are within fits = bare_back names d bares.Narrow
-move_back names d Move.Split are within fits = bare_back names d bares.Split
 move_back names d (Move.Cite k) are within fits =
     said_back names d (codes "cite") words.Cite (item (number (unsigned k)) no_items) cite_word
     ∙ ap (λ r. r >>= λ k. last (Plan.Make (Move.Cite k)) no_items) (number_back k fits)
-move_back names d Move.Unwrap are within fits = bare_back names d bares.Unwrap
 
 abbrev StepBack : List (List ℕ) → Plan → Type 0
 StepBack names p = (d : ℕ) → is_within (length names) p ≡ true → is_short p ≡ true → nesting p ≤ d → step_within names d (step_value names p) ≡ Ok p

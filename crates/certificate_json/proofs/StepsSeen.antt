@@ -8,13 +8,18 @@ use Rattle.json.proofs.Printed.Utf8.{IsUtf8-are_ascii}
 use Rattle.mixed_graph.specs.Bits.{has, members_below}
 use Rattle.mixed_graph.specs.Names.{AreNames, name_of}
 use Rattle.do_derivation.specs.Plans.{Move, Plan, Plans, no_plans, plan}
+use Rattle.do_derivation.specs.Words.{set_word, bare_word}
+use Rattle.do_derivation.specs.declared.moves.SetMove.{SetMove}
+use Rattle.do_derivation.specs.declared.moves.BareMove.{BareMove}
+use Rattle.do_derivation.specs.declared.moves.SetMove.TheVariants as set_move
+use Rattle.do_derivation.specs.declared.moves.BareMove.TheVariants as bare_move
 use Rattle.serde_json.specs.Data.{Items, string, number, unsigned, array, no_items, item}
 use Rattle.certificate_json.specs.StepSizes.{are_below, groups_below, is_move_short, is_short, are_short, nesting, nesting_each}
 use Rattle.answer_json.specs.Values.{vertex_json, vertices_json, set_json}
-use Rattle.certificate_json.specs.Steps.{numbers_json, said_json, said_set_json, move_json, step_json, steps_json}
+use Rattle.certificate_json.specs.Steps.{numbers_json, said_json, move_json, step_json, steps_json}
 use Rattle.certificate_json.proofs.Seen.{IsSeen, AreSeen, deeper, all_deeper, string_seen, text_seen, number_seen, none_seen, one_more, array_seen}
 use Rattle.certificate_json.proofs.Utf8.{name_utf8}
-use Rattle.certificate_json.proofs.Values.{strings, numbers, groups, names_value, set_value, said, said_set, move_value, step_value, step_values}
+use Rattle.certificate_json.proofs.Values.{strings, numbers, groups, names_value, set_value, said, move_value, step_value, step_values}
 
 -- ---- names and numbers
 
@@ -52,35 +57,35 @@ said_seen : (word : List ℕ) (js : List Json) (ds : Items) (n : ℕ) → IsUtf8
 said_seen word js ds n utf8 h =
     array_seen (json.string word ∷ js) (item (string word) ds) n (one_more (json.string word) (string word) js ds n (string_seen word n utf8) h)
 
-said_set_seen : (names : List (List ℕ)) (word : List ℕ) (z : ℕ) → AreNames names → IsUtf8 word → IsSeen (said_set_json names word z) (said_set names word z) 3
-said_set_seen names word z are utf8 = deeper 3 (omega arith)
-    (said_seen word (set_json names z ∷ []) (item (set_value names z) no_items) 1 utf8
-    (one_more (set_json names z) (set_value names z) [] no_items 1 (set_seen names z 0 are) (none_seen 1)))
+set_word_utf8 : (kind : SetMove) → IsUtf8 (set_word kind)
+set_word_utf8 set_move.Rule1In = IsUtf8-are_ascii (set_word set_move.Rule1In) refl
+set_word_utf8 set_move.Rule1Out = IsUtf8-are_ascii (set_word set_move.Rule1Out) refl
+set_word_utf8 set_move.Rule2See = IsUtf8-are_ascii (set_word set_move.Rule2See) refl
+set_word_utf8 set_move.Rule2Do = IsUtf8-are_ascii (set_word set_move.Rule2Do) refl
+set_word_utf8 set_move.Rule3In = IsUtf8-are_ascii (set_word set_move.Rule3In) refl
+set_word_utf8 set_move.Rule3Out = IsUtf8-are_ascii (set_word set_move.Rule3Out) refl
+set_word_utf8 set_move.Widen = IsUtf8-are_ascii (set_word set_move.Widen) refl
 
-bare_seen : (word : List ℕ) → IsUtf8 word → IsSeen (said_json word []) (said word no_items) 3
-bare_seen word utf8 = said_seen word [] no_items 2 utf8 (none_seen 2)
+bare_word_utf8 : (kind : BareMove) → IsUtf8 (bare_word kind)
+bare_word_utf8 bare_move.Unchain = IsUtf8-are_ascii (bare_word bare_move.Unchain) refl
+bare_word_utf8 bare_move.Narrow = IsUtf8-are_ascii (bare_word bare_move.Narrow) refl
+bare_word_utf8 bare_move.Split = IsUtf8-are_ascii (bare_word bare_move.Split) refl
+bare_word_utf8 bare_move.Unwrap = IsUtf8-are_ascii (bare_word bare_move.Unwrap) refl
 
 move_seen : (names : List (List ℕ)) (m : Move) → AreNames names → is_move_short m ≡ true → IsSeen (move_json names m) (move_value names m) 3
-move_seen names (Move.Rule1In z) are h = said_set_seen names (codes "rule1in") z are (IsUtf8-are_ascii (codes "rule1in") refl)
-move_seen names (Move.Rule1Out z) are h = said_set_seen names (codes "rule1out") z are (IsUtf8-are_ascii (codes "rule1out") refl)
-move_seen names (Move.Rule2See z) are h = said_set_seen names (codes "rule2see") z are (IsUtf8-are_ascii (codes "rule2see") refl)
-move_seen names (Move.Rule2Do z) are h = said_set_seen names (codes "rule2do") z are (IsUtf8-are_ascii (codes "rule2do") refl)
-move_seen names (Move.Rule3In z) are h = said_set_seen names (codes "rule3in") z are (IsUtf8-are_ascii (codes "rule3in") refl)
-move_seen names (Move.Rule3Out z) are h = said_set_seen names (codes "rule3out") z are (IsUtf8-are_ascii (codes "rule3out") refl)
+move_seen names (Move.WithSet kind z) are h = deeper 3 (omega arith)
+    (said_seen (set_word kind) (set_json names z ∷ []) (item (set_value names z) no_items) 1 (set_word_utf8 kind)
+    (one_more (set_json names z) (set_value names z) [] no_items 1 (set_seen names z 0 are) (none_seen 1)))
+move_seen names (Move.Bare kind) are h = said_seen (bare_word kind) [] no_items 2 (bare_word_utf8 kind) (none_seen 2)
 move_seen names (Move.Chain o) are h =
     said_seen (codes "chain") (vertices_json names o ∷ []) (item (names_value names o) no_items) 2 (IsUtf8-are_ascii (codes "chain") refl)
     (one_more (vertices_json names o) (names_value names o) [] no_items 2 (vertices_seen names o 1 are) (none_seen 2))
-move_seen names Move.Unchain are h = bare_seen (codes "unchain") (IsUtf8-are_ascii (codes "unchain") refl)
 move_seen names (Move.Group l) are h =
     said_seen (codes "group") _ (item (array (groups l)) no_items) 2 (IsUtf8-are_ascii (codes "group") refl)
     (one_more _ (array (groups l)) [] no_items 2 (array_seen (map numbers_json l) (groups l) 1 (groups_seen l 0 h)) (none_seen 2))
-move_seen names (Move.Widen u) are h = said_set_seen names (codes "widen") u are (IsUtf8-are_ascii (codes "widen") refl)
-move_seen names Move.Narrow are h = bare_seen (codes "narrow") (IsUtf8-are_ascii (codes "narrow") refl)
-move_seen names Move.Split are h = bare_seen (codes "split") (IsUtf8-are_ascii (codes "split") refl)
 move_seen names (Move.Cite k) are h =
     said_seen (codes "cite") (json.number (decimal k) ∷ []) (item (number (unsigned k)) no_items) 2 (IsUtf8-are_ascii (codes "cite") refl)
     (one_more (json.number (decimal k)) (number (unsigned k)) [] no_items 2 (short_seen k 2 h) (none_seen 2))
-move_seen names Move.Unwrap are h = bare_seen (codes "unwrap") (IsUtf8-are_ascii (codes "unwrap") refl)
 
 mutual
   -- a move nests three lists at most, and each step round it adds two or fewer

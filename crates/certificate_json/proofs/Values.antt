@@ -5,6 +5,7 @@ use Rattle.mixed_graph.specs.Masks.{is_empty}
 use Rattle.mixed_graph.specs.Names.{name_of}
 use Rattle.prob_expr.specs.Tree.{Tree, PlainTarget}
 use Rattle.do_derivation.specs.Plans.{Move, Plan, Plans, no_plans, plan, PlainLemma, PlainDerivation}
+use Rattle.do_derivation.specs.Words.{set_word, bare_word}
 use Rattle.expr_text.specs.Write.{text_of}
 use Rattle.serde_json.specs.Data.{Data, number, string, array, object, unsigned, Items, no_items, item, Members, no_members, member}
 use Rattle.certificate.specs.Plain.{PlainHedge, PlainCertificate, formula, hedge}
@@ -37,26 +38,13 @@ set_value names set = names_value names (members_below (has set) 64)
 abbrev pub said : List ℕ → Items → Data
 said word rest = array (item (string word) rest)
 
--- a word with a set
-abbrev pub said_set : List (List ℕ) → List ℕ → ℕ → Data
-said_set names word z = said word (item (set_value names z) no_items)
-
 -- the value of a move
 abbrev pub move_value : List (List ℕ) → Move → Data
-move_value names (Move.Rule1In z) = said_set names (codes "rule1in") z
-move_value names (Move.Rule1Out z) = said_set names (codes "rule1out") z
-move_value names (Move.Rule2See z) = said_set names (codes "rule2see") z
-move_value names (Move.Rule2Do z) = said_set names (codes "rule2do") z
-move_value names (Move.Rule3In z) = said_set names (codes "rule3in") z
-move_value names (Move.Rule3Out z) = said_set names (codes "rule3out") z
+move_value names (Move.WithSet kind z) = said (set_word kind) (item (set_value names z) no_items)
+move_value names (Move.Bare kind) = said (bare_word kind) no_items
 move_value names (Move.Chain o) = said (codes "chain") (item (names_value names o) no_items)
-move_value names Move.Unchain = said (codes "unchain") no_items
 move_value names (Move.Group l) = said (codes "group") (item (array (groups l)) no_items)
-move_value names (Move.Widen u) = said_set names (codes "widen") u
-move_value names Move.Narrow = said (codes "narrow") no_items
-move_value names Move.Split = said (codes "split") no_items
 move_value names (Move.Cite k) = said (codes "cite") (item (number (unsigned k)) no_items)
-move_value names Move.Unwrap = said (codes "unwrap") no_items
 
 abbrev mutual
   pub step_value : List (List ℕ) → Plan → Data

@@ -15,20 +15,9 @@ groups_below n (l ∷ ls) = are_below n l && groups_below n ls
 
 -- the vertices of a move are below n
 abbrev pub is_move_within : ℕ → Move → Bool
-is_move_within n (Move.Rule1In z) = is_below n z
-is_move_within n (Move.Rule1Out z) = is_below n z
-is_move_within n (Move.Rule2See z) = is_below n z
-is_move_within n (Move.Rule2Do z) = is_below n z
-is_move_within n (Move.Rule3In z) = is_below n z
-is_move_within n (Move.Rule3Out z) = is_below n z
+is_move_within n (Move.WithSet kind z) = is_below n z
 is_move_within n (Move.Chain o) = are_below n o
-is_move_within n Move.Unchain = true
-is_move_within n (Move.Group l) = true
-is_move_within n (Move.Widen u) = is_below n u
-is_move_within n Move.Narrow = true
-is_move_within n Move.Split = true
-is_move_within n (Move.Cite k) = true
-is_move_within n Move.Unwrap = true
+is_move_within n _ = true
 
 -- the vertices of a step are below n
 abbrev mutual

@@ -2,14 +2,14 @@
 
 ghost use Rattle.std.specs.Prelude.{◌≡◌, ◌^◌, ◌∷◌, [], true, ltb, leb, length, decimal, map, OnOk};
 ghost use Rattle.json.specs.Json.{string, number};
-ghost use Rattle.do_derivation.specs.Plans.{Move, Plan};
-ghost use Rattle.do_derivation.specs.View.{step_view, steps_view, listed, numbers_of};
-ghost use Rattle.certificate_json.specs.StepSizes.{are_below, groups_below, is_short, are_short};
+ghost use Rattle.do_derivation.specs.Plans.{Move as PlainMove, Plan};
+ghost use Rattle.do_derivation.specs.View.{move_view, step_view, steps_view, listed, numbers_of};
+ghost use Rattle.certificate_json.specs.StepSizes.{are_below, groups_below, is_move_short, is_short, are_short};
 ghost use Rattle.answer_json.specs.Progress.{with_value, with_values, items};
-ghost use Rattle.certificate_json.specs.Steps.{numbers_json, said_json, said_set_json, move_json, step_json, steps_json};
+ghost use Rattle.certificate_json.specs.Steps.{numbers_json, move_json, step_json, steps_json};
 
 use answer_json::Object;
-use do_derivation::Step;
+use do_derivation::{BareMove, Move, SetMove, Step};
 use mixed_graph::{Names, Order, VSet};
 use std::alloc::AllocError;
 
@@ -64,25 +64,25 @@ fn begin_said(object: &mut Object, word: &str) -> Result<(), AllocError>
     Ok(())
 }
 
-/// A word alone.
-fn push_bare(object: &mut Object, word: &str) -> Result<(), AllocError>
-    ensures { OnOk result (object.new ≡ with_value (said_json word.now []) object.old) }
+/// A move without an argument: its word alone.
+fn push_bare(object: &mut Object, kind: BareMove) -> Result<(), AllocError>
+    ensures { OnOk result (object.new ≡ with_value (move_json [] (PlainMove.Bare kind)) object.old) }
 {
-    begin_said(object, word)?;
+    begin_said(object, kind.word())?;
     object.end_array()?;
     Ok(())
 }
 
-/// A word with a set.
-fn push_said_set(
+/// A move with a set: its word and the set.
+fn push_with_set(
     object: &mut Object,
     names: &Names,
-    word: &str,
+    kind: SetMove,
     set: VSet,
 ) -> Result<(), AllocError>
-    ensures { OnOk result (object.new ≡ with_value (said_set_json names.now word.now set.bits) object.old) }
+    ensures { OnOk result (object.new ≡ with_value (move_json names.now (PlainMove.WithSet kind set.bits)) object.old) }
 {
-    begin_said(object, word)?;
+    begin_said(object, kind.word())?;
     object.set(names, set)?;
     object.end_array()?;
     Ok(())
@@ -91,7 +91,7 @@ fn push_said_set(
 /// The order of a chain.
 #[tactic(auto, using(crate::proofs::Keeping::order_short))]
 fn push_chain(object: &mut Object, names: &Names, order: &Order) -> Result<(), AllocError>
-    ensures written { OnOk result (object.new ≡ with_value (move_json names.now (Move.Chain (listed order.now))) object.old) }
+    ensures written { OnOk result (object.new ≡ with_value (move_json names.now (PlainMove.Chain (listed order.now))) object.old) }
     ensures short { OnOk result (leb (length (listed order.now)) 64 ≡ true) }
 {
     begin_said(object, "chain")?;
@@ -103,7 +103,7 @@ fn push_chain(object: &mut Object, names: &Names, order: &Order) -> Result<(), A
 /// The groups of a product.
 #[tactic(auto, using(answer_json::proofs::Arrays::array_written))]
 fn push_group(object: &mut Object, list: &Vec<Vec<u32>>) -> Result<(), AllocError>
-    ensures written { OnOk result (object.new ≡ with_value (move_json [] (Move.Group (numbers_of list.now.items))) object.old) }
+    ensures written { OnOk result (object.new ≡ with_value (move_json [] (PlainMove.Group (numbers_of list.now.items))) object.old) }
     ensures short { OnOk result (groups_below (2 ^ 32) (numbers_of list.now.items) ≡ true) }
 {
     begin_said(object, "group")?;
@@ -116,13 +116,27 @@ fn push_group(object: &mut Object, list: &Vec<Vec<u32>>) -> Result<(), AllocErro
 
 /// A citation.
 fn push_cite(object: &mut Object, k: u32) -> Result<(), AllocError>
-    ensures written { OnOk result (object.new ≡ with_value (move_json [] (Move.Cite k)) object.old) }
+    ensures written { OnOk result (object.new ≡ with_value (move_json [] (PlainMove.Cite k)) object.old) }
     ensures short { OnOk result (ltb k (2 ^ 32) ≡ true) }
 {
     begin_said(object, "cite")?;
     push_number(object, k)?;
     object.end_array()?;
     Ok(())
+}
+
+/// A move: its word and its argument.
+fn push_move(object: &mut Object, names: &Names, done: &Move) -> Result<(), AllocError>
+    ensures written { OnOk result (object.new ≡ with_value (move_json names.now (move_view done.now)) object.old) }
+    ensures short { OnOk result (is_move_short (move_view done.now) ≡ true) }
+{
+    match done {
+        Move::WithSet(kind, z) => push_with_set(object, names, *kind, *z),
+        Move::Bare(kind) => push_bare(object, *kind),
+        Move::Chain(order) => push_chain(object, names, order),
+        Move::Group(list) => push_group(object, list),
+        Move::Cite(k) => push_cite(object, *k),
+    }
 }
 
 /// A step on a child.
@@ -172,20 +186,7 @@ pub fn push_step(object: &mut Object, names: &Names, step: &Step) -> Result<(), 
     ensures short { OnOk result (is_short (step_view step.now) ≡ true) }
 {
     match step {
-        Step::Rule1In(z) => push_said_set(object, names, "rule1in", *z),
-        Step::Rule1Out(z) => push_said_set(object, names, "rule1out", *z),
-        Step::Rule2See(z) => push_said_set(object, names, "rule2see", *z),
-        Step::Rule2Do(z) => push_said_set(object, names, "rule2do", *z),
-        Step::Rule3In(z) => push_said_set(object, names, "rule3in", *z),
-        Step::Rule3Out(z) => push_said_set(object, names, "rule3out", *z),
-        Step::Chain(order) => push_chain(object, names, order),
-        Step::Unchain => push_bare(object, "unchain"),
-        Step::Group(list) => push_group(object, list),
-        Step::Widen(u) => push_said_set(object, names, "widen", *u),
-        Step::Narrow => push_bare(object, "narrow"),
-        Step::Split => push_bare(object, "split"),
-        Step::Cite(k) => push_cite(object, *k),
-        Step::Unwrap => push_bare(object, "unwrap"),
+        Step::Make(done) => push_move(object, names, done),
         Step::At(child, inner) => push_at(object, names, *child, inner),
         Step::Then(steps) => push_then(object, names, steps),
     }

@@ -7,6 +7,7 @@ use Rattle.do_derivation.specs.Plans.{Move, Plan, Plans, PlainDerivation, plan}
 use Rattle.do_derivation.specs.Steps.{Makes, MakesAll}
 use Rattle.do_derivation.specs.Table.{Row}
 use Rattle.do_derivation.specs.declared.faults.StepFault.TheVariants.{Sets}
+use Rattle.do_derivation.specs.declared.moves.BareMove.TheVariants as bare_move
 use Rattle.identification_theory.proofs.Bodies.{widen_made}
 use Rattle.identification_theory.proofs.Bools.{and_l, and_r, both_true, clash, not_i}
 use Rattle.identification_theory.proofs.Nesting.{step_more, steps_more}
@@ -58,7 +59,7 @@ steps_deep d p h = go d p h
 
 -- both parts of the quotient
 abbrev parts_of : (y : ℕ) → Plan → Plans
-parts_of y p = plan (Plan.Make Move.Split) (plan (Plan.At 0 p) (single (Plan.At 1 (Plan.Then (summed_steps y p)))))
+parts_of y p = plan (Plan.Make (Move.Bare bare_move.Split)) (plan (Plan.At 0 p) (single (Plan.At 1 (Plan.Then (summed_steps y p)))))
 
 abbrev quotient_of : (y : ℕ) → PlainFormula → PlainFormula
 quotient_of y f = record { defs = f.defs; main = quotient f.main (sum y f.main) }

@@ -8,9 +8,11 @@ use Rattle.conditional_id.specs.declared.answer.Turned.{Turned}
 use Rattle.conditional_id.proofs.TurningLaw.{moved_target, targeted}
 use Rattle.conditional_id.specs.Conditionals.AreTurned.{move, still}
 use Rattle.conditional_id.specs.Conditionals.{AreTurned, IsConditionalTarget, IsTurning, turned_steps}
-use Rattle.do_derivation.proofs.StepViews.{step-Rule2Do}
+use Rattle.do_derivation.proofs.StepViews.{step-Make}
 use Rattle.do_derivation.specs.Plans.{Move, Plan, Plans, plan}
-use Rattle.do_derivation.specs.declared.steps.Step.{Rule2Do, Step}
+use Rattle.do_derivation.specs.declared.steps.Step.{Make, Step}
+use Rattle.do_derivation.specs.declared.moves.Move.TheVariants.{WithSet}
+use Rattle.do_derivation.specs.declared.moves.SetMove.TheVariants as set_move
 use Rattle.do_rules.specs.Rules.{AreFourSets, AreThreeSets, IsBlockedFor, IsOpenFor}
 use Rattle.do_rules.specs.declared.rules.Rule.TheVariants.{Two}
 use Rattle.do_rules.specs.Cuts.{cut_into, cut_out}
@@ -99,9 +101,9 @@ all_more P v h k u lt = elim (cases_lt u v) [
 abbrev pub MovesTo : MixedGraph → (y x z : ℕ) → List ℕ → (x1 z1 : ℕ) → Type 0
 MovesTo g y x z done x1 z1 = (x' z' : ℕ) (vs : List ℕ) → AreTurned g y x1 z1 x' z' vs → AreTurned g y x z x' z' (done ++ vs)
 
-steps_more : (done : List ℕ) (v : ℕ) (rest : Plans) → turned_steps (done ++ v ∷ []) rest ≡ turned_steps done (plan (Plan.Make (Move.Rule2Do (one v))) rest)
+steps_more : (done : List ℕ) (v : ℕ) (rest : Plans) → turned_steps (done ++ v ∷ []) rest ≡ turned_steps done (plan (Plan.Make (Move.WithSet set_move.Rule2Do (one v))) rest)
 steps_more [] v rest = refl
-steps_more (u ∷ done) v rest = ap (λ p. plan (Plan.Make (Move.Rule2Do (one u))) p) (steps_more done v rest)
+steps_more (u ∷ done) v rest = ap (λ p. plan (Plan.Make (Move.WithSet set_move.Rule2Do (one u))) p) (steps_more done v rest)
 
 -- these vertices moved, by these steps, which left x1 and z1
 pub record Moving (g : MixedGraph) (y x z x1 z1 : ℕ) (steps : List Step) : Type 0 where
@@ -115,19 +117,19 @@ moving_none g y x z k steps e = record { done = []; moves = λ x' z' vs t. t; ar
 
 moving_one : (g : MixedGraph) (y x z x1 z1 v : ℕ) (steps : List Step) (alone : VSet) → alone.bits ≡ one v → Moving g y x z x1 z1 steps
     → IsLowestTurning g x1 y z1 v
-    → Moving g y x z (union x1 (one v)) (minus z1 (one v)) (steps ++ Rule2Do alone ∷ [])
+    → Moving g y x z (union x1 (one v)) (minus z1 (one v)) (steps ++ Make (WithSet set_move.Rule2Do alone) ∷ [])
 moving_one g y x z x1 z1 v steps alone e m l = record {
   done = m.done ++ v ∷ [];
   moves = λ x' z' vs r. subst (λ w. AreTurned g y x z x' z' w) (sym (append_assoc m.done (v ∷ []) vs))
       (m.moves x' z' (v ∷ vs) (move l.member l.turns l.lowest r));
-  are = λ rest. onto_more steps (Rule2Do alone) rest ∙ (ap (λ p. onto steps (plan p rest)) (step-Rule2Do alone ∙ ap (λ w. Plan.Make (Move.Rule2Do w)) e)
-      ∙ (m.are (plan (Plan.Make (Move.Rule2Do (one v))) rest) ∙ sym (steps_more m.done v rest)));
+  are = λ rest. onto_more steps (Make (WithSet set_move.Rule2Do alone)) rest ∙ (ap (λ p. onto steps (plan p rest)) (step-Make (WithSet set_move.Rule2Do alone) ∙ ap (λ w. Plan.Make (Move.WithSet set_move.Rule2Do w)) e)
+      ∙ (m.are (plan (Plan.Make (Move.WithSet set_move.Rule2Do (one v))) rest) ∙ sym (steps_more m.done v rest)));
   target = moved_target g y x1 z1 v l.member m.target;
 }
 
 pub moving_more : (g : MixedGraph) (y x z x1 z1 v : ℕ) (steps : List Step) (alone : VSet) → alone.bits ≡ one v → Moving g y x z x1 z1 steps
     → IsLowestTurning g x1 y z1 v
-    → (x2 z2 : ℕ) (more : List Step) → x2 ≡ union x1 alone.bits → z2 ≡ minus z1 alone.bits → more ≡ steps ++ Rule2Do alone ∷ [] → Moving g y x z x2 z2 more
+    → (x2 z2 : ℕ) (more : List Step) → x2 ≡ union x1 alone.bits → z2 ≡ minus z1 alone.bits → more ≡ steps ++ Make (WithSet set_move.Rule2Do alone) ∷ [] → Moving g y x z x2 z2 more
 moving_more g y x z x1 z1 v steps alone e m l x2 z2 more a b d =
     subst (λ u. Moving g y x z u z2 more) (sym (a ∙ ap (union x1) e)) (subst (λ u. Moving g y x z (union x1 (one v)) u more) (sym (b ∙ ap (minus z1) e))
     (subst (λ u. Moving g y x z (union x1 (one v)) (minus z1 (one v)) u) (sym d) (moving_one g y x z x1 z1 v steps alone e m l)))

@@ -14,19 +14,6 @@ pub alone_from : (s : Step) → ((l : Vec Step) → s ≡ Then l → ⊥) → st
 alone_from s other = subst (λ p. steps_of p ≡ single p) (sym (fold_out-Step Plan node_view s)) (go (out-Step s) refl)
   where
     go : (o : Step-F Step) → out-Step s ≡ o → steps_of (node_view (map-Step Step Plan step_view o)) ≡ single (node_view (map-Step Step Plan step_view o))
-    go (Step-F.Rule1In z) e = refl
-    go (Step-F.Rule1Out z) e = refl
-    go (Step-F.Rule2See z) e = refl
-    go (Step-F.Rule2Do z) e = refl
-    go (Step-F.Rule3In z) e = refl
-    go (Step-F.Rule3Out z) e = refl
-    go (Step-F.Chain o) e = refl
-    go (Step-F.Unchain) e = refl
-    go (Step-F.Group l) e = refl
-    go (Step-F.Widen u) e = refl
-    go (Step-F.Narrow) e = refl
-    go (Step-F.Split) e = refl
-    go (Step-F.Cite k) e = refl
-    go (Step-F.Unwrap) e = refl
+    go (Step-F.Make m) e = refl
     go (Step-F.At i b) e = refl
     go (Step-F.Then l) e = absurd (other l (sym (roll-out-Step s) ∙ (ap roll-Step e ∙ rolls-Then l)))

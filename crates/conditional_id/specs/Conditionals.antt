@@ -11,6 +11,8 @@ use Rattle.mixed_graph.specs.Masks.{union, minus, one, is_empty}
 use Rattle.prob_expr.specs.Tree.{prob, sum, quotient, PlainFormula, PlainTarget}
 use Rattle.prob_expr.specs.Values.{effect}
 use Rattle.do_derivation.specs.Plans.{Move, Plan, Plans, no_plans, plan, PlainDerivation}
+use Rattle.do_derivation.specs.declared.moves.SetMove.TheVariants as set_move
+use Rattle.do_derivation.specs.declared.moves.BareMove.TheVariants as bare_move
 use Rattle.identification_theory.specs.Derivations.{single, IsDerived}
 use Rattle.identification_theory.specs.Procedure.{IsIdentified}
 
@@ -64,7 +66,7 @@ IsConditional g t f = ((t.given ≡ 0) × IsIdentified g t.x t.y f)
 -- rule 2 for each of the vertices in turn, and then the rest
 abbrev pub turned_steps : List ℕ → Plans → Plans
 turned_steps [] rest = rest
-turned_steps (v ∷ vs) rest = plan (Plan.Make (Move.Rule2Do (one v))) (turned_steps vs rest)
+turned_steps (v ∷ vs) rest = plan (Plan.Make (Move.WithSet set_move.Rule2Do (one v))) (turned_steps vs rest)
 
 -- the steps of a list, or the step alone
 abbrev pub steps_of : Plan → Plans
@@ -74,13 +76,13 @@ steps_of (Plan.Make m) = single (Plan.Make m)
 
 -- y is put in under a sum, and p is done in it
 abbrev pub summed_steps : (y : ℕ) → Plan → Plans
-summed_steps y p = plan (Plan.Make (Move.Widen y)) (single (Plan.At 0 p))
+summed_steps y p = plan (Plan.Make (Move.WithSet set_move.Widen y)) (single (Plan.At 0 p))
 
 -- From P(y | do(x'), z') to the divided formula, where `p` makes that of the joint effect: the same steps where no observation is left. Else the term
 -- is split into the joint effect of y and z' and that of z'; y is put in there, and p makes either part.
 abbrev pub divided_steps : (y z' : ℕ) → Plan → Plans
 divided_steps y z' p = if is_empty z' then steps_of p
-    else (plan (Plan.Make Move.Split) (plan (Plan.At 0 p) (single (Plan.At 1 (Plan.Then (summed_steps y p))))))
+    else (plan (Plan.Make (Move.Bare bare_move.Split)) (plan (Plan.At 0 p) (single (Plan.At 1 (Plan.Then (summed_steps y p))))))
 
 -- the derivation from one of the joint formula, where these vertices moved
 abbrev pub divided_derivation : List ℕ → (y z' : ℕ) → PlainDerivation → PlainDerivation

@@ -7,8 +7,7 @@ ghost use Rattle.do_derivation.specs.View.{step_view, steps_view};
 ghost use Rattle.conditional_id.specs.Conditionals.{divided, divided_steps, steps_of, summed_steps};
 ghost use Rattle.identify.specs.Lists.{onto};
 
-use crate::copying::copy_step;
-use do_derivation::Step;
+use do_derivation::{BareMove, Move, SetMove, Step, copy_step};
 use mixed_graph::VSet;
 use prob_expr::{Expr, Formula, copy_expr};
 use std::alloc::{AllocError, Global};
@@ -59,7 +58,7 @@ fn summed_steps(alloc: Global, y: VSet, step: Step) -> Result<Vec<Step>, AllocEr
     ensures { IfOk result (λ l. steps_view l.items ≡ summed_steps y.bits (step_view step)) }
 {
     let mut steps = Vec::new(alloc);
-    steps.push(Step::Widen(y))?;
+    steps.push(Step::Make(Move::WithSet(SetMove::Widen, y)))?;
     steps.push(Step::At(0, Box::new(alloc, step)?))?;
     Ok(steps)
 }
@@ -81,7 +80,7 @@ pub fn divided_steps(
     }
     let again = copy_step(alloc, &joint)?;
     let below = summed_steps(alloc, y, again)?;
-    steps.push(Step::Split)?;
+    steps.push(Step::Make(Move::Bare(BareMove::Split)))?;
     push_at(alloc, &mut steps, 0, joint)?;
     push_at(alloc, &mut steps, 1, Step::Then(below))?;
     Ok(steps)

@@ -5,7 +5,6 @@
 #![tactic(auto)]
 
 mod answer;
-mod copying;
 mod dividing;
 pub mod hedges;
 mod identifying;

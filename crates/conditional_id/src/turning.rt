@@ -9,7 +9,7 @@ ghost use Rattle.conditional_id.specs.HedgeLaws.{HasOpenWalkTo, HaveOpenWalks};
 ghost use Rattle.conditional_id.specs.Moves.{IsLowestTurning, AreMoved};
 
 use crate::answer::Turned;
-use do_derivation::Step;
+use do_derivation::{Move, SetMove, Step};
 use do_rules::rule2;
 use mixed_graph::{Graph, VSet};
 use std::alloc::{AllocError, Global};
@@ -57,7 +57,7 @@ pub fn turned(alloc: Global, g: &Graph, x: VSet, y: VSet, given: VSet) -> Result
     let mut steps = Vec::new(alloc);
     'moves: while let Some(v) = lowest_turning(g, doing, y, left) {
         let alone = VSet::one(v);
-        steps.push(Step::Rule2Do(alone))?;
+        steps.push(Step::Make(Move::WithSet(SetMove::Rule2Do, alone)))?;
         doing = doing.union(alone);
         left = left.difference(alone);
     }

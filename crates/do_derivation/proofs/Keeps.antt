@@ -22,6 +22,8 @@ use Rattle.do_derivation.specs.Steps.{IsMade, Makes, MakesAll}
 use Rattle.do_derivation.specs.Table.{Row, row, on_term, if_so, if_made, is_new, is_part}
 use Rattle.do_derivation.specs.declared.faults.StepFault.{StepFault}
 use Rattle.do_derivation.specs.declared.faults.StepFault.TheVariants.{Sets, BadOrder, Grouping, NoLemma, Shape}
+use Rattle.do_derivation.specs.declared.moves.SetMove.TheVariants as set_move
+use Rattle.do_derivation.specs.declared.moves.BareMove.TheVariants as bare_move
 use Rattle.do_derivation.proofs.TreeTerms.{AreTerms, AreTermsEach, groups_terms, flat_terms, chained_terms, child_terms, with_child_terms}
 use Rattle.do_derivation.proofs.TermSets
 use Rattle.do_derivation.proofs.TermSets.{IsTerm, IsNew}
@@ -189,7 +191,7 @@ module _ (g : MixedGraph) (ok : IsMixedGraph g) (m : FiniteModel) (fit : Fits g 
 
   -- ---- all rows
   row_kept : (move : Move) (e e' : Tree) → AreTerms g.vertices e → IsMade g (row g.vertices lemmas move e) e' → Kept e e'
-  row_kept (Move.Rule1In z) e e' t h =
+  row_kept (Move.WithSet set_move.Rule1In z) e e' t h =
       on_term_kept (λ a b c. if_so (is_new g.vertices z a b c) (Row.Ask One b a z c (prob a b (union c z))) Sets)
       (λ a b c e' t full h.
       let r = if_so_made (is_new g.vertices z a b c) (Row.Ask One b a z c (prob a b (union c z))) Sets e' h in
@@ -198,7 +200,7 @@ module _ (g : MixedGraph) (ok : IsMixedGraph g) (m : FiniteModel) (fit : Fits g 
       (λ s w. equal_sym (term_value (weights_of m) a b (union c z) s) (term_value (weights_of m) a b c s)
       (TermLaws.law_1 g ok m fit positive s w a b z c t k r.1.0)))
       e e' t h
-  row_kept (Move.Rule1Out z) e e' t h =
+  row_kept (Move.WithSet set_move.Rule1Out z) e e' t h =
       on_term_kept (λ a b c. if_so (is_part z c) (Row.Ask One b a z (minus c z) (prob a b (minus c z))) Sets)
       (λ a b c e' t full h.
       let r = if_so_made (is_part z c) (Row.Ask One b a z (minus c z) (prob a b (minus c z))) Sets e' h in
@@ -208,7 +210,7 @@ module _ (g : MixedGraph) (ok : IsMixedGraph g) (m : FiniteModel) (fit : Fits g 
       (TermLaws.law_1 g ok m fit positive s w a b z (minus c z) (TermSets.given_less g.vertices a b c z t) (TermSets.taken_given g.vertices a b c z t i)
       r.1.0)))
       e e' t h
-  row_kept (Move.Rule2See z) e e' t h =
+  row_kept (Move.WithSet set_move.Rule2See z) e e' t h =
       on_term_kept (λ a b c. if_so (is_part z b) (Row.Ask Two (minus b z) a z c (prob a (minus b z) (union c z))) Sets)
       (λ a b c e' t full h.
       let r = if_so_made (is_part z b) (Row.Ask Two (minus b z) a z c (prob a (minus b z) (union c z))) Sets e' h in
@@ -219,7 +221,7 @@ module _ (g : MixedGraph) (ok : IsMixedGraph g) (m : FiniteModel) (fit : Fits g 
       (λ s w. subst (λ x. IsEqual (term_value (weights_of m) a x c s) (term_value (weights_of m) a (minus b z) (union c z) s)) (put_back b z i)
       (TermLaws.law_2 g ok m fit positive s w a (minus b z) z c t' k r.1.0)))
       e e' t h
-  row_kept (Move.Rule2Do z) e e' t h =
+  row_kept (Move.WithSet set_move.Rule2Do z) e e' t h =
       on_term_kept (λ a b c. if_so (is_part z c) (Row.Ask Two b a z (minus c z) (prob a (union b z) (minus c z))) Sets)
       (λ a b c e' t full h.
       let r = if_so_made (is_part z c) (Row.Ask Two b a z (minus c z) (prob a (union b z) (minus c z))) Sets e' h in
@@ -231,7 +233,7 @@ module _ (g : MixedGraph) (ok : IsMixedGraph g) (m : FiniteModel) (fit : Fits g 
       (equal_sym (term_value (weights_of m) a (union b z) (minus c z) s) (term_value (weights_of m) a b (union (minus c z) z) s)
       (TermLaws.law_2 g ok m fit positive s w a b z (minus c z) t' k r.1.0))))
       e e' t h
-  row_kept (Move.Rule3In z) e e' t h =
+  row_kept (Move.WithSet set_move.Rule3In z) e e' t h =
       on_term_kept (λ a b c. if_so (is_new g.vertices z a b c) (Row.Ask Three b a z c (prob a (union b z) c)) Sets)
       (λ a b c e' t full h.
       let r = if_so_made (is_new g.vertices z a b c) (Row.Ask Three b a z c (prob a (union b z) c)) Sets e' h in
@@ -240,7 +242,7 @@ module _ (g : MixedGraph) (ok : IsMixedGraph g) (m : FiniteModel) (fit : Fits g 
       (λ s w. equal_sym (term_value (weights_of m) a (union b z) c s) (term_value (weights_of m) a b c s)
       (TermLaws.law_3 g ok m fit positive s w a b z c t k r.1.0)))
       e e' t h
-  row_kept (Move.Rule3Out z) e e' t h =
+  row_kept (Move.WithSet set_move.Rule3Out z) e e' t h =
       on_term_kept (λ a b c. if_so (is_part z b) (Row.Ask Three (minus b z) a z c (prob a (minus b z) c)) Sets)
       (λ a b c e' t full h.
       let r = if_so_made (is_part z b) (Row.Ask Three (minus b z) a z c (prob a (minus b z) c)) Sets e' h in
@@ -258,9 +260,9 @@ module _ (g : MixedGraph) (ok : IsMixedGraph g) (m : FiniteModel) (fit : Fits g 
       kept_of (prob a b c) (product (chained b c o)) e' r.1 (chained_terms g.vertices o a b c i t)
       (λ s w. TermLaws.chain_law g ok m fit positive s w q o a b c i))
       e e' t h
-  row_kept Move.Unchain e e' t h = unchain_kept e e' (if_made_made (unchained e) Shape e' h) t
+  row_kept (Move.Bare bare_move.Unchain) e e' t h = unchain_kept e e' (if_made_made (unchained e) Shape e' h) t
   row_kept (Move.Group l) e e' t h = group_kept l e e' (if_made_made (grouped l e) Grouping e' h) t
-  row_kept (Move.Widen u) e e' t h =
+  row_kept (Move.WithSet set_move.Widen u) e e' t h =
       on_term_kept (λ a b c. if_so (is_new g.vertices u a b c) (Row.Make (sum u (prob (union a u) b c))) Sets)
       (λ a b c e' t full h.
       let r = if_so_made (is_new g.vertices u a b c) (Row.Make (sum u (prob (union a u) b c))) Sets e' h in
@@ -269,8 +271,8 @@ module _ (g : MixedGraph) (ok : IsMixedGraph g) (m : FiniteModel) (fit : Fits g 
       (λ s w. equal_sym (value (weights_of m) q (sum u (prob (union a u) b c)) s) (term_value (weights_of m) a b c s)
       (TermLaws.sum_law g ok m fit positive s w a b u c k q)))
       e e' t h
-  row_kept Move.Narrow e e' t h = narrow_kept e e' (if_made_made (narrowed e) Shape e' h) t
-  row_kept Move.Split e e' t h =
+  row_kept (Move.Bare bare_move.Narrow) e e' t h = narrow_kept e e' (if_made_made (narrowed e) Shape e' h) t
+  row_kept (Move.Bare bare_move.Split) e e' t h =
       on_term_kept (λ a b c. if_so (not (is_empty c)) (Row.Make (quotient (prob (union a c) b 0) (prob c b 0))) Sets)
       (λ a b c e' t full h.
       let r = if_so_made (not (is_empty c)) (Row.Make (quotient (prob (union a c) b 0) (prob c b 0))) Sets e' h in
@@ -294,7 +296,7 @@ module _ (g : MixedGraph) (ok : IsMixedGraph g) (m : FiniteModel) (fit : Fits g 
       )
       (cited k s (ltb-true k (length lemmas) h'.0) w))))
       e e' t h'.1
-  row_kept Move.Unwrap e e' t h = unwrap_kept e e' (if_made_made (unwrapped e) Shape e' h) t
+  row_kept (Move.Bare bare_move.Unwrap) e e' t h = unwrap_kept e e' (if_made_made (unwrapped e) Shape e' h) t
 
   -- ---- steps inside steps
   kept_then : (e x e' : Tree) → Kept e x → (AreTerms g.vertices x → Kept x e') → Kept e e'

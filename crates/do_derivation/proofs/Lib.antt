@@ -6,6 +6,7 @@ pub mod Defining
 pub mod Exact
 pub mod Keeps
 pub mod Lists
+pub mod MadeSets
 pub mod Preserved
 pub mod Products
 pub mod StepViews
@@ -14,3 +15,4 @@ pub mod TermSets
 pub mod TreeTerms
 pub mod Views
 pub mod Walks
+pub mod WordsBack

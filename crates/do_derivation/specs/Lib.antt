@@ -7,3 +7,4 @@ pub mod Sound
 pub mod Steps
 pub mod Table
 pub mod View
+pub mod Words

@@ -1,25 +1,22 @@
 -- The steps of a derivation, as plain trees.
 use Rattle.std.specs.Prelude.{ℕ, ◌+◌, List, [], ◌∷◌}
+use Rattle.do_derivation.specs.declared.moves.SetMove.{SetMove}
+use Rattle.do_derivation.specs.declared.moves.BareMove.{BareMove}
 
 -- what is done to an expression itself
 pub data Move : Type 0 where
-  -- a rule of the do-calculus with the set z: z comes into the condition or leaves it (rule 1), leaves the intervention for the condition or the
-  -- other way round (rule 2), comes into the intervention or leaves it (rule 3)
-  Rule1In Rule1Out Rule2See Rule2Do Rule3In Rule3Out : ℕ → Move
-  -- a term as the product over a list of its vertices, and back
+  -- with a set z: a rule of the do-calculus, by which z comes into the condition or leaves it (rule 1), leaves the intervention for the condition or the
+  -- other way round (rule 2), comes into the intervention or leaves it (rule 3); or Widen, a term as the sum over z of a term with more vertices
+  WithSet : SetMove → ℕ → Move
+  -- back from the product of a chain (Unchain) and from such a sum (Narrow); a conditional term as a quotient (Split); factors that are products, opened
+  -- (Unwrap)
+  Bare : BareMove → Move
+  -- a term as the product over a list of its vertices
   Chain : List ℕ → Move
-  Unchain : Move
   -- the factors of a product, by their numbers, in groups
   Group : List (List ℕ) → Move
-  -- a term as the sum of a term with more vertices, and back
-  Widen : ℕ → Move
-  Narrow : Move
-  -- a conditional term as a quotient
-  Split : Move
   -- the term of a lemma as its definition
   Cite : ℕ → Move
-  -- factors that are products, opened
-  Unwrap : Move
 
 mutual
   -- a step: a move, a step on the child of that number, or several in turn

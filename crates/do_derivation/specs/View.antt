@@ -3,6 +3,8 @@ use Rattle.std.specs.Prelude.{ℕ, List, map, take}
 use Rattle.std.specs.Global.{Vec}
 use Rattle.mixed_graph.specs.declared.lists.Order.{Order}
 use Rattle.do_derivation.specs.Plans.{Move, Plan, Plans, plans_of, PlainLemma, PlainDerivation}
+use Rattle.do_derivation.specs.declared.moves.Move as made
+use Rattle.do_derivation.specs.declared.moves.Move.TheVariants as moves
 use Rattle.do_derivation.specs.declared.steps.Lemma.{Lemma}
 use Rattle.do_derivation.specs.declared.steps.Derivation.{Derivation}
 use Rattle.do_derivation.specs.declared.steps.Step.{Step, fold-Step}
@@ -16,22 +18,17 @@ listed o = take o.count o.list
 abbrev pub numbers_of : List (Vec ℕ) → List (List ℕ)
 numbers_of groups = map (λ (numbers : Vec ℕ). numbers.items) groups
 
+-- the plain move
+abbrev pub move_view : made.Move → Move
+move_view (moves.WithSet kind z) = Move.WithSet kind z.bits
+move_view (moves.Bare kind) = Move.Bare kind
+move_view (moves.Chain o) = Move.Chain (listed o)
+move_view (moves.Group l) = Move.Group (numbers_of l.items)
+move_view (moves.Cite k) = Move.Cite k
+
 -- the plan of a step whose inner steps have theirs
 abbrev pub node_view : Step-F Plan → Plan
-node_view (Step-F.Rule1In z) = Plan.Make (Move.Rule1In z.bits)
-node_view (Step-F.Rule1Out z) = Plan.Make (Move.Rule1Out z.bits)
-node_view (Step-F.Rule2See z) = Plan.Make (Move.Rule2See z.bits)
-node_view (Step-F.Rule2Do z) = Plan.Make (Move.Rule2Do z.bits)
-node_view (Step-F.Rule3In z) = Plan.Make (Move.Rule3In z.bits)
-node_view (Step-F.Rule3Out z) = Plan.Make (Move.Rule3Out z.bits)
-node_view (Step-F.Chain o) = Plan.Make (Move.Chain (listed o))
-node_view (Step-F.Unchain) = Plan.Make Move.Unchain
-node_view (Step-F.Group l) = Plan.Make (Move.Group (numbers_of l.items))
-node_view (Step-F.Widen u) = Plan.Make (Move.Widen u.bits)
-node_view (Step-F.Narrow) = Plan.Make Move.Narrow
-node_view (Step-F.Split) = Plan.Make Move.Split
-node_view (Step-F.Cite k) = Plan.Make (Move.Cite k)
-node_view (Step-F.Unwrap) = Plan.Make Move.Unwrap
+node_view (Step-F.Make m) = Plan.Make (move_view m)
 node_view (Step-F.At i s) = Plan.At i s.value
 node_view (Step-F.Then l) = Plan.Then (plans_of l.items)
 

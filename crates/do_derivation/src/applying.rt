@@ -9,12 +9,13 @@ ghost use Rattle.prob_expr.specs.Terms.{are_terms, are_terms_each};
 ghost use Rattle.prob_expr.specs.Tree.{Tree};
 ghost use Rattle.prob_expr.specs.View.{view, views};
 ghost use Rattle.do_derivation.specs.Applied.{IsRow, IsApplied, IsAppliedBoxed, AreApplied, IsAppliedAt};
-ghost use Rattle.do_derivation.specs.Plans.{Move, Plan};
+ghost use Rattle.do_derivation.specs.Plans.{Move as PlainMove, Plan};
 ghost use Rattle.do_derivation.specs.Shapes.{factor_at, with_factor};
 ghost use Rattle.do_derivation.specs.Table.{row};
-ghost use Rattle.do_derivation.specs.View.{step_view, steps_view};
+ghost use Rattle.do_derivation.specs.View.{move_view, step_view, steps_view};
 
 use crate::faults::{Refusal, StepFault};
+use crate::moves::{BareMove, Move, SetMove};
 use crate::product_moves::{group, unchain, unwrap};
 use crate::rule_moves::{rule1_in, rule1_out, rule2_do, rule2_see, rule3_in, rule3_out};
 use crate::steps::Step;
@@ -34,7 +35,7 @@ fn tick(count: &mut u32)
 // What a move made, its node counted.
 #[tactic(auto, using(crate::proofs::Turns::row_applied))]
 fn counted(count: &mut u32, made: Result<Expr, Refusal>) -> Result<Expr, Refusal>
-    ensures { (g : MixedGraph) (lemmas : List ℕ) (m : Move) (e : Tree) → IsRow g (row g.vertices lemmas m e) made → IsApplied g lemmas (Plan.Make m) e count.old count.new result }
+    ensures { (g : MixedGraph) (lemmas : List ℕ) (m : PlainMove) (e : Tree) → IsRow g (row g.vertices lemmas m e) made → IsApplied g lemmas (Plan.Make m) e count.old count.new result }
 {
     tick(count);
     made
@@ -59,6 +60,60 @@ fn put_factor(factors: &mut Vec<Expr>, k: usize, x: Expr)
     factors[k] = x;
 }
 
+// What a move with a set makes.
+fn make_with_set(
+    alloc: Global,
+    g: &Graph,
+    kind: SetMove,
+    z: VSet,
+    e: Expr,
+) -> Result<Expr, Refusal>
+    requires terms { are_terms g.now.n (view e) ≡ true }
+    ensures row { (lemmas : List ℕ) → IsRow (graph_of g.now) (row g.now.n lemmas (PlainMove.WithSet kind z.bits) (view e)) result }
+{
+    match kind {
+        SetMove::Rule1In => rule1_in(g, z, e),
+        SetMove::Rule1Out => rule1_out(g, z, e),
+        SetMove::Rule2See => rule2_see(g, z, e),
+        SetMove::Rule2Do => rule2_do(g, z, e),
+        SetMove::Rule3In => rule3_in(g, z, e),
+        SetMove::Rule3Out => rule3_out(g, z, e),
+        SetMove::Widen => widen(alloc, g, z, e),
+    }
+}
+
+// What a move without an argument makes.
+fn make_bare(alloc: Global, g: &Graph, kind: BareMove, e: Expr) -> Result<Expr, Refusal>
+    ensures row { (lemmas : List ℕ) → IsRow (graph_of g.now) (row g.now.n lemmas (PlainMove.Bare kind) (view e)) result }
+{
+    match kind {
+        BareMove::Unchain => unchain(g, e),
+        BareMove::Narrow => narrow(g, e),
+        BareMove::Split => split(alloc, g, e),
+        BareMove::Unwrap => unwrap(alloc, g, e),
+    }
+}
+
+// What a move makes.
+fn make(
+    alloc: Global,
+    g: &Graph,
+    lemmas: &[VSet],
+    done: &Move,
+    e: Expr,
+) -> Result<Expr, Refusal>
+    requires terms { are_terms g.now.n (view e) ≡ true }
+    ensures row { IsRow (graph_of g.now) (row g.now.n (masks_of lemmas.now) (move_view done.now) (view e)) result }
+{
+    match done {
+        Move::WithSet(kind, z) => make_with_set(alloc, g, *kind, *z, e),
+        Move::Bare(kind) => make_bare(alloc, g, *kind, e),
+        Move::Chain(order) => chain(alloc, g, order, e),
+        Move::Group(groups) => group(alloc, g, groups, e),
+        Move::Cite(k) => cite(g, lemmas, *k, e),
+    }
+}
+
 /// Applies a step and counts its nodes; at a refusal the counter stands at the number of the refused node.
 #[cycle(applying)]
 pub fn apply_step(
@@ -73,20 +128,7 @@ pub fn apply_step(
     ensures applied { IsApplied (graph_of g.now) (masks_of lemmas.now) (step_view step.now) (view e) count.old count.new result }
 {
     match step {
-        Step::Rule1In(z) => counted(count, rule1_in(g, *z, e)),
-        Step::Rule1Out(z) => counted(count, rule1_out(g, *z, e)),
-        Step::Rule2See(z) => counted(count, rule2_see(g, *z, e)),
-        Step::Rule2Do(z) => counted(count, rule2_do(g, *z, e)),
-        Step::Rule3In(z) => counted(count, rule3_in(g, *z, e)),
-        Step::Rule3Out(z) => counted(count, rule3_out(g, *z, e)),
-        Step::Chain(order) => counted(count, chain(alloc, g, order, e)),
-        Step::Unchain => counted(count, unchain(g, e)),
-        Step::Group(groups) => counted(count, group(alloc, g, groups, e)),
-        Step::Widen(u) => counted(count, widen(alloc, g, *u, e)),
-        Step::Narrow => counted(count, narrow(g, e)),
-        Step::Split => counted(count, split(alloc, g, e)),
-        Step::Cite(k) => counted(count, cite(g, lemmas, *k, e)),
-        Step::Unwrap => counted(count, unwrap(alloc, g, e)),
+        Step::Make(done) => counted(count, make(alloc, g, lemmas, done, e)),
         Step::At(i, inner) => apply_child(alloc, g, lemmas, *i, inner, e, count),
         Step::Then(steps) => apply_all(alloc, g, lemmas, steps, e, count),
     }

@@ -5,8 +5,10 @@
 
 mod applying;
 mod checking;
+mod copying;
 mod factors;
 mod faults;
+mod moves;
 mod product_moves;
 mod rule_moves;
 mod sound;
@@ -14,7 +16,9 @@ mod steps;
 mod term_moves;
 
 pub use checking::{apply, check, check_with};
+pub use copying::{copy_move, copy_step};
 pub use factors::{as_one, flat, has_product};
 pub use faults::{ApplyFault, CheckFault, StepFault, StepPlace};
+pub use moves::{BareMove, Move, SetMove};
 pub use sound::laws;
 pub use steps::{Derivation, Lemma, Step};

@@ -10,6 +10,7 @@ ghost use Rattle.do_derivation.specs.Shapes.{gathered, unchained, is_grouping, n
 ghost use Rattle.do_derivation.specs.Table.{row};
 ghost use Rattle.do_derivation.specs.View.{numbers_of};
 ghost use Rattle.do_derivation.specs.Applied.{IsRow};
+ghost use Rattle.do_derivation.specs.declared.moves.BareMove.TheVariants as bare_move;
 
 use crate::factors::{as_one, flat, has_product};
 use crate::faults::{Refusal, StepFault};
@@ -58,7 +59,7 @@ fn unchained(factors: &Vec<Expr>) -> Option<Expr>
 
 /// The one term of a chain of terms.
 pub fn unchain(g: &Graph, e: Expr) -> Result<Expr, Refusal>
-    ensures row { IsRow (graph_of g.now) (row g.now.n [] Move.Unchain (view e)) result }
+    ensures row { IsRow (graph_of g.now) (row g.now.n [] (Move.Bare bare_move.Unchain) (view e)) result }
 {
     let Expr::Product(factors) = e else {
         return Err(Refusal::Fault(StepFault::Shape));
@@ -204,7 +205,7 @@ pub fn group(alloc: Global, g: &Graph, groups: &Vec<Vec<u32>>, e: Expr) -> Resul
 
 /// A product whose factors that are products are opened.
 pub fn unwrap(alloc: Global, g: &Graph, e: Expr) -> Result<Expr, Refusal>
-    ensures row { IsRow (graph_of g.now) (row g.now.n [] Move.Unwrap (view e)) result }
+    ensures row { IsRow (graph_of g.now) (row g.now.n [] (Move.Bare bare_move.Unwrap) (view e)) result }
 {
     let Expr::Product(factors) = e else {
         return Err(Refusal::Fault(StepFault::Shape));

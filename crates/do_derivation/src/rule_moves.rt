@@ -7,6 +7,7 @@ ghost use Rattle.prob_expr.specs.View.{view};
 ghost use Rattle.do_derivation.specs.Plans.{Move};
 ghost use Rattle.do_derivation.specs.Table.{row, is_new, is_part};
 ghost use Rattle.do_derivation.specs.Applied.{IsRow};
+ghost use Rattle.do_derivation.specs.declared.moves.SetMove.TheVariants as set_move;
 
 use crate::faults::{Refusal, StepFault};
 use do_rules::{rule1, rule2, rule3};
@@ -30,7 +31,7 @@ pub fn is_part(z: VSet, b: VSet) -> bool
 /// Rule 1: z comes into the condition.
 pub fn rule1_in(g: &Graph, z: VSet, e: Expr) -> Result<Expr, Refusal>
     requires terms { are_terms g.now.n (view e) ≡ true }
-    ensures row { IsRow (graph_of g.now) (row g.now.n [] (Move.Rule1In z.bits) (view e)) result }
+    ensures row { IsRow (graph_of g.now) (row g.now.n [] (Move.WithSet set_move.Rule1In z.bits) (view e)) result }
 {
     let Expr::Prob { of, doing, given } = e else {
         return Err(Refusal::Fault(StepFault::NotATerm));
@@ -51,7 +52,7 @@ pub fn rule1_in(g: &Graph, z: VSet, e: Expr) -> Result<Expr, Refusal>
 /// Rule 1 backwards: z leaves the condition.
 pub fn rule1_out(g: &Graph, z: VSet, e: Expr) -> Result<Expr, Refusal>
     requires terms { are_terms g.now.n (view e) ≡ true }
-    ensures row { IsRow (graph_of g.now) (row g.now.n [] (Move.Rule1Out z.bits) (view e)) result }
+    ensures row { IsRow (graph_of g.now) (row g.now.n [] (Move.WithSet set_move.Rule1Out z.bits) (view e)) result }
 {
     let Expr::Prob { of, doing, given } = e else {
         return Err(Refusal::Fault(StepFault::NotATerm));
@@ -73,7 +74,7 @@ pub fn rule1_out(g: &Graph, z: VSet, e: Expr) -> Result<Expr, Refusal>
 /// Rule 2: z leaves the intervention for the condition.
 pub fn rule2_see(g: &Graph, z: VSet, e: Expr) -> Result<Expr, Refusal>
     requires terms { are_terms g.now.n (view e) ≡ true }
-    ensures row { IsRow (graph_of g.now) (row g.now.n [] (Move.Rule2See z.bits) (view e)) result }
+    ensures row { IsRow (graph_of g.now) (row g.now.n [] (Move.WithSet set_move.Rule2See z.bits) (view e)) result }
 {
     let Expr::Prob { of, doing, given } = e else {
         return Err(Refusal::Fault(StepFault::NotATerm));
@@ -95,7 +96,7 @@ pub fn rule2_see(g: &Graph, z: VSet, e: Expr) -> Result<Expr, Refusal>
 /// Rule 2 backwards: z leaves the condition for the intervention.
 pub fn rule2_do(g: &Graph, z: VSet, e: Expr) -> Result<Expr, Refusal>
     requires terms { are_terms g.now.n (view e) ≡ true }
-    ensures row { IsRow (graph_of g.now) (row g.now.n [] (Move.Rule2Do z.bits) (view e)) result }
+    ensures row { IsRow (graph_of g.now) (row g.now.n [] (Move.WithSet set_move.Rule2Do z.bits) (view e)) result }
 {
     let Expr::Prob { of, doing, given } = e else {
         return Err(Refusal::Fault(StepFault::NotATerm));
@@ -117,7 +118,7 @@ pub fn rule2_do(g: &Graph, z: VSet, e: Expr) -> Result<Expr, Refusal>
 /// Rule 3 backwards: z comes into the intervention.
 pub fn rule3_in(g: &Graph, z: VSet, e: Expr) -> Result<Expr, Refusal>
     requires terms { are_terms g.now.n (view e) ≡ true }
-    ensures row { IsRow (graph_of g.now) (row g.now.n [] (Move.Rule3In z.bits) (view e)) result }
+    ensures row { IsRow (graph_of g.now) (row g.now.n [] (Move.WithSet set_move.Rule3In z.bits) (view e)) result }
 {
     let Expr::Prob { of, doing, given } = e else {
         return Err(Refusal::Fault(StepFault::NotATerm));
@@ -138,7 +139,7 @@ pub fn rule3_in(g: &Graph, z: VSet, e: Expr) -> Result<Expr, Refusal>
 /// Rule 3: z leaves the intervention.
 pub fn rule3_out(g: &Graph, z: VSet, e: Expr) -> Result<Expr, Refusal>
     requires terms { are_terms g.now.n (view e) ≡ true }
-    ensures row { IsRow (graph_of g.now) (row g.now.n [] (Move.Rule3Out z.bits) (view e)) result }
+    ensures row { IsRow (graph_of g.now) (row g.now.n [] (Move.WithSet set_move.Rule3Out z.bits) (view e)) result }
 {
     let Expr::Prob { of, doing, given } = e else {
         return Err(Refusal::Fault(StepFault::NotATerm));

@@ -12,6 +12,8 @@ ghost use Rattle.do_derivation.specs.Shapes.{is_list_of, chained};
 ghost use Rattle.do_derivation.specs.Table.{row};
 ghost use Rattle.do_derivation.specs.View.{listed};
 ghost use Rattle.do_derivation.specs.Applied.{IsRow};
+ghost use Rattle.do_derivation.specs.declared.moves.SetMove.TheVariants as set_move;
+ghost use Rattle.do_derivation.specs.declared.moves.BareMove.TheVariants as bare_move;
 
 use crate::faults::{Refusal, StepFault};
 use crate::rule_moves::is_new;
@@ -28,7 +30,7 @@ fn boxed(alloc: Global, of: VSet, doing: VSet, given: VSet) -> Result<Box<Expr>,
 
 /// A term as the sum over u of the term with u.
 pub fn widen(alloc: Global, g: &Graph, u: VSet, e: Expr) -> Result<Expr, Refusal>
-    ensures row { IsRow (graph_of g.now) (row g.now.n [] (Move.Widen u.bits) (view e)) result }
+    ensures row { IsRow (graph_of g.now) (row g.now.n [] (Move.WithSet set_move.Widen u.bits) (view e)) result }
 {
     match e {
         Expr::Prob { of, doing, given } => {
@@ -46,7 +48,7 @@ pub fn widen(alloc: Global, g: &Graph, u: VSet, e: Expr) -> Result<Expr, Refusal
 
 /// A sum of a term as the term without the summed vertices.
 pub fn narrow(g: &Graph, e: Expr) -> Result<Expr, Refusal>
-    ensures row { IsRow (graph_of g.now) (row g.now.n [] Move.Narrow (view e)) result }
+    ensures row { IsRow (graph_of g.now) (row g.now.n [] (Move.Bare bare_move.Narrow) (view e)) result }
 {
     match e {
         Expr::Sum { over, body } => match Box::into_inner(body) {
@@ -69,7 +71,7 @@ pub fn narrow(g: &Graph, e: Expr) -> Result<Expr, Refusal>
 
 /// A conditional term as a quotient.
 pub fn split(alloc: Global, g: &Graph, e: Expr) -> Result<Expr, Refusal>
-    ensures row { IsRow (graph_of g.now) (row g.now.n [] Move.Split (view e)) result }
+    ensures row { IsRow (graph_of g.now) (row g.now.n [] (Move.Bare bare_move.Split) (view e)) result }
 {
     match e {
         Expr::Prob { of, doing, given } => {

@@ -12,37 +12,15 @@ use Rattle.do_derivation.specs.Accepts.{Accepts, Define, start_of, sets_of, are_
 use Rattle.do_derivation.specs.Plans.{Move, Plan, Plans, no_plans, plan, PlainLemma, PlainDerivation}
 use Rattle.do_derivation.specs.Shapes.{is_list_of, child, with_child}
 use Rattle.do_derivation.specs.Steps.{IsMade, Makes, MakesAll}
-use Rattle.do_derivation.specs.Table.{Row, row, on_term, if_so, is_new, is_part}
-use Rattle.do_derivation.specs.declared.faults.StepFault.{StepFault}
+use Rattle.do_derivation.specs.Table.{row}
 use Rattle.do_derivation.proofs.Accepted.{start_term}
+use Rattle.do_derivation.proofs.MadeSets.{so, on_a_term, set_below}
 use Rattle.do_derivation.proofs.Preserved.{step_keeps_terms}
 use Rattle.do_derivation.proofs.TermSets.{IsTerm, minus_left, term_from, term_filled}
 use Rattle.do_derivation.proofs.TreeTerms.{AreTerms, child_terms, terms_of, terms_test}
 use Rattle.mixed_graph.proofs.MaskLaws.{filled_from}
 use Rattle.certificate_json.specs.StepSizes.{are_below, is_move_within, is_within, are_within}
 use Rattle.certificate_json.specs.Writable.{are_steps_within, IsDerivationWithin}
-
--- what is made where a test holds is made only where it does
-so : (g : MixedGraph) (b : Bool) (r : Row) (f : StepFault) (e : Tree) → IsMade g (if_so b r f) e → b ≡ true
-so g true r f e h = refl
-so g false r f e h = absurd h
-
--- what is made of a term alone
-on_a_term : (g : MixedGraph) (f : ℕ → ℕ → ℕ → Row) (P : Type 0) (e e' : Tree) → AreTerms g.vertices e
-    → ((a b c : ℕ) → IsTerm g.vertices a b c → IsMade g (f a b c) e' → P) → IsMade g (on_term f e) e' → P
-on_a_term g f P (prob a b c) e' t k h = k a b c t.0 h
-on_a_term g f P (sum u e) e' t k h = absurd h
-on_a_term g f P (product ts) e' t k h = absurd h
-on_a_term g f P (quotient p q) e' t k h = absurd h
-on_a_term g f P (named i) e' t k h = absurd h
-
-new_below : (n z a b c : ℕ) → is_new n z a b c ≡ true → is_below n z ≡ true
-new_below n z a b c e =
-    and_first (is_below n z) (is_apart z a && (is_apart z b && is_apart z c))
-    (and_second (not (is_empty z)) (is_below n z && (is_apart z a && (is_apart z b && is_apart z c))) e)
-
-part_below : (n z b : ℕ) → is_part z b ≡ true → ((v : ℕ) → has b v ≡ true → v < n) → is_below n z ≡ true
-part_below n z b e low = below_from n z (λ v h. low v (inside_has z b v (and_second (not (is_empty z)) (is_inside z b) e) h))
 
 -- the vertices of a chain are those of the term
 list_below : (n : ℕ) (o : List ℕ) (a : ℕ) → is_list_of o a ≡ true → ((v : ℕ) → has a v ≡ true → v < n) → are_below n o ≡ true
@@ -53,28 +31,12 @@ list_below n (v ∷ o) a e low =
 
 module _ (g : MixedGraph) (ok : IsMixedGraph g) (lemmas : List ℕ) where
   move_within : (m : Move) (e e' : Tree) → AreTerms g.vertices e → IsMade g (row g.vertices lemmas m e) e' → is_move_within g.vertices m ≡ true
-  move_within (Move.Rule1In z) e e' t h = on_a_term g _ (is_below g.vertices z ≡ true) e e' t
-      (λ a b c k made. new_below g.vertices z a b c (so g (is_new g.vertices z a b c) _ _ e' made)) h
-  move_within (Move.Rule1Out z) e e' t h = on_a_term g _ (is_below g.vertices z ≡ true) e e' t
-      (λ a b c k made. part_below g.vertices z c (so g (is_part z c) _ _ e' made) k.given_below) h
-  move_within (Move.Rule2See z) e e' t h = on_a_term g _ (is_below g.vertices z ≡ true) e e' t
-      (λ a b c k made. part_below g.vertices z b (so g (is_part z b) _ _ e' made) k.doing_below) h
-  move_within (Move.Rule2Do z) e e' t h = on_a_term g _ (is_below g.vertices z ≡ true) e e' t
-      (λ a b c k made. part_below g.vertices z c (so g (is_part z c) _ _ e' made) k.given_below) h
-  move_within (Move.Rule3In z) e e' t h = on_a_term g _ (is_below g.vertices z ≡ true) e e' t
-      (λ a b c k made. new_below g.vertices z a b c (so g (is_new g.vertices z a b c) _ _ e' made)) h
-  move_within (Move.Rule3Out z) e e' t h = on_a_term g _ (is_below g.vertices z ≡ true) e e' t
-      (λ a b c k made. part_below g.vertices z b (so g (is_part z b) _ _ e' made) k.doing_below) h
+  move_within (Move.WithSet kind z) e e' t h = set_below g lemmas kind z e e' t h
+  move_within (Move.Bare kind) e e' t h = refl
   move_within (Move.Chain o) e e' t h = on_a_term g _ (are_below g.vertices o ≡ true) e e' t (λ a b c k made.
       list_below g.vertices o a (and_second (leb 2 (length o)) (is_list_of o a) (so g (leb 2 (length o) && is_list_of o a) _ _ e' made)) k.of_below) h
-  move_within Move.Unchain e e' t h = refl
   move_within (Move.Group l) e e' t h = refl
-  move_within (Move.Widen u) e e' t h = on_a_term g _ (is_below g.vertices u ≡ true) e e' t
-      (λ a b c k made. new_below g.vertices u a b c (so g (is_new g.vertices u a b c) _ _ e' made)) h
-  move_within Move.Narrow e e' t h = refl
-  move_within Move.Split e e' t h = refl
   move_within (Move.Cite k) e e' t h = refl
-  move_within Move.Unwrap e e' t h = refl
 
   -- a step on a child
   at_child : (p : Plan) (e : Tree) (i : ℕ) (o : Option Tree) (e' : Tree) → child e i ≡ o → AreTerms g.vertices e

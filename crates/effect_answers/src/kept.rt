@@ -1,11 +1,11 @@
 //! What the types of a derivation keep, which is what reading back its certificate asks of it.
 
 ghost use Rattle.std.specs.Prelude.{◌≡◌, ◌^◌, true, ltb, leb, length, map};
-ghost use Rattle.do_derivation.specs.View.{step_view, steps_view, lemma_view, derivation_view, listed, numbers_of};
-ghost use Rattle.certificate_json.specs.StepSizes.{are_below, groups_below, is_short, are_short};
+ghost use Rattle.do_derivation.specs.View.{move_view, step_view, steps_view, lemma_view, derivation_view, listed, numbers_of};
+ghost use Rattle.certificate_json.specs.StepSizes.{are_below, groups_below, is_move_short, is_short, are_short};
 ghost use Rattle.certificate_json.specs.Kept.{are_steps_short, IsShort};
 
-use do_derivation::{Derivation, Lemma, Step};
+use do_derivation::{Derivation, Lemma, Move, Step};
 use mixed_graph::Order;
 
 /// A number has 32 bits.
@@ -43,24 +43,28 @@ fn steps_kept(steps: &Vec<Step>)
     }
 }
 
+fn move_kept(done: &Move)
+    ensures { is_move_short (move_view done.now) ≡ true }
+{
+    match done {
+        Move::Chain(order) => order_kept(order),
+        Move::Group(list) => groups_kept(list),
+        Move::Cite(k) => number_kept(*k),
+        Move::WithSet(_, _) | Move::Bare(_) => {}
+    }
+}
+
 #[cycle(keep)]
 fn step_kept(step: &Step)
     ensures { is_short (step_view step.now) ≡ true }
 {
     match step {
-        Step::Chain(order) => order_kept(order),
-        Step::Group(list) => groups_kept(list),
-        Step::Cite(k) => number_kept(*k),
+        Step::Make(done) => move_kept(done),
         Step::At(child, inner) => {
             number_kept(*child);
             step_kept(inner);
         }
         Step::Then(steps) => steps_kept(steps),
-        Step::Rule1In(_) | Step::Rule1Out(_) => {}
-        Step::Rule2See(_) | Step::Rule2Do(_) => {}
-        Step::Rule3In(_) | Step::Rule3Out(_) => {}
-        Step::Widen(_) | Step::Narrow | Step::Split => {}
-        Step::Unchain | Step::Unwrap => {}
     }
 }
 

@@ -15,6 +15,8 @@ use Rattle.do_derivation.specs.Steps.{IsMade, Makes}
 use Rattle.do_derivation.specs.Table.{Row, row, on_term, if_so, if_made, is_new, is_part}
 use Rattle.do_derivation.specs.declared.faults.StepFault.{StepFault}
 use Rattle.do_derivation.specs.declared.faults.StepFault.TheVariants.{Sets}
+use Rattle.do_derivation.specs.declared.moves.SetMove.TheVariants as set_move
+use Rattle.do_derivation.specs.declared.moves.BareMove.TheVariants as bare_move
 use Rattle.do_derivation.proofs.TermSets.{IsTerm, new_from, minus_left}
 use Rattle.do_derivation.proofs.TreeTerms.{AreTerms, child_terms}
 use Rattle.explain_call.specs.Questions.{Asked, IsBelow, beside, of_given, of_doing, on_sets, move_question, question_of}
@@ -70,30 +72,30 @@ module _ (g : MixedGraph) where
 
     move_told : (lemmas : List ℕ) (m : Move) (e x : Tree) → IsMade g (row g.vertices lemmas m e) x → TellsAsked true g names (move_question m e) text
         → TellsRow g names (row g.vertices lemmas m e) text
-    move_told lemmas (Move.Rule1In z) e x made t =
+    move_told lemmas (Move.WithSet set_move.Rule1In z) e x made t =
         term_told _ (beside One z) x (λ a b c k. so_told (is_new g.vertices z a b c) (Row.Ask One b a z c (prob a b (union c z))) Sets x k) e made t
-    move_told lemmas (Move.Rule1Out z) e x made t =
+    move_told lemmas (Move.WithSet set_move.Rule1Out z) e x made t =
         term_told _ (of_given One z) x (λ a b c k. so_told (is_part z c) (Row.Ask One b a z (minus c z) (prob a b (minus c z))) Sets x k) e made t
-    move_told lemmas (Move.Rule2See z) e x made t =
+    move_told lemmas (Move.WithSet set_move.Rule2See z) e x made t =
         term_told _ (of_doing Two z) x (λ a b c k. so_told (is_part z b) (Row.Ask Two (minus b z) a z c (prob a (minus b z) (union c z))) Sets x k) e made t
-    move_told lemmas (Move.Rule2Do z) e x made t =
+    move_told lemmas (Move.WithSet set_move.Rule2Do z) e x made t =
         term_told _ (of_given Two z) x (λ a b c k. so_told (is_part z c) (Row.Ask Two b a z (minus c z) (prob a (union b z) (minus c z))) Sets x k) e made t
-    move_told lemmas (Move.Rule3In z) e x made t =
+    move_told lemmas (Move.WithSet set_move.Rule3In z) e x made t =
         term_told _ (beside Three z) x (λ a b c k. so_told (is_new g.vertices z a b c) (Row.Ask Three b a z c (prob a (union b z) c)) Sets x k) e made t
-    move_told lemmas (Move.Rule3Out z) e x made t =
+    move_told lemmas (Move.WithSet set_move.Rule3Out z) e x made t =
         term_told _ (of_doing Three z) x (λ a b c k. so_told (is_part z b) (Row.Ask Three (minus b z) a z c (prob a (minus b z) c)) Sets x k) e made t
     move_told lemmas (Move.Chain o) e x made t = quiet_told (row g.vertices lemmas (Move.Chain o) e) x
         (term_quiet _ (λ a b c. so_quiet _ (Row.Make _) _ tt) e) made t
-    move_told lemmas Move.Unchain e x made t = quiet_told (row g.vertices lemmas Move.Unchain e) x (made_quiet _ _) made t
+    move_told lemmas (Move.Bare bare_move.Unchain) e x made t = quiet_told (row g.vertices lemmas (Move.Bare bare_move.Unchain) e) x (made_quiet _ _) made t
     move_told lemmas (Move.Group l) e x made t = quiet_told (row g.vertices lemmas (Move.Group l) e) x (made_quiet _ _) made t
-    move_told lemmas (Move.Widen u) e x made t = quiet_told (row g.vertices lemmas (Move.Widen u) e) x
+    move_told lemmas (Move.WithSet set_move.Widen u) e x made t = quiet_told (row g.vertices lemmas (Move.WithSet set_move.Widen u) e) x
         (term_quiet _ (λ a b c. so_quiet _ (Row.Make _) _ tt) e) made t
-    move_told lemmas Move.Narrow e x made t = quiet_told (row g.vertices lemmas Move.Narrow e) x (made_quiet _ _) made t
-    move_told lemmas Move.Split e x made t = quiet_told (row g.vertices lemmas Move.Split e) x (term_quiet _ (λ a b c. so_quiet _ (Row.Make _) _ tt) e) made t
+    move_told lemmas (Move.Bare bare_move.Narrow) e x made t = quiet_told (row g.vertices lemmas (Move.Bare bare_move.Narrow) e) x (made_quiet _ _) made t
+    move_told lemmas (Move.Bare bare_move.Split) e x made t = quiet_told (row g.vertices lemmas (Move.Bare bare_move.Split) e) x (term_quiet _ (λ a b c. so_quiet _ (Row.Make _) _ tt) e) made t
     move_told lemmas (Move.Cite k) e x made t =
         quiet_told (row g.vertices lemmas (Move.Cite k) e) x (so_quiet _ (on_term _ e) _ (term_quiet _ (λ a b c. so_quiet _ (Row.Make (named k)) _ tt) e))
         made t
-    move_told lemmas Move.Unwrap e x made t = quiet_told (row g.vertices lemmas Move.Unwrap e) x (made_quiet _ _) made t
+    move_told lemmas (Move.Bare bare_move.Unwrap) e x made t = quiet_told (row g.vertices lemmas (Move.Bare bare_move.Unwrap) e) x (made_quiet _ _) made t
 
     -- on a child that is there
     child_told : (lemmas : List ℕ) (p : Plan) (o : Option Tree) (Q : Tree → Type 0)
@@ -151,26 +153,26 @@ module _ (g : MixedGraph) where
 
   move_below : (lemmas : List ℕ) (m : Move) (e x : Tree) → AreTerms g.vertices e → IsMade g (row g.vertices lemmas m e) x
       → IfSome (move_question m e) (IsBelow g.vertices)
-  move_below lemmas (Move.Rule1In z) e x t made = term_below _ (beside One z) x
+  move_below lemmas (Move.WithSet set_move.Rule1In z) e x t made = term_below _ (beside One z) x
       (λ a b c s k. beside_below One z a b c s (condition (is_new g.vertices z a b c) _ Sets x k)) e t made
-  move_below lemmas (Move.Rule1Out z) e x t made = term_below _ (of_given One z) x
+  move_below lemmas (Move.WithSet set_move.Rule1Out z) e x t made = term_below _ (of_given One z) x
       (λ a b c s k. given_below One z a b c s (condition (is_part z c) _ Sets x k)) e t made
-  move_below lemmas (Move.Rule2See z) e x t made = term_below _ (of_doing Two z) x
+  move_below lemmas (Move.WithSet set_move.Rule2See z) e x t made = term_below _ (of_doing Two z) x
       (λ a b c s k. doing_below Two z a b c s (condition (is_part z b) _ Sets x k)) e t made
-  move_below lemmas (Move.Rule2Do z) e x t made = term_below _ (of_given Two z) x
+  move_below lemmas (Move.WithSet set_move.Rule2Do z) e x t made = term_below _ (of_given Two z) x
       (λ a b c s k. given_below Two z a b c s (condition (is_part z c) _ Sets x k)) e t made
-  move_below lemmas (Move.Rule3In z) e x t made = term_below _ (beside Three z) x
+  move_below lemmas (Move.WithSet set_move.Rule3In z) e x t made = term_below _ (beside Three z) x
       (λ a b c s k. beside_below Three z a b c s (condition (is_new g.vertices z a b c) _ Sets x k)) e t made
-  move_below lemmas (Move.Rule3Out z) e x t made = term_below _ (of_doing Three z) x
+  move_below lemmas (Move.WithSet set_move.Rule3Out z) e x t made = term_below _ (of_doing Three z) x
       (λ a b c s k. doing_below Three z a b c s (condition (is_part z b) _ Sets x k)) e t made
   move_below lemmas (Move.Chain o) e x t made = tt
-  move_below lemmas Move.Unchain e x t made = tt
+  move_below lemmas (Move.Bare bare_move.Unchain) e x t made = tt
   move_below lemmas (Move.Group l) e x t made = tt
-  move_below lemmas (Move.Widen u) e x t made = tt
-  move_below lemmas Move.Narrow e x t made = tt
-  move_below lemmas Move.Split e x t made = tt
+  move_below lemmas (Move.WithSet set_move.Widen u) e x t made = tt
+  move_below lemmas (Move.Bare bare_move.Narrow) e x t made = tt
+  move_below lemmas (Move.Bare bare_move.Split) e x t made = tt
   move_below lemmas (Move.Cite k) e x t made = tt
-  move_below lemmas Move.Unwrap e x t made = tt
+  move_below lemmas (Move.Bare bare_move.Unwrap) e x t made = tt
 
   child_below : (p : Plan) (e : Tree) (i : ℕ) (o : Option Tree) (Q : Tree → Type 0) → child e i ≡ o → AreTerms g.vertices e
       → ((c : Tree) → AreTerms g.vertices c → Q c → IfSome (question_of p c) (IsBelow g.vertices)) → MatchOption o ⊥ Q

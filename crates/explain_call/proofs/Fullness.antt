@@ -18,6 +18,8 @@ use Rattle.do_rules.specs.declared.rules.Rule.TheVariants.{One, Two, Three}
 use Rattle.do_derivation.specs.Table.{Row, row, on_term, if_so, if_made, is_new, is_part}
 use Rattle.do_derivation.specs.declared.faults.StepFault.{StepFault}
 use Rattle.do_derivation.specs.declared.faults.StepFault.TheVariants.{Sets, BadOrder, NoLemma, Shape}
+use Rattle.do_derivation.specs.declared.moves.SetMove.TheVariants as set_move
+use Rattle.do_derivation.specs.declared.moves.BareMove.TheVariants as bare_move
 use Rattle.do_derivation.proofs.Children.{some_is}
 use Rattle.explain_call.specs.Full.{is_full, are_full}
 
@@ -212,14 +214,14 @@ module _ (g : MixedGraph) where
       subst (λ t. is_full t ≡ true) (sym (so_made ok (Row.Ask rule x y z w (prob a b c)) fault e k).1.1) refl
 
   row_full : (lemmas : List ℕ) (m : Move) (e x : Tree) → is_full e ≡ true → IsMade g (row g.vertices lemmas m e) x → is_full x ≡ true
-  row_full lemmas (Move.Rule1In z) e x full k = term_row _ (λ a b c y h. asked_term (is_new g.vertices z a b c) One b a z c a b (union c z) Sets y h) e x k
-  row_full lemmas (Move.Rule1Out z) e x full k = term_row _ (λ a b c y h. asked_term (is_part z c) One b a z (minus c z) a b (minus c z) Sets y h) e x k
-  row_full lemmas (Move.Rule2See z) e x full k = term_row _ (λ a b c y h. asked_term (is_part z b) Two (minus b z) a z c a (minus b z) (union c z) Sets y h)
+  row_full lemmas (Move.WithSet set_move.Rule1In z) e x full k = term_row _ (λ a b c y h. asked_term (is_new g.vertices z a b c) One b a z c a b (union c z) Sets y h) e x k
+  row_full lemmas (Move.WithSet set_move.Rule1Out z) e x full k = term_row _ (λ a b c y h. asked_term (is_part z c) One b a z (minus c z) a b (minus c z) Sets y h) e x k
+  row_full lemmas (Move.WithSet set_move.Rule2See z) e x full k = term_row _ (λ a b c y h. asked_term (is_part z b) Two (minus b z) a z c a (minus b z) (union c z) Sets y h)
       e x k
-  row_full lemmas (Move.Rule2Do z) e x full k = term_row _ (λ a b c y h. asked_term (is_part z c) Two b a z (minus c z) a (union b z) (minus c z) Sets y h)
+  row_full lemmas (Move.WithSet set_move.Rule2Do z) e x full k = term_row _ (λ a b c y h. asked_term (is_part z c) Two b a z (minus c z) a (union b z) (minus c z) Sets y h)
       e x k
-  row_full lemmas (Move.Rule3In z) e x full k = term_row _ (λ a b c y h. asked_term (is_new g.vertices z a b c) Three b a z c a (union b z) c Sets y h) e x k
-  row_full lemmas (Move.Rule3Out z) e x full k = term_row _ (λ a b c y h. asked_term (is_part z b) Three (minus b z) a z c a (minus b z) c Sets y h) e x k
+  row_full lemmas (Move.WithSet set_move.Rule3In z) e x full k = term_row _ (λ a b c y h. asked_term (is_new g.vertices z a b c) Three b a z c a (union b z) c Sets y h) e x k
+  row_full lemmas (Move.WithSet set_move.Rule3Out z) e x full k = term_row _ (λ a b c y h. asked_term (is_part z b) Three (minus b z) a z c a (minus b z) c Sets y h) e x k
   row_full lemmas (Move.Chain o) e x full k =
       term_row _ (λ a b c y h.
       let r = so_made _ (Row.Make (product (chained b c o))) BadOrder y h in
@@ -227,20 +229,20 @@ module _ (g : MixedGraph) where
       (and_from (are_two (chained b c o)) (are_full (chained b c o)) (chained_two b c o (leb-true 2 (length o) (and_first (leb 2 (length o)) _ r.0)))
       (chained_full b c o)))
       e x k
-  row_full lemmas Move.Unchain e x full k = unchained_full e x (some_made (unchained e) Shape x k)
+  row_full lemmas (Move.Bare bare_move.Unchain) e x full k = unchained_full e x (some_made (unchained e) Shape x k)
   row_full lemmas (Move.Group l) e x full k = grouped_full l e x (some_made (grouped l e) _ x k) full
-  row_full lemmas (Move.Widen u) e x full k =
+  row_full lemmas (Move.WithSet set_move.Widen u) e x full k =
       term_row _ (λ a b c y h.
       let r = so_made (is_new g.vertices u a b c) (Row.Make (sum u (prob (union a u) b c))) Sets y h in
       subst (λ t. is_full t ≡ true) (sym r.1) (and_from (not (is_empty u)) true (and_first (not (is_empty u)) _ r.0) refl))
       e x k
-  row_full lemmas Move.Narrow e x full k = narrowed_full e x (some_made (narrowed e) Shape x k)
-  row_full lemmas Move.Split e x full k =
+  row_full lemmas (Move.Bare bare_move.Narrow) e x full k = narrowed_full e x (some_made (narrowed e) Shape x k)
+  row_full lemmas (Move.Bare bare_move.Split) e x full k =
       term_row _ (λ a b c y h. subst (λ t. is_full t ≡ true) (sym (so_made _ (Row.Make (quotient (prob (union a c) b 0) (prob c b 0))) Sets y h).1) refl) e x k
   row_full lemmas (Move.Cite j) e x full k =
       term_row _ (λ a b c y h. subst (λ t. is_full t ≡ true) (sym (so_made _ (Row.Make (named j)) Shape y h).1) refl) e x
       (so_made (ltb j (length lemmas)) _ (NoLemma j) x k).1
-  row_full lemmas Move.Unwrap e x full k = unwrapped_full e x (some_made (unwrapped e) Shape x k) full
+  row_full lemmas (Move.Bare bare_move.Unwrap) e x full k = unwrapped_full e x (some_made (unwrapped e) Shape x k) full
 
   -- ---- steps on children, and steps in turn
   factor_part : (ts : Trees) (i : ℕ) (c : Tree) → factor_at ts i ≡ Some c → are_full ts ≡ true → is_full c ≡ true

@@ -9,6 +9,8 @@ use Rattle.do_rules.specs.declared.rules.Rule.{Rule}
 use Rattle.do_rules.specs.declared.rules.Rule.TheVariants.{One, Two, Three}
 use Rattle.do_derivation.specs.Plans.{Move, Plan}
 use Rattle.do_derivation.specs.Shapes.{child}
+use Rattle.do_derivation.specs.declared.moves.SetMove.{SetMove}
+use Rattle.do_derivation.specs.declared.moves.SetMove.TheVariants as set_move
 use Rattle.explain_call.specs.declared.explaining.questions.Question.{Question}
 
 -- a rule with its sets: whether y and z are separated in its graph, where `doing` is set and `given` is observed
@@ -50,22 +52,23 @@ on_sets f (product ts) = None
 on_sets f (quotient p q) = None
 on_sets f (named k) = None
 
--- the question of a move on an expression
+-- the question of a move with a set on an expression
+abbrev pub set_question : SetMove → ℕ → Tree → Option Asked
+set_question set_move.Rule1In z e = on_sets (beside One z) e
+set_question set_move.Rule1Out z e = on_sets (of_given One z) e
+set_question set_move.Rule2See z e = on_sets (of_doing Two z) e
+set_question set_move.Rule2Do z e = on_sets (of_given Two z) e
+set_question set_move.Rule3In z e = on_sets (beside Three z) e
+set_question set_move.Rule3Out z e = on_sets (of_doing Three z) e
+set_question set_move.Widen z e = None
+
+-- that of a move: no other move asks for a rule
 abbrev pub move_question : Move → Tree → Option Asked
-move_question (Move.Rule1In z) e = on_sets (beside One z) e
-move_question (Move.Rule1Out z) e = on_sets (of_given One z) e
-move_question (Move.Rule2See z) e = on_sets (of_doing Two z) e
-move_question (Move.Rule2Do z) e = on_sets (of_given Two z) e
-move_question (Move.Rule3In z) e = on_sets (beside Three z) e
-move_question (Move.Rule3Out z) e = on_sets (of_doing Three z) e
+move_question (Move.WithSet kind z) e = set_question kind z e
+move_question (Move.Bare kind) e = None
 move_question (Move.Chain o) e = None
-move_question Move.Unchain e = None
 move_question (Move.Group l) e = None
-move_question (Move.Widen u) e = None
-move_question Move.Narrow e = None
-move_question Move.Split e = None
 move_question (Move.Cite k) e = None
-move_question Move.Unwrap e = None
 
 -- that of a step: on a child it is that of the child
 abbrev pub question_of : Plan → Tree → Option Asked

@@ -3,30 +3,14 @@ use Rattle.std.specs.Prelude.{ℕ, ◌≡◌, ◌⊎◌, Bool, List, [], ◌∷�
 use Rattle.mixed_graph.specs.Graphs.{MixedGraph}
 use Rattle.prob_expr.specs.Tree.{Tree}
 use Rattle.expr_text.specs.Write.{text_of}
-use Rattle.do_derivation.specs.Plans.{Move, Plan}
+use Rattle.do_derivation.specs.Plans.{Plan}
+use Rattle.do_derivation.specs.Words.{move_word}
 use Rattle.do_derivation.specs.Steps.{Makes}
 use Rattle.do_derivation.specs.Answers.{IsApplyFault}
 use Rattle.do_derivation.specs.declared.faults.ApplyFault.{ApplyFault}
 use Rattle.explain_call.specs.ToldRules.{Tells}
 
--- the word of a move, as certificates have it
-abbrev pub move_word : Move → List ℕ
-move_word (Move.Rule1In z) = codes "rule1in"
-move_word (Move.Rule1Out z) = codes "rule1out"
-move_word (Move.Rule2See z) = codes "rule2see"
-move_word (Move.Rule2Do z) = codes "rule2do"
-move_word (Move.Rule3In z) = codes "rule3in"
-move_word (Move.Rule3Out z) = codes "rule3out"
-move_word (Move.Chain o) = codes "chain"
-move_word Move.Unchain = codes "unchain"
-move_word (Move.Group l) = codes "group"
-move_word (Move.Widen u) = codes "widen"
-move_word Move.Narrow = codes "narrow"
-move_word Move.Split = codes "split"
-move_word (Move.Cite k) = codes "cite"
-move_word Move.Unwrap = codes "unwrap"
-
--- that of a step on a child is that of the step; several steps have none
+-- the word of a move at its place, as certificates have it; several steps have none
 abbrev pub word_of : Plan → List ℕ
 word_of (Plan.Make m) = move_word m
 word_of (Plan.At i p) = word_of p

@@ -3,7 +3,7 @@
 use crate::held::Held;
 use crate::orders::one_before_other;
 use crate::parts::term_at;
-use do_derivation::Step;
+use do_derivation::{BareMove, Move, SetMove};
 use mixed_graph::{Graph, VSet};
 use std::alloc::{AllocError, Global};
 
@@ -13,7 +13,7 @@ fn drop_idle(alloc: Global, g: &Graph, held: &mut Held, doing: VSet) -> Result<(
     for v in 0..64u8 {
         let alone = VSet::one(v);
         if doing.has(v) && left.bits != alone.bits {
-            if held.try_step(alloc, g, &[], Step::Rule3Out(alone))? {
+            if held.try_move(alloc, g, &[], Move::WithSet(SetMove::Rule3Out, alone))? {
                 left = left.difference(alone);
             }
         }
@@ -41,7 +41,7 @@ fn one_term(
     if count < 2 {
         return Ok(true);
     }
-    held.try_step(alloc, g, place, Step::Unchain)
+    held.try_move(alloc, g, place, Move::Bare(BareMove::Unchain))
 }
 
 /// Makes of two groups of factors, the first `first` and the `second` behind them, a term each.
@@ -58,7 +58,7 @@ fn two_terms(
     let mut groups = Vec::new(alloc);
     groups.push(numbers(alloc, 0, first)?)?;
     groups.push(numbers(alloc, first, first.saturating_add(second))?)?;
-    if !held.try_step(alloc, g, &[0], Step::Group(groups))? {
+    if !held.try_move(alloc, g, &[0], Move::Group(groups))? {
         return Ok(false);
     }
     if !one_term(alloc, g, held, &[0, 0], first)? {
@@ -70,7 +70,7 @@ fn two_terms(
 /// P(of, z | do(doing)) inside the sum becomes P(z | do(doing)) * P(of | do(doing), z).
 fn part(alloc: Global, g: &Graph, held: &mut Held, z: VSet, of: VSet) -> Result<bool, AllocError> {
     let order = one_before_other(z, of);
-    if !held.try_step(alloc, g, &[0], Step::Chain(order))? {
+    if !held.try_move(alloc, g, &[0], Move::Chain(order))? {
         return Ok(false);
     }
     two_terms(alloc, g, held, z.count(), of.count())
@@ -86,19 +86,29 @@ pub fn adjust(alloc: Global, g: &Graph, held: &mut Held, z: VSet) -> Result<bool
         return Ok(false);
     };
     if z.is_empty() {
-        if held.try_step(alloc, g, &[], Step::Rule3Out(term.doing))? {
+        if held.try_move(alloc, g, &[], Move::WithSet(SetMove::Rule3Out, term.doing))? {
             return Ok(true);
         }
-        return held.try_step(alloc, g, &[], Step::Rule2See(term.doing));
+        return held.try_move(alloc, g, &[], Move::WithSet(SetMove::Rule2See, term.doing));
     }
-    if !held.try_step(alloc, g, &[], Step::Widen(z))? {
+    if !held.try_move(alloc, g, &[], Move::WithSet(SetMove::Widen, z))? {
         return Ok(false);
     }
     if !part(alloc, g, held, z, term.of)? {
         return Ok(false);
     }
-    if !held.try_step(alloc, g, &[0, 0], Step::Rule3Out(term.doing))? {
+    if !held.try_move(
+        alloc,
+        g,
+        &[0, 0],
+        Move::WithSet(SetMove::Rule3Out, term.doing),
+    )? {
         return Ok(false);
     }
-    held.try_step(alloc, g, &[0, 1], Step::Rule2See(term.doing))
+    held.try_move(
+        alloc,
+        g,
+        &[0, 1],
+        Move::WithSet(SetMove::Rule2See, term.doing),
+    )
 }

@@ -1,6 +1,6 @@
 //! How often lemmas are cited.
 
-use do_derivation::{Derivation, Lemma, Step};
+use do_derivation::{Derivation, Lemma, Move, Step};
 use std::alloc::{AllocError, Global};
 
 /// Adds one for each citation, at its lemma's number.
@@ -9,7 +9,7 @@ fn count_citations(step: &Step, counts: &mut Vec<u32>) {
     match step {
         Step::At(_, inner) => count_citations(inner, counts),
         Step::Then(steps) => count_each(steps, counts),
-        Step::Cite(k) => add_one(counts, *k),
+        Step::Make(Move::Cite(k)) => add_one(counts, *k),
         _ => {}
     }
 }
@@ -71,7 +71,7 @@ fn weigh(step: &Step, weights: &Vec<u32>) -> u32 {
     match step {
         Step::At(_, inner) => weigh(inner, weights),
         Step::Then(steps) => weigh_each(steps, weights),
-        Step::Cite(k) => weight_at(weights, *k),
+        Step::Make(Move::Cite(k)) => weight_at(weights, *k),
         _ => 0,
     }
 }

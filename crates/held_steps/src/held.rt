@@ -8,7 +8,7 @@ ghost use Rattle.do_derivation.specs.Steps.{Makes};
 ghost use Rattle.do_derivation.specs.View.{step_view};
 
 use crate::terms::are_terms;
-use do_derivation::{ApplyFault, Step, apply};
+use do_derivation::{ApplyFault, Move, Step, apply};
 use mixed_graph::{Graph, VSet};
 use prob_expr::{Expr, copy_expr};
 use std::alloc::{AllocError, Global};
@@ -82,6 +82,17 @@ impl Held {
         let Mark { expr, count } = mark;
         self.expr = expr;
         self.steps.truncate(count);
+    }
+
+    /// Makes a move at a place, as `try_step` does a step.
+    pub fn try_move(
+        &mut self,
+        alloc: Global,
+        g: &Graph,
+        place: &[u32],
+        done: Move,
+    ) -> Result<bool, AllocError> {
+        self.try_step(alloc, g, place, Step::Make(done))
     }
 
     /// Does a step at a place. Where it is refused, or no try is left, nothing changes.

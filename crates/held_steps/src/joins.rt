@@ -2,7 +2,7 @@
 
 use crate::held::Held;
 use crate::parts::{Term, part_at, term_at};
-use do_derivation::Step;
+use do_derivation::{BareMove, Move, SetMove};
 use mixed_graph::{Graph, VSet};
 use prob_expr::{Expr, cap};
 use std::alloc::{AllocError, Global};
@@ -65,7 +65,7 @@ fn put_in(
     if z.is_empty() {
         return Ok(true);
     }
-    held.try_step(alloc, g, place, Step::Rule1In(z))
+    held.try_move(alloc, g, place, Move::WithSet(SetMove::Rule1In, z))
 }
 
 /// A list of one number, or of two.
@@ -104,11 +104,11 @@ fn join_two(
         let mut groups = Vec::new(alloc);
         groups.push(numbers(alloc, 1, None)?)?;
         groups.push(numbers(alloc, 0, None)?)?;
-        if !held.try_step(alloc, g, place, Step::Group(groups))? {
+        if !held.try_move(alloc, g, place, Move::Group(groups))? {
             return Ok(false);
         }
     }
-    held.try_step(alloc, g, place, Step::Unchain)
+    held.try_move(alloc, g, place, Move::Bare(BareMove::Unchain))
 }
 
 /// Factors i and j, which are a chain, as one term.
@@ -125,11 +125,11 @@ fn join_chain(
         return join_two(alloc, g, held, place, j < i);
     }
     let groups = grouping(alloc, count, i, j)?;
-    if !held.try_step(alloc, g, place, Step::Group(groups))? {
+    if !held.try_move(alloc, g, place, Move::Group(groups))? {
         return Ok(false);
     }
     let low = below(alloc, place, i.min(j))?;
-    held.try_step(alloc, g, low.as_slice(), Step::Unchain)
+    held.try_move(alloc, g, low.as_slice(), Move::Bare(BareMove::Unchain))
 }
 
 /// The steps that make P(A | C) and P(B | D) the term P(A, B | C + (D - A)).

@@ -3,14 +3,14 @@
 use crate::held::Held;
 use crate::joins::{Joins, join};
 use crate::parts::{Term, part_at, places, term_at};
-use do_derivation::{Step, has_product};
+use do_derivation::{BareMove, Move, SetMove, has_product};
 use mixed_graph::{Graph, VSet};
 use prob_expr::Expr;
 use std::alloc::{AllocError, Global};
 
-/// The kinds of moves.
+/// The ways to make an expression shorter.
 #[derive(Clone, Copy)]
-enum Move {
+enum Way {
     /// A term without the conditions that can go.
     Trim,
     /// A product whose factors that are products are opened.
@@ -62,7 +62,7 @@ fn trim(
     for v in 0..64u8 {
         if term.given.has(v) {
             let alone = VSet::one(v);
-            if held.try_step(alloc, g, place, Step::Rule1Out(alone))? {
+            if held.try_move(alloc, g, place, Move::WithSet(SetMove::Rule1Out, alone))? {
                 left = left.difference(alone);
             }
         }
@@ -100,26 +100,26 @@ fn try_move(
     alloc: Global,
     g: &Graph,
     held: &mut Held,
-    kind: Move,
+    way: Way,
     place: &[u32],
     seen: &mut Seen,
 ) -> Result<bool, AllocError> {
-    match kind {
-        Move::Trim => trim(alloc, g, held, place, seen),
-        Move::Unwrap => {
+    match way {
+        Way::Trim => trim(alloc, g, held, place, seen),
+        Way::Unwrap => {
             if !is_wrapped(held.expr(), place) {
                 return Ok(false);
             }
-            held.try_step(alloc, g, place, Step::Unwrap)
+            held.try_move(alloc, g, place, Move::Bare(BareMove::Unwrap))
         }
-        Move::Narrow => {
+        Way::Narrow => {
             if !is_sum_of_term(held.expr(), place) {
                 return Ok(false);
             }
-            held.try_step(alloc, g, place, Step::Narrow)
+            held.try_move(alloc, g, place, Move::Bare(BareMove::Narrow))
         }
-        Move::Join => join(alloc, g, held, place, false, &mut seen.joins),
-        Move::JoinApart => join(alloc, g, held, place, true, &mut seen.joins),
+        Way::Join => join(alloc, g, held, place, false, &mut seen.joins),
+        Way::JoinApart => join(alloc, g, held, place, true, &mut seen.joins),
     }
 }
 
@@ -128,12 +128,12 @@ fn move_somewhere(
     alloc: Global,
     g: &Graph,
     held: &mut Held,
-    kind: Move,
+    way: Way,
     seen: &mut Seen,
 ) -> Result<bool, AllocError> {
     let all = places(alloc, held.expr())?;
     for place in &all {
-        if try_move(alloc, g, held, kind, place.as_slice(), seen)? {
+        if try_move(alloc, g, held, way, place.as_slice(), seen)? {
             return Ok(true);
         }
     }
@@ -145,12 +145,12 @@ fn repeat(
     alloc: Global,
     g: &Graph,
     held: &mut Held,
-    kind: Move,
+    way: Way,
     seen: &mut Seen,
 ) -> Result<bool, AllocError> {
     let mut some = false;
     for _ in 0..300u32 {
-        if !move_somewhere(alloc, g, held, kind, seen)? {
+        if !move_somewhere(alloc, g, held, way, seen)? {
             break;
         }
         some = true;
@@ -166,14 +166,14 @@ fn move_in_turn(
     seen: &mut Seen,
 ) -> Result<bool, AllocError> {
     let mut some = false;
-    for kind in [
-        Move::Trim,
-        Move::Unwrap,
-        Move::Narrow,
-        Move::Join,
-        Move::JoinApart,
+    for way in [
+        Way::Trim,
+        Way::Unwrap,
+        Way::Narrow,
+        Way::Join,
+        Way::JoinApart,
     ] {
-        if repeat(alloc, g, held, kind, seen)? {
+        if repeat(alloc, g, held, way, seen)? {
             some = true;
         }
     }

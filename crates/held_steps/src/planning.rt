@@ -3,7 +3,7 @@
 use crate::held::Held;
 use crate::orders::members_in_order;
 use crate::parts::{Term, term_at};
-use do_derivation::Step;
+use do_derivation::{Move, SetMove};
 use mixed_graph::{Graph, VSet};
 use std::alloc::{AllocError, Global};
 
@@ -17,10 +17,10 @@ enum Leaving {
 }
 
 impl Leaving {
-    fn step(self, z: VSet) -> Step {
+    fn of(self, z: VSet) -> Move {
         match self {
-            Leaving::Out => Step::Rule3Out(z),
-            Leaving::Seen => Step::Rule2See(z),
+            Leaving::Out => Move::WithSet(SetMove::Rule3Out, z),
+            Leaving::Seen => Move::WithSet(SetMove::Rule2See, z),
         }
     }
 }
@@ -39,7 +39,7 @@ fn free_each(
     let mut some = false;
     for v in 0..64u8 {
         if term.doing.has(v) {
-            if held.try_step(alloc, g, place, leaving.step(VSet::one(v)))? {
+            if held.try_move(alloc, g, place, leaving.of(VSet::one(v)))? {
                 some = true;
             }
         }
@@ -86,7 +86,7 @@ fn turn_one(alloc: Global, g: &Graph, held: &mut Held) -> Result<bool, AllocErro
     };
     for v in 0..64u8 {
         if term.given.has(v) {
-            if held.try_step(alloc, g, &[], Step::Rule2Do(VSet::one(v)))? {
+            if held.try_move(alloc, g, &[], Move::WithSet(SetMove::Rule2Do, VSet::one(v)))? {
                 return Ok(true);
             }
         }
@@ -106,7 +106,7 @@ fn free_chain(
     if order.count < 2 {
         return free(alloc, g, held, place);
     }
-    if !held.try_step(alloc, g, place, Step::Chain(order))? {
+    if !held.try_move(alloc, g, place, Move::Chain(order))? {
         return Ok(false);
     }
     let mut factor = Vec::from_slice(alloc, place)?;
@@ -132,7 +132,7 @@ pub fn plan(alloc: Global, g: &Graph, held: &mut Held, z: VSet) -> Result<bool, 
     if more.is_empty() {
         return free_chain(alloc, g, held, &[], of);
     }
-    if !held.try_step(alloc, g, &[], Step::Widen(more))? {
+    if !held.try_move(alloc, g, &[], Move::WithSet(SetMove::Widen, more))? {
         return Ok(false);
     }
     free_chain(alloc, g, held, &[0], of.union(more))

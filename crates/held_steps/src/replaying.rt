@@ -10,11 +10,11 @@ use mixed_graph::{Graph, VSet};
 use prob_expr::{Expr, Formula, Target, cap};
 use std::alloc::{AllocError, Global};
 
-/// Does the steps in turn: whether none is refused.
-fn play(alloc: Global, g: &Graph, held: &mut Held, steps: Vec<Placed>) -> Result<bool, AllocError> {
-    for placed in steps {
-        let Placed { place, step } = placed;
-        if !held.try_step(alloc, g, place.as_slice(), step)? {
+/// Does the moves in turn: whether none is refused.
+fn play(alloc: Global, g: &Graph, held: &mut Held, moves: Vec<Placed>) -> Result<bool, AllocError> {
+    for placed in moves {
+        let Placed { place, done } = placed;
+        if !held.try_move(alloc, g, place.as_slice(), done)? {
             return Ok(false);
         }
     }
@@ -82,7 +82,7 @@ fn parts_of(
         let mut steps = Vec::new(alloc);
         push_leaves(alloc, &lemma.step, &[], &parts.cited, kept, &mut steps)?;
         if is_marked(put_in, k) {
-            parts.cited.push(Cited::Steps(steps))?;
+            parts.cited.push(Cited::Moves(steps))?;
         } else if !keep_lemma(alloc, g, &mut parts, lemma.set, steps)? {
             return Ok(None);
         }

@@ -12,6 +12,8 @@ use Rattle.do_rules.specs.declared.rules.Rule.TheVariants.{Three}
 use Rattle.do_rules.proofs.RuleGraphs.{asked_of_three}
 use Rattle.do_derivation.specs.declared.faults.StepFault.TheVariants.{BadOrder, Grouping, Sets, Shape}
 use Rattle.do_derivation.specs.declared.faults.StepFault.{StepFault}
+use Rattle.do_derivation.specs.declared.moves.SetMove.TheVariants as set_move
+use Rattle.do_derivation.specs.declared.moves.BareMove.TheVariants as bare_move
 use Rattle.identification_theory.proofs.Assembly.{starts, listed, each_unchained, each_homed, cited_two, sets-append, length-sets, define-two}
 use Rattle.identification_theory.proofs.Bodies.{EachMade, each_made, widen_made}
 use Rattle.identification_theory.proofs.Body.{order_in}
@@ -143,7 +145,7 @@ if_true b x e = rw e refl
 pub unwrap_made : (g : MixedGraph) (ls : List ℕ) (fs : Trees) → MakesAll g ls (unwrap_steps fs) (product fs) (product (flat fs))
 unwrap_made g ls fs = go (has_product fs) refl
   where
-    go : (b : Bool) → has_product fs ≡ b → MakesAll g ls (cond b (single (Plan.Make Move.Unwrap)) no_plans) (product fs) (product (flat fs))
+    go : (b : Bool) → has_product fs ≡ b → MakesAll g ls (cond b (single (Plan.Make (Move.Bare bare_move.Unwrap))) no_plans) (product fs) (product (flat fs))
     go true e = (product (flat fs), made_option g (unwrapped (product fs)) (product (flat fs)) Shape (if_true (has_product fs) (product (flat fs)) e), refl)
     go false e = ap product (flat-same fs e)
 
@@ -185,9 +187,9 @@ module _ (g : MixedGraph) (is_graph : IsMixedGraph g) (o : List ℕ) (order : Is
       go : (b : Bool) → are_lists_to 9 (home_lists d ts (union p (one v)) o2) ≡ true
           → are_lists_to 9 (cond b (more (home_list d (home ts v) p) (home_lists d ts (union p (one v)) o2)) (home_lists d ts (union p (one v)) o2)) ≡ true
       go true r = both_true (are_plans_within 9 (home_list d (home ts v) p)) (are_lists_to 9 (home_lists d ts (union p (one v)) o2))
-          (with_deep 9 (minus (common d p) t) (Plan.Make (Move.Rule2Do (minus (common d p) t)))
-          (with_set (minus (minus d t) (minus (common d p) t)) (Plan.Make (Move.Rule3In (minus (minus d t) (minus (common d p) t)))) no_plans) refl
-          (with_deep 9 (minus (minus d t) (minus (common d p) t)) (Plan.Make (Move.Rule3In (minus (minus d t) (minus (common d p) t)))) no_plans refl refl)) r
+          (with_deep 9 (minus (common d p) t) (Plan.Make (Move.WithSet set_move.Rule2Do (minus (common d p) t)))
+          (with_set (minus (minus d t) (minus (common d p) t)) (Plan.Make (Move.WithSet set_move.Rule3In (minus (minus d t) (minus (common d p) t)))) no_plans) refl
+          (with_deep 9 (minus (minus d t) (minus (common d p) t)) (Plan.Make (Move.WithSet set_move.Rule3In (minus (minus d t) (minus (common d p) t)))) no_plans refl refl)) r
       go false r = r
 
   unchains_deep : (ts l : List ℕ) → are_lists_to 9 (unchain_lists ts l) ≡ true
@@ -203,7 +205,7 @@ module _ (g : MixedGraph) (is_graph : IsMixedGraph g) (o : List ℕ) (order : Is
   pub unwrap_deep : (fs : Trees) → are_plans_within 11 (unwrap_steps fs) ≡ true
   unwrap_deep fs = go (has_product fs)
     where
-      go : (b : Bool) → are_plans_within 11 (cond b (single (Plan.Make Move.Unwrap)) no_plans) ≡ true
+      go : (b : Bool) → are_plans_within 11 (cond b (single (Plan.Make (Move.Bare bare_move.Unwrap))) no_plans) ≡ true
       go true = refl
       go false = refl
 
@@ -367,7 +369,7 @@ module _ (g : MixedGraph) (is_graph : IsMixedGraph g) (o : List ℕ) (order : Is
     inside = r.inside;
   })
 
-  act : (ls : List ℕ) → is_empty others ≡ false → Makes g ls (Plan.Make (Move.Rule3In others)) (prob y x 0) (prob y (minus (all g.vertices) d) 0)
+  act : (ls : List ℕ) → is_empty others ≡ false → Makes g ls (Plan.Make (Move.WithSet set_move.Rule3In others)) (prob y x 0) (prob y (minus (all g.vertices) d) 0)
   act ls ne = made_if g (is_new g.vertices others y x 0) (Row.Ask Three x y others 0 (prob y (union x others) 0)) Sets (prob y (minus (all g.vertices) d) 0)
       (new_set g.vertices others y x 0 ne (λ u e. (others_of u e).0) (λ u e i. clash (has d u) (y_in u i) (others_of u e).2)
       (λ u e i. clash (has x u) i (others_of u e).1) (λ u e i. clash (has 0 u) i (has-zero u))) (
@@ -392,8 +394,8 @@ module _ (g : MixedGraph) (is_graph : IsMixedGraph g) (o : List ℕ) (order : Is
   -- from P(y | do(x)) to the sum over d outside y of what the rest makes of P(d | do(all others))
   pub main_made : (ls : List ℕ) (rest : Plans) (e : Tree) → MakesAll g ls rest (prob d (minus (all g.vertices) d) 0) e
       → MakesAll g ls (main_steps g.vertices x y d rest) (prob y x 0) (sum_if summed_out e)
-  main_made ls rest e h = made_with g ls others (Plan.Make (Move.Rule3In others))
-      (cond (is_empty summed_out) rest (plan (Plan.Make (Move.Widen summed_out)) (at_zero rest))) (prob y x 0) (prob y (minus (all g.vertices) d) 0)
+  main_made ls rest e h = made_with g ls others (Plan.Make (Move.WithSet set_move.Rule3In others))
+      (cond (is_empty summed_out) rest (plan (Plan.Make (Move.WithSet set_move.Widen summed_out)) (at_zero rest))) (prob y x 0) (prob y (minus (all g.vertices) d) 0)
       (sum_if summed_out e) no_act (act ls) (go (is_empty summed_out) refl)
     where
       of_sum : (u : ℕ) → has summed_out u ≡ true → (has d u ≡ true) × (has y u ≡ false)
@@ -406,7 +408,7 @@ module _ (g : MixedGraph) (is_graph : IsMixedGraph g) (o : List ℕ) (order : Is
           bools : (p q : Bool) → (p ≡ true → q ≡ true) → (p || (q && not p)) ≡ q
           bools p q h = grind (arith, h)
 
-      go : (b : Bool) → is_empty summed_out ≡ b → MakesAll g ls (cond b rest (plan (Plan.Make (Move.Widen summed_out)) (at_zero rest)))
+      go : (b : Bool) → is_empty summed_out ≡ b → MakesAll g ls (cond b rest (plan (Plan.Make (Move.WithSet set_move.Widen summed_out)) (at_zero rest)))
           (prob y (minus (all g.vertices) d) 0) (cond b e (sum summed_out e))
       go true q = subst (λ z. MakesAll g ls rest (prob z (minus (all g.vertices) d) 0) e)
           (same_from_has d y (λ u. bools (has y u) (has d u) (y_in u) (sym (has-minus d y u) ∙ empty-has summed_out u q))) h
@@ -415,7 +417,7 @@ module _ (g : MixedGraph) (is_graph : IsMixedGraph g) (o : List ℕ) (order : Is
           bools p q h1 h2 = grind (arith, h1, h2)
       go false q = (
         sum summed_out (prob d (minus (all g.vertices) d) 0),
-        subst (λ z. Makes g ls (Plan.Make (Move.Widen summed_out)) (prob y (minus (all g.vertices) d) 0)
+        subst (λ z. Makes g ls (Plan.Make (Move.WithSet set_move.Widen summed_out)) (prob y (minus (all g.vertices) d) 0)
             (sum summed_out (prob z (minus (all g.vertices) d) 0))) back
             (widen_made g ls summed_out y (minus (all g.vertices) d) q (λ u i. d_low u (of_sum u i).0) (λ u i j. clash (has y u) j (of_sum u i).1)
             (λ u i j. clash (has d u) (of_sum u i).0 (not_e (has d u) (and_r (has (all g.vertices) u) (not (has d u))
@@ -425,9 +427,9 @@ module _ (g : MixedGraph) (is_graph : IsMixedGraph g) (o : List ℕ) (order : Is
 
   -- the steps of main nest at most 13 deep where the rest of them nests at most 11
   pub main_deep : (rest : Plans) → are_plans_within 11 rest ≡ true → are_plans_within 13 (main_steps g.vertices x y d rest) ≡ true
-  main_deep rest h = with_deep 13 others (Plan.Make (Move.Rule3In others))
-      (cond (is_empty summed_out) rest (plan (Plan.Make (Move.Widen summed_out)) (at_zero rest))) refl (go (is_empty summed_out))
+  main_deep rest h = with_deep 13 others (Plan.Make (Move.WithSet set_move.Rule3In others))
+      (cond (is_empty summed_out) rest (plan (Plan.Make (Move.WithSet set_move.Widen summed_out)) (at_zero rest))) refl (go (is_empty summed_out))
     where
-      go : (b : Bool) → are_plans_within 13 (cond b rest (plan (Plan.Make (Move.Widen summed_out)) (at_zero rest))) ≡ true
+      go : (b : Bool) → are_plans_within 13 (cond b rest (plan (Plan.Make (Move.WithSet set_move.Widen summed_out)) (at_zero rest))) ≡ true
       go true = steps_more 12 rest (steps_more 11 rest h)
       go false = place_at 11 0 rest no_plans h refl

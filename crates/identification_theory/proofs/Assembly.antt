@@ -8,6 +8,7 @@ use Rattle.do_derivation.specs.Shapes.{as_one, chained, gathered, is_list_of, te
 use Rattle.do_derivation.specs.Steps.{IsMade, Makes, MakesAll}
 use Rattle.do_derivation.specs.Table.{if_made}
 use Rattle.do_derivation.specs.declared.faults.StepFault.TheVariants.{Shape}
+use Rattle.do_derivation.specs.declared.moves.BareMove.TheVariants as bare_move
 use Rattle.identification_theory.proofs.Bodies.{IsCited, EachMade}
 use Rattle.identification_theory.proofs.Body.{is_list, IsSite, HoldsParents, next_parents, order_in}
 use Rattle.identification_theory.proofs.Bools.{and_l, and_r, both_true, clash, decide, not_e, or_e, or_l}
@@ -79,7 +80,7 @@ module _ (g : MixedGraph) (ls : List ℕ) where
   unchain_made t b (v ∷ []) e u i = ap (λ z. prob z b 0) (alone t v e)
   unchain_made t b (v ∷ w ∷ l) e u i = (
     prob t b 0,
-    subst (λ z. Makes g ls (Plan.Make Move.Unchain) (product (chained b 0 (v ∷ w ∷ l))) z) refl
+    subst (λ z. Makes g ls (Plan.Make (Move.Bare bare_move.Unchain)) (product (chained b 0 (v ∷ w ∷ l))) z) refl
         (made_option (unchained (product (chained b 0 (v ∷ w ∷ l)))) (prob t b 0)
         (ap (term_with b 0) (gathered_is b (one v) t (union 0 (one v)) (w ∷ l) zero_join (and_r (has t v) (is_list_of (w ∷ l) (minus t (one v))) e)
         (λ x j. rw (one-is v x j) (and_l (has t v) (is_list_of (w ∷ l) (minus t (one v))) e))))),

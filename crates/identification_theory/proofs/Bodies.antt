@@ -7,6 +7,8 @@ use Rattle.do_derivation.specs.Shapes.{count_factors, factor_at, appended, with_
 use Rattle.do_derivation.specs.Steps.{Makes, MakesAll}
 use Rattle.do_derivation.specs.Table.{Row, if_so, is_new}
 use Rattle.do_derivation.specs.declared.faults.StepFault.TheVariants.{NoLemma, Sets, Shape}
+use Rattle.do_derivation.specs.declared.moves.SetMove.TheVariants as set_move
+use Rattle.do_derivation.specs.declared.moves.BareMove.TheVariants as bare_move
 use Rattle.identification_theory.proofs.Bools.{and_l, and_r, both_true, clash, not_e, not_i, or_e}
 use Rattle.identification_theory.proofs.Places.{made_if}
 use Rattle.identification_theory.proofs.Sets.{all-is, apart, below, empty-has, has-minus, one-is}
@@ -45,7 +47,7 @@ module _ (g : MixedGraph) (ls : List ℕ) where
   -- the rest s of a set a is put in, under a sum
   pub widen_made : (s a b : ℕ) → is_empty s ≡ false → ((v : ℕ) → has s v ≡ true → v < g.vertices) → ((v : ℕ) → has s v ≡ true → has a v ≡ true → ⊥)
       → ((v : ℕ) → has s v ≡ true → has b v ≡ true → ⊥)
-      → Makes g ls (Plan.Make (Move.Widen s)) (prob a b 0) (sum s (prob (union a s) b 0))
+      → Makes g ls (Plan.Make (Move.WithSet set_move.Widen s)) (prob a b 0) (sum s (prob (union a s) b 0))
   widen_made s a b ne low off_a off_b = made_if g (is_new g.vertices s a b 0) (Row.Make (sum s (prob (union a s) b 0))) Sets (sum s (prob (union a s) b 0))
       (both_true (not (is_empty s)) (is_below g.vertices s && (is_apart s a && (is_apart s b && is_apart s 0))) (not_i (is_empty s) ne)
       (both_true (is_below g.vertices s) (is_apart s a && (is_apart s b && is_apart s 0)) (below g.vertices s low)
@@ -69,7 +71,7 @@ module _ (g : MixedGraph) (ls : List ℕ) where
             bools p q h = grind (arith, h)
 
         go : (b : Bool) → is_empty (minus a u) ≡ b → MakesAll g ls (cond b (single (Plan.Make (Move.Cite k)))
-            (plan (Plan.Make (Move.Widen (minus a u))) (single (Plan.At 0 (Plan.Then (single (Plan.Make (Move.Cite k))))))))
+            (plan (Plan.Make (Move.WithSet set_move.Widen (minus a u))) (single (Plan.At 0 (Plan.Then (single (Plan.Make (Move.Cite k))))))))
             (prob u (minus (all g.vertices) a) 0) (cond b (named k) (sum (minus a u) (named k)))
         go true e = (
           named k,
@@ -134,7 +136,7 @@ module _ (g : MixedGraph) (ls : List ℕ) where
           bools p q = grind arith
 
       go : (b : Bool) → is_empty m ≡ b → MakesAll g ls (cond b (marginal_steps k a (one v))
-          (plan (Plan.Make Move.Split) (plan (Plan.At 0 (Plan.Then (marginal_steps k a (union m (one v)))))
+          (plan (Plan.Make (Move.Bare bare_move.Split)) (plan (Plan.At 0 (Plan.Then (marginal_steps k a (union m (one v)))))
           (single (Plan.At 1 (Plan.Then (marginal_steps k a m)))))))
           (prob (one v) (minus (all g.vertices) a) m) (cond b (marginal k a (one v)) (quotient (marginal k a (union m (one v))) (marginal k a m)))
       go true e = subst (λ z. MakesAll g ls (marginal_steps k a (one v)) (prob (one v) (minus (all g.vertices) a) z) (marginal k a (one v)))

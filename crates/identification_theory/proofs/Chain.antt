@@ -6,6 +6,7 @@ use Rattle.do_derivation.specs.Table.{Row, is_new, is_part}
 use Rattle.do_rules.specs.declared.rules.Rule.TheVariants.{Two, Three}
 use Rattle.do_rules.proofs.RuleGraphs.{asked_of_two, asked_of_three}
 use Rattle.do_derivation.specs.declared.faults.StepFault.TheVariants.{Sets}
+use Rattle.do_derivation.specs.declared.moves.SetMove.TheVariants as set_move
 use Rattle.identification_theory.proofs.Bools.{and_l, and_r, both_true, clash, not_i, or_l, or_r}
 use Rattle.identification_theory.proofs.Places.{made_with, made_if, part, cut_three}
 use Rattle.identification_theory.proofs.Separations.{IsPlace, later_not_above, later_removed, earlier_exchanged}
@@ -70,7 +71,7 @@ module _ (g : MixedGraph) (is_graph : IsMixedGraph g) (d t P v : ℕ) (low : (u 
       bools : (x y z : Bool) → (z ≡ true → x ≡ true) → ((x && y) && not ((x && y) && not z)) ≡ (z && y)
       bools x y z h = grind (arith, h)
 
-  step_do : (ls : List ℕ) → is_empty others_before ≡ false → Makes g ls (Plan.Make (Move.Rule2Do others_before)) (prob (one v) outer (common d P))
+  step_do : (ls : List ℕ) → is_empty others_before ≡ false → Makes g ls (Plan.Make (Move.WithSet set_move.Rule2Do others_before)) (prob (one v) outer (common d P))
       (prob (one v) (union outer others_before) (common t P))
   step_do ls ne = made_if g (is_part others_before (common d P)) (Row.Ask Two outer (one v) others_before (minus (common d P) others_before)
       (prob (one v) (union outer others_before) (minus (common d P) others_before))) Sets
@@ -120,7 +121,7 @@ module _ (g : MixedGraph) (is_graph : IsMixedGraph g) (d t P v : ℕ) (low : (u 
           → (((V && not d) || ((d && p) && not t)) || ((d && not t) && not ((d && p) && not t))) ≡ (V && not t)
       bools V d t p h1 h2 = grind (arith, h1, h2)
 
-  step_in : (ls : List ℕ) → is_empty others_after ≡ false → Makes g ls (Plan.Make (Move.Rule3In others_after))
+  step_in : (ls : List ℕ) → is_empty others_after ≡ false → Makes g ls (Plan.Make (Move.WithSet set_move.Rule3In others_after))
       (prob (one v) (union outer others_before) (common t P)) (prob (one v) (minus (all g.vertices) t) (common t P))
   step_in ls ne = made_if g (is_new g.vertices others_after (one v) (union outer others_before) (common t P))
       (Row.Ask Three (union outer others_before) (one v) others_after (common t P) (prob (one v) (union (union outer others_before) others_after) (common t P)))
@@ -140,7 +141,7 @@ module _ (g : MixedGraph) (is_graph : IsMixedGraph g) (d t P v : ℕ) (low : (u 
       )
 
   abbrev pub home_steps : Plans
-  home_steps = with_set others_before (Plan.Make (Move.Rule2Do others_before)) (with_set others_after (Plan.Make (Move.Rule3In others_after)) no_plans)
+  home_steps = with_set others_before (Plan.Make (Move.WithSet set_move.Rule2Do others_before)) (with_set others_after (Plan.Make (Move.WithSet set_move.Rule3In others_after)) no_plans)
 
   none_before : is_empty others_before ≡ true → prob (one v) (union outer others_before) (common t P) ≡ prob (one v) outer (common d P)
   none_before e = ap₂ (prob (one v)) (same_from_has (union outer others_before) outer
@@ -164,9 +165,9 @@ module _ (g : MixedGraph) (is_graph : IsMixedGraph g) (d t P v : ℕ) (low : (u 
   -- the chain's factor of v in d becomes that of v in its district
   pub home_made : (ls : List ℕ) → MakesAll g ls home_steps (prob (one v) (minus (all g.vertices) d) (common d P))
       (prob (one v) (minus (all g.vertices) t) (common t P))
-  home_made ls = made_with g ls others_before (Plan.Make (Move.Rule2Do others_before))
-      (with_set others_after (Plan.Make (Move.Rule3In others_after)) no_plans) (prob (one v) outer (common d P))
+  home_made ls = made_with g ls others_before (Plan.Make (Move.WithSet set_move.Rule2Do others_before))
+      (with_set others_after (Plan.Make (Move.WithSet set_move.Rule3In others_after)) no_plans) (prob (one v) outer (common d P))
       (prob (one v) (union outer others_before) (common t P)) (prob (one v) (minus (all g.vertices) t) (common t P))
       none_before (step_do ls)
-      (made_with g ls others_after (Plan.Make (Move.Rule3In others_after)) no_plans (prob (one v) (union outer others_before) (common t P))
+      (made_with g ls others_after (Plan.Make (Move.WithSet set_move.Rule3In others_after)) no_plans (prob (one v) (union outer others_before) (common t P))
       (prob (one v) (minus (all g.vertices) t) (common t P)) (prob (one v) (minus (all g.vertices) t) (common t P)) none_after (step_in ls) refl)

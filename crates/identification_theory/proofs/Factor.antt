@@ -11,6 +11,7 @@ use Rattle.do_rules.specs.Rules.{IsBlockedFor}
 use Rattle.do_rules.specs.declared.rules.Rule.TheVariants.{Three}
 use Rattle.do_rules.proofs.RuleGraphs.{asked_of_three}
 use Rattle.do_derivation.specs.declared.faults.StepFault.TheVariants.{Sets}
+use Rattle.do_derivation.specs.declared.moves.SetMove.TheVariants as set_move
 use Rattle.identification_theory.proofs.Bodies.{IsCited, widen_made}
 use Rattle.identification_theory.proofs.Body.{IsSite, IsHeld, universe_in, body_made}
 use Rattle.identification_theory.proofs.Bools.{and_l, and_r, both_true, clash, decide, not_e, not_i}
@@ -147,8 +148,8 @@ module _ (g : MixedGraph) (is_graph : IsMixedGraph g) (o : List ℕ) (order : Is
       none : (u : ℕ) → has (minus t a2) u ≡ true → IsAncestor (cut_into g (has (minus (all g.vertices) t))) (has 0) u → ⊥
       none u e r = clash (has 0 r.end) r.inside (has-zero r.end)
 
-      first : Makes g ls (Plan.Make (Move.Rule3Out (minus t a2))) (prob a2 (minus (all g.vertices) a2) 0) (prob a2 (minus (all g.vertices) t) 0)
-      first = subst (λ x. Makes g ls (Plan.Make (Move.Rule3Out (minus t a2))) (prob a2 (minus (all g.vertices) a2) 0) (prob a2 x 0)) left
+      first : Makes g ls (Plan.Make (Move.WithSet set_move.Rule3Out (minus t a2))) (prob a2 (minus (all g.vertices) a2) 0) (prob a2 (minus (all g.vertices) t) 0)
+      first = subst (λ x. Makes g ls (Plan.Make (Move.WithSet set_move.Rule3Out (minus t a2))) (prob a2 (minus (all g.vertices) a2) 0) (prob a2 x 0)) left
           (made_if g (is_part (minus t a2) (minus (all g.vertices) a2))
           (Row.Ask Three (minus (minus (all g.vertices) a2) (minus t a2)) a2 (minus t a2) 0 (prob a2 (minus (minus (all g.vertices) a2) (minus t a2)) 0))
           Sets
@@ -175,8 +176,8 @@ module _ (g : MixedGraph) (is_graph : IsMixedGraph g) (o : List ℕ) (order : Is
           bools : (y w : Bool) → (w ≡ true → y ≡ true) → (w || (y && not w)) ≡ y
           bools y w h = grind (arith, h)
 
-      second : Makes g ls (Plan.Make (Move.Widen (minus t a2))) (prob a2 (minus (all g.vertices) t) 0) (sum (minus t a2) (prob t (minus (all g.vertices) t) 0))
-      second = subst (λ x. Makes g ls (Plan.Make (Move.Widen (minus t a2))) (prob a2 (minus (all g.vertices) t) 0)
+      second : Makes g ls (Plan.Make (Move.WithSet set_move.Widen (minus t a2))) (prob a2 (minus (all g.vertices) t) 0) (sum (minus t a2) (prob t (minus (all g.vertices) t) 0))
+      second = subst (λ x. Makes g ls (Plan.Make (Move.WithSet set_move.Widen (minus t a2))) (prob a2 (minus (all g.vertices) t) 0)
           (sum (minus t a2) (prob x (minus (all g.vertices) t) 0))) back
           (widen_made g ls (minus t a2) a2 (minus (all g.vertices) t) (not_all t a2 a_in ne) (λ u e. low u (z_of u e).0)
           (λ u e i. clash (has a2 u) i (z_of u e).1)

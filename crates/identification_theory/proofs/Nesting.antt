@@ -1,6 +1,8 @@
 -- The steps of identification nest little, whatever the graph.
 use Rattle.std.proofs.Common.{ℕ, zero, suc, ◌≡◌, Bool, true, false, cond, refl, ◌&&◌, List, [], ◌∷◌, ◌++◌, arith}
 use Rattle.do_derivation.specs.Plans.{Move, PlainLemma, Plan, Plans, no_plans, plan}
+use Rattle.do_derivation.specs.declared.moves.SetMove.TheVariants as set_move
+use Rattle.do_derivation.specs.declared.moves.BareMove.TheVariants as bare_move
 use Rattle.identification_theory.proofs.Bools.{and_l, and_r, both_true}
 use Rattle.identification_theory.specs.Depth.{are_lemmas_within, are_plans_within, is_plan_within}
 use Rattle.identification_theory.specs.Procedure.{Source}
@@ -32,7 +34,7 @@ marginal_deep : (k a u : ℕ) → are_plans_within 3 (marginal_steps k a u) ≡ 
 marginal_deep k a u = go (is_empty (minus a u))
   where
     go : (b : Bool) → are_plans_within 3 (cond b (single (Plan.Make (Move.Cite k)))
-        (plan (Plan.Make (Move.Widen (minus a u))) (single (Plan.At 0 (Plan.Then (single (Plan.Make (Move.Cite k)))))))) ≡ true
+        (plan (Plan.Make (Move.WithSet set_move.Widen (minus a u))) (single (Plan.At 0 (Plan.Then (single (Plan.Make (Move.Cite k)))))))) ≡ true
     go true = refl
     go false = refl
 
@@ -41,19 +43,19 @@ source_deep (Source.Under z) a v m = refl
 source_deep (Source.Defined k) a v m = go (is_empty m)
   where
     go : (b : Bool) → are_plans_within 5 (cond b (marginal_steps k a (one v))
-        (plan (Plan.Make Move.Split) (plan (Plan.At 0 (Plan.Then (marginal_steps k a (union m (one v)))))
+        (plan (Plan.Make (Move.Bare bare_move.Split)) (plan (Plan.At 0 (Plan.Then (marginal_steps k a (union m (one v)))))
         (single (Plan.At 1 (Plan.Then (marginal_steps k a m))))))) ≡ true
     go true = steps_more 4 (marginal_steps k a (one v)) (steps_more 3 (marginal_steps k a (one v)) (marginal_deep k a (one v)))
     go false = both_true (are_plans_within 3 (marginal_steps k a (union m (one v)))) (are_plans_within 3 (marginal_steps k a m) && true)
         (marginal_deep k a (union m (one v))) (both_true (are_plans_within 3 (marginal_steps k a m)) true (marginal_deep k a m) refl)
 
 pub place_deep : (p u a t m : ℕ) (from : Source) (v : ℕ) → are_plans_within 5 (place_list p u a t m (source_steps from a v m)) ≡ true
-place_deep p u a t m from v = with_deep 5 (minus (minus u t) (minus (common a p) t)) (Plan.Make (Move.Rule3Out (minus (minus u t) (minus (common a p) t))))
-    (with_set (minus (common a p) t) (Plan.Make (Move.Rule2See (minus (common a p) t)))
-    (with_set (minus (common a p) m) (Plan.Make (Move.Rule1Out (minus (common a p) m))) (source_steps from a v m))) refl
-    (with_deep 5 (minus (common a p) t) (Plan.Make (Move.Rule2See (minus (common a p) t)))
-    (with_set (minus (common a p) m) (Plan.Make (Move.Rule1Out (minus (common a p) m))) (source_steps from a v m)) refl
-    (with_deep 5 (minus (common a p) m) (Plan.Make (Move.Rule1Out (minus (common a p) m))) (source_steps from a v m) refl (source_deep from a v m)))
+place_deep p u a t m from v = with_deep 5 (minus (minus u t) (minus (common a p) t)) (Plan.Make (Move.WithSet set_move.Rule3Out (minus (minus u t) (minus (common a p) t))))
+    (with_set (minus (common a p) t) (Plan.Make (Move.WithSet set_move.Rule2See (minus (common a p) t)))
+    (with_set (minus (common a p) m) (Plan.Make (Move.WithSet set_move.Rule1Out (minus (common a p) m))) (source_steps from a v m))) refl
+    (with_deep 5 (minus (common a p) t) (Plan.Make (Move.WithSet set_move.Rule2See (minus (common a p) t)))
+    (with_set (minus (common a p) m) (Plan.Make (Move.WithSet set_move.Rule1Out (minus (common a p) m))) (source_steps from a v m)) refl
+    (with_deep 5 (minus (common a p) m) (Plan.Make (Move.WithSet set_move.Rule1Out (minus (common a p) m))) (source_steps from a v m) refl (source_deep from a v m)))
 
 -- the steps of each list nest at most d deep
 abbrev pub are_lists_to : ℕ → Lists → Bool

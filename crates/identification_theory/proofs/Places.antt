@@ -6,6 +6,7 @@ use Rattle.do_derivation.specs.Steps.{IsMade, Makes, MakesAll}
 use Rattle.do_derivation.specs.Table.{Row, if_so, is_part}
 use Rattle.do_derivation.specs.declared.faults.StepFault.TheVariants.{Sets}
 use Rattle.do_derivation.specs.declared.faults.StepFault.{StepFault}
+use Rattle.do_derivation.specs.declared.moves.SetMove.TheVariants as set_move
 use Rattle.do_rules.specs.Rules.{IsFarPart}
 use Rattle.do_rules.specs.declared.rules.Rule.TheVariants.{One, Two, Three}
 use Rattle.do_rules.proofs.RuleGraphs.{asked_of_one, asked_of_two, asked_of_three}
@@ -127,7 +128,7 @@ module _ (g : MixedGraph) (is_graph : IsMixedGraph g) (P U A T v M : ℕ) (k : I
         go : (V U T A P : Bool) → (U ≡ true → V ≡ true) → ((U && not T) && not ((A && P) && not T)) ≡ true → (V && not T) ≡ true
         go V U T A P h1 h2 = grind (arith, h1, h2)
 
-    step_one : (ls : List ℕ) → is_empty later ≡ false → Makes g ls (Plan.Make (Move.Rule3Out later)) (prob (one v) rest_set W) (prob (one v) set_one W)
+    step_one : (ls : List ℕ) → is_empty later ≡ false → Makes g ls (Plan.Make (Move.WithSet set_move.Rule3Out later)) (prob (one v) rest_set W) (prob (one v) set_one W)
     step_one ls ne = made_if g (is_part later rest_set) (Row.Ask Three (minus rest_set later) (one v) later W (prob (one v) (minus rest_set later) W)) Sets
         (prob (one v) set_one W)
         (part later rest_set ne later_in) (
@@ -155,7 +156,7 @@ module _ (g : MixedGraph) (is_graph : IsMixedGraph g) (P U A T v M : ℕ) (k : I
     before_free u e = let h : ((has A u && has P u) && not (has T u)) ≡ true = rw (has-before u) at e in
         one_before u (before_in u e).0 (not_e (has T u) (and_r (has A u && has P u) (not (has T u)) h)) (before_in u e).1
 
-    step_two : (ls : List ℕ) → is_empty before_outside ≡ false → Makes g ls (Plan.Make (Move.Rule2See before_outside)) (prob (one v) set_one W)
+    step_two : (ls : List ℕ) → is_empty before_outside ≡ false → Makes g ls (Plan.Make (Move.WithSet set_move.Rule2See before_outside)) (prob (one v) set_one W)
         (prob (one v) set_two (union W before_outside))
     step_two ls ne = made_if g (is_part before_outside set_one) (Row.Ask Two (minus set_one before_outside) (one v) before_outside W
         (prob (one v) (minus set_one before_outside) (union W before_outside))) Sets (prob (one v) set_two (union W before_outside))
@@ -188,7 +189,7 @@ module _ (g : MixedGraph) (is_graph : IsMixedGraph g) (P U A T v M : ℕ) (k : I
         go : (A P M : Bool) → (M ≡ true → A ≡ true) → (M ≡ true → P ≡ true) → ((A && P) && not ((A && P) && not M)) ≡ M
         go A P M h1 h2 = grind (arith, h1, h2)
 
-    step_three : (ls : List ℕ) → is_empty unneeded ≡ false → Makes g ls (Plan.Make (Move.Rule1Out unneeded)) (prob (one v) set_two (union W before_outside))
+    step_three : (ls : List ℕ) → is_empty unneeded ≡ false → Makes g ls (Plan.Make (Move.WithSet set_move.Rule1Out unneeded)) (prob (one v) set_two (union W before_outside))
         (prob (one v) set_two M)
     step_three ls ne = made_if g (is_part unneeded (union W before_outside))
         (Row.Ask One set_two (one v) unneeded (minus (union W before_outside) unneeded) (prob (one v) set_two (minus (union W before_outside) unneeded))) Sets
@@ -228,10 +229,10 @@ module _ (g : MixedGraph) (is_graph : IsMixedGraph g) (P U A T v M : ℕ) (k : I
     pub place_made : (ls : List ℕ) (rest : Plans) (e : Tree) → MakesAll g ls rest (prob (one v) (minus (all g.vertices) U) M) e
         → MakesAll g ls (place_list P U A T M rest) (prob (one v) (minus (all g.vertices) T) W) e
     place_made ls rest e h =
-        made_with g ls later (Plan.Make (Move.Rule3Out later)) (with_set before_outside (Plan.Make (Move.Rule2See before_outside))
-        (with_set unneeded (Plan.Make (Move.Rule1Out unneeded)) rest)) (prob (one v) rest_set W) (prob (one v) set_one W) e skip_one (step_one ls)
-        (made_with g ls before_outside (Plan.Make (Move.Rule2See before_outside)) (with_set unneeded (Plan.Make (Move.Rule1Out unneeded)) rest)
+        made_with g ls later (Plan.Make (Move.WithSet set_move.Rule3Out later)) (with_set before_outside (Plan.Make (Move.WithSet set_move.Rule2See before_outside))
+        (with_set unneeded (Plan.Make (Move.WithSet set_move.Rule1Out unneeded)) rest)) (prob (one v) rest_set W) (prob (one v) set_one W) e skip_one (step_one ls)
+        (made_with g ls before_outside (Plan.Make (Move.WithSet set_move.Rule2See before_outside)) (with_set unneeded (Plan.Make (Move.WithSet set_move.Rule1Out unneeded)) rest)
         (prob (one v) set_one W) (prob (one v) set_two (union W before_outside)) e skip_two (step_two ls)
-        (made_with g ls unneeded (Plan.Make (Move.Rule1Out unneeded)) rest (prob (one v) set_two (union W before_outside)) (prob (one v) set_two M)
+        (made_with g ls unneeded (Plan.Make (Move.WithSet set_move.Rule1Out unneeded)) rest (prob (one v) set_two (union W before_outside)) (prob (one v) set_two M)
         e skip_three (step_three ls)
         (rw two_is h)))

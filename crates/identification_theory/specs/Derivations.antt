@@ -8,6 +8,8 @@ use Rattle.mixed_graph.specs.Masks.{union, minus, one, all, is_empty, common}
 use Rattle.prob_expr.specs.Tree.{prob, Trees, PlainFormula}
 use Rattle.do_derivation.specs.Plans.{Move, Plan, Plans, no_plans, plan, PlainLemma, PlainDerivation}
 use Rattle.do_derivation.specs.Shapes.{has_product}
+use Rattle.do_derivation.specs.declared.moves.SetMove.TheVariants as set_move
+use Rattle.do_derivation.specs.declared.moves.BareMove.TheVariants as bare_move
 use Rattle.identification_theory.specs.Procedure.{AreAncestorsIn, IsPillow, Source, IsComposed}
 
 -- ---- lists of steps
@@ -53,23 +55,23 @@ universe n (Source.Defined k) a = a
 
 -- definition k, of the set a, summed down to u
 abbrev pub marginal_steps : (k a u : ℕ) → Plans
-marginal_steps k a u = if is_empty (minus a u) then single (Plan.Make (Move.Cite k)) else plan (Plan.Make (Move.Widen (minus a u)))
+marginal_steps k a u = if is_empty (minus a u) then single (Plan.Make (Move.Cite k)) else plan (Plan.Make (Move.WithSet set_move.Widen (minus a u)))
     (single (Plan.At 0 (Plan.Then (single (Plan.Make (Move.Cite k))))))
 
 -- P(v | m) read from a definition: the quotient of two sums of it
 abbrev pub source_steps : Source → (a v m : ℕ) → Plans
 source_steps (Source.Under z) a v m = no_plans
 source_steps (Source.Defined k) a v m = if is_empty m then marginal_steps k a (one v)
-    else (plan (Plan.Make Move.Split) (plan (Plan.At 0 (Plan.Then (marginal_steps k a (union m (one v)))))
+    else (plan (Plan.Make (Move.Bare bare_move.Split)) (plan (Plan.At 0 (Plan.Then (marginal_steps k a (union m (one v)))))
     (single (Plan.At 1 (Plan.Then (marginal_steps k a m))))))
 
 -- The rules at the term of one vertex of t, where p has the vertices before it, u is the universe and m the pillow: rule 3 drops the actions on what
 -- comes later or lies
 -- outside a, rule 2 makes those on earlier members of a outside t observations, and rule 1 drops what isn't in the pillow.
 abbrev pub place_list : (p u a t m : ℕ) → Plans → Plans
-place_list p u a t m rest = with_set (minus (minus u t) (minus (common a p) t)) (Plan.Make (Move.Rule3Out (minus (minus u t) (minus (common a p) t))))
-    (with_set (minus (common a p) t) (Plan.Make (Move.Rule2See (minus (common a p) t)))
-    (with_set (minus (common a p) m) (Plan.Make (Move.Rule1Out (minus (common a p) m))) rest))
+place_list p u a t m rest = with_set (minus (minus u t) (minus (common a p) t)) (Plan.Make (Move.WithSet set_move.Rule3Out (minus (minus u t) (minus (common a p) t))))
+    (with_set (minus (common a p) t) (Plan.Make (Move.WithSet set_move.Rule2See (minus (common a p) t)))
+    (with_set (minus (common a p) m) (Plan.Make (Move.WithSet set_move.Rule1Out (minus (common a p) m))) rest))
 
 -- the lists of the members of t in the order, where p has the vertices before the list
 pub data ArePlaceLists (g : MixedGraph) (from : Source) (a t : ℕ) : ℕ → List ℕ → Lists → Type 0 where
@@ -96,7 +98,7 @@ pub record AreBodySteps (g : MixedGraph) (order : List ℕ) (from : Source) (a t
 
 -- to a sum over z of the larger term, whose list works inside the sum
 abbrev pub cut_steps : ℕ → Plans → Plans
-cut_steps z l = plan (Plan.Make (Move.Rule3Out z)) (plan (Plan.Make (Move.Widen z)) (at_zero l))
+cut_steps z l = plan (Plan.Make (Move.WithSet set_move.Rule3Out z)) (plan (Plan.Make (Move.WithSet set_move.Widen z)) (at_zero l))
 
 -- the lemmas of the factor's definitions from number k on, and its steps
 pub data AreFactorSteps (g : MixedGraph) (order : List ℕ) (c : ℕ) : (a : ℕ) (from : Source) (k : ℕ) → List PlainLemma → Plans → Type 0 where
@@ -124,8 +126,8 @@ home (t ∷ ts) v = if has t v then t else home ts v
 
 -- from the term of a vertex in the chain of d to that in the chain of its district t, where p has the vertices before it
 abbrev pub home_list : (d t p : ℕ) → Plans
-home_list d t p = with_set (minus (common d p) t) (Plan.Make (Move.Rule2Do (minus (common d p) t)))
-    (with_set (minus (minus d t) (minus (common d p) t)) (Plan.Make (Move.Rule3In (minus (minus d t) (minus (common d p) t)))) no_plans)
+home_list d t p = with_set (minus (common d p) t) (Plan.Make (Move.WithSet set_move.Rule2Do (minus (common d p) t)))
+    (with_set (minus (minus d t) (minus (common d p) t)) (Plan.Make (Move.WithSet set_move.Rule3In (minus (minus d t) (minus (common d p) t)))) no_plans)
 
 -- one such list for each member of d in the order, where p has the vertices before the list
 abbrev pub home_lists : (d : ℕ) → List ℕ → (p : ℕ) → List ℕ → Lists
@@ -146,7 +148,7 @@ group_lists (t ∷ ts) l = places t 0 l ∷ group_lists ts l
 abbrev pub unchain_steps : List ℕ → Plans
 unchain_steps [] = no_plans
 unchain_steps (v ∷ []) = no_plans
-unchain_steps (v ∷ w ∷ l) = single (Plan.Make Move.Unchain)
+unchain_steps (v ∷ w ∷ l) = single (Plan.Make (Move.Bare bare_move.Unchain))
 
 -- those of each district
 abbrev pub unchain_lists : List ℕ → List ℕ → Lists
@@ -155,7 +157,7 @@ unchain_lists (t ∷ ts) l = more (unchain_steps (in_order t l)) (unchain_lists 
 
 -- factors that are products are opened
 abbrev pub unwrap_steps : Trees → Plans
-unwrap_steps fs = if has_product fs then single (Plan.Make Move.Unwrap) else no_plans
+unwrap_steps fs = if has_product fs then single (Plan.Make (Move.Bare bare_move.Unwrap)) else no_plans
 
 -- the list has two entries or more
 abbrev pub two_or_more : List ℕ → Bool
@@ -183,8 +185,8 @@ district_steps order d (t ∷ s ∷ ts) ls fs = plan (Plan.Make (Move.Chain (in_
 
 -- rule 3 puts in the actions that change nothing in y, and the sum over d outside y holds the rest
 abbrev pub main_steps : (n x y d : ℕ) → Plans → Plans
-main_steps n x y d rest = with_set (minus (minus (all n) x) d) (Plan.Make (Move.Rule3In (minus (minus (all n) x) d)))
-    (if is_empty (minus d y) then rest else plan (Plan.Make (Move.Widen (minus d y))) (at_zero rest))
+main_steps n x y d rest = with_set (minus (minus (all n) x) d) (Plan.Make (Move.WithSet set_move.Rule3In (minus (minus (all n) x) d)))
+    (if is_empty (minus d y) then rest else plan (Plan.Make (Move.WithSet set_move.Widen (minus d y))) (at_zero rest))
 
 -- by this order the composed formula has that derivation
 pub record IsComposedAndDerived (g : MixedGraph) (order : List ℕ) (x y : ℕ) (f : PlainFormula) (d : PlainDerivation) : Type 0 where

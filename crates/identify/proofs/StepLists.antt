@@ -8,8 +8,11 @@ use Rattle.mixed_graph.specs.declared.sets.VSet.{VSet}
 use Rattle.do_derivation.specs.Plans.{Move, Plan, Plans, no_plans, plan}
 use Rattle.do_derivation.specs.Shapes.{flat}
 use Rattle.do_derivation.specs.View.{step_view, steps_view}
-use Rattle.do_derivation.specs.declared.steps.Step.{Step, Rule2Do, Rule3In, Widen}
-use Rattle.do_derivation.proofs.StepViews.{step-Rule2Do, step-Rule3In, step-Widen}
+use Rattle.do_derivation.specs.declared.steps.Step.{Make, Step}
+use Rattle.do_derivation.proofs.StepViews.{step-Make}
+use Rattle.do_derivation.specs.declared.moves.Move.TheVariants.{WithSet}
+use Rattle.do_derivation.specs.declared.moves.SetMove.TheVariants as set_move
+use Rattle.do_derivation.specs.declared.moves.BareMove.TheVariants as bare_move
 use Rattle.hedge.specs.Listed.{first_masks}
 use Rattle.mixed_graph.specs.Masks.{minus, all, is_empty, common}
 use Rattle.prob_expr.specs.Tree.{Trees, product}
@@ -39,7 +42,7 @@ two_from [] = refl
 two_from (v ∷ []) = refl
 two_from (v ∷ w ∷ l) = le-leb 2 (length (v ∷ w ∷ l)) (omega arith)
 
-pub unchain_is : (l : List ℕ) → unchain_steps l ≡ cond (two_or_more l) (single (Plan.Make Move.Unchain)) no_plans
+pub unchain_is : (l : List ℕ) → unchain_steps l ≡ cond (two_or_more l) (single (Plan.Make (Move.Bare bare_move.Unchain))) no_plans
 unchain_is [] = refl
 unchain_is (v ∷ []) = refl
 unchain_is (v ∷ w ∷ l) = refl
@@ -55,25 +58,25 @@ alone_is e = refl
 
 -- ---- the steps of main
 pub home_is : (d t p : ℕ) (e f : VSet) → e.bits ≡ minus (common d p) t → f.bits ≡ minus (minus d t) (minus (common d p) t)
-    → with_set e.bits (step_view (Rule2Do e)) (with_set f.bits (step_view (Rule3In f)) no_plans) ≡ home_list d t p
+    → with_set e.bits (step_view (Make (WithSet set_move.Rule2Do e))) (with_set f.bits (step_view (Make (WithSet set_move.Rule3In f))) no_plans) ≡ home_list d t p
 home_is d t p e f a b =
-    ap₂ (λ r s. with_set e.bits r (with_set f.bits s no_plans)) (step-Rule2Do e) (step-Rule3In f)
-    ∙ ap₂ (λ z w. with_set z (Plan.Make (Move.Rule2Do z)) (with_set w (Plan.Make (Move.Rule3In w)) no_plans)) a b
+    ap₂ (λ r s. with_set e.bits r (with_set f.bits s no_plans)) (step-Make (WithSet set_move.Rule2Do e)) (step-Make (WithSet set_move.Rule3In f))
+    ∙ ap₂ (λ z w. with_set z (Plan.Make (Move.WithSet set_move.Rule2Do z)) (with_set w (Plan.Make (Move.WithSet set_move.Rule3In w)) no_plans)) a b
 
 pub main_flat : (n x y d : ℕ) (o f : VSet) (rest : Plans) → o.bits ≡ minus (minus (all n) x) d → f.bits ≡ minus d y → is_empty f.bits ≡ true
-    → with_set o.bits (step_view (Rule3In o)) rest ≡ main_steps n x y d rest
+    → with_set o.bits (step_view (Make (WithSet set_move.Rule3In o))) rest ≡ main_steps n x y d rest
 main_flat n x y d o f rest a b e =
-    ap (λ s. with_set o.bits s rest) (step-Rule3In o) ∙ ap (λ z. with_set z (Plan.Make (Move.Rule3In z)) rest) a
-    ∙ ap (λ t. with_set (minus (minus (all n) x) d) (Plan.Make (Move.Rule3In (minus (minus (all n) x) d)))
-    (cond t rest (plan (Plan.Make (Move.Widen (minus d y))) (at_zero rest)))) (sym (ap is_empty (sym b) ∙ e))
+    ap (λ s. with_set o.bits s rest) (step-Make (WithSet set_move.Rule3In o)) ∙ ap (λ z. with_set z (Plan.Make (Move.WithSet set_move.Rule3In z)) rest) a
+    ∙ ap (λ t. with_set (minus (minus (all n) x) d) (Plan.Make (Move.WithSet set_move.Rule3In (minus (minus (all n) x) d)))
+    (cond t rest (plan (Plan.Make (Move.WithSet set_move.Widen (minus d y))) (at_zero rest)))) (sym (ap is_empty (sym b) ∙ e))
 
 pub main_wide : (n x y d : ℕ) (o f : VSet) (rest : Plans) → o.bits ≡ minus (minus (all n) x) d → f.bits ≡ minus d y → is_empty f.bits ≡ false
-    → with_set o.bits (step_view (Rule3In o)) (plan (step_view (Widen f)) (at_place 0 rest no_plans)) ≡ main_steps n x y d rest
+    → with_set o.bits (step_view (Make (WithSet set_move.Rule3In o))) (plan (step_view (Make (WithSet set_move.Widen f))) (at_place 0 rest no_plans)) ≡ main_steps n x y d rest
 main_wide n x y d o f rest a b e =
-    ap₂ (λ r s. with_set o.bits r (plan s (at_zero rest))) (step-Rule3In o) (step-Widen f)
-    ∙ ap₂ (λ z w. with_set z (Plan.Make (Move.Rule3In z)) (plan (Plan.Make (Move.Widen w)) (at_zero rest))) a b
-    ∙ ap (λ t. with_set (minus (minus (all n) x) d) (Plan.Make (Move.Rule3In (minus (minus (all n) x) d)))
-    (cond t rest (plan (Plan.Make (Move.Widen (minus d y))) (at_zero rest)))) (sym (ap is_empty (sym b) ∙ e))
+    ap₂ (λ r s. with_set o.bits r (plan s (at_zero rest))) (step-Make (WithSet set_move.Rule3In o)) (step-Make (WithSet set_move.Widen f))
+    ∙ ap₂ (λ z w. with_set z (Plan.Make (Move.WithSet set_move.Rule3In z)) (plan (Plan.Make (Move.WithSet set_move.Widen w)) (at_zero rest))) a b
+    ∙ ap (λ t. with_set (minus (minus (all n) x) d) (Plan.Make (Move.WithSet set_move.Rule3In (minus (minus (all n) x) d)))
+    (cond t rest (plan (Plan.Make (Move.WithSet set_move.Widen (minus d y))) (at_zero rest)))) (sym (ap is_empty (sym b) ∙ e))
 
 pub no_districts : (order : List ℕ) (d : ℕ) (ts : List ℕ) (ls : Lists) (fs : Trees) → length ts ≡ 0 → no_plans ≡ district_steps order d ts ls fs
 no_districts order d [] ls fs e = refl

@@ -8,7 +8,7 @@ ghost use Rattle.identification_theory.specs.Derivations.{in_order, places, grou
 ghost use Rattle.identify.specs.Lists.{onto, lists_view};
 
 use crate::factors::{members_in, push_each};
-use do_derivation::Step;
+use do_derivation::{BareMove, Move, Step};
 use hedge::joined_sets::Districts;
 use mixed_graph::{Order, VSet};
 use std::alloc::{AllocError, Global};
@@ -80,7 +80,7 @@ fn unchain_list(alloc: Global, t: VSet, chain: &Order) -> Result<Vec<Step>, Allo
     if !is_pair(chain, t) {
         return Ok(out);
     }
-    out.push(Step::Unchain)?;
+    out.push(Step::Make(Move::Bare(BareMove::Unchain)))?;
     Ok(out)
 }
 
@@ -117,7 +117,7 @@ pub fn push_groups(
     if !has_pair(order, parts) {
         return Ok(());
     }
-    out.push(Step::Group(group_lists(alloc, parts, chain)?))?;
+    out.push(Step::Make(Move::Group(group_lists(alloc, parts, chain)?)))?;
     push_each(alloc, out, unchain_lists(alloc, parts, chain)?)?;
     Ok(())
 }

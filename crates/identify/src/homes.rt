@@ -8,7 +8,7 @@ ghost use Rattle.identification_theory.specs.Derivations.{in_order, home, home_l
 ghost use Rattle.identify.specs.Lists.{lists_onto, lists_view};
 
 use crate::factors::push_with;
-use do_derivation::Step;
+use do_derivation::{Move, SetMove, Step};
 use hedge::joined_sets::Districts;
 use mixed_graph::{Order, VSet};
 use std::alloc::{AllocError, Global};
@@ -33,8 +33,16 @@ fn home_list(alloc: Global, d: VSet, t: VSet, before: VSet) -> Result<Vec<Step>,
     let earlier = d.intersection(before).difference(t);
     let later = d.difference(t).difference(earlier);
     let mut out = Vec::new(alloc);
-    push_with(&mut out, earlier, Step::Rule2Do(earlier))?;
-    push_with(&mut out, later, Step::Rule3In(later))?;
+    push_with(
+        &mut out,
+        earlier,
+        Step::Make(Move::WithSet(SetMove::Rule2Do, earlier)),
+    )?;
+    push_with(
+        &mut out,
+        later,
+        Step::Make(Move::WithSet(SetMove::Rule3In, later)),
+    )?;
     Ok(out)
 }
 

@@ -19,7 +19,7 @@ use crate::factors::{push_at, push_each, push_with, sum_if};
 use crate::groups::{in_order, push_groups};
 use crate::homes::home_lists;
 use crate::wanted::Wanted;
-use do_derivation::{Derivation, Step, has_product};
+use do_derivation::{BareMove, Derivation, Move, SetMove, Step, has_product};
 use hedge::joined_sets::Districts;
 use mixed_graph::{Graph, Order, VSet};
 use prob_expr::{Expr, Formula};
@@ -32,7 +32,7 @@ fn push_unwrap(out: &mut Vec<Step>, opens: bool) -> Result<(), AllocError>
     if !opens {
         return Ok(());
     }
-    out.push(Step::Unwrap)?;
+    out.push(Step::Make(Move::Bare(BareMove::Unwrap)))?;
     Ok(())
 }
 
@@ -59,7 +59,7 @@ fn district_steps(
     }
     let chain = in_order(order, d);
     let mut out = Vec::new(alloc);
-    out.push(Step::Chain(chain))?;
+    out.push(Step::Make(Move::Chain(chain)))?;
     push_each(alloc, &mut out, home_lists(alloc, order, d, parts)?)?;
     push_groups(alloc, &mut out, order, &chain, parts)?;
     push_each(alloc, &mut out, lists)?;
@@ -83,12 +83,16 @@ fn main_steps(
     let further = d.difference(y);
     let mut rest = rest;
     let mut out = Vec::new(alloc);
-    push_with(&mut out, others, Step::Rule3In(others))?;
+    push_with(
+        &mut out,
+        others,
+        Step::Make(Move::WithSet(SetMove::Rule3In, others)),
+    )?;
     if further.is_empty() {
         out.append(&mut rest)?;
         return Ok(out);
     }
-    out.push(Step::Widen(further))?;
+    out.push(Step::Make(Move::WithSet(SetMove::Widen, further)))?;
     push_at(alloc, &mut out, 0, rest)?;
     Ok(out)
 }

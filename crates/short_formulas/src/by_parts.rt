@@ -8,7 +8,7 @@ ghost use Rattle.do_rules.specs.Rules.{AreThreeSets};
 use crate::candidates::{plain, start, whole};
 use crate::hiding::derivation_in;
 use crate::measuring::length;
-use do_derivation::{Derivation, Step};
+use do_derivation::{BareMove, Derivation, Move, Step};
 use do_rules::are_three_sets;
 use held_steps::{Candidate, Held, term_at};
 use mixed_graph::Graph;
@@ -82,7 +82,7 @@ fn shorten_parts(alloc: Global, g: &Graph, held: &mut Held) -> Result<bool, Allo
     if term.given.is_empty() {
         return shorten_term(alloc, g, held, &[]);
     }
-    if !held.try_step(alloc, g, &[], Step::Split)? {
+    if !held.try_move(alloc, g, &[], Move::Bare(BareMove::Split))? {
         return Ok(false);
     }
     if !shorten_term(alloc, g, held, &[0])? {

@@ -62,12 +62,9 @@ pub fn is_step_within(d: u32, step: &Step) -> bool
         return false;
     }
     match step {
+        Step::Make(_) => true,
         Step::At(_, inner) => is_step_within(d - 1, inner),
         Step::Then(steps) => are_steps_within(d - 1, steps),
-        Step::Rule1In(_) | Step::Rule1Out(_) | Step::Rule2See(_) | Step::Rule2Do(_) => true,
-        Step::Rule3In(_) | Step::Rule3Out(_) | Step::Widen(_) | Step::Cite(_) => true,
-        Step::Chain(_) | Step::Group(_) => true,
-        Step::Unchain | Step::Narrow | Step::Split | Step::Unwrap => true,
     }
 }
 

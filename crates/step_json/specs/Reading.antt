@@ -7,7 +7,7 @@ use Rattle.mixed_graph.specs.Masks.{union, one, is_empty}
 use Rattle.do_derivation.specs.Plans.{Move, Plan, plans_of}
 use Rattle.serde_json.specs.Data.{Data, Items, no_items, item}
 use Rattle.serde_json.specs.Find.{as_str, as_array, as_number, as_u64}
-use Rattle.step_json.specs.Words.{word_of, set_move, bare_move}
+use Rattle.step_json.specs.Words.{word_of}
 use Rattle.step_json.specs.declared.words.Word.{Word}
 use Rattle.step_json.specs.declared.words.Word.TheVariants as words
 use Rattle.step_json.specs.declared.fault.ValueFault.{ValueFault}
@@ -121,8 +121,8 @@ argument f next (item d ds) = f d >>= λ x. next x ds
 
 -- the arguments of a word, where `inner` reads a step inside
 abbrev pub arguments : List (List ℕ) → (inner : Data → Result Plan ValueFault) → Word → Items → Result Plan ValueFault
-arguments names inner (words.WithSet r) ds = argument (set_in names 0) (λ z. last (Plan.Make (set_move r z))) ds
-arguments names inner (words.Bare r) ds = last (Plan.Make (bare_move r)) ds
+arguments names inner (words.WithSet kind) ds = argument (set_in names 0) (λ z. last (Plan.Make (Move.WithSet kind z))) ds
+arguments names inner (words.Bare kind) ds = last (Plan.Make (Move.Bare kind)) ds
 arguments names inner words.Chain ds = argument (vertices_in names) (λ o. last (Plan.Make (Move.Chain o))) ds
 arguments names inner words.Group ds = argument groups_in (λ l. last (Plan.Make (Move.Group l))) ds
 arguments names inner words.Cite ds = argument number_in (λ k. last (Plan.Make (Move.Cite k))) ds

@@ -4,11 +4,11 @@
 //!
 //! | Words | Arguments |
 //! |---|---|
-//! | `rule1in`, `rule1out`, `rule2see`, `rule2do`, `rule3in`, `rule3out`, `widen` | a set |
+//! | those of `SetMove` | a set |
 //! | `chain` | a list of names |
 //! | `group` | a list of lists of numbers |
 //! | `cite` | a number |
-//! | `unchain`, `narrow`, `split`, `unwrap` | none |
+//! | those of `BareMove` | none |
 //! | `at` | a number and a step |
 //! | `then` | a list of steps |
 #![tactic(auto)]

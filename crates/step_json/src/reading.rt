@@ -3,43 +3,18 @@
 ghost use Rattle.std.specs.Prelude.{◌≡◌, [], map, option_and_then};
 ghost use Rattle.serde_json.specs.View.{view, items_view};
 ghost use Rattle.serde_json.specs.Find.{as_str};
-ghost use Rattle.do_derivation.specs.Plans.{Move, Plan, plans_of};
+ghost use Rattle.do_derivation.specs.Plans.{Move as PlainMove, Plan, plans_of};
 ghost use Rattle.do_derivation.specs.View.{step_view};
-ghost use Rattle.step_json.specs.Words.{word_of, set_move, bare_move};
+ghost use Rattle.step_json.specs.Words.{word_of};
 ghost use Rattle.step_json.specs.Reading.{Gives, set_in, vertices_in, groups_in, number_in, is_end, last, argument, list_by, each, arguments, word_and_arguments, step_within, step_in};
 
 use crate::fault::ValueFault;
 use crate::lists::{groups_in, number_in, read_set, vertices_in};
-use crate::words::{BareRule, SetRule, Word, word_of};
-use do_derivation::Step;
+use crate::words::{Word, word_of};
+use do_derivation::{BareMove, Move, SetMove, Step};
 use mixed_graph::{Names, VSet};
 use serde_json::Value;
 use std::alloc::Global;
-
-fn set_step(rule: SetRule, set: VSet) -> Step
-    ensures { step_view result ≡ Plan.Make (set_move rule set.bits) }
-{
-    match rule {
-        SetRule::Rule1In => Step::Rule1In(set),
-        SetRule::Rule1Out => Step::Rule1Out(set),
-        SetRule::Rule2See => Step::Rule2See(set),
-        SetRule::Rule2Do => Step::Rule2Do(set),
-        SetRule::Rule3In => Step::Rule3In(set),
-        SetRule::Rule3Out => Step::Rule3Out(set),
-        SetRule::Widen => Step::Widen(set),
-    }
-}
-
-fn bare_step(rule: BareRule) -> Step
-    ensures { step_view result ≡ Plan.Make (bare_move rule) }
-{
-    match rule {
-        BareRule::Unchain => Step::Unchain,
-        BareRule::Narrow => Step::Narrow,
-        BareRule::Split => Step::Split,
-        BareRule::Unwrap => Step::Unwrap,
-    }
-}
 
 // No argument more.
 #[tactic(auto, using(crate::proofs::Ends::end_is))]
@@ -49,8 +24,8 @@ fn is_end(ds: &[Value]) -> bool
     ds.len() == 0
 }
 
-fn with_set(alloc: Global, names: &Names, rule: SetRule, ds: &[Value]) -> Result<Step, ValueFault>
-    ensures { Gives step_view result (argument (set_in names.now 0) (λ z. last (Plan.Make (set_move rule z))) (items_view ds.now)) }
+fn with_set(alloc: Global, names: &Names, kind: SetMove, ds: &[Value]) -> Result<Step, ValueFault>
+    ensures { Gives step_view result (argument (set_in names.now 0) (λ z. last (Plan.Make (PlainMove.WithSet kind z))) (items_view ds.now)) }
 {
     let [d, ds @ ..] = ds else {
         return Err(ValueFault::Form);
@@ -59,20 +34,20 @@ fn with_set(alloc: Global, names: &Names, rule: SetRule, ds: &[Value]) -> Result
     if !is_end(ds) {
         return Err(ValueFault::Form);
     }
-    Ok(set_step(rule, set))
+    Ok(Step::Make(Move::WithSet(kind, set)))
 }
 
-fn bare(rule: BareRule, ds: &[Value]) -> Result<Step, ValueFault>
-    ensures { Gives step_view result (last (Plan.Make (bare_move rule)) (items_view ds.now)) }
+fn bare(kind: BareMove, ds: &[Value]) -> Result<Step, ValueFault>
+    ensures { Gives step_view result (last (Plan.Make (PlainMove.Bare kind)) (items_view ds.now)) }
 {
     if !is_end(ds) {
         return Err(ValueFault::Form);
     }
-    Ok(bare_step(rule))
+    Ok(Step::Make(Move::Bare(kind)))
 }
 
 fn chain(alloc: Global, names: &Names, ds: &[Value]) -> Result<Step, ValueFault>
-    ensures { Gives step_view result (argument (vertices_in names.now) (λ o. last (Plan.Make (Move.Chain o))) (items_view ds.now)) }
+    ensures { Gives step_view result (argument (vertices_in names.now) (λ o. last (Plan.Make (PlainMove.Chain o))) (items_view ds.now)) }
 {
     let [d, ds @ ..] = ds else {
         return Err(ValueFault::Form);
@@ -81,11 +56,11 @@ fn chain(alloc: Global, names: &Names, ds: &[Value]) -> Result<Step, ValueFault>
     if !is_end(ds) {
         return Err(ValueFault::Form);
     }
-    Ok(Step::Chain(order))
+    Ok(Step::Make(Move::Chain(order)))
 }
 
 fn group(alloc: Global, ds: &[Value]) -> Result<Step, ValueFault>
-    ensures { Gives step_view result (argument groups_in (λ l. last (Plan.Make (Move.Group l))) (items_view ds.now)) }
+    ensures { Gives step_view result (argument groups_in (λ l. last (Plan.Make (PlainMove.Group l))) (items_view ds.now)) }
 {
     let [d, ds @ ..] = ds else {
         return Err(ValueFault::Form);
@@ -94,11 +69,11 @@ fn group(alloc: Global, ds: &[Value]) -> Result<Step, ValueFault>
     if !is_end(ds) {
         return Err(ValueFault::Form);
     }
-    Ok(Step::Group(groups))
+    Ok(Step::Make(Move::Group(groups)))
 }
 
 fn cite(ds: &[Value]) -> Result<Step, ValueFault>
-    ensures { Gives step_view result (argument number_in (λ k. last (Plan.Make (Move.Cite k))) (items_view ds.now)) }
+    ensures { Gives step_view result (argument number_in (λ k. last (Plan.Make (PlainMove.Cite k))) (items_view ds.now)) }
 {
     let [d, ds @ ..] = ds else {
         return Err(ValueFault::Form);
@@ -107,7 +82,7 @@ fn cite(ds: &[Value]) -> Result<Step, ValueFault>
     if !is_end(ds) {
         return Err(ValueFault::Form);
     }
-    Ok(Step::Cite(k))
+    Ok(Step::Make(Move::Cite(k)))
 }
 
 #[cycle(step)]
@@ -189,8 +164,8 @@ fn arguments(
     ensures { Gives step_view result (arguments names.now (step_within names.now more) word (items_view ds.now)) }
 {
     match word {
-        Word::WithSet(rule) => with_set(alloc, names, rule, ds),
-        Word::Bare(rule) => bare(rule, ds),
+        Word::WithSet(kind) => with_set(alloc, names, kind, ds),
+        Word::Bare(kind) => bare(kind, ds),
         Word::Chain => chain(alloc, names, ds),
         Word::Group => group(alloc, ds),
         Word::Cite => cite(ds),

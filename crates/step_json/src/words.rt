@@ -2,34 +2,15 @@
 
 ghost use Rattle.std.specs.Prelude.{◌≡◌};
 ghost use Rattle.std.specs.Str.{bytes_eq};
-ghost use Rattle.step_json.specs.Words.{set_rule_of, bare_rule_of, other_word_of, word_of};
+ghost use Rattle.step_json.specs.Words.{other_word_of, word_of};
 
-// The words of moves with a set.
-#[derive(Clone, Copy, Debug, PartialEq, Eq)]
-pub enum SetRule {
-    Rule1In,
-    Rule1Out,
-    Rule2See,
-    Rule2Do,
-    Rule3In,
-    Rule3Out,
-    Widen,
-}
-
-// The words of moves without an argument.
-#[derive(Clone, Copy, Debug, PartialEq, Eq)]
-pub enum BareRule {
-    Unchain,
-    Narrow,
-    Split,
-    Unwrap,
-}
+use do_derivation::{BareMove, SetMove};
 
 // The words of steps.
 #[derive(Clone, Copy, Debug, PartialEq, Eq)]
 pub enum Word {
-    WithSet(SetRule),
-    Bare(BareRule),
+    WithSet(SetMove),
+    Bare(BareMove),
     Chain,
     Group,
     Cite,
@@ -41,53 +22,6 @@ fn is_word(text: &[u8], word: &[u8]) -> bool
     ensures { result ≡ bytes_eq text.now word.now }
 {
     text == word
-}
-
-#[tactic(auto, unfolding(crate::specs::Words::set_rule_of))]
-fn set_rule_of(text: &[u8]) -> Option<SetRule>
-    ensures { result ≡ set_rule_of text.now }
-{
-    if is_word(text, b"rule1in") {
-        return Some(SetRule::Rule1In);
-    }
-    if is_word(text, b"rule1out") {
-        return Some(SetRule::Rule1Out);
-    }
-    if is_word(text, b"rule2see") {
-        return Some(SetRule::Rule2See);
-    }
-    if is_word(text, b"rule2do") {
-        return Some(SetRule::Rule2Do);
-    }
-    if is_word(text, b"rule3in") {
-        return Some(SetRule::Rule3In);
-    }
-    if is_word(text, b"rule3out") {
-        return Some(SetRule::Rule3Out);
-    }
-    if is_word(text, b"widen") {
-        return Some(SetRule::Widen);
-    }
-    None
-}
-
-#[tactic(auto, unfolding(crate::specs::Words::bare_rule_of))]
-fn bare_rule_of(text: &[u8]) -> Option<BareRule>
-    ensures { result ≡ bare_rule_of text.now }
-{
-    if is_word(text, b"unchain") {
-        return Some(BareRule::Unchain);
-    }
-    if is_word(text, b"narrow") {
-        return Some(BareRule::Narrow);
-    }
-    if is_word(text, b"split") {
-        return Some(BareRule::Split);
-    }
-    if is_word(text, b"unwrap") {
-        return Some(BareRule::Unwrap);
-    }
-    None
 }
 
 #[tactic(auto, unfolding(crate::specs::Words::other_word_of))]
@@ -117,11 +51,11 @@ fn other_word_of(text: &[u8]) -> Option<Word>
 pub fn word_of(text: &[u8]) -> Option<Word>
     ensures { result ≡ word_of text.now }
 {
-    if let Some(rule) = set_rule_of(text) {
-        return Some(Word::WithSet(rule));
+    if let Some(kind) = SetMove::of(text) {
+        return Some(Word::WithSet(kind));
     }
-    if let Some(rule) = bare_rule_of(text) {
-        return Some(Word::Bare(rule));
+    if let Some(kind) = BareMove::of(text) {
+        return Some(Word::Bare(kind));
     }
     other_word_of(text)
 }

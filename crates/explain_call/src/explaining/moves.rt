@@ -1,10 +1,10 @@
 // The moves of a step.
 ghost use Rattle.std.specs.Prelude.{◌≡◌, ◌++◌, [], ◌∷◌, List, ℕ, map, IfOk, OnOk};
 ghost use Rattle.do_derivation.specs.Plans.{Plan};
-ghost use Rattle.do_derivation.specs.View.{step_view, steps_view, numbers_of};
+ghost use Rattle.do_derivation.specs.View.{step_view, steps_view};
 ghost use Rattle.explain_call.specs.Moves.{moves_of, moves_of_each};
 
-use do_derivation::Step;
+use do_derivation::{Step, copy_move};
 use std::alloc::{AllocError, Global};
 
 // One step alone.
@@ -14,18 +14,6 @@ fn alone(alloc: Global, step: Step) -> Result<Vec<Step>, AllocError>
     let mut steps = Vec::new(alloc);
     steps.push(step)?;
     Ok(steps)
-}
-
-// A copy of groups of numbers.
-fn copy_groups(alloc: Global, groups: &Vec<Vec<u32>>) -> Result<Vec<Vec<u32>>, AllocError>
-    ensures { IfOk result (λ v. numbers_of v.items ≡ numbers_of groups.now.items) }
-{
-    let mut copies = Vec::new(alloc);
-    for group in groups {
-        let copy = Vec::from_slice(alloc, group.as_slice())?;
-        copies.push(copy)?;
-    }
-    Ok(copies)
 }
 
 // Each step, on the child of that number.
@@ -46,23 +34,10 @@ pub fn moves_of(alloc: Global, step: &Step) -> Result<Vec<Step>, AllocError>
     ensures { IfOk result (λ v. map step_view v.items ≡ moves_of (step_view step.now)) }
 {
     match step {
-        Step::Rule1In(z) => alone(alloc, Step::Rule1In(*z)),
-        Step::Rule1Out(z) => alone(alloc, Step::Rule1Out(*z)),
-        Step::Rule2See(z) => alone(alloc, Step::Rule2See(*z)),
-        Step::Rule2Do(z) => alone(alloc, Step::Rule2Do(*z)),
-        Step::Rule3In(z) => alone(alloc, Step::Rule3In(*z)),
-        Step::Rule3Out(z) => alone(alloc, Step::Rule3Out(*z)),
-        Step::Chain(order) => alone(alloc, Step::Chain(*order)),
-        Step::Unchain => alone(alloc, Step::Unchain),
-        Step::Group(groups) => match copy_groups(alloc, groups) {
-            Ok(copies) => alone(alloc, Step::Group(copies)),
+        Step::Make(done) => match copy_move(alloc, done) {
+            Ok(copy) => alone(alloc, Step::Make(copy)),
             Err(refusal) => Err(refusal),
         },
-        Step::Widen(u) => alone(alloc, Step::Widen(*u)),
-        Step::Narrow => alone(alloc, Step::Narrow),
-        Step::Split => alone(alloc, Step::Split),
-        Step::Cite(k) => alone(alloc, Step::Cite(*k)),
-        Step::Unwrap => alone(alloc, Step::Unwrap),
         Step::At(i, inner) => match moves_of(alloc, inner) {
             Ok(moves) => on_child(alloc, *i, moves),
             Err(refusal) => Err(refusal),

@@ -2,10 +2,10 @@
 ghost use Rattle.std.specs.Prelude.{◌≡◌, option_map};
 ghost use Rattle.prob_expr.specs.View.{view};
 ghost use Rattle.do_derivation.specs.Shapes.{child};
-ghost use Rattle.do_derivation.specs.View.{step_view};
-ghost use Rattle.explain_call.specs.Questions.{asked_of, beside, of_given, of_doing, on_sets, question_of};
+ghost use Rattle.do_derivation.specs.View.{move_view, step_view};
+ghost use Rattle.explain_call.specs.Questions.{asked_of, beside, of_given, of_doing, on_sets, set_question, move_question, question_of};
 
-use do_derivation::Step;
+use do_derivation::{Move, SetMove, Step};
 use do_rules::Rule;
 use mixed_graph::VSet;
 use prob_expr::Expr;
@@ -89,25 +89,40 @@ fn child_at(e: &Expr, i: u32) -> Option<&Expr>
     }
 }
 
+// For which rule a move with a set asks.
+fn set_question(kind: SetMove, z: VSet, e: &Expr) -> Option<Question>
+    ensures { option_map asked_of result ≡ set_question kind z.bits (view e.now) }
+{
+    match kind {
+        SetMove::Rule1In => beside(Rule::One, z, e),
+        SetMove::Rule1Out => of_given(Rule::One, z, e),
+        SetMove::Rule2See => of_doing(Rule::Two, z, e),
+        SetMove::Rule2Do => of_given(Rule::Two, z, e),
+        SetMove::Rule3In => beside(Rule::Three, z, e),
+        SetMove::Rule3Out => of_doing(Rule::Three, z, e),
+        SetMove::Widen => None,
+    }
+}
+
+// For which rule a move asks.
+fn move_question(done: &Move, e: &Expr) -> Option<Question>
+    ensures { option_map asked_of result ≡ move_question (move_view done.now) (view e.now) }
+{
+    match done {
+        Move::WithSet(kind, z) => set_question(*kind, *z, e),
+        Move::Bare(_) => None,
+        Move::Chain(_) => None,
+        Move::Group(_) => None,
+        Move::Cite(_) => None,
+    }
+}
+
 /// For which rule a step asks on an expression that it is made on.
 pub fn question_of(step: &Step, e: &Expr) -> Option<Question>
     ensures { option_map asked_of result ≡ question_of (step_view step.now) (view e.now) }
 {
     match step {
-        Step::Rule1In(z) => beside(Rule::One, *z, e),
-        Step::Rule1Out(z) => of_given(Rule::One, *z, e),
-        Step::Rule2See(z) => of_doing(Rule::Two, *z, e),
-        Step::Rule2Do(z) => of_given(Rule::Two, *z, e),
-        Step::Rule3In(z) => beside(Rule::Three, *z, e),
-        Step::Rule3Out(z) => of_doing(Rule::Three, *z, e),
-        Step::Chain(_) => None,
-        Step::Unchain => None,
-        Step::Group(_) => None,
-        Step::Widen(_) => None,
-        Step::Narrow => None,
-        Step::Split => None,
-        Step::Cite(_) => None,
-        Step::Unwrap => None,
+        Step::Make(done) => move_question(done, e),
         Step::At(i, inner) => match child_at(e, *i) {
             None => None,
             Some(child) => question_of(inner, child),

@@ -21,20 +21,7 @@ fn word_of(step: &Step) -> &'static [u8]
     ensures { result.now ≡ word_of (step_view step.now) }
 {
     match step {
-        Step::Rule1In(_) => b"rule1in",
-        Step::Rule1Out(_) => b"rule1out",
-        Step::Rule2See(_) => b"rule2see",
-        Step::Rule2Do(_) => b"rule2do",
-        Step::Rule3In(_) => b"rule3in",
-        Step::Rule3Out(_) => b"rule3out",
-        Step::Chain(_) => b"chain",
-        Step::Unchain => b"unchain",
-        Step::Group(_) => b"group",
-        Step::Widen(_) => b"widen",
-        Step::Narrow => b"narrow",
-        Step::Split => b"split",
-        Step::Cite(_) => b"cite",
-        Step::Unwrap => b"unwrap",
+        Step::Make(done) => done.word().as_bytes(),
         Step::At(_, inner) => word_of(inner),
         Step::Then(_) => b"",
     }

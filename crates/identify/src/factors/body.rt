@@ -17,7 +17,7 @@ use crate::factors::place::{VertexFactor, place_of};
 use crate::factors::pushing::push_each;
 use crate::factors::terms::Source;
 use crate::wanted::Wanted;
-use do_derivation::{Step, as_one};
+use do_derivation::{Move, Step, as_one};
 use mixed_graph::{Graph, Order, VSet};
 use prob_expr::Expr;
 use std::alloc::{AllocError, Global};
@@ -81,7 +81,7 @@ fn body_steps(alloc: Global, members: Order, lists: Vec<Vec<Step>>) -> Result<Ve
 {
     let mut lists = lists;
     if lists.len() > 1 {
-        return at_each(alloc, Step::Chain(members), lists);
+        return at_each(alloc, Step::Make(Move::Chain(members)), lists);
     }
     match lists.pop() {
         Some(list) => Ok(list),

@@ -7,7 +7,7 @@ ghost use Rattle.identify.specs.Parts.{source_of};
 
 use crate::factors::pushing::{at, push_at, push_with};
 use crate::factors::terms::Source;
-use do_derivation::Step;
+use do_derivation::{BareMove, Move, SetMove, Step};
 use mixed_graph::{Order, VSet};
 use std::alloc::{AllocError, Global};
 
@@ -16,12 +16,12 @@ fn marginal_steps(alloc: Global, k: u32, a: VSet, u: VSet) -> Result<Vec<Step>, 
     ensures { IfOk result (λ s. steps_view s.items ≡ marginal_steps k a.bits u.bits) }
 {
     let rest = a.difference(u);
-    let cited = vec![in alloc; Step::Cite(k)]?;
+    let cited = vec![in alloc; Step::Make(Move::Cite(k))]?;
     if rest.is_empty() {
         return Ok(cited);
     }
     let inner = at(alloc, 0, cited)?;
-    Ok(vec![in alloc; Step::Widen(rest), inner]?)
+    Ok(vec![in alloc; Step::Make(Move::WithSet(SetMove::Widen, rest)), inner]?)
 }
 
 /// From P(v | do(all outside a), m) to what the source has for it.
@@ -47,7 +47,7 @@ pub fn source_steps(
                 marginal_steps(alloc, k, a, m.union(VSet::one(v)))?,
             )?;
             let bottom = at(alloc, 1, marginal_steps(alloc, k, a, m)?)?;
-            Ok(vec![in alloc; Step::Split, top, bottom]?)
+            Ok(vec![in alloc; Step::Make(Move::Bare(BareMove::Split)), top, bottom]?)
         }
     }
 }
@@ -74,9 +74,21 @@ pub fn place_steps(
     let unneeded = earlier.difference(m);
     let mut rest = rest;
     let mut steps = Vec::new(alloc);
-    push_with(&mut steps, idle, Step::Rule3Out(idle))?;
-    push_with(&mut steps, acted, Step::Rule2See(acted))?;
-    push_with(&mut steps, unneeded, Step::Rule1Out(unneeded))?;
+    push_with(
+        &mut steps,
+        idle,
+        Step::Make(Move::WithSet(SetMove::Rule3Out, idle)),
+    )?;
+    push_with(
+        &mut steps,
+        acted,
+        Step::Make(Move::WithSet(SetMove::Rule2See, acted)),
+    )?;
+    push_with(
+        &mut steps,
+        unneeded,
+        Step::Make(Move::WithSet(SetMove::Rule1Out, unneeded)),
+    )?;
     steps.append(&mut rest)?;
     Ok(steps)
 }
@@ -85,7 +97,10 @@ pub fn place_steps(
 pub fn cut_steps(alloc: Global, over: VSet, inner: Vec<Step>) -> Result<Vec<Step>, AllocError>
     ensures { IfOk result (λ s. steps_view s.items ≡ cut_steps over.bits (steps_view inner.items)) }
 {
-    let mut steps = vec![in alloc; Step::Rule3Out(over), Step::Widen(over)]?;
+    let mut steps = vec![in alloc;
+        Step::Make(Move::WithSet(SetMove::Rule3Out, over)),
+        Step::Make(Move::WithSet(SetMove::Widen, over)),
+    ]?;
     push_at(alloc, &mut steps, 0, inner)?;
     Ok(steps)
 }

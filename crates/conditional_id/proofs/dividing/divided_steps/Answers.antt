@@ -1,7 +1,9 @@
 use Rattle.std.proofs.Common.{sym, ap, ◌∙◌}
 use Rattle.do_derivation.specs.Plans.{Plan, no_plans, plan}
 use Rattle.do_derivation.specs.View.{step_view}
-use Rattle.do_derivation.specs.declared.steps.Step.{Split, Then}
+use Rattle.do_derivation.specs.declared.steps.Step.{Make, Then}
+use Rattle.do_derivation.specs.declared.moves.Move.TheVariants.{Bare}
+use Rattle.do_derivation.specs.declared.moves.BareMove.TheVariants as bare_move
 use Rattle.identification_theory.specs.Derivations.{single}
 use Rattle.identify.specs.Lists.{onto}
 use Rattle.identify.proofs.Steps.{onto_more, onto_nothing}
@@ -21,6 +23,6 @@ returns c =
     let last = single (Plan.At 1 (step_view (Then below))) in
     sym (onto_nothing c.push_at-2.new.out.items) ∙ c.in_ok-push_at-2.ensures no_plans
     ∙ c.in_ok-push_at.ensures last
-    ∙ ap (λ l. onto l (plan (Plan.At 0 p) last)) c.in_ok-push.ensures.items ∙ onto_more out Split (plan (Plan.At 0 p) last)
+    ∙ ap (λ l. onto l (plan (Plan.At 0 p) last)) c.in_ok-push.ensures.items ∙ onto_more out (Make (Bare bare_move.Split)) (plan (Plan.At 0 p) last)
     ∙ parted c.args.y.bits c.args.left.bits out below p (sym c.is_empty.ensures.mask ∙ c.if-is_empty.false)
     (c.in_ok-below.ensures ∙ ap (λ q. summed_steps c.args.y.bits q) c.in_ok-again.ensures)

@@ -12,6 +12,7 @@ use Rattle.do_derivation.specs.Plans.{Move}
 use Rattle.do_derivation.specs.Steps.{IsMade, RowRefuses}
 use Rattle.do_derivation.specs.Table.{row, is_part}
 use Rattle.do_derivation.specs.declared.faults.StepFault.TheVariants.{Sets, Unblocked}
+use Rattle.do_derivation.specs.declared.moves.SetMove.TheVariants as set_move
 use Rattle.do_derivation.proofs.Asked.{asked_made, asked_refused}
 use Rattle.do_derivation.proofs.Views.{view-Prob, given_sets}
 use Rattle.do_derivation.proofs.rule_moves.rule2_do.Goals as goal
@@ -25,7 +26,7 @@ returns-in-Ok c =
     let seen = ap view c.in-Prob.is ∙ view-Prob c.in-Prob.of c.in-Prob.doing c.in-Prob.given in
     let asked : is_part c.args.z.bits c.in-Prob.given.bits ≡ true = search rules in
     record {
-      row = subst (λ e. IsMade (graph_of c.args.g.now) (row c.args.g.now.n [] (Move.Rule2Do c.args.z.bits) e)
+      row = subst (λ e. IsMade (graph_of c.args.g.now) (row c.args.g.now.n [] (Move.WithSet set_move.Rule2Do c.args.z.bits) e)
           (view (Prob c.in-Prob.of c.union.result c.difference-rest.result))) (sym seen)
           (asked_made (graph_of c.args.g.now) Two (c.in-Prob.doing.bits) c.in-Prob.of.bits c.args.z.bits (minus c.in-Prob.given.bits c.args.z.bits)
           (prob c.in-Prob.of.bits (union c.in-Prob.doing.bits c.args.z.bits) (minus c.in-Prob.given.bits c.args.z.bits)) Sets
@@ -41,7 +42,7 @@ returns-in-Err c =
     let seen = ap view c.in-Prob.is ∙ view-Prob c.in-Prob.of c.in-Prob.doing c.in-Prob.given in
     let asked : is_part c.args.z.bits c.in-Prob.given.bits ≡ true = search rules in
     record {
-      row = subst (λ e. RowRefuses (graph_of c.args.g.now) (row c.args.g.now.n [] (Move.Rule2Do c.args.z.bits) e) (Unblocked c.in-Err.path)) (sym seen)
+      row = subst (λ e. RowRefuses (graph_of c.args.g.now) (row c.args.g.now.n [] (Move.WithSet set_move.Rule2Do c.args.z.bits) e) (Unblocked c.in-Err.path)) (sym seen)
           (asked_refused (graph_of c.args.g.now) Two (c.in-Prob.doing.bits) c.in-Prob.of.bits c.args.z.bits (minus c.in-Prob.given.bits c.args.z.bits)
           (prob c.in-Prob.of.bits (union c.in-Prob.doing.bits c.args.z.bits) (minus c.in-Prob.given.bits c.args.z.bits)) Sets
           (is_part c.args.z.bits c.in-Prob.given.bits) c.in-Err.path asked

@@ -2,8 +2,9 @@ use Rattle.std.proofs.Common.{◌<◌, ◌≤◌, All, length, subst, sym, ap, �
 use Rattle.hedge.specs.Listed.{first_masks}
 use Rattle.do_derivation.specs.Plans.{Move, Plan, plan}
 use Rattle.do_derivation.specs.View.{listed}
-use Rattle.do_derivation.specs.declared.steps.Step.{Chain}
-use Rattle.do_derivation.proofs.StepViews.{step-Chain}
+use Rattle.do_derivation.specs.declared.steps.Step.{Make}
+use Rattle.do_derivation.proofs.StepViews.{step-Make}
+use Rattle.do_derivation.specs.declared.moves.Move.TheVariants.{Chain}
 use Rattle.identification_theory.specs.Derivations.{at_each, in_order, home_lists, group_steps, unwrap_steps}
 use Rattle.identify.specs.Lists.{onto, lists_view}
 use Rattle.identify.proofs.Steps.{onto_more}
@@ -27,7 +28,7 @@ returns c = λ fs h.
     c.in_ok-push_unwrap.ensures fs h ∙ c.in_ok-push_each-2.ensures (unwrap_steps fs) ∙ c.in_ok-push_groups.ensures factors
     ∙ ap (λ l. onto c.push_each.new.out.items (group_steps order l ts factors)) c.in_order-chain.ensures.members
     ∙ c.in_ok-push_each.ensures groups ∙ ap (λ l. onto c.push.new.self.items (at_each 0 l groups)) c.in_ok-home_lists.ensures.lists
-    ∙ ap (λ l. onto l homes) c.in_ok-push.ensures.items ∙ onto_more none (Chain c.in_order-chain.result) homes
-    ∙ ap (λ p. onto none (plan p homes)) (step-Chain c.in_order-chain.result ∙ ap (λ l. Plan.Make (Move.Chain l)) c.in_order-chain.ensures.members)
+    ∙ ap (λ l. onto l homes) c.in_ok-push.ensures.items ∙ onto_more none (Make (Chain c.in_order-chain.result)) homes
+    ∙ ap (λ p. onto none (plan p homes)) (step-Make (Chain c.in_order-chain.result) ∙ ap (λ l. Plan.Make (Move.Chain l)) c.in_order-chain.ensures.members)
     ∙ ap (λ l. onto l (plan (Plan.Make (Move.Chain chain)) homes)) c.new-out.ensures.items
     ∙ more_districts order c.args.d.bits ts (lists_view c.args.lists.items) fs two

@@ -1,6 +1,6 @@
 use Rattle.std.proofs.Common.{◌≡◌, take}
 use Rattle.do_derivation.specs.View.{numbers_of}
-use Rattle.explain_call.proofs.explaining.moves.copy_groups.Given as goal
+use Rattle.do_derivation.proofs.copying.copy_groups.Given as goal
 
 abbrev pub invariant-loop-group : goal.invariant-loop-group
 invariant-loop-group l = numbers_of l.copies.items ≡ numbers_of (take l.group-index l.groups.items)

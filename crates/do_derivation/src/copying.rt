@@ -1,12 +1,13 @@
-//! Copies of steps.
+//! Copies of moves and steps.
 
 ghost use Rattle.std.specs.Prelude.{◌≡◌, IfOk};
-ghost use Rattle.do_derivation.specs.View.{step_view, steps_view, numbers_of};
+ghost use Rattle.do_derivation.specs.View.{move_view, step_view, steps_view, numbers_of};
 
-use do_derivation::Step;
+use crate::moves::Move;
+use crate::steps::Step;
 use std::alloc::{AllocError, Global};
 
-/// A copy of groups of numbers.
+// A copy of groups of numbers.
 fn copy_groups(alloc: Global, groups: &Vec<Vec<u32>>) -> Result<Vec<Vec<u32>>, AllocError>
     ensures { IfOk result (λ v. numbers_of v.items ≡ numbers_of groups.now.items) }
 {
@@ -18,26 +19,26 @@ fn copy_groups(alloc: Global, groups: &Vec<Vec<u32>>) -> Result<Vec<Vec<u32>>, A
     Ok(copies)
 }
 
+/// An equal move.
+pub fn copy_move(alloc: Global, done: &Move) -> Result<Move, AllocError>
+    ensures { IfOk result (λ m. move_view m ≡ move_view done.now) }
+{
+    match done {
+        Move::WithSet(kind, set) => Ok(Move::WithSet(*kind, *set)),
+        Move::Bare(kind) => Ok(Move::Bare(*kind)),
+        Move::Chain(order) => Ok(Move::Chain(*order)),
+        Move::Group(groups) => Ok(Move::Group(copy_groups(alloc, groups)?)),
+        Move::Cite(k) => Ok(Move::Cite(*k)),
+    }
+}
+
 /// An equal step.
 #[cycle(copy)]
 pub fn copy_step(alloc: Global, step: &Step) -> Result<Step, AllocError>
     ensures { IfOk result (λ s. step_view s ≡ step_view step.now) }
 {
     match step {
-        Step::Rule1In(z) => Ok(Step::Rule1In(*z)),
-        Step::Rule1Out(z) => Ok(Step::Rule1Out(*z)),
-        Step::Rule2See(z) => Ok(Step::Rule2See(*z)),
-        Step::Rule2Do(z) => Ok(Step::Rule2Do(*z)),
-        Step::Rule3In(z) => Ok(Step::Rule3In(*z)),
-        Step::Rule3Out(z) => Ok(Step::Rule3Out(*z)),
-        Step::Chain(order) => Ok(Step::Chain(*order)),
-        Step::Unchain => Ok(Step::Unchain),
-        Step::Group(groups) => Ok(Step::Group(copy_groups(alloc, groups)?)),
-        Step::Widen(u) => Ok(Step::Widen(*u)),
-        Step::Narrow => Ok(Step::Narrow),
-        Step::Split => Ok(Step::Split),
-        Step::Cite(k) => Ok(Step::Cite(*k)),
-        Step::Unwrap => Ok(Step::Unwrap),
+        Step::Make(done) => Ok(Step::Make(copy_move(alloc, done)?)),
         Step::At(i, inner) => Ok(Step::At(*i, Box::new(alloc, copy_step(alloc, inner)?)?)),
         Step::Then(steps) => Ok(Step::Then(copy_steps(alloc, steps)?)),
     }
