@@ -61,13 +61,7 @@ fn put_factor(factors: &mut Vec<Expr>, k: usize, x: Expr)
 }
 
 // What a move with a set makes.
-fn make_with_set(
-    alloc: Global,
-    g: &Graph,
-    kind: SetMove,
-    z: VSet,
-    e: Expr,
-) -> Result<Expr, Refusal>
+fn make_with_set(alloc: Global, g: &Graph, kind: SetMove, z: VSet, e: Expr) -> Result<Expr, Refusal>
     requires terms { are_terms g.now.n (view e) ≡ true }
     ensures row { (lemmas : List ℕ) → IsRow (graph_of g.now) (row g.now.n lemmas (PlainMove.WithSet kind z.bits) (view e)) result }
 {
@@ -95,13 +89,7 @@ fn make_bare(alloc: Global, g: &Graph, kind: BareMove, e: Expr) -> Result<Expr, 
 }
 
 // What a move makes.
-fn make(
-    alloc: Global,
-    g: &Graph,
-    lemmas: &[VSet],
-    done: &Move,
-    e: Expr,
-) -> Result<Expr, Refusal>
+fn make(alloc: Global, g: &Graph, lemmas: &[VSet], done: &Move, e: Expr) -> Result<Expr, Refusal>
     requires terms { are_terms g.now.n (view e) ≡ true }
     ensures row { IsRow (graph_of g.now) (row g.now.n (masks_of lemmas.now) (move_view done.now) (view e)) result }
 {
