@@ -308,8 +308,8 @@ function testNatural() {
     return [[...vertices].map((pair) => pair.join(":")), edges.map(({ a, b, both, cls }) => `${a}${both ? "<->" : "->"}${b} ${cls}`)].map((list) => list.join(", ")).join(" | ");
   };
   check("a formula marks the mediators", shown({}) === "M:chosen | ", shown({}));
-  check("a recanting witness", shown({ witness: "L" }) === "M:chosen, L:witness | X->L open", shown({ witness: "L" }));
-  const district = shown({ district: ["M", "Y"], direct_child: "Y", indirect_child: "M" });
+  check("a recanting witness", shown({ treatment: "X", witness: "L" }) === "M:chosen, L:witness | X->L open", shown({ treatment: "X", witness: "L" }));
+  const district = shown({ treatment: "X", district: ["M", "Y"], direct_child: "Y", indirect_child: "M" });
   check("a district that reads both values", district === "M:witness, Y:witness | X->M open, X->Y open, M<->Y open", district);
   const hedge = shown({ hedge: { larger: ["X", "Y"], smaller: ["Y"], choices: [{ vertex: "X", child: "Y" }], links: [["X", "Y"]] } });
   check("a hedge", hedge === "M:chosen, X:hedge-big, Y:hedge-small | X->Y hedge, X<->Y hedge", hedge);

@@ -386,17 +386,17 @@ function testThrough(text, sets, through) {
     same("no natural effect", lines[0], `${object.effect} is not identifiable`, text);
     testHedge({ ...object, given: [] }, lines.slice(1).filter((line) => !line.startsWith("no directed path")).join("\n"));
   } else {
-    same("a natural effect is left open", lines[0], `${object.effect} is left open: ${joint} is identifiable`, text);
+    same("no natural effect beside a joint one", [lines[0], lines[2]], [`${object.effect} is not identifiable`, `${joint} is identifiable`], text);
     const both = object.witness ? pathText({ vertices: [object.witness], marks: [] }) : `district ${setText(object.district)}`;
     same("by what", lines[1].startsWith(`${both} reads `), true, said.out);
   }
   same("what is nil", [nil("through", "indirect"), nil("past", "direct")].map((line) => lines.includes(line)), [!object.indirect, !object.direct], said.out);
 }
 
-const natural = { formula: 0, hedge: 0, open: 0 };
+const natural = { formula: 0, hedge: 0, witness: 0, district: 0 };
 
-/** Diagrams in which x acts on what lies before mediators, with hidden causes among the rest: there natural effects are left open too. */
-function testLeftOpen() {
+/** Diagrams in which x acts on what lies before mediators, with hidden causes among the rest: there it is read twice too. */
+function testReadTwice() {
   const names = ["X", "L", "K", "M", "Y"];
   for (let k = 0; k < 200; k++) {
     const edges = names.flatMap((a, i) => names.slice(i + 1).flatMap((b) => [...(random(3) ? [`${a} -> ${b}`] : []), ...(a !== "X" && !random(6) ? [`${a} <-> ${b}`] : [])]));
@@ -500,8 +500,8 @@ same("levels", [...levelsOf(rows, ["a"], "n").get("a")], [["1", 5]], "");
 same("some sets are no instruments", bounded.none > bounded.all / 20 && bounded.none < bounded.all, true, JSON.stringify(bounded));
 if (KNOWN.natural) {
   same("natural effects of each kind", [natural.formula, natural.hedge].every((n) => n > accepted / 50), true, JSON.stringify(natural));
-  testLeftOpen();
-  same("some are left open", natural.open > 20, true, JSON.stringify(natural));
+  testReadTwice();
+  same("some read both values", natural.witness + natural.district > 20, true, JSON.stringify(natural));
 }
 same("some tables lack records", missed > accepted / 20, true, missed);
 console.log(`${compared} comparisons on ${accepted} random diagrams, ${wrong} wrong`);

@@ -492,13 +492,12 @@ class Diagram(DataQuestions, GraphQuestions):
     def natural(
         self, x: Optional[Names] = None, y: Optional[Names] = None, through: Names = (), given: Optional[Names] = None
     ) -> Natural:
-        """A formula for the effect of x on y were the mediators `through` as they would be under other values of x; or why none was found,
+        """A formula for the effect of x on y were the mediators `through` as they would be under other values of x; or why there is none,
         which counts as false.
 
         `P(Y[X,M[X']])` is the probability of Y had X been done, and M been what it would have been under `X'`. With P(Y|do(X)) and
         P(Y|do(X')) it gives the natural direct and indirect effect: `mediate` has them over data. It is proved that a formula equals this
-        at any two values of x in every positive finite model that fits the diagram's observed graph; `NoNaturalFormula` says what is proved
-        otherwise.
+        at any two values of x in every positive finite model that fits the diagram's observed graph, and otherwise that none does.
 
         >>> from causal import Diagram
         >>> print(Diagram("dag { X -> M -> Y X -> Y }").natural("X", "Y", through="M"))

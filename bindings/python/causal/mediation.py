@@ -170,7 +170,7 @@ class Worlds:
         self.kept = [*sets.x, *sets.y, *formula.free]
         self.parts = []
         for factor in formula.factors:
-            reads_second = factor.reads == sets.second
+            reads_second = [name for name, read in zip(sets.x, factor.reads) if read != name]
             trees = [in_first(tree, first) for tree in factor.trees] if reads_second else factor.trees
             self.parts.append((Columns(trees, sizes, self.kept, True), reads_second))
         self.size = 1
@@ -184,7 +184,7 @@ class Worlds:
         for arm, through in WORLDS:
             whole: Optional[Factor] = None
             for columns, factor, reads_second in found:
-                own = at_levels(factor, self.arms[through if reads_second else arm])
+                own = at_levels(factor, {**self.arms[arm], **{name: self.arms[through][name] for name in reads_second}})
                 whole = own if whole is None else columns.multiplied(whole, own)
             if whole is None:
                 raise RequestError("the formula has no factor")

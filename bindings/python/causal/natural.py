@@ -139,15 +139,17 @@ class NaturalFormula(Shown):
 
 @dataclass(frozen=True)
 class NoNaturalFormula(Shown):
-    """Why no formula for a natural effect was found; it counts as false.
+    """Why there is no formula for a natural effect; it counts as false.
 
-    Where `hedge` is there, its two models show that the joint effect has no formula, nor has this one. Else the question is left open:
-    `witness` is a child of x that leads to y both through a mediator and past all of them, or the vertices of `district` read both values.
+    Where `hedge` is there, its two models show that the joint effect has no formula, nor has this one. Else the joint effect has one, and
+    both values of `treatment` are read: by `witness`, a child of it that leads to y both through a mediator and past all of them, or by the
+    vertices of `district`. It is proved that two models differ there too.
     """
 
     sets: NaturalSets
     joint: Term
     hedge: Optional[Hedge] = None
+    treatment: Optional[str] = None
     witness: Optional[str] = None
     district: Tuple[str, ...] = ()
 
@@ -159,9 +161,11 @@ class NoNaturalFormula(Shown):
     def __str__(self) -> str:
         if self.hedge is not None:
             return "\n".join([f"{self.sets.effect} is not identifiable", str(self.hedge), *self.sets.nil])
-        both = " and ".join(", ".join(map(printed_name, names)) for names in (self.sets.x, self.sets.second))
+        second = dict(zip(self.sets.x, self.sets.second))
+        both = [printed_name(name) for name in (self.treatment, second.get(self.treatment or "")) if name is not None]
         reader = printed_name(self.witness) if self.witness is not None else f"district {printed_set(self.district)}"
-        return "\n".join([f"{self.sets.effect} is left open: {self.joint} is identifiable", f"{reader} reads {both}", *self.sets.nil])
+        lines = [f"{self.sets.effect} is not identifiable", f"{reader} reads {' and '.join(both)}", f"{self.joint} is identifiable"]
+        return "\n".join([*lines, *self.sets.nil])
 
 
 Natural = Union[NaturalFormula, NoNaturalFormula]
@@ -173,9 +177,10 @@ def read_natural(told: Told) -> Natural:
     >>> from causal.natural import read_natural
     >>> sets = {"y": ["Y"], "x": ["X"], "through": ["M"], "given": [], "second": ["X'"], "effect": "P(Y[X,M[X']])"}
     >>> sets.update(indirect=True, direct=False, joint={"y": ["Y"], "x": ["X"]})
-    >>> print(read_natural({"answer": "open", **sets, "witness": "L"}))
-    P(Y[X,M[X']]) is left open: P(Y|do(X)) is identifiable
+    >>> print(read_natural({"answer": "witness", **sets, "treatment": "X", "witness": "L"}))
+    P(Y[X,M[X']]) is not identifiable
     L reads X and X'
+    P(Y|do(X)) is identifiable
     no directed path leads from {X} past {M} to {Y}: the direct effect is nil
     """
     y, x, through, given, second = (tuple(told[name]) for name in ("y", "x", "through", "given", "second"))
@@ -186,7 +191,7 @@ def read_natural(told: Told) -> Natural:
     term = Term(tuple(joint["y"]), tuple(joint["x"]))
     if told["answer"] == "hedge":
         return NoNaturalFormula(sets, term, Hedge(**reading.hedge_parts({**told, "given": []}, None)))
-    return NoNaturalFormula(sets, term, None, told.get("witness"), tuple(told.get("district", ())))
+    return NoNaturalFormula(sets, term, None, told["treatment"], told.get("witness"), tuple(told.get("district", ())))
 
 
 def _district(told: Told) -> District:

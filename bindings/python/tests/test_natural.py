@@ -112,16 +112,18 @@ class Answers(unittest.TestCase):
             found = Diagram("dag { X -> M -> Y X <-> Y }").natural("X", "Y", through="M")
         self.assertEqual(str(found).splitlines()[1:], ["no directed path leads from {X} past {M} to {Y}: the direct effect is nil"])
 
-    def test_left_open(self):
-        told = {"answer": "open", **SETS, "joint": {"y": ["Y"], "x": ["X"]}}
-        with answering((1, {**told, "witness": "L"}, ""), (1, {**told, "district": ["M", "Y"], "direct_child": "Y", "indirect_child": "M"}, "")):
+    def test_read_twice(self):
+        told = {**SETS, "joint": {"y": ["Y"], "x": ["X"]}, "treatment": "X"}
+        witness = {"answer": "witness", **told, "witness": "L"}
+        district = {"answer": "district", **told, "district": ["M", "Y"], "direct_child": "Y", "indirect_child": "M"}
+        with answering((1, witness, ""), (1, district, "")):
             diagram = Diagram("dag { X -> L -> M -> Y X -> Y L -> Y }")
             first, second = (diagram.natural("X", "Y", through="M") for _ in range(2))
         self.assertIsInstance(first, NoNaturalFormula)
         self.assertFalse(first)
-        self.assertEqual(str(first), "P(Y[X,M[X']]) is left open: P(Y|do(X)) is identifiable\nL reads X and X'")
+        self.assertEqual(str(first), "P(Y[X,M[X']]) is not identifiable\nL reads X and X'\nP(Y|do(X)) is identifiable")
         self.assertEqual(str(second).splitlines()[1], "district {M,Y} reads X and X'")
-        with answering((1, {**told, "witness": "L"}, "")), self.assertRaisesRegex(causal.NotIdentifiable, "is left open") as refused:
+        with answering((1, witness, "")), self.assertRaisesRegex(causal.NotIdentifiable, "is not identifiable") as refused:
             diagram.mediate(drawn(20), "X", "Y", through="M", treated=1, control=0, outcome=1)
         self.assertEqual(refused.exception.place.witness, "L")
 

@@ -14,10 +14,13 @@ use Rattle.twisted_models.specs.Twisted.{IsTwist}
 use Rattle.counter_models.proofs.ParityLaws.{odd-congr, odd-differ}
 use Rattle.carrying_models.proofs.Channels.{is_handed, IsCarried}
 
--- hidden coins: any two vertices that one serves are joined by a bidirected edge
+-- hidden coins: each serves one vertex, or two, which are joined by a bidirected edge
 pub record Coins (g : MixedGraph) : Type 0 where
   pub count : ℕ
   pub serves : ℕ → ℕ → Bool
+  pub one : ℕ → ℕ
+  pub other : ℕ → ℕ
+  pub two : (j v : ℕ) → j < count → serves j v ≡ (eqb v (one j) || eqb v (other j))
   pub some : (j : ℕ) → j < count → (v : ℕ) × IsTrue (serves j v)
   pub low : (j v : ℕ) → j < count → IsTrue (serves j v) → v < g.vertices
   pub joined : (j u v : ℕ) → j < count → IsTrue (serves j u) → IsTrue (serves j v) → u ≢ v → IsTrue (g.both u v)

@@ -259,6 +259,7 @@ module _ (g : MixedGraph) (ok : IsMixedGraph g) (x m y z : ℕ) (asked : IsNeste
     fits = core_fits g c (has x) (has m) p f arrows;
     twisted_fits = core_fits g c (has x) (has m) p none (λ i h. absurd (not_both (none i) h refl));
     is_twist = is_twist g c (has x) (has m) p f balance;
+    two = record { one = c.one; other = c.other; serves = c.two };
     s = s;
     t = no_bits;
     s_values = s_within;

@@ -1,5 +1,5 @@
 -- One coin for each bidirected edge of a walk: the parities of all vertices of a set that holds the walk add up to none.
-use Rattle.std.proofs.Common.{ℕ, zero, suc, ◌≡◌, ◌≢◌, ◌<◌, ◌≤◌, ◌⊎◌, inl, inr, Bool, true, false, refl, sym, ap, ap₂, ◌∙◌, ◌&&◌, ◌==◌, eqb, eqb-true}
+use Rattle.std.proofs.Common.{ℕ, zero, suc, ◌≡◌, ◌≢◌, ◌<◌, ◌≤◌, ◌⊎◌, inl, inr, Bool, true, false, refl, sym, ap, ap₂, ◌∙◌, ◌&&◌, ◌||◌, ◌==◌, eqb, eqb-true}
 use Rattle.std.proofs.Common.{ne_eqb, IsTrue, arith}
 use Rattle.mixed_graph.specs.Graphs.{MixedGraph, IsMixedGraph}
 use Rattle.hedge.specs.Linked.{IsLinked}
@@ -94,11 +94,24 @@ module _ (g : MixedGraph) (ok : IsMixedGraph g) (t : ℕ → Bool) (v w : ℕ) (
   walk_coins = record {
     count = r.steps;
     serves = serves;
+    one = r.visit;
+    other = λ j. r.visit (suc j);
+    two = two;
     some = λ j lt. (r.visit j, ap₂ differ (eqb-refl (r.visit j)) (apart j lt));
     low = low;
     joined = joined;
   }
     where
+      two : (j q : ℕ) → j < r.steps → serves j q ≡ (eqb q (r.visit j) || eqb q (r.visit (suc j)))
+      two j q lt = go (eqb q (r.visit j)) (eqb q (r.visit (suc j))) refl refl
+        where
+          go : (a b : Bool) → eqb q (r.visit j) ≡ a → eqb q (r.visit (suc j)) ≡ b → differ a b ≡ (a || b)
+          go true true h k = absurd (not_both (eqb q (r.visit (suc j))) k
+              (ap (λ i. eqb i (r.visit (suc j))) (eqb-true q (r.visit j) h) ∙ apart j lt))
+          go true false h k = refl
+          go false true h k = refl
+          go false false h k = refl
+
       low : (j q : ℕ) → j < r.steps → IsTrue (serves j q) → q < g.vertices
       low j q lt e = elim (parts j q e) [ inl a ↦ rw a (first_low j lt) | inr a ↦ rw a (second_low j lt) ]
 

@@ -1,5 +1,5 @@
 -- A recanting witness gives a pair of models: one coin serves it alone.
-use Rattle.std.proofs.Common.{ℕ, ◌<◌, refl, sym, ap, ◌∙◌, eqb, eqb-true}
+use Rattle.std.proofs.Common.{ℕ, ◌≡◌, ◌<◌, ◌||◌, Bool, true, false, refl, sym, ap, ◌∙◌, eqb, eqb-true}
 use Rattle.mixed_graph.specs.Graphs.{MixedGraph}
 use Rattle.finite_models.proofs.Bools.{not_both}
 use Rattle.finite_models.proofs.SumLaws.{eqb-refl}
@@ -7,10 +7,17 @@ use Rattle.carrying_models.specs.Apart.{WitnessIsApart}
 use Rattle.carrying_models.proofs.Core.{Coins}
 use Rattle.carrying_models.proofs.Pair.{are_apart}
 
+twice : (b : Bool) → b ≡ (b || b)
+twice true = refl
+twice false = refl
+
 one_coin : (g : MixedGraph) (c : ℕ) → c < g.vertices → Coins g
 one_coin g c cl = record {
   count = 1;
   serves = λ j v. eqb v c;
+  one = λ j. c;
+  other = λ j. c;
+  two = λ j v jl. twice (eqb v c);
   some = λ j jl. (c, eqb-refl c);
   low = λ j v jl e. rw (eqb-true v c e) cl;
   joined = λ j u v jl e f ne. absurd (ne (eqb-true u c e ∙ sym (eqb-true v c f)));

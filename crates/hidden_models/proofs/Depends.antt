@@ -10,7 +10,7 @@ use Rattle.finite_models.proofs.Solutions.{agree_gives, agree_from}
 module _ (g : MixedGraph) (m : FiniteModel) (ok : IsMixedGraph g) (fit : Follows g m) (b b' a a' : ℕ → Bool) (s t : ℕ → ℕ)
     (same_b : (v : ℕ) → v < m.vertices → b v ≡ b' v) (same_a : (v : ℕ) → v < m.vertices → a v ≡ a' v)
     (at_b : (v : ℕ) → v < m.vertices → b v ≡ true → s v ≡ t v) (at_a : (v : ℕ) → v < m.vertices → a v ≡ true → s v ≡ t v) where
-  same_round : (u : ℕ → ℕ) (k v : ℕ) → v < m.vertices → rounds (intervene m b s) k u v ≡ rounds (intervene m b' t) k u v
+  pub same_round : (u : ℕ → ℕ) (k v : ℕ) → v < m.vertices → rounds (intervene m b s) k u v ≡ rounds (intervene m b' t) k u v
   same_round u zero v vl = refl
   same_round u (suc k) v vl = go (b v) refl (fit.reads v vl (rounds (intervene m b s) k u) (rounds (intervene m b' t) k u) u u
       (λ q e. same_round u k q (rw fit.vertices (ok.tail_below q v e))) (λ j jl e. refl))

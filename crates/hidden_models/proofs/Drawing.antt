@@ -1,5 +1,5 @@
 -- Models of the observed graph whose causes serve two vertices at most fold models of the diagram as drawn; so two that tell an effect apart do so there.
-use Rattle.std.proofs.Common.{ℕ, List, ◌*◌, ◌≡◌, ◌<◌, ◌≤◌, Bool, true, false, not, cond, ◌||◌, refl, sym, ap, ap₂, ◌∙◌, arith, subst, length, mul-pos}
+use Rattle.std.proofs.Common.{ℕ, List, ◌*◌, ◌≡◌, ◌<◌, ◌≤◌, Bool, true, false, not, cond, ◌||◌, refl, sym, ap, ap₂, ◌∙◌, arith, subst, length, lt-ltb, mul-pos}
 use Rattle.std.proofs.Math.Nat.{eq_of_mul-eq-mul_left}
 use Rattle.mixed_graph.specs.Bits.{has}
 use Rattle.mixed_graph.specs.Sets.{Apart}
@@ -8,6 +8,7 @@ use Rattle.fractions.specs.Fractions.{over, IsEqual}
 use Rattle.fractions.proofs.FractionLaws.{equal_sym, equal_trans}
 use Rattle.finite_models.specs.Agreement.{AgreeObserved, AgreeUnder}
 use Rattle.finite_models.specs.Models.{FiniteModel, Fits, IsAssignment, IsPositiveModel, event_weight, weight_of, total}
+use Rattle.finite_models.proofs.Bools.{and_first}
 use Rattle.finite_models.proofs.Following.{follows_of}
 use Rattle.finite_models.proofs.Positive.{positive_weight}
 use Rattle.finite_models.proofs.Weights.{weight_of-none}
@@ -22,16 +23,16 @@ use Rattle.prob_expr.specs.Tree.{PlainFormula, PlainTarget}
 use Rattle.prob_expr.specs.Values.{weights_of, term_value, value_of, effect}
 use Rattle.prob_expr.proofs.Allowed.{experiments_fix_value}
 use Rattle.prob_expr.proofs.Observed.{observed_fixes_value}
-use Rattle.hidden_models.specs.Folding.{Folds, IsObservedPositive, values_after, values_before, drawn_weights, drawn_effect}
+use Rattle.hidden_models.specs.Folding.{Folds, IsObservedPositive, set_before, values_after, values_before, drawn_weights, drawn_effect}
 use Rattle.hidden_models.specs.FoldingLaws.{EqualsAsDrawn}
 use Rattle.finite_models.specs.Served.{ServesTwo}
-use Rattle.hidden_models.specs.Unfolding.{IsFoldedFrom, AgreeAsDrawn, AgreeUnderAsDrawn, DifferOnAsDrawn, NotIdentifiableAsDrawn, NotIdentifiableOverAsDrawn}
+use Rattle.hidden_models.specs.Unfolding.{SharesWorlds, IsFoldedFrom, AgreeAsDrawn, AgreeUnderAsDrawn, DifferOnAsDrawn, NotIdentifiableAsDrawn, NotIdentifiableOverAsDrawn}
 use Rattle.hidden_models.specs.UnfoldingLaws.{EachIsFolded, UnfoldedIsPositive, DifferenceIsDrawn, DifferenceOverIsDrawn, FormulaAsDrawnFixes}
 use Rattle.hidden_models.specs.UnfoldingLaws.{FormulaFailureIsDrawn}
 use Rattle.prob_expr.proofs.Alike.{left_positive}
-use Rattle.hidden_models.proofs.Depends.{weight_depends}
+use Rattle.hidden_models.proofs.Depends.{same_round, weight_depends}
 use Rattle.hidden_models.proofs.Drawn.{after_within, before_within, same_value, drawn_weight, keeps_value, keeps_effect, keeps_term}
-use Rattle.hidden_models.proofs.Expanded.{new, old, new_old, old_observed, expanded, two_expanded, fits_expanded, expanded_weighs}
+use Rattle.hidden_models.proofs.Expanded.{new, old, new_lt, new_old, old_observed, expanded, two_expanded, fits_expanded, expanded_weighs, expanded_at}
 use Rattle.hidden_models.proofs.FoldingLaw.{by_treks}
 use Rattle.hidden_models.proofs.ReachingLaw.{observed_of}
 use Rattle.hidden_models.proofs.Totals.{total_positive}
@@ -112,12 +113,47 @@ module _ (g : MixedGraph) (l : ℕ → Bool) (p : MixedGraph) (m : FiniteModel) 
         un.total_is;
   }
 
+  -- the sets and the values in their new numbers again
+  set_back : (b : ℕ → Bool) (i : ℕ) → i < m.vertices → renumbered_set (observed_below l g.vertices) (set_before l b) i ≡ b i
+  set_back b i il =
+      let low = subst (λ k. i < k) fit.vertices il in
+      rw (lt-ltb i (length (observed_below l g.vertices)) low, old_observed l g.vertices i low, new_old l g.vertices i low) refl
+
+  value_back : (s : ℕ → ℕ) (i : ℕ) → i < m.vertices → values_after l g.vertices (values_before l s) i ≡ s i
+  value_back s i il =
+      let low = subst (λ k. i < k) fit.vertices il in rw (old_observed l g.vertices i low, new_old l g.vertices i low) refl
+
+  seen_before : (s : ℕ → ℕ) → IsAssignment m.vertices m.size s → IsAssignment g.vertices (λ v. cond (l v) 1 (m.size (new l g.vertices v))) (values_before l s)
+  seen_before s hs v vl = go (l v) refl
+    where
+      go : (c : Bool) → l v ≡ c → cond (not (l v)) (s (new l g.vertices v)) 0 < cond (l v) 1 (m.size (new l g.vertices v))
+      go true e = rw e (omega arith)
+      go false e = rw e (hs (new l g.vertices v) (subst (λ k. new l g.vertices v < k) (sym fit.vertices) (new_lt l g.vertices v vl e)))
+
+  pub shares_model : SharesWorlds l un.model m
+  shares_model = record {
+    causes = un.causes;
+    values = un.values;
+    weight = un.weight;
+    worlds = λ b s hs u hu v vl e.
+        let vl' = subst (λ k. v < k) un.fits.vertices vl in
+        let bo : Apart (set_before l b) l = λ k i. observed_of (l k) (and_first (not (l k)) (b (new l g.vertices k)) i) in
+        sym (un.worlds (set_before l b) bo (values_before l s) (twice_within (values_before l s) (seen_before s hs)) u hu v vl' e)
+        ∙ expanded_at p l g.vertices m two p_ok is.vertices fit (set_before l b) bo (values_before l s) (seen_before s hs) u v vl' e
+        ∙ same_round (renumbered p (observed_below l g.vertices)) m (IsMixedGraph-renumbered p (observed_below l g.vertices) p_ok)
+        (follows_of (renumbered p (observed_below l g.vertices)) m fit) (renumbered_set (observed_below l g.vertices) (set_before l b)) b
+        (λ k. false) (λ k. false) (values_after l g.vertices (values_before l s)) s (λ i il. set_back b i il) (λ i il. refl)
+        (λ i il h. value_back s i il) (λ i il h. value_back s i il) u m.vertices (new l g.vertices v)
+        (subst (λ k. new l g.vertices v < k) (sym fit.vertices) (new_lt l g.vertices v vl' e));
+  }
+
 pub each_is_folded : EachIsFolded
 each_is_folded = λ g ok l q is m fit two.
     let fit' : Fits (renumbered is.projection (observed_below l g.vertices)) m = subst (λ h. Fits h m) is.renumbers fit in record {
       drawn = (un g l is.projection m two ok is.projects fit').model;
       fits = (un g l is.projection m two ok is.projects fit').fits;
       folds = folds_model g l is.projection m two ok is.projects fit';
+      shares = shares_model g l is.projection m two ok is.projects fit';
     }
 
 pub unfolded_is_positive : UnfoldedIsPositive

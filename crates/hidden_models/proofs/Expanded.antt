@@ -241,3 +241,15 @@ module _ (p : MixedGraph) (l : ℕ → Bool) (n : ℕ) (m : FiniteModel) (two : 
       (λ rank ranked. with_rank (renumbered p (observed_below l n)) (IsMixedGraph-renumbered p (observed_below l n) ok) (weight_of (expanded l n m two) b a s)
       (weight_of m (renumbered_set (observed_below l n) b) (renumbered_set (observed_below l n) a) (values_after l n s))
       (λ rank' ranked'. expanded_weight rank rank' ranked ranked' b a bo ao s hs))
+
+  -- and in each world an observed vertex has the value that it has there
+  pub expanded_at : (b : ℕ → Bool) → Apart b l → (s : ℕ → ℕ) → IsAssignment n (λ v. cond (l v) 1 (m.size (new l n v))) s → (u : ℕ → ℕ) → (v : ℕ) → v < n
+      → l v ≡ false → solution (intervene (expanded l n m two) b s) u v
+      ≡ solution (intervene m (renumbered_set (observed_below l n) b) (values_after l n s)) u (new l n v)
+  unfolding t
+  expanded_at b bo s hs u v vl e = with_rank p ok (solution (intervene (expanded l n m two) b s) u v)
+      (solution (intervene m (renumbered_set (observed_below l n) b) (values_after l n s)) u (new l n v))
+      (λ rank ranked. with_rank (renumbered p (observed_below l n)) (IsMixedGraph-renumbered p (observed_below l n) ok)
+      (solution (intervene (expanded l n m two) b s) u v)
+      (solution (intervene m (renumbered_set (observed_below l n) b) (values_after l n s)) u (new l n v))
+      (λ rank' ranked'. sym (at rank rank' ranked ranked' b (λ k. false) bo (λ k i. absurd (grind (arith, i))) s hs u v vl e)))

@@ -120,15 +120,16 @@ module _ (g : MixedGraph) (k : ℕ) (m : FiniteModel) (two : ServesTwo m) (ok : 
             go false e = rw e (coded_other v e ∙ t_is v vl ∙ ap (cond (b v) (s v))
                 (fit.reads v vl t (seen g k m two v coded) u (heard g k m two v coded u) (seen_back v) (λ j jl q. heard_back v j jl)))
 
-        at : (v : ℕ) → v < m.vertices → (v == k) ≡ false → solution (intervene m b s) u v ≡ solution (intervene (put_back g k m two) b s) u v
+        -- another vertex has its value with k put back too
+        pub back_at : (v : ℕ) → v < m.vertices → (v == k) ≡ false → solution (intervene m b s) u v ≡ solution (intervene (put_back g k m two) b s) u v
         unfolding t
-        at v vl e = sym (coded_other v e) ∙ unique g (intervene (put_back g k m two) b s) rank ranked follows' u coded
+        back_at v vl e = sym (coded_other v e) ∙ unique g (intervene (put_back g k m two) b s) rank ranked follows' u coded
             (solution (intervene (put_back g k m two) b s) u)
             coded_is (λ x xl. solution_is g (intervene (put_back g k m two) b s) rank ranked follows' u x xl) v vl
 
         pub back_agree : agree m.vertices a (solution (intervene m b s) u) s ≡ agree m.vertices a (solution (intervene (put_back g k m two) b s) u) s
         back_agree = agree_same m.vertices a a (solution (intervene m b s) u) (solution (intervene (put_back g k m two) b s) u) s
-            (λ h v vl e. sym (at v vl (not_k v e)) ∙ h v vl e) (λ h v vl e. at v vl (not_k v e) ∙ h v vl e)
+            (λ h v vl e. sym (back_at v vl (not_k v e)) ∙ h v vl e) (λ h v vl e. back_at v vl (not_k v e) ∙ h v vl e)
           where
             not_k : (v : ℕ) → a v ≡ true → (v == k) ≡ false
             not_k v e = ne_eqb v k (λ q. clash (a k) (ap a (sym q) ∙ e) ak)

@@ -1,9 +1,10 @@
 -- A model of the latent projection comes from one of the graph: its hidden vertices are put back one after the other.
-use Rattle.std.proofs.Common.{ℕ, zero, suc, ◌≡◌, ◌<◌, ◌≤◌, Bool, true, false, not, cond, ◌&&◌, ◌==◌, List, [], ◌∷◌, refl, sym, ap, ◌∙◌, arith, eq-eqb, ne_eqb}
+use Rattle.std.proofs.Common.{ℕ, zero, suc, ◌≡◌, ◌<◌, ◌≤◌, Bool, true, false, not, cond, ◌&&◌, ◌==◌, List, [], ◌∷◌, refl, sym, ap, ◌∙◌, arith, eq-eqb, ne_eqb, subst}
 use Rattle.std.proofs.lemmas.Bool.{and_from, false_from_ne_true}
 use Rattle.mixed_graph.specs.Graphs.{MixedGraph, IsMixedGraph, IsDirectedPath}
 use Rattle.mixed_graph.specs.Sets.{Apart}
-use Rattle.finite_models.specs.Models.{FiniteModel, Fits, IsAssignment, weight_of, total}
+use Rattle.finite_models.specs.Models.{FiniteModel, Fits, IsAssignment, solution, intervene, weight_of, total}
+use Rattle.finite_models.proofs.Ranks.{with_rank}
 use Rattle.latent_projection.specs.Projection.{AreBefore}
 use Rattle.latent_projection.specs.Removal.{without}
 use Rattle.latent_projection.proofs.Treks.{LeadsOn, IsTrek, fork, edge, ProjectsByTreks, clash, left_true, right_true}
@@ -11,7 +12,7 @@ use Rattle.latent_projection.proofs.Removals.{graph_without}
 use Rattle.latent_projection.proofs.Removing.{led_down, led_up, trek_down, trek_up}
 use Rattle.finite_models.specs.Served.{ServesTwo}
 use Rattle.hidden_models.proofs.Unfold.{arrow_of, both_of, codes, put_back, two_put_back, fits_back}
-use Rattle.hidden_models.proofs.Unfolded.{back_weighs}
+use Rattle.hidden_models.proofs.Unfolded.{back_at, back_weighs}
 
 -- the hidden vertices but k
 abbrev pub but : (ℕ → Bool) → ℕ → ℕ → Bool
@@ -103,7 +104,8 @@ module _ (g p : MixedGraph) (l : ℕ → Bool) (ok : IsMixedGraph g) (none : (v 
   pub fits_itself : (m : FiniteModel) → Fits p m → Fits g m
   fits_itself m fit = fits_more p g m is.vertices arrow_stays both_stays fit
 
--- a model of the graph in which the events of observed vertices weigh what they weigh in m
+-- a model of the graph in which the events of observed vertices weigh what they weigh in m, and these vertices have in each world the values that they
+-- have there
 pub record IsUnprojected (g : MixedGraph) (l : ℕ → Bool) (m : FiniteModel) : Type 0 where
   pub model : FiniteModel
   pub fits : Fits g model
@@ -111,8 +113,14 @@ pub record IsUnprojected (g : MixedGraph) (l : ℕ → Bool) (m : FiniteModel) :
   pub vertices : model.vertices ≡ m.vertices
   pub sizes : (v : ℕ) → l v ≡ false → model.size v ≡ m.size v
   pub total_is : total m ≡ total model
+  pub causes : m.causes ≡ model.causes
+  pub values : m.values ≡ model.values
+  pub weight : m.weight ≡ model.weight
   pub weighs : (b a : ℕ → Bool) → Apart b l → Apart a l → (s : ℕ → ℕ) → IsAssignment m.vertices (λ v. cond (l v) 1 (m.size v)) s
       → weight_of m b a s ≡ weight_of model b a s
+  pub worlds : (b : ℕ → Bool) → Apart b l → (s : ℕ → ℕ) → IsAssignment m.vertices (λ v. cond (l v) 1 (m.size v)) s → (u : ℕ → ℕ)
+      → IsAssignment m.causes m.values u → (v : ℕ) → v < m.vertices → l v ≡ false
+      → solution (intervene m b s) u v ≡ solution (intervene model b s) u v
 
 module _ (g : MixedGraph) (l : ℕ → Bool) (k : ℕ) (m : FiniteModel) (ok : IsMixedGraph g) (lk : l k ≡ true) (kl : k < g.vertices)
     (some : (v : ℕ) → v < m.vertices → 0 < m.size v) (un : IsUnprojected (without g k) (but l k) m) where
@@ -128,6 +136,16 @@ module _ (g : MixedGraph) (l : ℕ → Bool) (k : ℕ) (m : FiniteModel) (ok : I
     vertices = un.vertices;
     sizes = λ v e. let f : (v == k) ≡ false = ne_eqb v k (λ s. clash (l k) lk (ap l (sym s) ∙ e)) in rw f (un.sizes v (rw e refl));
     total_is = un.total_is;
+    causes = un.causes;
+    values = un.values;
+    weight = un.weight;
+    worlds = λ b bo s hs u hu v vl e.
+        un.worlds b (λ w i. rw (bo w i) refl) s (λ w wl. less w (s w) wl (hs w wl) (l w) refl) u hu v vl (rw e refl)
+        ∙ with_rank g ok (solution (intervene un.model b s) u v) (solution (intervene (put_back g k un.model un.two) b s) u v)
+        (λ rank ranked. back_at g k un.model un.two ok k_low un.fits rank ranked b (λ w. false) (none b bo) refl s
+        (λ w wl. within s hs w wl (l w) refl) (λ w wl. within' s hs w wl (l w) refl) u
+        (λ j jl. subst (λ (f : ℕ → ℕ). u j < f j) un.values (hu j (subst (λ n. j < n) (sym un.causes) jl)))
+        v (rw un.vertices vl) (ne_eqb v k (λ q. clash (l k) lk (ap l (sym q) ∙ e))));
     weighs = λ b a bo ao s hs.
         un.weighs b a (λ v e. rw (bo v e) refl) (λ v e. rw (ao v e) refl) s (λ v vl. less v (s v) vl (hs v vl) (l v) refl)
         ∙ back_weighs g k un.model un.two ok k_low un.fits b a (none b bo) (none a ao) s
@@ -168,6 +186,10 @@ unprojected zero g ok l low le p is m fit two =
       vertices = refl;
       sizes = λ v e. refl;
       total_is = refl;
+      causes = refl;
+      values = refl;
+      weight = refl;
+      worlds = λ b bo s hs u hu v vl e. refl;
       weighs = λ b a bo ao s hs. refl;
     }
 unprojected (suc i) g ok l low le p is m fit two = go (l i) refl (λ g' ok' l' low' le' is'. unprojected i g' ok' l' low' le' p is' m fit two)

@@ -3,18 +3,29 @@ use Rattle.std.specs.Prelude.{ℕ, ◌*◌, ◌≡◌, ◌<◌, Bool, true, fals
 use Rattle.mixed_graph.specs.Bits.{has}
 use Rattle.mixed_graph.specs.Graphs.{MixedGraph}
 use Rattle.fractions.specs.Fractions.{IsEqual}
-use Rattle.finite_models.specs.Models.{FiniteModel, Fits, IsAssignment, total}
+use Rattle.finite_models.specs.Models.{FiniteModel, Fits, IsAssignment, solution, intervene, total}
 use Rattle.prob_expr.specs.Terms.{is_allowed, is_do_free, is_listed}
 use Rattle.prob_expr.specs.Tree.{PlainFormula, PlainTarget}
 use Rattle.prob_expr.specs.Values.{term_value, value_of}
-use Rattle.hidden_models.specs.Folding.{Folds, IsObservedPositive, values_after, drawn_weights, drawn_effect}
+use Rattle.hidden_models.specs.Folding.{Folds, IsObservedPositive, new_number, set_before, values_before, values_after, drawn_weights, drawn_effect}
 use Rattle.hidden_models.specs.FoldingLaws.{EqualsAsDrawn}
 
--- a model of the graph that m, a model of its observed graph, folds
+-- m' has the causes of m, and in each world, under every intervention on observed vertices, an observed vertex has one value in both; so each event of
+-- several interventions at once has one probability in both
+pub record SharesWorlds (l : ℕ → Bool) (m m' : FiniteModel) : Type 0 where
+  pub causes : m'.causes ≡ m.causes
+  pub values : m'.values ≡ m.values
+  pub weight : m'.weight ≡ m.weight
+  pub worlds : (b : ℕ → Bool) (s : ℕ → ℕ) → IsAssignment m'.vertices m'.size s → (u : ℕ → ℕ) → IsAssignment m'.causes m'.values u
+      → (v : ℕ) → v < m.vertices → l v ≡ false
+      → solution (intervene m (set_before l b) (values_before l s)) u v ≡ solution (intervene m' b s) u (new_number l v)
+
+-- a model of the graph that m, a model of its observed graph, folds, and shares its worlds with
 pub record IsFoldedFrom (g : MixedGraph) (l : ℕ → Bool) (m : FiniteModel) : Type 0 where
   pub drawn : FiniteModel
   pub fits : Fits g drawn
   pub folds : Folds l drawn m
+  pub shares : SharesWorlds l drawn m
 
 -- two models of the diagram as drawn have the observed vertices with equal sizes and, under an intervention on those of z, in their new numbers,
 -- equal probabilities of what is observed

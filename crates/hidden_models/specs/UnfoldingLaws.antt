@@ -16,7 +16,7 @@ use Rattle.hidden_models.specs.Folding.{Folds, IsObservedPositive}
 use Rattle.finite_models.specs.Served.{ServesTwo}
 use Rattle.hidden_models.specs.Unfolding.{IsFoldedFrom, NotIdentifiableAsDrawn, NotIdentifiableOverAsDrawn, FailsSomewhereAsDrawn}
 
--- every model of the observed graph each of whose causes serves one vertex or two folds a model of the diagram as drawn
+-- every model of the observed graph each of whose causes serves one vertex or two folds a model of the diagram as drawn, and shares its worlds with it
 abbrev pub EachIsFolded : Type 0
 EachIsFolded = (g : MixedGraph) → IsMixedGraph g → (l : ℕ → Bool) (q : MixedGraph) → IsObserved g l q → (m : FiniteModel) → Fits q m → ServesTwo m
     → IsFoldedFrom g l m

@@ -59,7 +59,7 @@ one_request uses q r a b = λ i. record {
   form = one_form (has_flag uses (codes "latex")) (has_flag uses (codes "json")) q.form r.form a.form b.form i;
 }
 
--- whether something reads both values of x, or the joint effect has a hedge, settles how an answer ends
+-- whether something reads both values of a treatment, or the joint effect has a hedge, settles how an answer ends
 abbrev IsHindered : MixedGraph → Question → Type 0
 IsHindered g q = ReadsBoth g q.x.bits q.through.bits q.y.bits q.given.bits ⊎ ((h : Hedge) × IsHedge g q.x.bits (union q.y.bits q.given.bits) h)
 

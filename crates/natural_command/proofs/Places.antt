@@ -1,5 +1,5 @@
--- The names by which vertices are read where x has its second value are names, no two of them equal.
-use Rattle.std.proofs.Common.{◌≡◌, ◌≢◌, ◌<◌, ◌≤◌, ◌||◌, ◌==◌, ℕ, suc, Bool, true, false, cond, List, [], ◌∷◌, ◌++◌, length, map, nat_lt, refl, sym, ap, ◌∙◌, subst}
+-- The names by which vertices are read where some of x are read at their second values are names, no two of them equal.
+use Rattle.std.proofs.Common.{◌≡◌, ◌≢◌, ◌<◌, ◌≤◌, ◌||◌, ◌&&◌, ◌==◌, ℕ, suc, Bool, true, false, cond, List, [], ◌∷◌, ◌++◌, length, map, nat_lt, refl, sym, ap, ◌∙◌, subst}
 use Rattle.std.proofs.Common.{arith, length-append, inl, inr}
 use Rattle.std.specs.Str.{bytes_eq}
 use Rattle.std.proofs.lemmas.Bool.{cases_Bool, ltb-true, eqb-true, eq-eqb}
@@ -12,10 +12,11 @@ use Rattle.mixed_graph.specs.Masks.{all}
 use Rattle.mixed_graph.specs.Names.{IsName, AreNames, is_named, name_of}
 use Rattle.mixed_graph.proofs.MemberLists.{AreMembers, is_in}
 use Rattle.mixed_graph.proofs.Members.{length-members-le}
+use Rattle.finite_models.proofs.Bools.{and_first}
 use Rattle.primed_names.specs.Primed.{with_primes, primed_name, primed_names}
 use Rattle.treated_models.specs.Primes.{prime_of}
 use Rattle.treated_models.proofs.Primes.{prime_behind, prime_one}
-use Rattle.natural_command.specs.Second.{second_place, second_names}
+use Rattle.natural_command.specs.Second.{place_read, names_read}
 
 -- names with primed names are no fewer
 primed_longer : (names taken : List (List ℕ)) (vs : List ℕ) → length taken ≤ length (with_primes names taken vs)
@@ -32,10 +33,10 @@ primed_longer names taken (v ∷ vs) = go (λ (t : List (List ℕ)). primed_long
 pub both_longer : (names : List (List ℕ)) (x : ℕ) → length names ≤ length (primed_names names x)
 both_longer names x = primed_longer names names (members_below (has x) 64)
 
-module _ (n x count : ℕ) where
+module _ (n x second count : ℕ) where
   -- a place is one of the names
-  pub place_low : (v : ℕ) → v < n → n ≤ count → second_place n x count v < count
-  place_low v il le = go (has x v) (nat_lt (prime_of n x v) count) refl
+  pub place_low : (v : ℕ) → v < n → n ≤ count → place_read n x second count v < count
+  place_low v il le = go (has x v && has second v) (nat_lt (prime_of n x v) count) refl
     where
       go : (a b : Bool) → nat_lt (prime_of n x v) count ≡ b → cond a (cond b (prime_of n x v) v) v < count
       go true true e = ltb-true (prime_of n x v) count e
@@ -43,11 +44,11 @@ module _ (n x count : ℕ) where
       go false b e = omega (arith, il, le)
 
   -- two vertices have two places
-  pub place_one : (v w : ℕ) → v < n → w < n → second_place n x count v ≡ second_place n x count w → v ≡ w
-  place_one v w vl wl = go (has x v) (has x w) (nat_lt (prime_of n x v) count) (nat_lt (prime_of n x w) count) refl refl
+  pub place_one : (v w : ℕ) → v < n → w < n → place_read n x second count v ≡ place_read n x second count w → v ≡ w
+  place_one v w vl wl = go (has x v && has second v) (has x w && has second w) (nat_lt (prime_of n x v) count) (nat_lt (prime_of n x w) count) refl refl
     where
-      go : (a b c d : Bool) → has x v ≡ a → has x w ≡ b → cond a (cond c (prime_of n x v) v) v ≡ cond b (cond d (prime_of n x w) w) w → v ≡ w
-      go true true true true i j e = prime_one n x v w vl wl i j e
+      go : (a b c d : Bool) → (has x v && has second v) ≡ a → (has x w && has second w) ≡ b → cond a (cond c (prime_of n x v) v) v ≡ cond b (cond d (prime_of n x w) w) w → v ≡ w
+      go true true true true i j e = prime_one n x v w vl wl (and_first (has x v) (has second v) i) (and_first (has x w) (has second w) j) e
       go true true true false i j e = absurd (let p = prime_behind n x v in omega (arith, p, wl, e))
       go true true false true i j e = absurd (let p = prime_behind n x w in omega (arith, p, vl, e))
       go true true false false i j e = e
@@ -71,7 +72,7 @@ names_apart all are p q pl ql d = elim (cases_Bool (bytes_eq (name_of all p) (na
         go true l = are.distinct p q [] (ltb-true p q l) ql e
         go false l = are.distinct q p [] (let m : q ≤ p = grind (arith, l) in omega (arith, m, d)) pl (sym e)
 
-module _ (names : List (List ℕ)) (x : ℕ) where
+module _ (names : List (List ℕ)) (x second : ℕ) where
   abbrev pub both : List (List ℕ)
   both = primed_names names x
 
@@ -80,12 +81,12 @@ module _ (names : List (List ℕ)) (x : ℕ) where
 
   -- the name of v
   abbrev pub read_as : ℕ → List ℕ
-  read_as v = name_of both (second_place n x (length both) v)
+  read_as v = name_of both (place_read n x second (length both) v)
 
   -- what was read, and what is left
   pub record IsReading (left : List ℕ) (read : List (List ℕ)) : Type 0 where
     pub are : AreMembers (has (all n)) 64 left
-    pub whole : read ++ map read_as left ≡ second_names names x
+    pub whole : read ++ map read_as left ≡ names_read names x second
     pub fresh : (v : ℕ) → is_in left v ≡ true → is_named read (read_as v) ≡ false
 
   pub reading_none : (left : List ℕ) → left ≡ members_below (has (all n)) 64 → AreMembers (has (all n)) 64 left → IsReading left []
@@ -117,8 +118,9 @@ module _ (names : List (List ℕ)) (x : ℕ) where
           let long = both_longer names x in
           let other : w ≢ v = λ e. absurd (let a = here.2 in let b = i in let c : is_in rest v ≡ true = subst (λ k. is_in rest k ≡ true) e i in cc (a, c)) in
           let old : is_named read (read_as w) ≡ false = r.fresh w (ap (λ vs. is_in vs w) first ∙ either (w == v) (is_in rest w) i) in
-          let new : bytes_eq (read_as w) (read_as v) ≡ false = names_apart both fresh_names (second_place n x (length both) w) (second_place n x (length both) v)
-          (place_low n x (length both) w il long) (place_low n x (length both) v vl long) (λ e. other (place_one n x (length both) w v il vl e)) in
+          let new : bytes_eq (read_as w) (read_as v) ≡ false = names_apart both fresh_names (place_read n x second (length both) w) (place_read n x second (length both) v)
+          (place_low n x second (length both) w il long) (place_low n x second (length both) v vl long)
+          (λ e. other (place_one n x second (length both) w v il vl e)) in
           let named : bytes_eq (read_as w) name ≡ false = ap (bytes_eq (read_as w)) is ∙ new in
           rw (old, named) refl
         where
@@ -136,9 +138,10 @@ module _ (names : List (List ℕ)) (x : ℕ) where
 
   -- the name is a name
   pub reading_formed : AreNames both → (v : ℕ) → v < n → IsName (read_as v)
-  reading_formed fresh_names v il = All-get_or IsName both (second_place n x (length both) v) [] (place_low n x (length both) v il (both_longer names x)) fresh_names.formed
+  reading_formed fresh_names v il = All-get_or IsName both (place_read n x second (length both) v) [] (place_low n x second (length both) v il (both_longer names x))
+      fresh_names.formed
 
-  pub reading_done : (left : List ℕ) (read : List (List ℕ)) → left ≡ [] → IsReading left read → read ≡ second_names names x
+  pub reading_done : (left : List ℕ) (read : List (List ℕ)) → left ≡ [] → IsReading left read → read ≡ names_read names x second
   reading_done left read none r = sym (append-nil read) ∙ ap (λ vs. read ++ map read_as vs) (sym none) ∙ r.whole
 
 -- the first of a list is in it

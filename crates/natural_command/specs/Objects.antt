@@ -49,7 +49,7 @@ part_members names read x p =
 
 -- that object
 abbrev pub part_json : List (List ℕ) → (x : ℕ) → Part → Json
-part_json names x p = object_of (part_members names (names_read p.second names x) x p)
+part_json names x p = object_of (part_members names (names_read names x p.second.bits) x p)
 
 -- the formula as text, what is summed, the parts, and the formula in LaTeX
 abbrev pub body_members : List (List ℕ) → Asked → NaturalFormula → List (List ℕ × Json)
@@ -74,18 +74,20 @@ hedge_members_of names a h pair =
 abbrev pub excluded_members : List (List ℕ) → Asked → Hedge → CounterPair → List (List ℕ × Json)
 excluded_members names a h pair = asked_members (codes "hedge") names a ++ hedge_members_of names a h pair
 
--- a vertex reads both values of x
+-- there is none: a vertex reads both values of a treatment
 abbrev pub witness_members : List (List ℕ) → Asked → Witness → List (List ℕ × Json)
 witness_members names a w =
-    asked_members (codes "open") names a
+    asked_members (codes "witness") names a
     ++ ((codes "joint", joint_json names a.question.x.bits (joint_of a))
+    ∷ (codes "treatment", vertex_json names w.treatment)
     ∷ (codes "witness", vertex_json names w.child) ∷ [])
 
--- a district reads both values of x: by the first vertex past the mediators, by the second through them
+-- there is none: a district reads both values of a treatment, by the first vertex past the mediators, by the second through them
 abbrev pub split_members : List (List ℕ) → Asked → Split → List (List ℕ × Json)
 split_members names a s =
-    asked_members (codes "open") names a
+    asked_members (codes "district") names a
     ++ ((codes "joint", joint_json names a.question.x.bits (joint_of a))
+    ∷ (codes "treatment", vertex_json names s.treatment)
     ∷ (codes "district", set_json names s.district.bits)
     ∷ (codes "direct_child", vertex_json names s.first)
     ∷ (codes "indirect_child", vertex_json names s.second) ∷ [])

@@ -21,7 +21,7 @@ use Rattle.natural_id.specs.declared.answers.NaturalFormula.{NaturalFormula}
 use Rattle.natural_id.specs.declared.answers.Witness.{Witness as Recanting}
 use Rattle.natural_id.specs.declared.answers.Split.{Split as Parted}
 use Rattle.natural_id.specs.Parts.{EqualsNatural}
-use Rattle.natural_id.specs.Answers.{parts_view, IsWitness, IsSplit, ReadsBoth}
+use Rattle.natural_id.specs.Answers.{parts_view, IsWitness, IsSplit, ReadsBoth, IsLostNested}
 use Rattle.targets.specs.Targets.{OrMemory}
 use Rattle.natural_command.specs.Asking.{NaturalLists, natural_lists, AreNamed, IsNamesFault, IsListsFault}
 use Rattle.natural_command.specs.declared.asking.Question.{Question}
@@ -57,7 +57,7 @@ pub record IsAskedFor (g : MixedGraph) (q : Question) (a : Asked) : Type 0 where
 abbrev pub HasNoHedge : MixedGraph → Question → Type 0
 HasNoHedge g q = (h : Hedge) → IsHedge g q.x.bits (union q.y.bits q.given.bits) h → ⊥
 
--- nothing reads both values of x, the joint effect has no hedge, and the formula equals P(y[x, m[x']] | z) in each positive model of g, at each assignment
+-- nothing reads both values of a treatment, the joint effect has no hedge, and the formula equals P(y[x, m[x']] | z) in each positive model of g, at each assignment
 pub record IsFormulaFor (g : MixedGraph) (q : Question) (f : NaturalFormula) : Type 0 where
   pub equals : EqualsNatural g q.x.bits q.through.bits q.y.bits q.given.bits f.summed.bits (parts_view f.parts.items)
   pub clear : ReadsBoth g q.x.bits q.through.bits q.y.bits q.given.bits → ⊥
@@ -69,14 +69,16 @@ pub record IsExcluded (g : MixedGraph) (q : Question) (h : Hedge) (pair : Counte
   pub evidence : (k : Hedge) × IsHedge g q.x.bits (union q.y.bits q.given.bits) k
   pub no_formula : HasNoFormulaNested g q.x.bits q.through.bits q.y.bits q.given.bits
 
--- a child of x leads to y both through the mediators and past them, and there is no hedge: whether there is a formula is left open
+-- a child of x leads to y both through the mediators and past them: two models show that no formula equals the nested effect; and there is no hedge
 pub record IsWitnessed (g : MixedGraph) (q : Question) (w : Recanting) : Type 0 where
   pub witness : IsWitness g q.x.bits q.through.bits q.y.bits w
+  pub lost : IsLostNested g q.x.bits q.through.bits q.y.bits q.given.bits
   pub no_hedge : HasNoHedge g q
 
--- a district has children of x of both kinds, and there is no hedge: whether there is a formula is left open
+-- a district has children of one treatment of both kinds: two models show that no formula equals the nested effect; and there is no hedge
 pub record IsParted (g : MixedGraph) (q : Question) (s : Parted) : Type 0 where
   pub split : IsSplit g q.x.bits q.through.bits q.y.bits q.given.bits s
+  pub lost : IsLostNested g q.x.bits q.through.bits q.y.bits q.given.bits
   pub no_hedge : HasNoHedge g q
 
 -- the answer to this question in the observed graph g

@@ -99,7 +99,7 @@ operand_in notation names t f = if is_defined f then expr_in notation names (ter
 
 -- the same, by the names by which the part reads x
 abbrev pub part_in : Notation → List (List ℕ) → (x : ℕ) → Part → List ℕ
-part_in notation names x p = operand_in notation (names_read p.second names x) (district_effect names p) (formula_view p.formula)
+part_in notation names x p = operand_in notation (names_read names x p.second.bits) (district_effect names p) (formula_view p.formula)
 
 -- the sign of a product before a later factor
 abbrev pub times_before : Notation → (later : Bool) → List ℕ
@@ -136,7 +136,7 @@ equation_in notation names a f = effect_in notation names a ++ (codes " = " ++ b
 -- the lines of the effect of a part whose formula has definitions
 abbrev pub part_lines : Notation → List (List ℕ) → (x : ℕ) → Part → List ℕ
 part_lines notation names x p = if is_defined (formula_view p.formula)
-    then answer_in notation (names_read p.second names x) (district_effect names p) (formula_view p.formula) else []
+    then answer_in notation (names_read names x p.second.bits) (district_effect names p) (formula_view p.formula) else []
 
 -- ---- what is nil
 
@@ -175,20 +175,21 @@ abbrev pub excluded_text : List (List ℕ) → Asked → Hedge → CounterPair �
 excluded_text names a h pair =
     effect_text names a ++ (codes " is not identifiable\n" ++ (hedge_answer names a.question.x.bits (joint_of a) h pair ++ nil_lines names a))
 
--- `P(Y[X,M[X']]) is left open: P(Y|do(X)) is identifiable`
-abbrev pub open_text : List (List ℕ) → Asked → List ℕ
-open_text names a =
-    effect_text names a ++ (codes " is left open: " ++ (text_of names (effect_term a.question.x.bits (joint_of a)) ++ codes " is identifiable\n"))
+-- `P(Y[X,M[X']]) is not identifiable`, the line of what reads both values of a treatment, and `P(Y|do(X)) is identifiable`
+abbrev pub read_twice_text : List (List ℕ) → Asked → List ℕ → List ℕ
+read_twice_text names a reader =
+    effect_text names a ++ (codes " is not identifiable\n" ++ (reader ++ (text_of names (effect_term a.question.x.bits (joint_of a))
+    ++ codes " is identifiable\n")))
 
--- ` reads X and X'`
-abbrev pub reads_text : List (List ℕ) → Asked → List ℕ
-reads_text names a =
-    codes " reads " ++ (list_text names a.question.x.bits ++ (codes " and " ++ (list_text (primed_names names a.question.x.bits) a.primes.bits ++ codes "\n")))
+-- ` reads X and X'`, where p is a member of x
+abbrev pub reads_text : List (List ℕ) → (x p : ℕ) → List ℕ
+reads_text names x p = codes " reads " ++ (vertex_text names p ++ (codes " and " ++ (vertex_text (names_read names x x) p ++ codes "\n")))
 
--- the effect is left open, and `L reads X and X'`
+-- there is no formula: `L reads X and X'`
 abbrev pub witness_text : List (List ℕ) → Asked → Witness → List ℕ
-witness_text names a w = open_text names a ++ (vertex_text names w.child ++ reads_text names a)
+witness_text names a w = read_twice_text names a (vertex_text names w.child ++ reads_text names a.question.x.bits w.treatment)
 
--- the effect is left open, and `district {M,Y} reads X and X'`
+-- there is no formula: `district {M,Y} reads X and X'`
 abbrev pub split_text : List (List ℕ) → Asked → Split → List ℕ
-split_text names a s = open_text names a ++ (codes "district " ++ (set_text names s.district.bits ++ reads_text names a))
+split_text names a s =
+    read_twice_text names a (codes "district " ++ (set_text names s.district.bits ++ reads_text names a.question.x.bits s.treatment))

@@ -29,9 +29,9 @@ pub enum Answer {
     Formula(Asked, NaturalFormula),
     /// There is none: two models of a hedge for the joint effect on y and what is given show it.
     Excluded(Asked, Hedge, CounterPair),
-    /// A vertex reads both values of x, and the joint effect has a formula.
+    /// There is none, since a vertex reads both values of a treatment; the joint effect has a formula.
     Witness(Asked, Witness),
-    /// A district reads both values of x, and the joint effect has a formula.
+    /// There is none, since a district reads both values of a treatment; the joint effect has a formula.
     Split(Asked, Split),
 }
 

@@ -21,12 +21,7 @@ fn inner(text: &[u8]) -> &[u8]
 }
 
 /// Appends the names of a set with commas between them.
-pub fn push_list(
-    alloc: Global,
-    out: &mut Vec<u8>,
-    names: &Names,
-    set: VSet,
-) -> Result<(), AllocError>
+fn push_list(alloc: Global, out: &mut Vec<u8>, names: &Names, set: VSet) -> Result<(), AllocError>
     ensures { OnOk result (out.new.items ≡ out.old.items ++ list_text names.now set.bits) }
 {
     let mut text = Vec::new(alloc);

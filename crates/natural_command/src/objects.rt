@@ -96,7 +96,7 @@ fn push_part_members(
 fn push_part(object: &mut Object, names: &Names, x: VSet, part: &Part) -> Result<(), AllocError>
     ensures { OnOk result (object.new ≡ with_value (part_json names.now x.bits part.now) object.old) }
 {
-    let read = names_read(object.alloc(), part.second, names, x)?;
+    let read = names_read(object.alloc(), names, x, part.second)?;
     object.begin_object()?;
     push_part_members(object, names, &read, x, part)?;
     object.end_object()?;
@@ -210,7 +210,7 @@ pub fn push_excluded(
     push_hedge_of(object, names, asked, h, pair)
 }
 
-/// The members where a vertex reads both values of x.
+/// The members where a vertex reads both values of a treatment.
 pub fn push_witness(
     object: &mut Object,
     names: &Names,
@@ -219,12 +219,13 @@ pub fn push_witness(
 ) -> Result<(), AllocError>
     ensures { OnOk result (object.new ≡ with_members (witness_members names.now asked w) object.old) }
 {
-    push_asked(object, "open", names, asked)?;
+    push_asked(object, "witness", names, asked)?;
     push_joint(object, names, asked)?;
+    object.vertex_at("treatment", names, w.treatment)?;
     object.vertex_at("witness", names, w.child)
 }
 
-/// The members where a district reads both values of x.
+/// The members where a district reads both values of a treatment.
 pub fn push_split(
     object: &mut Object,
     names: &Names,
@@ -233,8 +234,9 @@ pub fn push_split(
 ) -> Result<(), AllocError>
     ensures { OnOk result (object.new ≡ with_members (split_members names.now asked s) object.old) }
 {
-    push_asked(object, "open", names, asked)?;
+    push_asked(object, "district", names, asked)?;
     push_joint(object, names, asked)?;
+    object.vertex_at("treatment", names, s.treatment)?;
     object.set_at("district", names, s.district)?;
     object.vertex_at("direct_child", names, s.first)?;
     object.vertex_at("indirect_child", names, s.second)

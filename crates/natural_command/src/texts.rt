@@ -7,10 +7,10 @@ ghost use Rattle.expr_text.specs.Write.{expr_in, formula_in, wrapped, parenthesi
 ghost use Rattle.mixed_graph.specs.Bits.{has};
 ghost use Rattle.answer_text.specs.Texts.{term_in};
 ghost use Rattle.natural_command.specs.Second.{names_read};
-ghost use Rattle.natural_command.specs.Sentences.{notation_of, district_effect, is_defined, operand_in, part_in, times_before, parts_in, summed_in, sum_in, over_in, body_in, equation_in, part_lines, no_path_text, indirect_line, direct_line, nil_lines, formula_text, joint_of, excluded_text, open_text, reads_text, witness_text, split_text};
+ghost use Rattle.natural_command.specs.Sentences.{notation_of, district_effect, is_defined, operand_in, part_in, times_before, parts_in, summed_in, sum_in, over_in, body_in, equation_in, part_lines, no_path_text, indirect_line, direct_line, nil_lines, formula_text, joint_of, excluded_text, read_twice_text, reads_text, witness_text, split_text};
 
 use crate::answer::Asked;
-use crate::effects::{effect_in, effect_text, push_list};
+use crate::effects::{effect_in, effect_text};
 use crate::second::names_read;
 use answer_text::{
     Notation, Sign, Term, push_set, push_set_in, push_sign, push_term_in, push_vertex,
@@ -21,7 +21,6 @@ use hedge::Hedge;
 use identify_text::{answer_in, effect_text as plain_effect_text, hedge_answer};
 use mixed_graph::{Names, VSet};
 use natural_id::{NaturalFormula, Part, Split, Witness};
-use primed_names::primed_names;
 use prob_expr::{Expr, Formula, Target};
 use std::alloc::{AllocError, Global};
 use told::Writing;
@@ -125,7 +124,7 @@ fn push_part(
 ) -> Result<(), AllocError>
     ensures { OnOk result (out.new.items ≡ out.old.items ++ part_in notation names.now x.bits part.now) }
 {
-    let read = names_read(alloc, part.second, names, x)?;
+    let read = names_read(alloc, names, x, part.second)?;
     let effect = district_effect(names, part);
     push_operand(alloc, out, notation, &read, &effect, &part.formula)
 }
@@ -298,7 +297,7 @@ fn push_part_lines(
     if !is_defined(&part.formula) {
         return Ok(());
     }
-    let read = names_read(alloc, part.second, names, x)?;
+    let read = names_read(alloc, names, x, part.second)?;
     let effect = district_effect(names, part);
     let lines = answer_in(alloc, notation, &part.formula, &effect, &read)?;
     out.extend_from_slice(lines.as_slice())?;
@@ -429,37 +428,44 @@ pub fn excluded_text(
     Ok(text)
 }
 
-/// That no formula was found, and that the joint effect has one.
-fn open_text(alloc: Global, names: &Names, asked: Asked) -> Result<Vec<u8>, AllocError>
-    ensures { IfOk result (λ v. v.items ≡ open_text names.now asked) }
+/// That there is no formula, the line of what reads both values of a treatment, and that the joint effect has a formula.
+fn read_twice_text(
+    alloc: Global,
+    names: &Names,
+    asked: Asked,
+    reader: &[u8],
+) -> Result<Vec<u8>, AllocError>
+    ensures { IfOk result (λ v. v.items ≡ read_twice_text names.now asked reader.now) }
 {
     let mut text = effect_text(alloc, names, asked)?;
-    text.extend_from_slice(b" is left open: ")?;
+    text.extend_from_slice(b" is not identifiable\n")?;
+    text.extend_from_slice(reader)?;
     let joint = plain_effect_text(alloc, asked.question.x, joint_of(asked), names)?;
     text.extend_from_slice(joint.as_slice())?;
     text.extend_from_slice(b" is identifiable\n")?;
     Ok(text)
 }
 
-/// Appends that both values of x are read.
+/// Appends that both values of a member of x are read.
 fn push_reads(
     alloc: Global,
     out: &mut Vec<u8>,
     names: &Names,
-    asked: Asked,
+    x: VSet,
+    treatment: u8,
 ) -> Result<(), AllocError>
-    ensures { OnOk result (out.new.items ≡ out.old.items ++ reads_text names.now asked) }
+    ensures { OnOk result (out.new.items ≡ out.old.items ++ reads_text names.now x.bits treatment) }
 {
-    let all = primed_names(alloc, names, asked.question.x)?;
+    let second = names_read(alloc, names, x, x)?;
     out.extend_from_slice(b" reads ")?;
-    push_list(alloc, out, names, asked.question.x)?;
+    push_vertex(out, names, treatment)?;
     out.extend_from_slice(b" and ")?;
-    push_list(alloc, out, &all, asked.primes)?;
+    push_vertex(out, &second, treatment)?;
     out.extend_from_slice(b"\n")?;
     Ok(())
 }
 
-/// That no formula was found, and which vertex reads both values of x.
+/// That there is no formula, and which vertex reads both values of a treatment.
 pub fn witness_text(
     alloc: Global,
     names: &Names,
@@ -468,13 +474,13 @@ pub fn witness_text(
 ) -> Result<Vec<u8>, AllocError>
     ensures { IfOk result (λ v. v.items ≡ witness_text names.now asked w) }
 {
-    let mut text = open_text(alloc, names, asked)?;
-    push_vertex(&mut text, names, w.child)?;
-    push_reads(alloc, &mut text, names, asked)?;
-    Ok(text)
+    let mut reader = Vec::new(alloc);
+    push_vertex(&mut reader, names, w.child)?;
+    push_reads(alloc, &mut reader, names, asked.question.x, w.treatment)?;
+    read_twice_text(alloc, names, asked, reader.as_slice())
 }
 
-/// That no formula was found, and which district reads both values of x.
+/// That there is no formula, and which district reads both values of a treatment.
 pub fn split_text(
     alloc: Global,
     names: &Names,
@@ -483,9 +489,8 @@ pub fn split_text(
 ) -> Result<Vec<u8>, AllocError>
     ensures { IfOk result (λ v. v.items ≡ split_text names.now asked s) }
 {
-    let mut text = open_text(alloc, names, asked)?;
-    text.extend_from_slice(b"district ")?;
-    push_set(&mut text, names, s.district)?;
-    push_reads(alloc, &mut text, names, asked)?;
-    Ok(text)
+    let mut reader = Vec::from_slice(alloc, b"district ")?;
+    push_set(&mut reader, names, s.district)?;
+    push_reads(alloc, &mut reader, names, asked.question.x, s.treatment)?;
+    read_twice_text(alloc, names, asked, reader.as_slice())
 }

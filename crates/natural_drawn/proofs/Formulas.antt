@@ -49,11 +49,11 @@ module _ (g : MixedGraph) (ok : IsMixedGraph g) (l : ℕ → Bool) (q : MixedGra
 
   module _ (x : ℕ) (s t : ℕ → ℕ) (hs : IsValued s) (ht : IsValued t) where
     -- the values at which a part reads
-    abbrev read : Bool → (ℕ → ℕ) → ℕ → ℕ
-    read b c v = cond (has x v) (cond b (t v) (s v)) (c v)
+    abbrev read : ℕ → (ℕ → ℕ) → ℕ → ℕ
+    read b c v = cond (has x v) (cond (has b v) (t v) (s v)) (c v)
 
-    read_within : (b : Bool) (c : ℕ → ℕ) → IsValued c → IsValued (read b c)
-    read_within b c hc k kl = go (has x k) b
+    read_within : (b : ℕ) (c : ℕ → ℕ) → IsValued c → IsValued (read b c)
+    read_within b c hc k kl = go (has x k) (has b k)
       where
         go : (a b : Bool) → cond a (cond b (t k) (s k)) (c k) < (drawn_weights l w).size k
         go true true = ht k kl

@@ -19,15 +19,7 @@ use Rattle.hidden_models.proofs.Positions.{IsMember, position_lt, member_positio
 use Rattle.hidden_models.proofs.Renumber.{follows_kept, same_agree}
 use Rattle.treated_drawn.proofs.Both.{solution_none, no_member}
 use Rattle.nested_models.specs.Nested.{nested, is_nested, weight_of_nested}
-use Rattle.natural_drawn.proofs.Worlds.{set_value, same_rounds, same_nested}
-
--- a set of the members of o in their new numbers is that of the unions
-set_union : (o x m : ℕ → Bool) (v : ℕ) → (set_in o x v || set_in o m v) ≡ set_in o (λ k. x k || m k) v
-set_union o x m v = go (o v) (x (position o v)) (m (position o v))
-  where
-    go : (a b c : Bool) → ((a && b) || (a && c)) ≡ (a && (b || c))
-    go true b c = refl
-    go false b c = refl
+use Rattle.natural_drawn.proofs.Worlds.{set_value, set_union, agree_kept, same_rounds, same_nested}
 
 module _ (p : MixedGraph) (w : FiniteModel) (o j : ℕ → Bool) (ok : IsMixedGraph p) (follows : Follows p w) (tail : (a b : ℕ) → p.arrow a b ≡ true → o a ≡ true)
     (keeps : KeepsCauses w o j) (rank rank' : ℕ → ℕ) (ranked : IsRanked p rank) (ranked' : IsRanked (renumbered p (members_below o w.vertices)) rank') where
@@ -147,29 +139,11 @@ module _ (p : MixedGraph) (w : FiniteModel) (o j : ℕ → Bool) (ok : IsMixedGr
           ∙ ap (λ (b : ℕ → Bool). solution (intervene w b (values_in o set_to)) world (member o w.vertices i)) (fun_ext (set_union o x m))
           ∙ kept_at (λ k. x k || m k) set_to set_kept i il
 
-      -- agreement at members
-      agree_kept : (a : ℕ → Bool) (f h : ℕ → ℕ) → ((i : ℕ) → i < position o w.vertices → f (member o w.vertices i) ≡ h i)
-          → agree w.vertices (set_in o a) f (values_in o s) ≡ agree (position o w.vertices) a h s
-      agree_kept a f h same = same_truth (agree w.vertices (set_in o a) f (values_in o s)) (agree (position o w.vertices) a h s)
-          (λ e. agree_from (position o w.vertices) a h s (λ i il k. sym (same i il) ∙ there e i il k))
-          (λ e. agree_from w.vertices (set_in o a) f (values_in o s) (λ v vl k. back e v vl (and_first (o v) (a (position o v)) k)
-          (and_second (o v) (a (position o v)) k)))
-        where
-          there : agree w.vertices (set_in o a) f (values_in o s) ≡ true → (i : ℕ) → i < position o w.vertices → a i ≡ true
-              → f (member o w.vertices i) ≡ s i
-          there e i il k = let n = member_is o w.vertices i il in
-              agree_gives w.vertices (set_in o a) f (values_in o s) e (member o w.vertices i) n.below (rw (n.inside, n.place) k) ∙ rw (n.inside, n.place) refl
-
-          back : agree (position o w.vertices) a h s ≡ true → (v : ℕ) → v < w.vertices → o v ≡ true → a (position o v) ≡ true → f v ≡ values_in o s v
-          back e v vl ov k = ap f (sym (member_position o w.vertices v vl ov)) ∙ same (position o v) (position_lt o v w.vertices vl ov)
-              ∙ agree_gives (position o w.vertices) a h s e (position o v) (position_lt o v w.vertices vl ov) k
-              ∙ rw ov refl
-
       same_there : (y z : ℕ → Bool) → is_nested w (set_in o x) (set_in o m) (set_in o y) (set_in o z) (values_in o s) (values_in o t) world
           ≡ is_nested (kept w o j) x m y z s t c
       same_there y z = ap₂ (λ a b. a && b)
-          (agree_kept y (nested w (set_in o x) (set_in o m) (values_in o s) (values_in o t) world) (nested (kept w o j) x m s t c) nested_at)
-          (agree_kept z (solution w world) (solution (kept w o j) c) (given_at s hs))
+          (agree_kept o w.vertices s y (nested w (set_in o x) (set_in o m) (values_in o s) (values_in o t) world) (nested (kept w o j) x m s t c) nested_at)
+          (agree_kept o w.vertices s z (solution w world) (solution (kept w o j) c) (given_at s hs))
 
   -- ---- idle causes
   untrue : (d : Bool) → not d ≡ true → d ≡ false

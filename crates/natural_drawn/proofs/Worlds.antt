@@ -1,14 +1,43 @@
 -- What the values of a world rest on.
-use Rattle.std.proofs.Common.{ℕ, zero, suc, ◌≡◌, ◌<◌, Bool, true, false, cond, refl, arith, ◌||◌}
+use Rattle.std.proofs.Common.{ℕ, zero, suc, ◌≡◌, ◌<◌, Bool, true, false, cond, refl, sym, ap, ◌∙◌, arith, ◌||◌, ◌&&◌}
 use Rattle.mixed_graph.specs.Graphs.{MixedGraph, IsMixedGraph}
-use Rattle.finite_models.specs.Models.{FiniteModel, rounds, solution, intervene}
+use Rattle.finite_models.specs.Models.{FiniteModel, rounds, solution, agree, intervene}
+use Rattle.finite_models.proofs.Bools.{and_first, and_second, same_truth}
 use Rattle.finite_models.proofs.Following.{Follows}
+use Rattle.finite_models.proofs.Solutions.{agree_from, agree_gives}
+use Rattle.hidden_models.proofs.FoldingLaw.{position, member, set_in, values_in}
+use Rattle.hidden_models.proofs.Positions.{position_lt, member_position, member_is}
 use Rattle.nested_models.specs.Nested.{nested}
 
 -- what is set has the value to which it is set, from the first round on
 pub set_value : (w : FiniteModel) (b : ℕ → Bool) (s u : ℕ → ℕ) (v : ℕ) → b v ≡ true → (k : ℕ) → 0 < k → rounds (intervene w b s) k u v ≡ s v
 set_value w b s u v e zero lt = absurd (omega arith)
 set_value w b s u v e (suc k) lt = rw e refl
+
+-- ---- the members of a set in their new numbers
+-- a set of them is that of the unions
+pub set_union : (o x m : ℕ → Bool) (v : ℕ) → (set_in o x v || set_in o m v) ≡ set_in o (λ k. x k || m k) v
+set_union o x m v = go (o v) (x (position o v)) (m (position o v))
+  where
+    go : (a b c : Bool) → ((a && b) || (a && c)) ≡ (a && (b || c))
+    go true b c = refl
+    go false b c = refl
+
+-- agreement at members
+pub agree_kept : (o : ℕ → Bool) (n : ℕ) (s : ℕ → ℕ) (a : ℕ → Bool) (f h : ℕ → ℕ) → ((i : ℕ) → i < position o n → f (member o n i) ≡ h i)
+    → agree n (set_in o a) f (values_in o s) ≡ agree (position o n) a h s
+agree_kept o n s a f h same = same_truth (agree n (set_in o a) f (values_in o s)) (agree (position o n) a h s)
+    (λ e. agree_from (position o n) a h s (λ i il k. sym (same i il) ∙ there e i il k))
+    (λ e. agree_from n (set_in o a) f (values_in o s) (λ v vl k. back e v vl (and_first (o v) (a (position o v)) k) (and_second (o v) (a (position o v)) k)))
+  where
+    there : agree n (set_in o a) f (values_in o s) ≡ true → (i : ℕ) → i < position o n → a i ≡ true → f (member o n i) ≡ s i
+    there e i il k = let d = member_is o n i il in
+        agree_gives n (set_in o a) f (values_in o s) e (member o n i) d.below (rw (d.inside, d.place) k) ∙ rw (d.inside, d.place) refl
+
+    back : agree (position o n) a h s ≡ true → (v : ℕ) → v < n → o v ≡ true → a (position o v) ≡ true → f v ≡ values_in o s v
+    back e v vl ov k = ap f (sym (member_position o n v vl ov)) ∙ same (position o v) (position_lt o v n vl ov)
+        ∙ agree_gives (position o n) a h s e (position o v) (position_lt o v n vl ov) k
+        ∙ rw ov refl
 
 -- two worlds that agree on the causes that serve some vertex
 module _ (g : MixedGraph) (w : FiniteModel) (ok : IsMixedGraph g) (follows : Follows g w) (u c : ℕ → ℕ)

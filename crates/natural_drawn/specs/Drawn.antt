@@ -9,7 +9,7 @@ use Rattle.finite_models.specs.Models.{FiniteModel, Fits, IsAssignment, total}
 use Rattle.prob_expr.specs.Tree.{PlainFormula, effect_on}
 use Rattle.prob_expr.specs.Values.{value_of, add_over, term_value}
 use Rattle.hidden_models.specs.Folding.{IsObservedPositive, set_before, values_before, drawn_weights}
-use Rattle.hidden_models.specs.Unfolding.{NotIdentifiableAsDrawn}
+use Rattle.hidden_models.specs.Unfolding.{AgreeAsDrawn, NotIdentifiableAsDrawn}
 use Rattle.treated_models.specs.NamedOnce.{FormulaNamesOnce}
 use Rattle.treated_models.specs.Primes.{as_observed}
 use Rattle.treated_models.specs.Treated.{joined}
@@ -38,11 +38,11 @@ drawn_nested_effect l w x m y z s t =
 
 -- ---- formulas
 
--- the product of the values of the parts at c, each with x at the value that it reads; their terms are taken in that model
+-- the product of the values of the parts at c, each with x at the values that it reads; their terms are taken in that model
 abbrev pub drawn_parts_value : (ℕ → Bool) → FiniteModel → (x : ℕ) → List PlainPart → (s t c : ℕ → ℕ) → Fraction
 drawn_parts_value l w x [] s t c = over 1 1
 drawn_parts_value l w x (p ∷ ps) s t c =
-    mul (value_of (drawn_weights l w) p.formula (λ v. if has x v then (if p.second then t v else s v) else c v)) (drawn_parts_value l w x ps s t c)
+    mul (value_of (drawn_weights l w) p.formula (λ v. if has x v then (if has p.second v then t v else s v) else c v)) (drawn_parts_value l w x ps s t c)
 
 -- the value of the formula of the parts: that product, summed over a set, over P(z)
 abbrev pub drawn_natural_value : (ℕ → Bool) → FiniteModel → (x z summed : ℕ) → List PlainPart → (s t : ℕ → ℕ) → Fraction
@@ -82,6 +82,19 @@ pub record DifferNestedAsDrawn (l : ℕ → Bool) (w₁ w₂ : FiniteModel) (x m
 pub record IsLostNestedAsDrawn (g : MixedGraph) (l : ℕ → Bool) (n x m y z : ℕ) : Type 0 where
   pub joint : NotIdentifiableAsDrawn g l (effect_on x (union y z))
   pub differ : DifferNestedAsDrawn l joint.first joint.second x m y z
+  pub no_formula : HasNoFormulaNestedAsDrawn g l n x m y z
+
+-- Two models of the diagram as drawn, positive on the observed vertices, have equal observed probabilities and, at some two values of x, two nested
+-- effects; so no formula over names and primed names, whose terms are observed, equals it in all of them.
+pub record DifferOnNestedAsDrawn (g : MixedGraph) (l : ℕ → Bool) (n x m y z : ℕ) : Type 0 where
+  pub first : FiniteModel
+  pub second : FiniteModel
+  pub first_fits : Fits g first
+  pub second_fits : Fits g second
+  pub first_positive : IsObservedPositive l first
+  pub second_positive : IsObservedPositive l second
+  pub observed : AgreeAsDrawn l first second
+  pub differ : DifferNestedAsDrawn l first second x m y z
   pub no_formula : HasNoFormulaNestedAsDrawn g l n x m y z
 
 -- ---- effects that are nil

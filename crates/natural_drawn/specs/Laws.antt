@@ -1,5 +1,5 @@
 -- What is true of nested effects in the diagram as drawn.
-use Rattle.std.specs.Prelude.{ℕ, Bool, List}
+use Rattle.std.specs.Prelude.{ℕ, ◌≡◌, ◌<◌, Bool, true, List}
 use Rattle.mixed_graph.specs.Bits.{has}
 use Rattle.mixed_graph.specs.Graphs.{MixedGraph, IsMixedGraph}
 use Rattle.mixed_graph.specs.Masks.{union}
@@ -11,7 +11,8 @@ use Rattle.treated_models.specs.NamedOnce.{FormulaNamesOnce}
 use Rattle.nested_models.specs.Nested.{IsNestedQuery, HasNoIndirectPath, HasNoDirectPath}
 use Rattle.nested_models.specs.NoFormula.{EqualsNested}
 use Rattle.natural_id.specs.Parts.{PlainPart, EqualsNatural}
-use Rattle.natural_drawn.specs.Drawn.{FoldsNested, EqualsNaturalAsDrawn, EqualsNestedAsDrawn, IsLostNestedAsDrawn}
+use Rattle.twisted_models.specs.Pairs.{DifferOnNested}
+use Rattle.natural_drawn.specs.Drawn.{FoldsNested, EqualsNaturalAsDrawn, EqualsNestedAsDrawn, IsLostNestedAsDrawn, DifferOnNestedAsDrawn}
 use Rattle.natural_drawn.specs.Drawn.{IsIndirectNilAsDrawn, IsDirectNilAsDrawn}
 
 -- a model of the observed graph q that folds w, nested events too
@@ -39,6 +40,11 @@ RightNestedIsDrawn = (g : MixedGraph) → IsMixedGraph g → (l : ℕ → Bool) 
 abbrev pub NestedLostIsDrawn : Type 0
 NestedLostIsDrawn = (g : MixedGraph) → IsMixedGraph g → (l : ℕ → Bool) (q : MixedGraph) → IsObserved g l q → (x m y z : ℕ)
     → IsNestedQuery q (has x) (has m) (has y) (has z) → NotIdentifiableAsDrawn g l (effect_on x (union y z)) → IsLostNestedAsDrawn g l q.vertices x m y z
+
+-- and where two models of the observed graph show that a nested effect isn't, two of the diagram as drawn do
+abbrev pub NestedDifferenceIsDrawn : Type 0
+NestedDifferenceIsDrawn = (g : MixedGraph) → IsMixedGraph g → (l : ℕ → Bool) (q : MixedGraph) → IsObserved g l q → (x m y z : ℕ)
+    → ((v : ℕ) → has x v ≡ true → v < q.vertices) → DifferOnNested q x m y z → DifferOnNestedAsDrawn g l q.vertices x m y z
 
 -- where no directed path of the observed graph leads from x through m to y, the indirect effect is nil in the diagram as drawn
 abbrev pub NoIndirectPathIsDrawn : Type 0

@@ -1,6 +1,6 @@
 //! What is right of nested effects in the observed graph is so in the diagram as drawn.
 
-ghost use Rattle.natural_drawn.specs.Laws.{EachHasNestedFolded, RightPartsAreDrawn, RightNestedIsDrawn, NestedLostIsDrawn};
+ghost use Rattle.natural_drawn.specs.Laws.{EachHasNestedFolded, RightPartsAreDrawn, RightNestedIsDrawn, NestedLostIsDrawn, NestedDifferenceIsDrawn};
 ghost use Rattle.natural_drawn.specs.Laws.{NoIndirectPathIsDrawn, NoDirectPathIsDrawn};
 
 /// The laws of nested effects in the diagram as drawn.
@@ -9,6 +9,7 @@ pub fn laws()
     ensures parts { RightPartsAreDrawn }
     ensures right { RightNestedIsDrawn }
     ensures lost { NestedLostIsDrawn }
+    ensures differ { NestedDifferenceIsDrawn }
     ensures no_indirect { NoIndirectPathIsDrawn }
     ensures no_direct { NoDirectPathIsDrawn }
 {}

@@ -20,10 +20,13 @@ use Rattle.identification_theory.proofs.Unique.{one_set}
 use Rattle.identify.specs.Answers.{IsRightHedge}
 use Rattle.nested_models.specs.Nested.{LeadsPast, LeadsThrough}
 use Rattle.nested_models.specs.NoFormula.{HasNoFormulaNested}
-use Rattle.nested_models.proofs.NoFormula.{effect_excludes_nested}
+use Rattle.nested_models.proofs.NoFormula.{difference_excludes_nested, effect_excludes_nested}
+use Rattle.twisted_models.specs.Pairs.{DifferOnNested}
+use Rattle.carrying_models.proofs.Differing.{witness_differs, split_differs}
 use Rattle.natural_id.specs.declared.answers.Split.{Split}
+use Rattle.natural_id.specs.declared.answers.Witness.{Witness}
 use Rattle.natural_id.specs.Parts.{PlainPart, IsNaturalTarget, EqualsNatural, AreRightParts, districts_of}
-use Rattle.natural_id.specs.Answers.{IsSplit, IsSplitIn, ArePartsWith, ReadsBoth}
+use Rattle.natural_id.specs.Answers.{IsWitness, IsSplit, IsSplitIn, ReadsBoth, IsLostNested}
 use Rattle.natural_id.proofs.Districts.{natural_formula_is_right, d_low}
 use Rattle.natural_id.proofs.Leading.{child_past}
 
@@ -55,22 +58,34 @@ module _ (g : MixedGraph) (ok : IsMixedGraph g) (x m y z : ℕ) (target : IsNatu
           ≢ weight_of (meaning g pair.second) (has x) a models.effects.at * total (meaning g pair.first)) (fun_ext (λ v. has_join y z v))
           models.effects.unequal)
 
-  module _ (d joint : ℕ) (same : joint ≡ union y z) (are : AreAncestorsIn g (minus (all g.vertices) x) joint d) (past through children : ℕ)
-      (is_past : IsSetOf past (LeadsPast g (has x) (has m) (has y))) (is_through : IsSetOf through (LeadsThrough g (has x) (has m) (has y)))
-      (are_children : (v : ℕ) → (has children v ≡ true) ↔ ((p : ℕ) × (has x p ≡ true) × (g.arrow p v ≡ true))) where
+  -- two models that differ exclude each formula
+  lost : DifferOnNested g x m y z → IsLostNested g x m y z
+  lost p = record {
+    models = p;
+    no_formula = difference_excludes_nested g ok p.first p.second p.first_fits p.second_fits p.first_positive p.second_positive p.agree x m y z
+        target.x_low p.s p.t p.s_values p.t_values p.differ;
+  }
+
+  pub witness_right : (w : Witness) → IsWitness g x m y w → IsWitness g x m y w × IsLostNested g x m y z
+  witness_right w is = (
+    is,
+    lost (witness_differs g ok x m y z w.child target.asked (record {
+      parent = w.treatment;
+      from_x = is.from_x;
+      arrow = is.arrow;
+      through = is.through;
+      past = is.past;
+    })),
+  )
+
+  module _ (d joint : ℕ) (same : joint ≡ union y z) (are : AreAncestorsIn g (minus (all g.vertices) x) joint d) (past through : ℕ)
+      (is_past : IsSetOf past (LeadsPast g (has x) (has m) (has y))) (is_through : IsSetOf through (LeadsThrough g (has x) (has m) (has y))) where
     ancestors : AreAncestorsIn g (minus (all g.vertices) x) (union y z) d
     ancestors = subst (λ j. AreAncestorsIn g (minus (all g.vertices) x) j d) same are
 
-    right_parts : (ps : List PlainPart) → ArePartsWith g children through ps → AreRightParts g x through ps
-    right_parts [] h = tt
-    right_parts (p ∷ ps) h = (
-      record { formula = h.0.formula; reads = λ q v a e i. h.0.reads v ((are_children v).1 (q, e, a)) i },
-      right_parts ps h.1,
-    )
-
     pub formula_right : (summed : ℕ) → summed ≡ minus d joint
         → ((p c : ℕ) → has x p ≡ true → g.arrow p c ≡ true → has through c ≡ true → has past c ≡ true → ⊥)
-        → (ts : List ℕ) → AreDistrictsOf g d ts → (ps : List PlainPart) → districts_of ps ≡ ts → ArePartsWith g children through ps
+        → (ts : List ℕ) → AreDistrictsOf g d ts → (ps : List PlainPart) → districts_of ps ≡ ts → AreRightParts g x through ps
         → EqualsNatural g x m y z summed ps
     formula_right summed is none ts districts ps listed parts =
         subst (λ u. EqualsNatural g x m y z u ps) (sym (is ∙ ap (minus d) same))
@@ -80,22 +95,22 @@ module _ (g : MixedGraph) (ok : IsMixedGraph g) (x m y z : ℕ) (target : IsNatu
           through = through;
           is_through = is_through;
           districts = subst (AreDistrictsOf g d) (sym listed) districts;
-          right = right_parts ps parts;
+          right = parts;
         }))
 
-    -- children of one district are alike
-    alike : (ps : List PlainPart) → ArePartsWith g children through ps → All (IsMaximalJoined g d) (districts_of ps) → (t : ℕ) → IsMaximalJoined g d t
-        → (v w : ℕ) → has t v ≡ true → has t w ≡ true → has children v ≡ true → has children w ≡ true → IsInOne (districts_of ps) v
+    -- children of one treatment in one district are alike
+    alike : (ps : List PlainPart) → AreRightParts g x through ps → All (IsMaximalJoined g d) (districts_of ps) → (t : ℕ) → IsMaximalJoined g d t
+        → (p v w : ℕ) → has x p ≡ true → g.arrow p v ≡ true → g.arrow p w ≡ true → has t v ≡ true → has t w ≡ true → IsInOne (districts_of ps) v
         → has through v ≡ has through w
-    alike [] h all t is v w tv tw cv cw one = absurd one
-    alike (p ∷ ps) h all t is v w tv tw cv cw (inl e) =
-        h.0.reads v cv e ∙ sym (h.0.reads w cw ((all 0 0 (omega arith)).most t v is.inside is.joined tv e w tw))
-    alike (p ∷ ps) h all t is v w tv tw cv cw (inr one) =
-        alike ps h.1 (λ i k l. all (suc i) k (omega (arith, l))) t is v w tv tw cv cw one
+    alike [] h all t is p v w e cv cw tv tw one = absurd one
+    alike (q ∷ ps) h all t is p v w e cv cw tv tw (inl i) =
+        h.0.reads p v cv e i ∙ sym (h.0.reads p w cw e ((all 0 0 (omega arith)).most t v is.inside is.joined tv i w tw))
+    alike (q ∷ ps) h all t is p v w e cv cw tv tw (inr one) =
+        alike ps h.1 (λ i k l. all (suc i) k (omega (arith, l))) t is p v w e cv cw tv tw one
 
-    -- where no child of x leads to y both through m and past it, and each district reads one value of x, nothing reads both
+    -- where no child of x leads to y both through m and past it, and each district reads one value of each treatment, nothing reads both
     pub formula_clear : ((p c : ℕ) → has x p ≡ true → g.arrow p c ≡ true → has through c ≡ true → has past c ≡ true → ⊥)
-        → (ts : List ℕ) → AreDistrictsOf g d ts → All (IsMaximalJoined g d) ts → (ps : List PlainPart) → districts_of ps ≡ ts → ArePartsWith g children through ps
+        → (ts : List ℕ) → AreDistrictsOf g d ts → All (IsMaximalJoined g d) ts → (ps : List PlainPart) → districts_of ps ≡ ts → AreRightParts g x through ps
         → ReadsBoth g x m y z → ⊥
     formula_clear none ts districts maximal ps listed parts (inl k) =
         let w = k.1 in none k.0.treatment k.0.child w.from_x w.arrow (is_through.complete k.0.child w.through) (is_past.complete k.0.child w.past)
@@ -104,25 +119,27 @@ module _ (g : MixedGraph) (ok : IsMixedGraph g) (x m y z : ℕ) (target : IsNatu
         let same_d : is.d ≡ d = one_set is.d d _ is.ancestors ancestors in
         let whole : IsMaximalJoined g d s.district.bits = subst (λ e. IsMaximalJoined g e s.district.bits) same_d is.district in
         let partition : IsPartition d ts = parts_from g ok d ts (λ v e. d_low g ok x m y z d target ancestors v e) districts in
-        let first = is.first_child in let second = is.second_child in
         let same : has through s.first ≡ has through s.second =
-        alike ps parts (subst (All (IsMaximalJoined g d)) (sym listed) maximal) s.district.bits whole s.first s.second is.first_in is.second_in
-        ((are_children s.first).1 first) ((are_children s.second).1 second)
+        alike ps parts (subst (All (IsMaximalJoined g d)) (sym listed) maximal) s.district.bits whole s.treatment s.first s.second is.from_x
+        is.first_child is.second_child is.first_in is.second_in
         (subst (λ l. IsInOne l s.first) (sym listed) (partition.cover s.first (whole.inside s.first is.first_in))) in
-        none first.0 s.first first.1 first.2 (same ∙ is_through.complete s.second is.through) (is_past.complete s.first is.past)
+        none s.treatment s.first is.from_x is.first_child (same ∙ is_through.complete s.second is.through) (is_past.complete s.first is.past)
 
-    pub split_right : (s : Split) → IsMaximalJoined g d s.district.bits → IsSplitIn children through s → IsSplit g x m y z s
-    split_right s maximal is =
-        let first = (are_children s.first).0 is.first_child in
-        record {
-          d = d;
-          ancestors = ancestors;
-          district = maximal;
-          first_in = is.first_in;
-          first_child = first;
-          past = child_past g ok x m y z d target.asked ancestors first.0 s.first first.1 first.2 (maximal.inside s.first is.first_in)
-              (λ l. not_both (has through s.first) (is_through.complete s.first l) is.first_out);
-          second_in = is.second_in;
-          second_child = (are_children s.second).0 is.second_child;
-          through = is_through.sound s.second is.second_through;
-        }
+    split_of : (s : Split) → IsMaximalJoined g d s.district.bits → IsSplitIn g x through s → IsSplit g x m y z s
+    split_of s maximal is = record {
+      from_x = is.from_x;
+      d = d;
+      ancestors = ancestors;
+      district = maximal;
+      first_in = is.first_in;
+      first_child = is.first_child;
+      past = child_past g ok x m y z d target.asked ancestors s.treatment s.first is.from_x is.first_child (maximal.inside s.first is.first_in)
+          (λ l. not_both (has through s.first) (is_through.complete s.first l) is.first_out);
+      second_in = is.second_in;
+      second_child = is.second_child;
+      through = is_through.sound s.second is.second_through;
+    }
+
+    pub split_right : (s : Split) → IsMaximalJoined g d s.district.bits → IsSplitIn g x through s → IsSplit g x m y z s × IsLostNested g x m y z
+    split_right s maximal is = let h = split_of s maximal is in
+        (h, lost (split_differs g ok x m y z s.treatment s.district.bits s.first s.second target.asked h))

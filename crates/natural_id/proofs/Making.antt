@@ -1,7 +1,9 @@
 -- The parts, one district after the other.
-use Rattle.std.proofs.Common.{ℕ, ◌≡◌, Bool, true, false, refl, sym, ap, ap₂, ◌∙◌, ◌++◌, subst, List, [], ◌∷◌, not, ◌&&◌, arith}
+use Rattle.std.proofs.Common.{ℕ, ◌≡◌, ◌<◌, ◌↔◌, Bool, true, false, refl, sym, ap, ap₂, ◌∙◌, ◌++◌, subst, List, [], ◌∷◌, not, ◌&&◌, arith}
+use Rattle.std.proofs.lemmas.Bool.{and_from, not_from_false}
 use Rattle.std.proofs.lemmas.List.{map-append}
-use Rattle.mixed_graph.proofs.Masks.{has-zero}
+use Rattle.mixed_graph.proofs.Masks.{has-zero, positive_from_has}
+use Rattle.finite_models.proofs.Bools.{and_first, and_second, not_both, same_truth}
 use Rattle.mixed_graph.specs.Bits.{has}
 use Rattle.mixed_graph.specs.Graphs.{MixedGraph}
 use Rattle.mixed_graph.specs.Masks.{minus, all}
@@ -10,88 +12,110 @@ use Rattle.prob_expr.specs.Tree.{effect_on}
 use Rattle.prob_expr.specs.Values.{EqualsEffect}
 use Rattle.prob_expr.specs.View.{formula_view}
 use Rattle.natural_id.specs.declared.answers.Part.{Part}
-use Rattle.natural_id.specs.Parts.{PlainPart, districts_of}
-use Rattle.natural_id.specs.Answers.{part_view, parts_view, IsPartOf, IsPartWith, ArePartsWith}
+use Rattle.natural_id.specs.declared.answers.Split.{Split}
+use Rattle.natural_id.specs.Parts.{PlainPart, IsRightPart, AreRightParts, districts_of}
+use Rattle.natural_id.specs.Answers.{part_view, parts_view, AreAlike, IsPartOf, IsSplitIn}
 
 -- the parts of the districts so far
-pub record AreMade (g : MixedGraph) (children through : ℕ) (ts : List ℕ) (ps : List Part) : Type 0 where
+pub record AreMade (g : MixedGraph) (x through : ℕ) (ts : List ℕ) (ps : List Part) : Type 0 where
   pub districts : districts_of (parts_view ps) ≡ ts
-  pub parts : ArePartsWith g children through (parts_view ps)
+  pub parts : AreRightParts g x through (parts_view ps)
 
-pub made_none : (g : MixedGraph) (children through : ℕ) (ps : List Part) → ps ≡ [] → AreMade g children through [] ps
-made_none g children through ps e = subst (AreMade g children through []) (sym e) (record { districts = refl; parts = tt })
+pub made_none : (g : MixedGraph) (x through : ℕ) (ps : List Part) → ps ≡ [] → AreMade g x through [] ps
+made_none g x through ps e = subst (AreMade g x through []) (sym e) (record { districts = refl; parts = tt })
 
 districts_more : (ps : List PlainPart) (p : PlainPart) → districts_of (ps ++ p ∷ []) ≡ districts_of ps ++ p.district ∷ []
 districts_more [] p = refl
 districts_more (q ∷ ps) p = ap (λ l. q.district ∷ l) (districts_more ps p)
 
-parts_more : (g : MixedGraph) (children through : ℕ) (ps : List PlainPart) (p : PlainPart) → ArePartsWith g children through ps
-    → IsPartWith g children through p → ArePartsWith g children through (ps ++ p ∷ [])
-parts_more g children through [] p h k = (k, tt)
-parts_more g children through (q ∷ ps) p h k = (h.0, parts_more g children through ps p h.1 k)
+parts_more : (g : MixedGraph) (x through : ℕ) (ps : List PlainPart) (p : PlainPart) → AreRightParts g x through ps
+    → IsRightPart g x through p → AreRightParts g x through (ps ++ p ∷ [])
+parts_more g x through [] p h k = (k, tt)
+parts_more g x through (q ∷ ps) p h k = (h.0, parts_more g x through ps p h.1 k)
 
 -- one part more
-pub made_more : (g : MixedGraph) (children through : ℕ) (ts next : List ℕ) (ps ps' : List Part) (c : VSet) (second : Bool) (p : Part)
-    → AreMade g children through ts ps → ps' ≡ ps ++ p ∷ [] → next ≡ ts ++ c.bits ∷ [] → IsPartOf g c second p
-    → ((v : ℕ) → has children v ≡ true → has c.bits v ≡ true → has through v ≡ second) → AreMade g children through next ps'
-made_more g children through ts next ps ps' c second p made e n is reads = record {
+pub made_more : (g : MixedGraph) (x through : ℕ) (ts next : List ℕ) (ps ps' : List Part) (c second : VSet) (p : Part)
+    → AreMade g x through ts ps → ps' ≡ ps ++ p ∷ [] → next ≡ ts ++ c.bits ∷ [] → IsPartOf g c second p
+    → ((q v : ℕ) → g.arrow q v ≡ true → has x q ≡ true → has c.bits v ≡ true → has through v ≡ has second.bits q) → AreMade g x through next ps'
+made_more g x through ts next ps ps' c second p made e n is reads = record {
   districts = ap (λ l. districts_of (parts_view l)) e ∙ ap districts_of (map-append part_view ps (p ∷ []))
       ∙ districts_more (parts_view ps) (part_view p) ∙ ap₂ (λ l d. l ++ d ∷ []) made.districts (ap (λ (s : VSet). s.bits) is.district) ∙ sym n;
-  parts = subst (ArePartsWith g children through) (sym (ap parts_view e ∙ map-append part_view ps (p ∷ [])))
-      (parts_more g children through (parts_view ps) (part_view p) made.parts (record {
+  parts = subst (AreRightParts g x through) (sym (ap parts_view e ∙ map-append part_view ps (p ∷ [])))
+      (parts_more g x through (parts_view ps) (part_view p) made.parts (record {
         formula = subst (λ (s : VSet). EqualsEffect g (effect_on (minus (all g.vertices) s.bits) s.bits) (formula_view p.formula)) (sym is.district) is.formula;
-        reads = λ v k i. reads v k (subst (λ (s : VSet). has s.bits v ≡ true) is.district i) ∙ sym is.second;
+        reads = λ q v a e i. reads q v a e (subst (λ (s : VSet). has s.bits v ≡ true) is.district i) ∙ ap (λ (s : VSet). has s.bits q) (sym is.second);
       }));
 }
 
+no_of : (b : Bool) → not b ≡ true → b ≡ false
+no_of b h = grind (arith, h)
+
 -- ---- children of both kinds in a district
-module _ (c children through both : ℕ) (is_both : (v : ℕ) → has both v ≡ (has c v && has children v)) where
-  pub all_in : (rest : ℕ) → ((v : ℕ) → has rest v ≡ (has both v && not (has through v))) → rest ≡ 0
-      → (v w : ℕ) → has c v ≡ true → has children v ≡ true → has c w ≡ true → has children w ≡ true → has through v ≡ has through w
-  all_in rest is zero v w cv kv cw kw = at v cv kv ∙ sym (at w cw kw)
-    where
-      bools : (c k t b r : Bool) → c ≡ true → k ≡ true → b ≡ (c && k) → r ≡ (b && not t) → r ≡ false → t ≡ true
-      bools c k t b r h i j l n = grind (arith, h, i, j, l, n)
+module _ (g : MixedGraph) (c x through : ℕ) where
+  -- a treatment with children of both kinds is read twice
+  module _ (direct indirect of_direct of_indirect once twice : ℕ) (is_direct : (v : ℕ) → has direct v ≡ (has c v && not (has through v)))
+      (is_indirect : (v : ℕ) → has indirect v ≡ (has c v && has through v))
+      (are_direct : (q : ℕ) → (has of_direct q ≡ true) ↔ ((v : ℕ) × (has direct v ≡ true) × (g.arrow q v ≡ true)))
+      (are_indirect : (q : ℕ) → (has of_indirect q ≡ true) ↔ ((v : ℕ) × (has indirect v ≡ true) × (g.arrow q v ≡ true)))
+      (is_once : (q : ℕ) → has once q ≡ (has x q && has of_direct q)) (is_twice : (q : ℕ) → has twice q ≡ (has once q && has of_indirect q)) where
+    -- where no treatment is read twice, its children are alike
+    pub none_twice : twice ≡ 0 → AreAlike g x through c
+    none_twice zero p v w e a b i j = go (has through v) (has through w) refl refl
+      where
+        never : (v w : ℕ) → g.arrow p v ≡ true → g.arrow p w ≡ true → has c v ≡ true → has c w ≡ true → has through v ≡ false → has through w ≡ true → ⊥
+        never v w a b i j h k = not_both (has twice p)
+            (is_twice p ∙ and_from (has once p) (has of_indirect p)
+            (is_once p ∙ and_from (has x p) (has of_direct p) e
+            ((are_direct p).1 (v, is_direct v ∙ and_from (has c v) (not (has through v)) i (not_from_false (has through v) h), a)))
+            ((are_indirect p).1 (w, is_indirect w ∙ and_from (has c w) (has through w) j k, b)))
+            (ap (λ n. has n p) zero ∙ has-zero p)
 
-      at : (v : ℕ) → has c v ≡ true → has children v ≡ true → has through v ≡ true
-      at v cv kv = bools (has c v) (has children v) (has through v) (has both v) (has rest v) cv kv (is_both v) (is v) (ap (λ n. has n v) zero ∙ has-zero v)
+        go : (b d : Bool) → has through v ≡ b → has through w ≡ d → has through v ≡ has through w
+        go true true h k = h ∙ sym k
+        go false false h k = h ∙ sym k
+        go false true h k = absurd (never v w a b i j h k)
+        go true false h k = absurd (never w v b a j i k h)
 
-  pub none_in : (rest : ℕ) → ((v : ℕ) → has rest v ≡ (has both v && has through v)) → rest ≡ 0
-      → (v w : ℕ) → has c v ≡ true → has children v ≡ true → has c w ≡ true → has children w ≡ true → has through v ≡ has through w
-  none_in rest is zero v w cv kv cw kw = at v cv kv ∙ sym (at w cw kw)
-    where
-      bools : (c k t b r : Bool) → c ≡ true → k ≡ true → b ≡ (c && k) → r ≡ (b && t) → r ≡ false → t ≡ false
-      bools c k t b r h i j l n = grind (arith, h, i, j, l, n)
+    -- a treatment that is read twice, with its children
+    pub of_x : (p : ℕ) → has twice p ≡ true → has x p ≡ true
+    of_x p h = and_first (has x p) (has of_direct p) (sym (is_once p) ∙ and_first (has once p) (has of_indirect p) (sym (is_twice p) ∙ h))
 
-      at : (v : ℕ) → has c v ≡ true → has children v ≡ true → has through v ≡ false
-      at v cv kv = bools (has c v) (has children v) (has through v) (has both v) (has rest v) cv kv (is_both v) (is v) (ap (λ n. has n v) zero ∙ has-zero v)
+    module _ (p children : ℕ) (h : has twice p ≡ true) (are : (v : ℕ) → has children v ≡ g.arrow p v) where
+      pub some_first : (first : ℕ) → ((v : ℕ) → has first v ≡ (has direct v && has children v)) → 0 < first
+      some_first first is =
+          let k = (are_direct p).0 (and_second (has x p) (has of_direct p) (sym (is_once p) ∙ and_first (has once p) (has of_indirect p) (sym (is_twice p) ∙ h))) in
+          positive_from_has first k.0 (is k.0 ∙ and_from (has direct k.0) (has children k.0) k.1 (are k.0 ∙ k.2))
 
--- what all children in c are alike in is whether one of them is in the set
-pub read_value : (c children through both second : ℕ) (empty : Bool)
-    → ((v w : ℕ) → has c v ≡ true → has children v ≡ true → has c w ≡ true → has children w ≡ true → has through v ≡ has through w)
-    → ((v : ℕ) → has both v ≡ (has c v && has children v)) → ((v : ℕ) → has second v ≡ (has both v && has through v))
-    → (empty ≡ true → second ≡ 0) → (empty ≡ false → (w : ℕ) × (has second w ≡ true))
-    → (v : ℕ) → has children v ≡ true → has c v ≡ true → has through v ≡ not empty
-read_value c children through both second empty alike is_both is_second none some v kv cv = go empty refl
-  where
-    without : (c k t b s : Bool) → c ≡ true → k ≡ true → b ≡ (c && k) → s ≡ (b && t) → s ≡ false → t ≡ false
-    without c k t b s h i j l n = grind (arith, h, i, j, l, n)
+      pub some_second : (second : ℕ) → ((v : ℕ) → has second v ≡ (has indirect v && has children v)) → 0 < second
+      some_second second is =
+          let k = (are_indirect p).0 (and_second (has once p) (has of_indirect p) (sym (is_twice p) ∙ h)) in
+          positive_from_has second k.0 (is k.0 ∙ and_from (has indirect k.0) (has children k.0) k.1 (are k.0 ∙ k.2))
 
-    with_all : (c k t b s : Bool) → b ≡ (c && k) → s ≡ (b && t) → s ≡ true → (c && (k && t)) ≡ true
-    with_all c k t b s j l n = grind (arith, j, l, n)
+      pub both_kinds : (first second : ℕ) → ((v : ℕ) → has first v ≡ (has direct v && has children v))
+          → ((v : ℕ) → has second v ≡ (has indirect v && has children v)) → (s : Split) → s.district.bits ≡ c → s.treatment ≡ p
+          → has first s.first ≡ true → has second s.second ≡ true → IsSplitIn g x through s
+      both_kinds first second is_first is_second s at is i j =
+          let one = sym (is_first s.first) ∙ i in
+          let two = sym (is_second s.second) ∙ j in
+          let one_in = sym (is_direct s.first) ∙ and_first (has direct s.first) (has children s.first) one in
+          let two_in = sym (is_indirect s.second) ∙ and_first (has indirect s.second) (has children s.second) two in
+          record {
+            from_x = ap (has x) is ∙ of_x p h;
+            first_in = ap (λ n. has n s.first) at ∙ and_first (has c s.first) (not (has through s.first)) one_in;
+            first_child = ap (λ n. g.arrow n s.first) is ∙ sym (are s.first) ∙ and_second (has direct s.first) (has children s.first) one;
+            first_out = no_of (has through s.first) (and_second (has c s.first) (not (has through s.first)) one_in);
+            second_in = ap (λ n. has n s.second) at ∙ and_first (has c s.second) (has through s.second) two_in;
+            second_child = ap (λ n. g.arrow n s.second) is ∙ sym (are s.second) ∙ and_second (has indirect s.second) (has children s.second) two;
+            second_through = and_second (has c s.second) (has through s.second) two_in;
+          }
 
-    one : (p q : Bool) → (p && q) ≡ true → p ≡ true
-    one p q h = grind (arith, h)
-
-    two : (p q : Bool) → (p && q) ≡ true → q ≡ true
-    two p q h = grind (arith, h)
-
-    go : (e : Bool) → empty ≡ e → has through v ≡ not e
-    go true e = without (has c v) (has children v) (has through v) (has both v) (has second v) cv kv (is_both v) (is_second v)
-        (ap (λ n. has n v) (none e) ∙ has-zero v)
-    go false e =
-        let w = some e in
-        let all = with_all (has c w.0) (has children w.0) (has through w.0) (has both w.0) (has second w.0) (is_both w.0) (is_second w.0) w.1 in
-        let rest = two (has c w.0) (has children w.0 && has through w.0) all in
-        alike v w.0 cv kv (one (has c w.0) (has children w.0 && has through w.0) all) (one (has children w.0) (has through w.0) rest)
-        ∙ two (has children w.0) (has through w.0) rest
+  -- where they are alike, those of a treatment lead through m exactly where one of them does
+  module _ (inside parents second : ℕ) (alike : AreAlike g x through c) (is_inside : (v : ℕ) → has inside v ≡ (has c v && has through v))
+      (are_parents : (q : ℕ) → (has parents q ≡ true) ↔ ((v : ℕ) × (has inside v ≡ true) × (g.arrow q v ≡ true)))
+      (is_second : (q : ℕ) → has second q ≡ (has x q && has parents q)) where
+    pub read_value : (q v : ℕ) → g.arrow q v ≡ true → has x q ≡ true → has c v ≡ true → has through v ≡ has second q
+    read_value q v a e i = same_truth (has through v) (has second q)
+        (λ h. is_second q ∙ and_from (has x q) (has parents q) e ((are_parents q).1 (v, is_inside v ∙ and_from (has c v) (has through v) i h, a)))
+        (λ h. let k = (are_parents q).0 (and_second (has x q) (has parents q) (sym (is_second q) ∙ h)) in
+        let in_both = sym (is_inside k.0) ∙ k.1 in
+        alike q v k.0 e a k.2 i (and_first (has c k.0) (has through k.0) in_both) ∙ and_second (has c k.0) (has through k.0) in_both)

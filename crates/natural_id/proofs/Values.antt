@@ -94,10 +94,10 @@ module _ (g : MixedGraph) (ok : IsMixedGraph g) (w : FiniteModel) (fit : Fits g 
   module _ (x k : ℕ) (s t : ℕ → ℕ) (hs : IsAssignment w.vertices w.size s) (ht : IsAssignment w.vertices w.size t) where
     -- where a part is read
     abbrev pub point : PlainPart → (ℕ → ℕ) → ℕ → ℕ
-    point p c v = cond (has x v) (cond p.second (t v) (s v)) (c v)
+    point p c v = cond (has x v) (cond (has p.second v) (t v) (s v)) (c v)
 
     point_within : (p : PlainPart) (c : ℕ → ℕ) → IsAssignment w.vertices w.size c → IsAssignment w.vertices w.size (point p c)
-    point_within p c hc v il = go (has x v) p.second
+    point_within p c hc v il = go (has x v) (has p.second v)
       where
         go : (a b : Bool) → cond a (cond b (t v) (s v)) (c v) < w.size v
         go true true = ht v il
@@ -106,8 +106,8 @@ module _ (g : MixedGraph) (ok : IsMixedGraph g) (w : FiniteModel) (fit : Fits g 
 
     -- a set off x reads x outside itself
     point_is : (p : PlainPart) → ((v : ℕ) → has p.district v ≡ true → has x v ≡ false) → (c : ℕ → ℕ)
-        → point p c ≡ read_at (has x) p.district (λ v. cond p.second (t v) (s v)) c
-    point_is p off c = fun_ext (λ v. ap (λ b. cond b (cond p.second (t v) (s v)) (c v)) (bools (has x v) (has p.district v) (off v)))
+        → point p c ≡ read_at (has x) p.district (λ v. cond (has p.second v) (t v) (s v)) c
+    point_is p off c = fun_ext (λ v. ap (λ b. cond b (cond (has p.second v) (t v) (s v)) (c v)) (bools (has x v) (has p.district v) (off v)))
       where
         bools : (a b : Bool) → (b ≡ true → a ≡ false) → a ≡ (a && not b)
         bools true true h = absurd (grind (arith, h refl))
@@ -133,7 +133,7 @@ module _ (g : MixedGraph) (ok : IsMixedGraph g) (w : FiniteModel) (fit : Fits g 
         (product_is ps (λ v e. off v (or_two (has p.district v) (is_in (districts_of ps) v) e)) right.1 c hc))
       where
         first : ℕ
-        first = weight_of w (λ v. not (has p.district v)) (has p.district) (read_at (has x) p.district (λ v. cond p.second (t v) (s v)) c)
+        first = weight_of w (λ v. not (has p.district v)) (has p.district) (read_at (has x) p.district (λ v. cond (has p.second v) (t v) (s v)) c)
 
         flipped : (a b : ℕ) → a * b ≡ b * a
         flipped a b = omega arith

@@ -1,5 +1,5 @@
--- The formula of a nested effect: one formula for each district, which reads one value of x.
-use Rattle.std.specs.Prelude.{ℕ, ◌≡◌, ◌<◌, Bool, if◌then◌else◌, List, [], ◌∷◌, IsTrue}
+-- The formula of a nested effect: one formula for each district, which reads one value of each treatment.
+use Rattle.std.specs.Prelude.{ℕ, ◌≡◌, ◌<◌, if◌then◌else◌, List, [], ◌∷◌, IsTrue}
 use Rattle.mixed_graph.specs.Bits.{has}
 use Rattle.mixed_graph.specs.Graphs.{MixedGraph, IsMixedGraph}
 use Rattle.mixed_graph.specs.Masks.{union, minus, all}
@@ -11,17 +11,17 @@ use Rattle.prob_expr.specs.Values.{weights_of, value_of, add_over, term_value, E
 use Rattle.identification_theory.specs.Procedure.{AreAncestorsIn}
 use Rattle.nested_models.specs.Nested.{nested_effect, IsNestedQuery, LeadsThrough, IsRecantingWitness}
 
--- a district, whether it reads the second value of x, and the formula of P(district | do(all other vertices))
+-- a district, the treatments that it reads at their second values, and the formula of P(district | do(all other vertices))
 pub record PlainPart : Type 0 where
   pub district : ℕ
-  pub second : Bool
+  pub second : ℕ
   pub formula : PlainFormula
 
--- the product of the values of the parts at c, each with x at the value that it reads
+-- the product of the values of the parts at c, each with x at the values that it reads
 abbrev pub parts_value : FiniteModel → (x : ℕ) → List PlainPart → (s t c : ℕ → ℕ) → Fraction
 parts_value w x [] s t c = over 1 1
 parts_value w x (p ∷ ps) s t c =
-    mul (value_of (weights_of w) p.formula (λ v. if has x v then (if p.second then t v else s v) else c v)) (parts_value w x ps s t c)
+    mul (value_of (weights_of w) p.formula (λ v. if has x v then (if has p.second v then t v else s v) else c v)) (parts_value w x ps s t c)
 
 -- the value of the formula: that product, summed over a set, over P(z)
 abbrev pub natural_value : FiniteModel → (x z summed : ℕ) → List PlainPart → (s t : ℕ → ℕ) → Fraction
@@ -33,10 +33,10 @@ EqualsNatural g x m y z summed ps = (w : FiniteModel) → Fits g w → IsPositiv
     → (s t : ℕ → ℕ) → IsAssignment w.vertices w.size s → IsAssignment w.vertices w.size t
     → IsEqual (natural_value w x z summed ps s t) (nested_effect w (has x) (has m) (has y) (has z) s t)
 
--- the formula of a part is right, and the part reads the second value exactly where its children of x lead to y through m
+-- the formula of a part is right, and the part reads the second value of a treatment exactly where its children of that lead to y through m
 pub record IsRightPart (g : MixedGraph) (x k : ℕ) (p : PlainPart) : Type 0 where
   pub formula : EqualsEffect g (effect_on (minus (all g.vertices) p.district) p.district) p.formula
-  pub reads : (q v : ℕ) → IsTrue (g.arrow q v) → IsTrue (has x q) → IsTrue (has p.district v) → has k v ≡ p.second
+  pub reads : (q v : ℕ) → IsTrue (g.arrow q v) → IsTrue (has x q) → IsTrue (has p.district v) → has k v ≡ has p.second q
 
 -- and so is each of the parts
 abbrev pub AreRightParts : MixedGraph → (x k : ℕ) → List PlainPart → Type 0

@@ -5,15 +5,15 @@ use hedge::Hedge;
 use mixed_graph::VSet;
 use prob_expr::Formula;
 
-/// A district, whether it reads the second value of x, and the formula of P(district | do(all other vertices)).
+/// A district, the treatments that it reads at their second values, and the formula of P(district | do(all other vertices)).
 #[derive(Drop)]
 pub struct Part {
     pub district: VSet,
-    pub second: bool,
+    pub second: VSet,
     pub formula: Formula,
 }
 
-/// The product of the parts, each with x at the value that it reads, summed over a set; over P(z).
+/// The product of the parts, each with x at the values that it reads, summed over a set; over P(z).
 #[derive(Drop)]
 pub struct NaturalFormula {
     pub summed: VSet,
@@ -27,15 +27,16 @@ pub struct Witness {
     pub child: u8,
 }
 
-/// A district that reads both values of x: by a child of x that leads to y past m, and by one that leads there through m.
+/// A district that reads both values of a treatment: by a child of it that leads to y past m, and by one that leads there through m.
 #[derive(Clone, Copy)]
 pub struct Split {
     pub district: VSet,
+    pub treatment: u8,
     pub first: u8,
     pub second: u8,
 }
 
-/// What identification answers for P(y[x, m[x']] | z).
+/// What identification answers for P(y[x, m[x']] | z): a formula, or why there is none.
 #[derive(Drop)]
 pub enum Natural {
     Formula(NaturalFormula),

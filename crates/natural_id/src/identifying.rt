@@ -81,7 +81,7 @@ fn by_parts(
     let joint = y.union(z);
     let d = ancestors_outside(g, x, joint);
     let parts = districts(g, d);
-    match parts_of(alloc, g, children, through, d, &parts)? {
+    match parts_of(alloc, g, x, through, d, &parts)? {
         Parted::Parts(parts) => Ok(Natural::Formula(NaturalFormula {
             summed: d.difference(joint),
             parts,
@@ -91,7 +91,7 @@ fn by_parts(
 }
 
 /// A formula for P(y[x, m[x']] | z) from what is observed; or why there is none: a recanting witness, a district that reads both values
-/// of x, or a hedge for P(y, z | do(x)) with its two models.
+/// of a treatment, or a hedge for P(y, z | do(x)) with its two models.
 ///
 /// The only error is want of memory.
 pub fn natural(

@@ -16,7 +16,7 @@ use identify::{FormulaAnswer, identify_formula};
 use mixed_graph::{Graph, VSet};
 use std::alloc::{AllocError, Global};
 
-/// The parts, or a district that reads both values of x.
+/// The parts, or a district that reads both values of a treatment.
 #[derive(Drop)]
 pub enum Parted {
     Parts(Vec<Part>),
@@ -24,7 +24,7 @@ pub enum Parted {
 }
 
 /// The part of the district c, whose formula is there.
-fn part_of(alloc: Global, g: &Graph, c: VSet, second: bool) -> Result<Part, AllocError>
+fn part_of(alloc: Global, g: &Graph, c: VSet, second: VSet) -> Result<Part, AllocError>
     requires within { Within g.now.n (has c.bits) }
     requires some { 0 < c.bits }
     requires found { (small big : ℕ) → IsUnidentified (graph_of g.now) (minus (all g.now.n) c.bits) c.bits small big → ⊥ }
@@ -41,30 +41,32 @@ fn part_of(alloc: Global, g: &Graph, c: VSet, second: bool) -> Result<Part, Allo
     }
 }
 
-/// How c reads both values of x, where it does: by a child of x outside `through`, and by one in it.
-fn split_in(children: VSet, through: VSet, c: VSet) -> Option<Split>
-    ensures { IsSplitOrNone children.bits through.bits c result }
+/// How c reads both values of a treatment, where it does: by a child of it outside `through`, and by one in it.
+fn split_in(g: &Graph, x: VSet, through: VSet, c: VSet) -> Option<Split>
+    ensures { IsSplitOrNone (graph_of g.now) x.bits through.bits c result }
 {
-    let first = c.intersection(children).difference(through);
-    let second = c.intersection(children).intersection(through);
-    if first.is_empty() {
+    let direct = c.difference(through);
+    let indirect = c.intersection(through);
+    let read_first = x.intersection(g.parents_of(direct));
+    let read_both = read_first.intersection(g.parents_of(indirect));
+    if read_both.is_empty() {
         return None;
     }
-    if second.is_empty() {
-        return None;
-    }
+    let treatment = read_both.lowest();
+    let children = g.children(treatment);
     Some(Split {
         district: c,
-        first: first.lowest(),
-        second: second.lowest(),
+        treatment,
+        first: direct.intersection(children).lowest(),
+        second: indirect.intersection(children).lowest(),
     })
 }
 
-/// The parts of the districts of d; or the first of them that reads both values of x.
+/// The parts of the districts of d; or the first of them that reads both values of a treatment.
 pub fn parts_of(
     alloc: Global,
     g: &Graph,
-    children: VSet,
+    x: VSet,
     through: VSet,
     d: VSet,
     districts: &Districts,
@@ -72,15 +74,15 @@ pub fn parts_of(
     requires within { Within g.now.n (has d.bits) }
     requires districts { All (IsMaximalJoined (graph_of g.now) d.bits) (first_masks districts.now.sets districts.now.count) }
     requires found { All (λ c. (small big : ℕ) → IsUnidentified (graph_of g.now) (minus (all g.now.n) c) c small big → ⊥) (first_masks districts.now.sets districts.now.count) }
-    ensures { IfOk result (ArePartsOrSplit (graph_of g.now) children.bits through.bits d.bits (first_masks districts.now.sets districts.now.count)) }
+    ensures { IfOk result (ArePartsOrSplit (graph_of g.now) x.bits through.bits d.bits (first_masks districts.now.sets districts.now.count)) }
 {
     let mut parts = Vec::new(alloc);
     for c in &districts.sets[..districts.count as usize] {
-        if let Some(split) = split_in(children, through, *c) {
+        if let Some(split) = split_in(g, x, through, *c) {
             return Ok(Parted::Split(split));
         }
-        let second = c.intersection(children).intersection(through);
-        let part = part_of(alloc, g, *c, !second.is_empty())?;
+        let second = x.intersection(g.parents_of(c.intersection(through)));
+        let part = part_of(alloc, g, *c, second)?;
         parts.push(part)?;
     }
     Ok(Parted::Parts(parts))

@@ -7,14 +7,16 @@ use Rattle.mixed_graph.specs.Graphs.{MixedGraph, IsMixedGraph}
 use Rattle.fractions.specs.Fractions.{Fraction, IsEqual, over}
 use Rattle.fractions.proofs.FractionLaws.{equal_sym, equal_trans}
 use Rattle.finite_models.specs.Agreement.{AgreeObserved}
-use Rattle.finite_models.specs.Models.{FiniteModel, Fits, IsAssignment, solution, agree, event_weight, intervene, weight_of, world_weight, total}
+use Rattle.finite_models.specs.Models.{FiniteModel, Fits, IsAssignment, IsPositiveModel, solution, agree, event_weight, intervene, weight_of, world_weight, total}
 use Rattle.finite_models.proofs.Bools.{same_truth}
 use Rattle.finite_models.proofs.Following.{intervene_alike}
 use Rattle.finite_models.proofs.Solutions.{agree_from, agree_gives}
 use Rattle.finite_models.proofs.SumLaws.{over-congr}
 use Rattle.finite_models.proofs.Weights.{weight_of-none}
 use Rattle.prob_expr.proofs.Allowed.{events_under, in_second}
+use Rattle.prob_expr.specs.Tree.{PlainFormula}
 use Rattle.prob_expr.specs.Values.{value_of}
+use Rattle.treated_models.specs.NamedOnce.{FormulaNamesOnce}
 use Rattle.treated_models.specs.Primes.{name_count, prime_of, vertex_of, as_observed, with_primes}
 use Rattle.treated_models.proofs.NamedOnce.{vertex_low, observed_fixes_named}
 use Rattle.treated_models.proofs.Primes.{vertex_plain, vertex_primed, prime_behind}
@@ -77,15 +79,25 @@ module _ (n x : ℕ) (s t : ℕ → ℕ) where
       ∙ ap (λ b. cond b (s (prime_of n x v)) (t (vertex_of n x (prime_of n x v)))) (le-ltb (prime_of n x v) n (prime_behind n x v))
       ∙ ap t (vertex_primed n x v (low v e) e)
 
-pub difference_excludes_nested : DifferenceExcludesNested
-difference_excludes_nested g ok m₁ m₂ f₁ f₂ p₁ p₂ agreed x m y z x_low s t hs ht differ f once equals =
+-- the formula has the value of the nested effect in the model, at each assignment of values to names
+abbrev pub EqualsIn : FiniteModel → (x m y z : ℕ) → PlainFormula → Type 0
+EqualsIn w x m y z f = (s : ℕ → ℕ) → IsAssignment (with_primes w x).vertices (with_primes w x).size s
+    → IsEqual (value_of (with_primes w x) f s) (nested_effect w (has x) (has m) (has y) (has z) s (as_observed w.vertices x s))
+
+-- it hasn't in both of two models that agree on observations and differ
+pub not_in_both : (g : MixedGraph) → IsMixedGraph g → (m₁ m₂ : FiniteModel) → Fits g m₁ → Fits g m₂ → IsPositiveModel m₁ → IsPositiveModel m₂
+    → AgreeObserved m₁ m₂ → (x m y z : ℕ) → ((v : ℕ) → has x v ≡ true → v < g.vertices)
+    → (s t : ℕ → ℕ) → IsAssignment m₁.vertices m₁.size s → IsAssignment m₁.vertices m₁.size t
+    → (IsEqual (nested_effect m₁ (has x) (has m) (has y) (has z) s t) (nested_effect m₂ (has x) (has m) (has y) (has z) s t) → ⊥)
+    → (f : PlainFormula) → FormulaNamesOnce g.vertices x f → EqualsIn m₁ x m y z f → EqualsIn m₂ x m y z f → ⊥
+not_in_both g ok m₁ m₂ f₁ f₂ p₁ p₂ agreed x m y z x_low s t hs ht differ f once equals₁ equals₂ =
     let in₁ = named_within m₁.vertices x s t m₁.size hs ht in
     let in₂ = named_within m₂.vertices x s t m₂.size (in_second m₁ m₂ agreed.vertices agreed.sizes s hs)
     (in_second m₁ m₂ agreed.vertices agreed.sizes t ht) in
     let first = subst (λ k. IsEqual (value_of (with_primes m₁ x) f (named m₁.vertices x s t)) k) (effect_at m₁ f₁.vertices)
-    (equals m₁ f₁ p₁ (named m₁.vertices x s t) in₁) in
+    (equals₁ (named m₁.vertices x s t) in₁) in
     let second = subst (λ k. IsEqual (value_of (with_primes m₂ x) f (named m₂.vertices x s t)) k) (effect_at m₂ f₂.vertices)
-    (equals m₂ f₂ p₂ (named m₂.vertices x s t) in₂) in
+    (equals₂ (named m₂.vertices x s t) in₂) in
     let both = subst (λ n. IsEqual (value_of (with_primes m₁ x) f (named m₁.vertices x s t)) (value_of (with_primes m₂ x) f (named n x s t)))
     agreed.vertices (observed_fixes_named g ok m₁ m₂ f₁ f₂ p₁ p₂ agreed x f once (named m₁.vertices x s t) in₁) in
     differ (equal_trans (effect m₁) (value_of (with_primes m₁ x) f (named m₁.vertices x s t)) (effect m₂)
@@ -101,6 +113,10 @@ difference_excludes_nested g ok m₁ m₂ f₁ f₂ p₁ p₂ agreed x m y z x_l
         let low : (v : ℕ) → has x v ≡ true → v < w.vertices = λ v e. rw same (x_low v e) in
         effect_reads w (has x) (has m) (has y) (has z) low (named w.vertices x s t) s (as_observed w.vertices x (named w.vertices x s t)) t
         (named_own w.vertices x s t) (named_second w.vertices x s t low)
+
+pub difference_excludes_nested : DifferenceExcludesNested
+difference_excludes_nested g ok m₁ m₂ f₁ f₂ p₁ p₂ agreed x m y z x_low s t hs ht differ f once equals =
+    not_in_both g ok m₁ m₂ f₁ f₂ p₁ p₂ agreed x m y z x_low s t hs ht differ f once (equals m₁ f₁ p₁) (equals m₂ f₂ p₂)
 
 -- ---- the effect
 module _ (g : MixedGraph) (ok : IsMixedGraph g) (m₁ m₂ : FiniteModel) (f₁ : Fits g m₁) (f₂ : Fits g m₂) (agreed : AgreeObserved m₁ m₂) (x m y z : ℕ → Bool)

@@ -35,13 +35,16 @@ module _ (g : MixedGraph) (ok : IsMixedGraph g) (w : FiniteModel) (fit : Fits g 
       ∙ over-congr rest w.size w.vertices (event_weight (held_apart w x k s t) (λ v. e v || rest v)) (factor_of (held_apart w x k s t) (λ v. e v || rest v)) r
       (λ q. weight_by_checks (cut_out g x) (held_apart w x k s t) rank order follows (λ v. e v || rest v) q closed))
 
-  -- the value of x that a set reads
-  abbrev pub read_value : Bool → ℕ → ℕ
-  read_value c v = cond c (t v) (s v)
+  -- the values of x that a set reads
+  abbrev pub read_value : ℕ → ℕ → ℕ
+  read_value c v = cond (has c v) (t v) (s v)
 
-  read_value_within : (c : Bool) → IsAssignment w.vertices w.size (read_value c)
-  read_value_within true = ht
-  read_value_within false = hs
+  read_value_within : (c : ℕ) → IsAssignment w.vertices w.size (read_value c)
+  read_value_within c v il = go (has c v)
+    where
+      go : (b : Bool) → cond b (t v) (s v) < w.size v
+      go true = ht v il
+      go false = hs v il
 
   read_within : (d : ℕ) (a r : ℕ → ℕ) → IsAssignment w.vertices w.size a → IsAssignment w.vertices w.size r → IsAssignment w.vertices w.size (read_at x d a r)
   read_within d a r ha hr v il = go (x v && not (has d v))
@@ -50,8 +53,8 @@ module _ (g : MixedGraph) (ok : IsMixedGraph g) (w : FiniteModel) (fit : Fits g 
       go true = ha v il
       go false = hr v il
 
-  -- a set that reads one value obeys as where each arrow out of x carries that
-  one_read : (a : ℕ → Bool) (c : Bool) → ((p v : ℕ) → g.arrow p v ≡ true → x p ≡ true → a v ≡ true → k v ≡ c) → (r u : ℕ → ℕ)
+  -- a set that reads one value of each treatment obeys as where each arrow out of x carries that
+  one_read : (a : ℕ → Bool) (c : ℕ) → ((p v : ℕ) → g.arrow p v ≡ true → x p ≡ true → a v ≡ true → k v ≡ has c p) → (r u : ℕ → ℕ)
       → obeyed (held_apart w x k s t) a r u ≡ obeyed (held w x (read_value c)) a r u
   one_read a c one r u = product_below-congr w.vertices
       (λ v. number (cond (a v) (eqb (r v) (w.mechanism v (λ p. cond (x p) (cond (k v) (t p) (s p)) (r p)) u)) true))

@@ -107,29 +107,29 @@ NoDirectPathIsEffect = (g : MixedGraph) → IsMixedGraph g → (w : FiniteModel)
     → (s t : ℕ → ℕ) → IsAssignment w.vertices w.size s → IsAssignment w.vertices w.size t
     → weight_of_nested w x m y z s t ≡ weight_of w x (λ v. y v || z v) (joined x s t)
 
--- a set of vertices, and whether it reads the second value of x
+-- a set of vertices, and the treatments that it reads at their second values
 pub record Reader : Type 0 where
   pub set : ℕ
-  pub second : Bool
+  pub second : ℕ
 
 -- the sets of readers
 abbrev pub sets_of : List Reader → List ℕ
 sets_of [] = []
 sets_of (r ∷ rs) = r.set ∷ sets_of rs
 
--- each set reads one value of x: its members that are children of x are in k where it reads the second, and else are not
+-- each set reads one value of each treatment: its children in the set are in k where it reads the second, and else are not
 abbrev pub ReadOneEach : MixedGraph → (x k : ℕ → Bool) → List Reader → Type 0
 ReadOneEach g x k [] = Unit {0}
-ReadOneEach g x k (r ∷ rs) = ((p v : ℕ) → g.arrow p v ≡ true → x p ≡ true → has r.set v ≡ true → k v ≡ r.second) × ReadOneEach g x k rs
+ReadOneEach g x k (r ∷ rs) = ((p v : ℕ) → g.arrow p v ≡ true → x p ≡ true → has r.set v ≡ true → k v ≡ has r.second p) × ReadOneEach g x k rs
 
--- the product of the weights of the sets at c, each where all other vertices are set, and x outside it at the value that it reads
+-- the product of the weights of the sets at c, each where all other vertices are set, and x outside it at the values that it reads
 abbrev pub weights_read : FiniteModel → (x : ℕ → Bool) → List Reader → (s t c : ℕ → ℕ) → ℕ
 weights_read w x [] s t c = 1
 weights_read w x (r ∷ rs) s t c =
-    weight_of w (λ v. not (has r.set v)) (has r.set) (read_at x r.set (λ v. if r.second then t v else s v) c) * weights_read w x rs s t c
+    weight_of w (λ v. not (has r.set v)) (has r.set) (read_at x r.set (λ v. if has r.second v then t v else s v) c) * weights_read w x rs s t c
 
--- Where no child of x leads to y both through m and past it, and no district reads both values of x, the nested event is the sum, over the rest of a
--- set that has its parents, of the product of effects, one for each of its districts, at the value of x that it reads (Shpitser 2013).
+-- Where no child of x leads to y both through m and past it, and no district reads both values of a treatment, the nested event is the sum, over the
+-- rest of a set that has its parents, of the product of effects, one for each of its districts, at the values of x that it reads (Shpitser 2013).
 abbrev pub NestedIsProduct : Type 0
 NestedIsProduct = (g : MixedGraph) → IsMixedGraph g → (w : FiniteModel) → Fits g w → (x m y z k rest : ℕ → Bool) → IsNestedQuery g x m y z
     → TellsApart g x m y k → ((v : ℕ) → (y v || z v) ≡ true → rest v ≡ true → ⊥)

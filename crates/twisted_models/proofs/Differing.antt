@@ -9,7 +9,7 @@ use Rattle.finite_models.specs.Models.{FiniteModel, Fits, IsAssignment, IsPositi
 use Rattle.finite_models.proofs.Weights.{weight_of-none}
 use Rattle.prob_expr.proofs.Allowed.{events_under}
 use Rattle.walk_models.specs.Noisy.{noisy}
-use Rattle.walk_models.proofs.Near.{noisy_fits}
+use Rattle.walk_models.proofs.Near.{noisy_fits, noisy_two}
 use Rattle.walk_models.proofs.Nearness.{extra_of, weight_where, has_weight, least, most}
 use Rattle.walk_models.proofs.Rare.{scale_of, scale-some}
 use Rattle.treated_models.proofs.Chain.{total_positive}
@@ -96,6 +96,9 @@ apart_differ g ok x m y z pair =
       second_fits = second_fits g ok model pair.twisted pair.fits pair.twisted_fits pair.is_twist;
       first_positive = first_positive g ok model pair.twisted pair.fits pair.twisted_fits pair.is_twist;
       second_positive = second_positive g ok model pair.twisted pair.fits pair.twisted_fits pair.is_twist;
+      first_two = noisy_two (noise g ok model pair.twisted pair.fits pair.twisted_fits pair.is_twist) model pair.two;
+      second_two = noisy_two (noise g ok model pair.twisted pair.fits pair.twisted_fits pair.is_twist) twisted
+          (record { one = pair.two.one; other = pair.two.other; serves = pair.two.serves });
       agree = agreed g ok model pair.twisted pair.fits pair.twisted_fits pair.is_twist;
       s = pair.s;
       t = pair.t;

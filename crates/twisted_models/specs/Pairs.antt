@@ -5,16 +5,19 @@ use Rattle.mixed_graph.specs.Graphs.{MixedGraph, IsMixedGraph}
 use Rattle.fractions.specs.Fractions.{IsEqual}
 use Rattle.finite_models.specs.Agreement.{AgreeObserved}
 use Rattle.finite_models.specs.Models.{FiniteModel, Fits, IsAssignment, IsPositiveModel}
+use Rattle.finite_models.specs.Served.{ServesTwo}
 use Rattle.nested_models.specs.Nested.{weight_of_nested, nested_effect}
 use Rattle.twisted_models.specs.Twisted.{with_mechanism, IsTwist}
 
--- A model and a twist of it that fit the graph, where the nested event has a world in the one, and none in the other.
+-- A model and a twist of it that fit the graph, each cause of which serves one vertex or two, where the nested event has a world in the one, and none in
+-- the other.
 pub record AreApart (g : MixedGraph) (x m y z : ℕ) : Type 0 where
   pub model : FiniteModel
   pub twisted : ℕ → (ℕ → ℕ) → (ℕ → ℕ) → ℕ
   pub fits : Fits g model
   pub twisted_fits : Fits g (with_mechanism model twisted)
   pub is_twist : IsTwist model twisted
+  pub two : ServesTwo model
   pub s : ℕ → ℕ
   pub t : ℕ → ℕ
   pub s_values : IsAssignment model.vertices model.size s
@@ -22,7 +25,7 @@ pub record AreApart (g : MixedGraph) (x m y z : ℕ) : Type 0 where
   pub possible : weight_of_nested model (has x) (has m) (has y) (has z) s t ≢ 0
   pub impossible : weight_of_nested (with_mechanism model twisted) (has x) (has m) (has y) (has z) s t ≡ 0
 
--- two positive models of the graph with equal observed probabilities and different P(y[x, m[x']] | z)
+-- two positive models of the graph, each cause of which serves one vertex or two, with equal observed probabilities and different P(y[x, m[x']] | z)
 pub record DifferOnNested (g : MixedGraph) (x m y z : ℕ) : Type 0 where
   pub first : FiniteModel
   pub second : FiniteModel
@@ -30,6 +33,8 @@ pub record DifferOnNested (g : MixedGraph) (x m y z : ℕ) : Type 0 where
   pub second_fits : Fits g second
   pub first_positive : IsPositiveModel first
   pub second_positive : IsPositiveModel second
+  pub first_two : ServesTwo first
+  pub second_two : ServesTwo second
   pub agree : AgreeObserved first second
   pub s : ℕ → ℕ
   pub t : ℕ → ℕ

@@ -21,9 +21,9 @@ const TO_DO = {
 export async function throughMediators(ctx, kind, given, more) {
   const words = ["natural", DIAGRAM, "--through", listWord(kind.through), ...(given.length ? ["--given", listWord(given)] : [])], said = await ctx.read(words);
   if (said.fault) return refused(ctx, words, said, () => h("div", { class: "stack" }, kind.row(), more()), TO_DO[said.fault.number]);
-  const { object } = said, found = { ctx, words, said, object, kind, more }, isFormula = said.status === 0, isOpen = !isFormula && !object.hedge;
-  const projected = isOpen ? graphOf((await ctx.read(["graph", DIAGRAM, "--project"])).object) : null; // how the program joins what is observed
-  return { dot: isFormula ? "yes" : isOpen ? "" : "no", view: () => (isFormula ? formulaView(found) : noFormulaView(found)), marks: naturalMarks(object, projected) };
+  const { object } = said, found = { ctx, words, said, object, kind, more }, isFormula = said.status === 0, isReadTwice = !isFormula && !object.hedge;
+  const projected = isReadTwice ? graphOf((await ctx.read(["graph", DIAGRAM, "--project"])).object) : null; // how the program joins what is observed
+  return { dot: isFormula ? "yes" : "no", view: () => (isFormula ? formulaView(found) : noFormulaView(found)), marks: naturalMarks(object, projected) };
 }
 
 // ---- As it is told
@@ -71,11 +71,11 @@ function factorsPart({ x, second, summed, given, factors }) {
     h("ul", { class: "factors" }, factors.map(factor)));
 }
 
-// ---- Where no formula was found
+// ---- Where there is no formula
 
 function noFormulaView({ ctx, words, said, object, kind, more }) {
   return h("div", {}, kind.row(),
-    object.hedge ? excluded(object) : leftOpen(object), nilPart(object),
+    object.hedge ? excluded(object) : readTwice(object), nilPart(object),
     fold(ctx, "next", "What would help", () => whatNext(ctx, words, false)),
     ...(object.hedge ? hedgeParts(object) : []),
     sourceOf(ctx, words, said),
@@ -87,17 +87,18 @@ const jointText = ({ joint }) => h("code", {}, termText({ term: joint.y, do: joi
 const excluded = (object) => verdict("no", "Not identifiable", "No formula over what is observed equals ", h("code", {}, object.effect),
   ", not even where both values of the exposure are one: two models fit the diagram and agree on all observations, but differ on ", jointText(object), ".");
 
-function leftOpen(object) {
-  return verdict("ask", "Left open", reason(object), "For ", h("code", {}, object.effect), " no formula was found, and no proof that there is none. ", jointText(object), " itself has one.");
+function readTwice(object) {
+  return verdict("no", "Not identifiable", reason(object), "It is proved that two models fit the diagram and agree on all observations, but differ on ", h("code", {}, object.effect),
+    ": so no formula equals it. ", jointText(object), " itself has one.");
 }
 
 /** What would have to be under both values of the exposure at once. */
-function reason({ x, y, through, second, witness, district, direct_child: direct, indirect_child: indirect }) {
-  const both = [listed(x), " and ", listed(second)];
+function reason({ x, y, through, second, treatment, witness, district, direct_child: direct, indirect_child: indirect }) {
+  const both = [listed([treatment]), " and ", listed([second[x.indexOf(treatment)]])];
   if (witness) {
-    return h("span", { class: "reason" }, h("b", {}, witness), " is a recanting witness: ", listed(x), " acts on it, and from it ways lead to ", listed(y), " both through ", listed(through),
+    return h("span", { class: "reason" }, h("b", {}, witness), " is a recanting witness: ", listed([treatment]), " acts on it, and from it ways lead to ", listed(y), " both through ", listed(through),
       " and past ", through.length > 1 ? "them" : "it", ". So ", h("b", {}, witness), " would have to be as under ", both, " at once. ");
   }
-  return h("span", { class: "reason" }, "Common hidden causes join ", listed(district), ", and there ", listed(x), " acts on ", h("b", {}, direct), " for what goes past ", listed(through), ", and on ", h("b", {}, indirect),
+  return h("span", { class: "reason" }, "Common hidden causes join ", listed(district), ", and there ", listed([treatment]), " acts on ", h("b", {}, direct), " for what goes past ", listed(through), ", and on ", h("b", {}, indirect),
     " for what goes through ", through.length > 1 ? "them" : "it", ". So these would have to be as under ", both, " at once. ");
 }

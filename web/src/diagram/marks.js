@@ -17,15 +17,15 @@ export function hedgeMarks(hedge) {
 
 /**
  * What an answer of `natural` names: the mediators; and a hedge, or what would be needed under both values of the exposure.
- * @param {any} object @param {Graph | null} graph on what is observed, for an open question @returns {Marks}
+ * @param {any} object @param {Graph | null} graph on what is observed, for a witness and a district @returns {Marks}
  */
-export function naturalMarks({ x: xs, through, given, hedge, witness, district, direct_child: direct, indirect_child: indirect }, graph) {
+export function naturalMarks({ through, given, hedge, treatment, witness, district, direct_child: direct, indirect_child: indirect }, graph) {
   const chosen = new Map([...through, ...given].map((name) => [name, "chosen"]));
   if (hedge) return withVertices(hedgeMarks(hedge), chosen);
-  if (witness) return { vertices: new Map([...chosen, [witness, "witness"]]), edges: arrowsFrom(graph, xs, [witness]) };
+  if (witness) return { vertices: new Map([...chosen, [witness, "witness"]]), edges: arrowsFrom(graph, [treatment], [witness]) };
   if (!district) return { vertices: chosen };
   const inside = graph.edges.filter(({ a, b, both }) => both && district.includes(a) && district.includes(b));
-  return { vertices: new Map([...chosen, ...district.map((name) => [name, "witness"])]), edges: [...arrowsFrom(graph, xs, [direct, indirect]), ...inside.map(asPath)] };
+  return { vertices: new Map([...chosen, ...district.map((name) => [name, "witness"])]), edges: [...arrowsFrom(graph, [treatment], [direct, indirect]), ...inside.map(asPath)] };
 }
 
 const withVertices = ({ vertices, edges }, more) => ({ vertices: new Map([...more, ...vertices]), edges });

@@ -17,7 +17,7 @@ read_natural <- function(object) {
   if (read$identifiable) return(c(read, list(expression = object$formula, summed = texts(object$summed), factors = lapply(object$factors, read_district))))
   joint <- term_text(texts(object$joint$y), texts(object$joint$x))
   object$given <- list()
-  c(read, list(joint = joint, witness = if (!is.null(object$witness)) text_in(object$witness), district = texts(object$district)),
+  c(read, list(joint = joint, treatment = if (!is.null(object$treatment)) text_in(object$treatment), witness = if (!is.null(object$witness)) text_in(object$witness), district = texts(object$district)),
     if (object$answer == "hedge") list(hedge = utils::modifyList(read_hedge(object), list(target = joint))))
 }
 
@@ -101,8 +101,7 @@ natural_values <- function(formula, table, arms, weights) {
   sizes <- lengths(table$levels)
   free <- pinned_of(formula)
   parts <- lapply(formula$factors, function(factor) {
-    second <- identical(factor$reads, sets$second)
-    list(second = second, trees = if (second) lapply(factor$trees, first_tree, sets) else factor$trees)
+    list(second = sets$x[factor$reads %in% sets$second], trees = lapply(factor$trees, first_tree, sets))
   })
   if (max(vapply(parts, function(part) largest_node(part$trees, sizes), 0), prod(sizes[unique(c(formula$summed, sets$y))])) > 2^20)
     refuse("the natural effects have too many combinations of levels: fewer classes may help")
@@ -111,7 +110,7 @@ natural_values <- function(formula, table, arms, weights) {
     scope <- counts_scope(table$codes, sizes, as.matrix(counts), c(sets$x, sets$y, free), TRUE)
     factors <- lapply(parts, function(part) trees_factor(part$trees, scope))
     found <- vapply(worlds, function(world) {
-      own <- Map(function(factor, part) factor_at(factor, world[[if (part$second) 2 else 1]], sizes), factors, parts)
+      own <- Map(function(factor, part) factor_at(factor, replace(world[[1]], part$second, world[[2]][part$second]), sizes), factors, parts)
       whole <- sum_factor(Reduce(function(a, b) product_factor(a, b, scope), own), formula$summed, scope)
       outcome_of(whole, sets$y, weights, sizes)
     }, numeric(ncol(as.matrix(counts))))

@@ -41,7 +41,7 @@ mediate(diagram, data, x = NULL, y = NULL, through, treated = NULL,
   effect is the probability under treated less that. They add up to the total effect.
 
   \strong{Proved} is that a formula equals this at any two values of \code{x} in every positive finite model of the diagram's observed
-  graph, and that a hedge excludes one. Where neither is found the question is left open. \strong{The values are computed} over the counts,
+  graph, and else that two models exclude one. \strong{The values are computed} over the counts,
   and intervals are percentiles of resamples. With a \code{model} they are computed by models of the formula's terms, where tables are thin,
   or where mediators or what lies before them are numbers; intervals are by influence functions where these are known. In a formula of
   \code{model} an exposure has its own name, also where the printed term has its second one.
@@ -54,7 +54,7 @@ mediate(diagram, data, x = NULL, y = NULL, through, treated = NULL,
   From \code{natural_effect} a list of the class \code{causal_natural}: \code{identifiable} (\code{TRUE}), \code{effect},
   \code{expression}, \code{summed}, the \code{factors}, each with its \code{district}, \code{reads}, \code{expression} and
   \code{definitions}, the \code{sets}, and the printed \code{text}; or of the class \code{causal_no_natural}: \code{joint} with its
-  \code{hedge}, or the \code{witness} or the \code{district} that reads both values.
+  \code{hedge}, or the \code{witness} or the \code{district} that reads both values of the \code{treatment}.
 
   From \code{mediate} a data frame of the class \code{causal_mediation} with a row for each measure: \code{"treated"}, \code{"control"},
   \code{"between"} (as treated, the mediators as under control), \code{"total"}, \code{"direct"}, \code{"indirect"} and

@@ -85,16 +85,16 @@ answering(formula)
 found <- mediate(mediated, transform(seen, Y = Y + 2 * M - 3 * X), "X", "Y", through = "M", resamples = 20)
 stopifnot(at(found, "direct") < 0, at(found, "indirect") > 0, grepl("opposite signs", found$note[found$measure == "proportion"]), found$note[1] == "")
 
-# none was found, and refusals
-open <- paste0('{"answer":"open",', sets(), ',"joint":{"y":["Y"],"x":["X"]},"witness":"L"}')
-text <- "P(Y[X,M[X']]) is left open: P(Y|do(X)) is identifiable\nL reads X and X'"
-answering(no(open))
+# none, and refusals
+none <- paste0('{"answer":"witness",', sets(), ',"joint":{"y":["Y"],"x":["X"]},"treatment":"X","witness":"L"}')
+text <- "P(Y[X,M[X']]) is not identifiable\nL reads X and X'\nP(Y|do(X)) is identifiable"
+answering(no(none))
 found <- natural_effect("dag { X -> L -> M -> Y X -> Y L -> Y }", "X", "Y", through = "M")
 stopifnot(inherits(found, "causal_no_natural"), !as.logical(found))
-same(c(found$witness, found$joint), c("L", "P(Y|do(X))"))
-answering(no(open), no(text))
+same(c(found$treatment, found$witness, found$joint), c("X", "L", "P(Y|do(X))"))
+answering(no(none), no(text))
 caught <- tryCatch(mediate("dag { X -> L -> M -> Y X -> Y L -> Y }", seen, "X", "Y", through = "M"), error = identity)
-stopifnot(inherits(caught, "causal_not_identifiable"), grepl("is left open", conditionMessage(caught)))
+stopifnot(inherits(caught, "causal_not_identifiable"), grepl("is not identifiable", conditionMessage(caught)))
 answering(formula)
 stopifnot(inherits(tryCatch(mediate(mediated, seen[!(C == 1 & X == 0), ], "X", "Y", through = "M", treated = 1, control = 0, outcome = 1), error = identity), "causal_no_value"))
 

@@ -36,9 +36,11 @@ returns-in-Hedge c =
 pub returns-in-Witness : goal.returns-in-Witness
 returns-in-Witness c =
     let at = (goal.at.returns-in-Witness c).In_ok-formula in
-    (c.asked_of-asked.ensures, record { witness = right at _ c.in-Witness.is; no_hedge = no_hedge at (ap is_hedge c.in-Witness.is) })
+    let r = right at _ c.in-Witness.is in
+    (c.asked_of-asked.ensures, record { witness = r.0; lost = r.1; no_hedge = no_hedge at (ap is_hedge c.in-Witness.is) })
 
 pub returns-in-Split : goal.returns-in-Split
 returns-in-Split c =
     let at = (goal.at.returns-in-Split c).In_ok-formula in
-    (c.asked_of-asked.ensures, record { split = right at _ c.in-Split.is; no_hedge = no_hedge at (ap is_hedge c.in-Split.is) })
+    let r = right at _ c.in-Split.is in
+    (c.asked_of-asked.ensures, record { split = r.0; lost = r.1; no_hedge = no_hedge at (ap is_hedge c.in-Split.is) })

@@ -2,6 +2,7 @@ use Rattle.natural_drawn.proofs.Folding.{each_has_nested_folded}
 use Rattle.natural_drawn.proofs.Formulas.{right_parts_are_drawn, right_nested_is_drawn}
 use Rattle.natural_drawn.proofs.Nil.{no_indirect_path_is_drawn, no_direct_path_is_drawn}
 use Rattle.natural_drawn.proofs.Lost.{nested_lost_is_drawn}
+use Rattle.natural_drawn.proofs.Differing.{nested_difference_is_drawn}
 use Rattle.natural_drawn.proofs.theory.laws.Goals as goal
 
 pub returns-clause-folded : goal.returns-clause-folded
@@ -15,6 +16,9 @@ returns-clause-right c = right_nested_is_drawn
 
 pub returns-clause-lost : goal.returns-clause-lost
 returns-clause-lost c = nested_lost_is_drawn
+
+pub returns-clause-differ : goal.returns-clause-differ
+returns-clause-differ c = nested_difference_is_drawn
 
 pub returns-clause-no_indirect : goal.returns-clause-no_indirect
 returns-clause-no_indirect c = no_indirect_path_is_drawn

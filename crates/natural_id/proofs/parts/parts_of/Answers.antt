@@ -1,9 +1,8 @@
-use Rattle.std.proofs.Common.{ℕ, ◌+◌, not, sym, ◌∙◌, subst, take, map, get_or, arith}
+use Rattle.std.proofs.Common.{ℕ, ◌+◌, sym, ◌∙◌, subst, take, map, get_or, arith}
 use Rattle.mixed_graph.specs.Shown.{graph_of}
 use Rattle.mixed_graph.specs.Masks.{minus, all}
 use Rattle.mixed_graph.specs.declared.sets.VSet.{VSet}
-use Rattle.mixed_graph.proofs.Masks.{positive_from_has, some_member}
-use Rattle.finite_models.proofs.Bools.{not_both}
+use Rattle.mixed_graph.proofs.Masks.{positive_from_has}
 use Rattle.hedge.specs.Linked.{IsMaximalJoined}
 use Rattle.identification_theory.specs.Procedure.{IsUnidentified}
 use Rattle.identify.proofs.GatheredFactors.{district_at, set_at, set_in, sets_all, sets_more}
@@ -46,13 +45,11 @@ loop-c-preserved c =
     let n = c.args.districts.now.count in
     let i = c.loop-c.c-index in
     let at : VSet = get_or (take n sets) i (record { bits = 0 }) in
-    let second = c.intersection-second.result.bits in
-    made_more (graph_of c.args.g.now) c.args.children.bits c.args.through.bits (map (λ (s : VSet). s.bits) (take i (take n sets)))
-    (map (λ (s : VSet). s.bits) (take (i + 1) (take n sets))) c.loop-c.parts.items c.push.new.self.items at (not c.is_empty.result) c.in_ok-part.part
+    made_more (graph_of c.args.g.now) c.args.x.bits c.args.through.bits (map (λ (s : VSet). s.bits) (take i (take n sets)))
+    (map (λ (s : VSet). s.bits) (take (i + 1) (take n sets))) c.loop-c.parts.items c.push.new.self.items at c.intersection-second.result c.in_ok-part.part
     c.loop-c.invariant c.in_ok-push.ensures.items (sets_more sets n i c.loop-c-test.true) c.in_ok-part.ensures
-    (read_value at.bits c.args.children.bits c.args.through.bits c.intersection.result.bits second c.is_empty.result c.in_default.ensures
-    c.intersection.ensures.members c.intersection-second.ensures.members c.is_empty.ensures.none.0
-    (λ e. some_member second (λ z. not_both c.is_empty.result (c.is_empty.ensures.none.1 z) e) (omega arith)))
+    (read_value (graph_of c.args.g.now) at.bits c.args.x.bits c.args.through.bits c.intersection.result.bits c.parents_of.result.bits
+    c.intersection-second.result.bits c.in_default.ensures c.intersection.ensures.members c.parents_of.ensures c.intersection-second.ensures.members)
 
 pub returns : goal.returns
 returns c =

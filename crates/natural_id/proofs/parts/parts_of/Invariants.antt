@@ -5,4 +5,4 @@ use Rattle.natural_id.proofs.Making.{AreMade}
 use Rattle.natural_id.proofs.parts.parts_of.Given as goal
 
 abbrev pub invariant-loop-c : goal.invariant-loop-c
-invariant-loop-c l = AreMade (graph_of l.g) l.children.bits l.through.bits (map (λ (s : VSet). s.bits) (take l.c-index l.c-items)) l.parts.items
+invariant-loop-c l = AreMade (graph_of l.g) l.x.bits l.through.bits (map (λ (s : VSet). s.bits) (take l.c-index l.c-items)) l.parts.items

@@ -1,5 +1,0 @@
-use Rattle.natural_command.proofs.Places.{IsReading}
-use Rattle.natural_command.proofs.second.second_names.Given as goal
-
-abbrev pub invariant-each : goal.invariant-each
-invariant-each l = IsReading l.names l.fn.x.bits l.v-iterator l.read
