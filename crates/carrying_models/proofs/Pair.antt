@@ -60,7 +60,7 @@ module _ (g : MixedGraph) (ok : IsMixedGraph g) (x m y z : ℕ) (asked : IsNeste
   abbrev tails : ℕ → ℕ
   tails j = 0
 
-  -- x where its bit is set, and x where it isn't
+  -- the two values of x: p's bit is set, and it isn't
   abbrev all_bits : ℕ → ℕ
   all_bits v = mask_of (λ k. true) (many g c (has x) (has m) p)
 
@@ -179,11 +179,11 @@ module _ (g : MixedGraph) (ok : IsMixedGraph g) (x m y z : ℕ) (asked : IsNeste
     free : (v : ℕ) → has y v ≡ true → both v ≡ false
     free v h = or_from (has x v) (has m v) (asked.y_x v h) (asked.y_m v h)
 
-    -- own bits in the two models
     other_p : solution (intervene first (has x) no_bits) tails p ≡ 0
     other_p = done g ok first rank ranked follows (has x) no_bits none_within tails p pl
         ∙ cond-true (has x p) 0 (first.mechanism p (solution (intervene first (has x) no_bits) tails) tails) from_x
 
+    -- own bits in the two models
     second_own : (r : ℕ → ℕ) (i : ℕ) → own g c (has x) (has m) p none r u i ≡ toss u i
     second_own r i = differ-false (toss u i)
 
