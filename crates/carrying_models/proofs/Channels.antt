@@ -1,5 +1,5 @@
 -- A bit that is carried along arrows.
-use Rattle.std.proofs.Common.{ℕ, zero, suc, ◌≡◌, ◌<◌, Bool, true, false, not, inl, inr, refl, sym, ap, subst, ◌∙◌, ◌&&◌, ◌||◌, List, [], ◌∷◌, eqb, eqb-true, arith}
+use Rattle.std.proofs.Common.{ℕ, zero, suc, ◌≡◌, ◌<◌, Bool, true, false, not, inl, inr, sym, ap, subst, ◌∙◌, ◌&&◌, ◌||◌, List, [], ◌∷◌, eqb, eqb-true, arith}
 use Rattle.std.proofs.lemmas.Bool.{and_parts, and_from, or_left, or_right, or_cases}
 use Rattle.mixed_graph.specs.Graphs.{MixedGraph, IsMixedGraph, IsDirectedPath}
 use Rattle.mixed_graph.proofs.Paths.{end_below}
@@ -8,6 +8,7 @@ use Rattle.finite_models.proofs.Bools.{same_truth}
 use Rattle.finite_models.proofs.Factors.{any_below, any_below_from, any_below_gives}
 use Rattle.finite_models.proofs.Solutions.{IsRanked}
 use Rattle.finite_models.proofs.SumLaws.{eqb-refl}
+use Rattle.counter_models.proofs.Truths.{not_true}
 
 -- a parent of q outside `shut` has the bit
 abbrev pub is_handed : MixedGraph → (shut bits : ℕ → Bool) → ℕ → Bool
@@ -17,15 +18,11 @@ is_handed g shut bits q = any_below g.vertices (λ r. (g.arrow r q && not (shut 
 abbrev pub IsCarried : MixedGraph → (shut begins bits : ℕ → Bool) → Type 0
 IsCarried g shut begins bits = (q : ℕ) → q < g.vertices → shut q ≡ false → bits q ≡ (begins q || is_handed g shut bits q)
 
-pub from_not : (b : Bool) → not b ≡ true → b ≡ false
-from_not true e = absurd (grind (arith, e))
-from_not false e = refl
-
 -- where a path comes to a vertex outside `shut` by arrows out of such vertices alone, it begins at one
 pub begins_free : (g : MixedGraph) (shut : ℕ → Bool) (q : ℕ) (path : List ℕ) (e : ℕ) → IsDirectedPath (cut_out g shut) q path e → shut e ≡ false
     → shut q ≡ false
 begins_free g shut q [] e p free = ap shut p ∙ free
-begins_free g shut q (c ∷ cs) e p free = from_not (shut q) (and_parts (g.arrow q c) (not (shut q)) p.0).1
+begins_free g shut q (c ∷ cs) e p free = not_true (shut q) (and_parts (g.arrow q c) (not (shut q)) p.0).1
 
 module _ (g : MixedGraph) (ok : IsMixedGraph g) (shut begins bits : ℕ → Bool) (carried : IsCarried g shut begins bits) where
   -- what has the bit hands it on
@@ -58,7 +55,7 @@ module _ (g : MixedGraph) (ok : IsMixedGraph g) (shut begins bits : ℕ → Bool
           let p = and_parts (g.arrow r.0 q && not (shut r.0)) (bits r.0) r.2 in
           let a = and_parts (g.arrow r.0 q) (not (shut r.0)) p.0 in
           let l = ranked.rises r.0 q a.0 in
-          began n r.0 r.1 (omega (arith, l, lt)) (from_not (shut r.0) a.1) p.1
+          began n r.0 r.1 (omega (arith, l, lt)) (not_true (shut r.0) a.1) p.1
     ]
 
     pub begins_there : (q : ℕ) → q < g.vertices → shut q ≡ false → bits q ≡ true → o ≡ true

@@ -1,6 +1,5 @@
 mod Channels
 mod Core
-mod Worlds
 mod Reading
 mod Pair
 mod Witness

@@ -1,5 +1,5 @@
 -- Coins whose parities tell the two models apart give a pair of models.
-use Rattle.std.proofs.Common.{ℕ, zero, suc, ◌+◌, ◌*◌, ◌≡◌, ◌≢◌, ◌<◌, Bool, true, false, cond, refl, sym, ap, ◌∙◌, ◌&&◌, ◌||◌, nat_lt, not, eqb, eqb-true}
+use Rattle.std.proofs.Common.{ℕ, zero, suc, ◌+◌, ◌-◌, ◌*◌, ◌≡◌, ◌≢◌, ◌<◌, Bool, true, false, cond, refl, sym, ap, ◌∙◌, ◌&&◌, ◌||◌, nat_lt, not, eqb, eqb-true}
 use Rattle.std.proofs.Common.{List, [], ◌∷◌, arith, zero-mul}
 use Rattle.std.proofs.lemmas.Bool.{and_from, and_right, cond-false, cond-true, or_from, false_from_ne_true}
 use Rattle.mixed_graph.specs.Bits.{has}
@@ -16,13 +16,14 @@ use Rattle.finite_models.proofs.Packed.{has-mask}
 use Rattle.finite_models.proofs.Ranks.{with_rank}
 use Rattle.finite_models.proofs.Solutions.{IsRanked, solution_within, agree_from, agree_gives}
 use Rattle.finite_models.proofs.SumLaws.{over-term, over-congr_within, over-scale}
-use Rattle.do_rules.specs.Cuts.{cut_out}
+use Rattle.do_rules.specs.Cuts.{cut_into, cut_out}
+use Rattle.do_rules.proofs.Altered.{follows_into}
 use Rattle.counter_models.proofs.ParityLaws.{odd-congr, odd-false, differ-false}
 use Rattle.nested_models.specs.Nested.{nested, is_nested, weight_of_nested, IsNestedQuery, LeadsPast, LeadsThrough}
+use Rattle.nested_models.proofs.Worlds.{done, set_x, values_within}
 use Rattle.twisted_models.specs.Pairs.{AreApart}
 use Rattle.carrying_models.proofs.Core.{Coins, core, own, tossed, many, core_fits, is_twist}
 use Rattle.carrying_models.proofs.Reading.{read_plain, read_past, read_through}
-use Rattle.carrying_models.proofs.Worlds.{other_set, nested_x, nested_within}
 
 -- a path without arrows out of a set is one
 kept_path : (g : MixedGraph) (a : ℕ → Bool) (v : ℕ) (path : List ℕ) (e : ℕ) → IsDirectedPath (cut_out g a) v path e → IsDirectedPath g v path e
@@ -59,7 +60,7 @@ module _ (g : MixedGraph) (ok : IsMixedGraph g) (x m y z : ℕ) (asked : IsNeste
   abbrev tails : ℕ → ℕ
   tails j = 0
 
-  -- x where its bit is set, and x where it isn't
+  -- the two values of x: p's bit is set, and it isn't
   abbrev all_bits : ℕ → ℕ
   all_bits v = mask_of (λ k. true) (many g c (has x) (has m) p)
 
@@ -88,6 +89,12 @@ module _ (g : MixedGraph) (ok : IsMixedGraph g) (x m y z : ℕ) (asked : IsNeste
   abbrev there : ℕ → ℕ
   there = nested first (has x) (has m) all_bits no_bits tails
 
+  abbrev both : ℕ → Bool
+  both v = has x v || has m v
+
+  abbrev set_to : ℕ → ℕ
+  set_to v = cond (has m v) (solution (intervene first (has x) no_bits) tails v) (all_bits v)
+
   abbrev s : ℕ → ℕ
   s v = cond (has y v) (there v) (cond (has z v) (solution first tails v) (all_bits v))
 
@@ -110,7 +117,13 @@ module _ (g : MixedGraph) (ok : IsMixedGraph g) (x m y z : ℕ) (asked : IsNeste
   s_within v il = go (has y v) (has z v)
     where
       there_low : there v < first.size v
-      there_low = nested_within g first follows (has x) (has m) all_bits no_bits all_within none_within tails tails_inside v il
+      there_low =
+          let e : suc (there v) - first.size v ≡ 0 = with_rank g ok (suc (there v) - first.size v) 0
+          (λ rank ranked. let l : there v < first.size v = solution_within (cut_into g both) (intervene first both set_to)
+          (follows_into g first both set_to
+          (values_within g ok first rank ranked follows (has x) (has m) asked.m_x all_bits no_bits all_within none_within tails tails_inside) follows)
+          tails tails_inside v il in omega (arith, l)) in
+          omega (arith, e)
 
       go : (a b : Bool) → cond a (there v) (cond b (solution first tails v) (all_bits v)) < first.size v
       go true b = there_low
@@ -146,9 +159,6 @@ module _ (g : MixedGraph) (ok : IsMixedGraph g) (x m y z : ℕ) (asked : IsNeste
   -- ---- the second model has no such world
   module _ (rank : ℕ → ℕ) (ranked : IsRanked g rank) (refuted : Refuted) (u : ℕ → ℕ) (inside : IsAssignment second.causes second.values u)
       (e : is_nested second (has x) (has m) (has y) (has z) s no_bits u ≡ true) where
-    abbrev both : ℕ → Bool
-    both v = has x v || has m v
-
     no_arrows : (i : ℕ) → none i ≡ true → g.arrow p i ≡ true
     no_arrows i h = absurd (not_both (none i) h refl)
 
@@ -169,6 +179,10 @@ module _ (g : MixedGraph) (ok : IsMixedGraph g) (x m y z : ℕ) (asked : IsNeste
     free : (v : ℕ) → has y v ≡ true → both v ≡ false
     free v h = or_from (has x v) (has m v) (asked.y_x v h) (asked.y_m v h)
 
+    other_p : solution (intervene first (has x) no_bits) tails p ≡ 0
+    other_p = done g ok first rank ranked follows (has x) no_bits none_within tails p pl
+        ∙ cond-true (has x p) 0 (first.mechanism p (solution (intervene first (has x) no_bits) tails) tails) from_x
+
     -- own bits in the two models
     second_own : (r : ℕ → ℕ) (i : ℕ) → own g c (has x) (has m) p none r u i ≡ toss u i
     second_own r i = differ-false (toss u i)
@@ -185,7 +199,7 @@ module _ (g : MixedGraph) (ok : IsMixedGraph g) (x m y z : ℕ) (asked : IsNeste
         ∙ read_past g ok rank ranked c (has x) (has m) p f arrows asked.m_x all_bits no_bits all_within none_within tails tails_inside i l.vertex l.path l.end
         l.leads (free l.end l.inside)
         ∙ first_own there i
-        ∙ ap (λ n. f i && has n 0) (nested_x g first follows (has x) (has m) all_bits no_bits all_within none_within tails tails_inside rank ranked asked.m_x p
+        ∙ ap (λ n. f i && has n 0) (set_x g ok first rank ranked follows (has x) (has m) asked.m_x all_bits no_bits all_within none_within tails tails_inside p
         pl from_x)
         ∙ ap (λ b. f i && b) set_bit ∙ ends (f i)
       where
@@ -205,8 +219,7 @@ module _ (g : MixedGraph) (ok : IsMixedGraph g) (x m y z : ℕ) (asked : IsNeste
         l.leads.path l.leads.end l.leads.leads (mediates l.leads.end l.leads.inside) l.child (acts l.leads.end l.leads.inside) l.past.path l.past.end
         l.past.leads (free l.past.end l.past.inside)
         ∙ first_own (solution (intervene first (has x) no_bits) tails) i
-        ∙ ap (λ n. f i && has n 0) (other_set g first follows (has x) (has m) all_bits no_bits all_within none_within tails tails_inside rank ranked asked.m_x p
-        pl from_x)
+        ∙ ap (λ n. f i && has n 0) other_p
         ∙ ap (λ b. f i && b) (has-zero 0) ∙ and_right (f i) false refl
       where
         mediates : (v : ℕ) → eqb v l.mediator ≡ true → has m v ≡ true

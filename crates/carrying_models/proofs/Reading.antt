@@ -1,18 +1,18 @@
 -- What members of y and z read in the model that carries coins.
-use Rattle.std.proofs.Common.{ℕ, ◌+◌, ◌-◌, ◌≡◌, ◌<◌, Bool, true, false, sym, ap, subst, ◌∙◌, ◌&&◌, ◌||◌, eqb}
+use Rattle.std.proofs.Common.{ℕ, ◌+◌, ◌-◌, ◌≡◌, ◌<◌, Bool, true, false, cond, sym, ap, subst, ◌∙◌, ◌&&◌, ◌||◌, eqb}
 use Rattle.std.proofs.Common.{List, lt-ltb, le-ltb, ltb, arith}
-use Rattle.std.proofs.lemmas.Bool.{and_parts, and_from}
+use Rattle.std.proofs.lemmas.Bool.{and_parts, and_from, cond-false}
 use Rattle.mixed_graph.specs.Bits.{has}
 use Rattle.mixed_graph.specs.Graphs.{MixedGraph, IsMixedGraph, IsDirectedPath}
 use Rattle.finite_models.specs.Models.{FiniteModel, IsAssignment, solution, intervene}
 use Rattle.finite_models.proofs.Factors.{any_below, any_below_from, any_below_gives}
 use Rattle.finite_models.proofs.Following.{Follows, follows_of}
-use Rattle.finite_models.proofs.Solutions.{IsRanked}
+use Rattle.finite_models.proofs.Solutions.{IsRanked, solution_is}
 use Rattle.do_rules.specs.Cuts.{cut_out}
 use Rattle.nested_models.specs.Nested.{nested}
+use Rattle.nested_models.proofs.Worlds.{done, nest, set_m}
 use Rattle.carrying_models.proofs.Channels.{IsCarried, one_source, carries, only_there, begins_there}
 use Rattle.carrying_models.proofs.Core.{Coins, core, own, many, value, begins_by, shut_by, are_carried, core_fits}
-use Rattle.carrying_models.proofs.Worlds.{plain_solves, other_solves, nested_solves, nested_m}
 
 module _ (g : MixedGraph) (ok : IsMixedGraph g) (rank : ℕ → ℕ) (ranked : IsRanked g rank) (c : Coins g) (x m : ℕ → Bool) (p : ℕ) where
   abbrev both : ℕ → Bool
@@ -72,7 +72,7 @@ module _ (g : MixedGraph) (ok : IsMixedGraph g) (rank : ℕ → ℕ) (ranked : I
     -- at the end of a path outside x the first kind is the own bit of its beginning
     pub read_plain : (u : ℕ → ℕ) (i : ℕ) → i < g.vertices → (path : List ℕ) (e : ℕ) → IsDirectedPath (cut_out g x) i path e → x e ≡ false
         → has (solution w u e) i ≡ own g c x m p f (solution w u) u i
-    read_plain u i il = read_first f (solution w u) u (λ q ql free. plain_solves g w rank ranked follows u q ql) i il
+    read_plain u i il = read_first f (solution w u) u (λ q ql free. solution_is g w rank ranked follows u q ql) i il
 
     module _ (m_x : (v : ℕ) → m v ≡ true → x v ≡ false) (s t : ℕ → ℕ) (hs : IsAssignment w.vertices w.size s) (ht : IsAssignment w.vertices w.size t)
         (u : ℕ → ℕ) (inside : IsAssignment w.causes w.values u) where
@@ -83,10 +83,14 @@ module _ (g : MixedGraph) (ok : IsMixedGraph g) (rank : ℕ → ℕ) (ranked : I
       other = solution (intervene w x t) u
 
       there_solves : (q : ℕ) → q < g.vertices → both q ≡ false → there q ≡ w.mechanism q there u
-      there_solves = nested_solves g w follows x m s t hs ht u inside rank ranked m_x
+      there_solves q ql free = nest g ok w rank ranked follows x m m_x s t hs ht u inside q ql
+          ∙ cond-false (both q) (cond (m q) (other q) (s q)) (w.mechanism q there u) free
 
-      there_solves_other : (q : ℕ) → q < g.vertices → x q ≡ false → other q ≡ w.mechanism q other u
-      there_solves_other = other_solves g w follows x m s t hs ht u inside rank ranked m_x
+      other_solves : (q : ℕ) → q < g.vertices → x q ≡ false → other q ≡ w.mechanism q other u
+      other_solves q ql free = done g ok w rank ranked follows x t ht u q ql ∙ cond-false (x q) (t q) (w.mechanism q other u) free
+
+      mediator : (r : ℕ) → r < g.vertices → m r ≡ true → there r ≡ other r
+      mediator = set_m g ok w rank ranked follows x m m_x s t hs ht u inside
 
       -- at the end of a path past m the second kind is the own bit of its beginning, in the nested world
       pub read_past : (i : ℕ) → i < g.vertices → (path : List ℕ) (e : ℕ) → IsDirectedPath (cut_out g both) i path e → both e ≡ false
@@ -104,14 +108,14 @@ module _ (g : MixedGraph) (ok : IsMixedGraph g) (rank : ℕ → ℕ) (ranked : I
           (carried_third f there u there_solves i il) rank ranked (own g c x m p f other u i) only q rest e (ok.head_below r q a) k free
           (λ o. any_below_from g.vertices (λ r. (g.arrow r q && m r) && has (there r) i) r (ok.tail_below r q a)
           (and_from (g.arrow r q && m r) (has (there r) i) (and_from (g.arrow r q) (m r) a member)
-          (ap (λ n. has n i) (nested_m g w follows x m s t hs ht u inside rank ranked m_x r (ok.tail_below r q a) member)
-          ∙ read_first f other u there_solves_other i il path r l (m_x r member) ∙ o)))
+          (ap (λ n. has n i) (mediator r (ok.tail_below r q a) member)
+          ∙ read_first f other u other_solves i il path r l (m_x r member) ∙ o)))
         where
           only : (q : ℕ) → q < g.vertices → any_below g.vertices (λ r. (g.arrow r q && m r) && has (there r) i) ≡ true → own g c x m p f other u i ≡ true
           only q ql h =
               let r = any_below_gives g.vertices (λ r. (g.arrow r q && m r) && has (there r) i) h in
               let b = and_parts (g.arrow r.0 q && m r.0) (has (there r.0) i) r.2 in
               let member = (and_parts (g.arrow r.0 q) (m r.0) b.0).1 in
-              begins_there g ok x (λ q. eqb q i && own g c x m p f other u q) (λ q. has (other q) i) (carried_first f other u there_solves_other i il)
+              begins_there g ok x (λ q. eqb q i && own g c x m p f other u q) (λ q. has (other q) i) (carried_first f other u other_solves i il)
               rank ranked (own g c x m p f other u i) (only_there g.vertices i (own g c x m p f other u)) r.0 r.1 (m_x r.0 member)
-              (ap (λ n. has n i) (sym (nested_m g w follows x m s t hs ht u inside rank ranked m_x r.0 r.1 member)) ∙ b.1)
+              (ap (λ n. has n i) (sym (mediator r.0 r.1 member)) ∙ b.1)

@@ -1,11 +1,11 @@
 -- The ways that lead to y, and the sets of what leads there.
-use Rattle.std.proofs.Common.{ℕ, ◌≡◌, ◌<◌, ◌↔◌, Bool, true, false, not, eqb, refl, sym, ap, ◌∙◌, ◌||◌, ◌&&◌, arith, List, [], ◌∷◌, inl, inr, ◌⊎◌, eqb-true}
-use Rattle.std.proofs.lemmas.Bool.{and_from, not_from_false}
+use Rattle.std.proofs.Common.{ℕ, ◌≡◌, ◌<◌, ◌↔◌, Bool, true, false, not, refl, sym, ap, ◌∙◌, ◌||◌, ◌&&◌, arith, List, [], ◌∷◌, inl, inr, ◌⊎◌, eqb-true}
+use Rattle.std.proofs.lemmas.Bool.{and_from}
 use Rattle.mixed_graph.specs.Bits.{has}
 use Rattle.mixed_graph.specs.Graphs.{MixedGraph, IsMixedGraph, IsAncestor, IsDirectedPath, induced}
 use Rattle.mixed_graph.specs.Masks.{union, minus, all}
 use Rattle.mixed_graph.proofs.MaskLaws.{has_minus, has_join}
-use Rattle.mixed_graph.proofs.Paths.{ancestor_member, ancestor_parent, end_below}
+use Rattle.mixed_graph.proofs.Paths.{end_below}
 use Rattle.finite_models.proofs.Bools.{and_first, and_second}
 use Rattle.finite_models.proofs.SumLaws.{eqb-refl}
 use Rattle.hedge.specs.Linked.{IsSetOf}
@@ -13,37 +13,21 @@ use Rattle.do_rules.specs.Cuts.{cut_out}
 use Rattle.identification_theory.specs.Procedure.{AreAncestorsIn}
 use Rattle.identification_theory.proofs.Sets.{all-is}
 use Rattle.nested_models.specs.Nested.{LeadsPast, LeadsThrough, IsNestedQuery}
+use Rattle.nested_models.proofs.Leading.{to_cut, past_or_through}
 
 no_of : (b : Bool) → not b ≡ true → b ≡ false
 no_of b h = grind (arith, h)
 
--- what has a path outside a set to vertices off it is what has one without arrows out of the set
+-- what has a path without arrows out of a set to vertices off it has one outside the set
 module _ (g : MixedGraph) (ok : IsMixedGraph g) (a : ℕ → Bool) (u : ℕ) (is : (v : ℕ) → has u v ≡ a v) (t : ℕ → Bool) (off : (v : ℕ) → t v ≡ true → a v ≡ false) where
   abbrev others : ℕ
   others = minus (all g.vertices) u
-
-  outside : (v : ℕ) → has others v ≡ true → a v ≡ false
-  outside v e = sym (is v) ∙ bools (has (all g.vertices) v) (has u v) (sym (has_minus (all g.vertices) u v) ∙ e)
-    where
-      bools : (p q : Bool) → (p && not q) ≡ true → q ≡ false
-      bools p q h = grind (arith, h)
 
   other : (v : ℕ) → v < g.vertices → a v ≡ false → has others v ≡ true
   other v il o = has_minus (all g.vertices) u v ∙ bools (has (all g.vertices) v) (has u v) (all-is g.vertices v il) (is v ∙ o)
     where
       bools : (p q : Bool) → p ≡ true → q ≡ false → (p && not q) ≡ true
       bools p q h k = grind (arith, h, k)
-
-  pub to_cut : (v : ℕ) → IsAncestor (induced g (has others)) t v → IsAncestor (cut_out g a) t v
-  to_cut v k = record { vertex = k.vertex; path = k.path; end = k.end; leads = go v k.path k.leads; inside = k.inside }
-    where
-      go : (v : ℕ) (path : List ℕ) → IsDirectedPath (induced g (has others)) v path k.end → IsDirectedPath (cut_out g a) v path k.end
-      go v [] p = p
-      go v (c ∷ path) p = (
-        and_from (g.arrow v c) (not (a v)) (and_first (g.arrow v c) (has others v && has others c) p.0)
-            (not_from_false (a v) (outside v (and_first (has others v) (has others c) (and_second (g.arrow v c) (has others v && has others c) p.0)))),
-        go c path p.1,
-      )
 
   clear : (end v : ℕ) (path : List ℕ) → IsDirectedPath (cut_out g a) v path end → t end ≡ true → a v ≡ false
   clear end v [] p i = off v (ap t p ∙ i)
@@ -67,7 +51,7 @@ module _ (g : MixedGraph) (ok : IsMixedGraph g) (x m y : ℕ) where
       → ((v : ℕ) → has y v ≡ true → has m v ≡ false) → AreAncestorsIn g (minus (all g.vertices) u) y past
       → IsSetOf past (LeadsPast g (has x) (has m) (has y))
   past_is u past is y_x y_m are = record {
-    sound = λ v e. to_cut g ok (λ p. has x p || has m p) u is (has y) off v (are.sound v e);
+    sound = λ v e. to_cut g (λ p. has x p || has m p) u is (has y) v (are.sound v e);
     complete = λ v l. are.complete v (from_cut g ok (λ p. has x p || has m p) u is (has y) off v l);
   }
     where
@@ -84,7 +68,7 @@ module _ (g : MixedGraph) (ok : IsMixedGraph g) (x m y : ℕ) where
       → IsSetOf through (LeadsThrough g (has x) (has m) (has y))
   through_is past parents mediators through m_x is_past is_parents is_mediators are = record {
     sound = λ v e.
-        let k = to_cut g ok (has x) x (λ p. refl) (has mediators) off v (are.sound v e) in
+        let k = to_cut g (has x) x (λ p. refl) (has mediators) v (are.sound v e) in
         let both = sym (is_mediators k.end) ∙ k.inside in
         let acts = (is_parents k.end).0 (and_second (has m k.end) (has parents k.end) both) in
         record {
@@ -108,60 +92,15 @@ module _ (g : MixedGraph) (ok : IsMixedGraph g) (x m y : ℕ) where
       off : (v : ℕ) → has mediators v ≡ true → has x v ≡ false
       off v e = m_x v (and_first (has m v) (has parents v) (sym (is_mediators v) ∙ e))
 
--- what leads to y outside x does so past m, or through it
-module _ (g : MixedGraph) (ok : IsMixedGraph g) (x m y : ℕ → Bool) (y_m : (v : ℕ) → y v ≡ true → m v ≡ false) where
-  before : (v c : ℕ) → g.arrow v c ≡ true → x v ≡ false → LeadsPast g x m y c ⊎ LeadsThrough g x m y c → LeadsPast g x m y v ⊎ LeadsThrough g x m y v
-  before v c a o (inl l) = go (m v) refl
-    where
-      none : (p q : Bool) → p ≡ false → q ≡ false → not (p || q) ≡ true
-      none p q h k = grind (arith, h, k)
-
-      go : (b : Bool) → m v ≡ b → LeadsPast g x m y v ⊎ LeadsThrough g x m y v
-      go true e = inr (record {
-        mediator = v;
-        member = e;
-        leads = ancestor_member (cut_out g x) (λ p. eqb p v) v (ok.tail_below v c a) (eqb-refl v);
-        child = c;
-        acts = a;
-        past = l;
-      })
-      go false e = inl (ancestor_parent (cut_out g (λ p. x p || m p)) y v c (ok.tail_below v c a)
-          (and_from (g.arrow v c) (not (x v || m v)) a (none (x v) (m v) o e)) l)
-  before v c a o (inr l) = inr (record {
-    mediator = l.mediator;
-    member = l.member;
-    leads = ancestor_parent (cut_out g x) (λ p. eqb p l.mediator) v c (ok.tail_below v c a) (and_from (g.arrow v c) (not (x v)) a (not_from_false (x v) o)) l.leads;
-    child = l.child;
-    acts = l.acts;
-    past = l.past;
-  })
-
-  pub past_or_through : (end v : ℕ) (path : List ℕ) → v < g.vertices → IsDirectedPath (cut_out g x) v path end → y end ≡ true
-      → LeadsPast g x m y v ⊎ LeadsThrough g x m y v
-  past_or_through end v [] il p i = inl (ancestor_member (cut_out g (λ p. x p || m p)) y v il (ap y p ∙ i))
-  past_or_through end v (c ∷ path) il p i =
-      let a = and_first (g.arrow v c) (not (x v)) p.0 in
-      before v c a (no_of (x v) (and_second (g.arrow v c) (not (x v)) p.0)) (past_or_through end c path (ok.head_below v c a) p.1 i)
-
 -- a child of x that leads to y or z outside x, and not through m, leads to y past it
 module _ (g : MixedGraph) (ok : IsMixedGraph g) (x m y z d : ℕ) (asked : IsNestedQuery g (has x) (has m) (has y) (has z))
     (are : AreAncestorsIn g (minus (all g.vertices) x) (union y z) d) where
-  joint_off : (v : ℕ) → has (union y z) v ≡ true → has x v ≡ false
-  joint_off v e = go (has y v) refl
-    where
-      go : (b : Bool) → has y v ≡ b → has x v ≡ false
-      go true h = asked.y_x v h
-      go false h = asked.z_x v (bools (has y v) (has z v) h (sym (has_join y z v) ∙ e))
-        where
-          bools : (p q : Bool) → p ≡ false → (p || q) ≡ true → q ≡ true
-          bools p q h k = grind (arith, h, k)
-
   pub child_past : (p v : ℕ) → has x p ≡ true → g.arrow p v ≡ true → has d v ≡ true → (LeadsThrough g (has x) (has m) (has y) v → ⊥)
       → LeadsPast g (has x) (has m) (has y) v
   child_past p v e a i none = go (has y k.end) refl
     where
       k : IsAncestor (cut_out g (has x)) (has (union y z)) v
-      k = to_cut g ok (has x) x (λ p. refl) (has (union y z)) joint_off v (are.sound v i)
+      k = to_cut g (has x) x (λ p. refl) (has (union y z)) v (are.sound v i)
 
       plain : (v : ℕ) (path : List ℕ) → IsDirectedPath (cut_out g (has x)) v path k.end → IsDirectedPath g v path k.end
       plain v [] p = p

@@ -5,3 +5,4 @@ pub mod Effects
 pub mod Product
 pub mod Witnesses
 pub mod NoFormula
+pub mod Leading

@@ -56,17 +56,17 @@ module _ (g : MixedGraph) (ok : IsMixedGraph g) (w : FiniteModel) (rank : ℕ �
     other_within : IsAssignment w.vertices w.size other
     other_within = solution_within (cut_into g x) (intervene w x t) (follows_into g w x t ht follows) u inside
 
-    values_within : IsAssignment w.vertices w.size values
+    pub values_within : IsAssignment w.vertices w.size values
     values_within v il = go (m v)
       where
         go : (c : Bool) → cond c (other v) (s v) < w.size v
         go true = other_within v il
         go false = hs v il
 
-    nest : IsSolution (intervene w (λ v. x v || m v) values) u (nested w x m s t u)
+    pub nest : IsSolution (intervene w (λ v. x v || m v) values) u (nested w x m s t u)
     nest = done (λ v. x v || m v) values values_within u
 
-    set_x : (v : ℕ) → v < w.vertices → x v ≡ true → nested w x m s t u v ≡ s v
+    pub set_x : (v : ℕ) → v < w.vertices → x v ≡ true → nested w x m s t u v ≡ s v
     set_x v il e =
         nest v il ∙ cond-true (x v || m v) (values v) (w.mechanism v (nested w x m s t u) u) (or_left (x v) (m v) e)
         ∙ cond-false (m v) (other v) (s v) (off (m v) refl)
@@ -75,7 +75,7 @@ module _ (g : MixedGraph) (ok : IsMixedGraph g) (w : FiniteModel) (rank : ℕ �
         off true q = absurd (not_both (x v) e (m_x v q))
         off false q = q
 
-    set_m : (v : ℕ) → v < w.vertices → m v ≡ true → nested w x m s t u v ≡ other v
+    pub set_m : (v : ℕ) → v < w.vertices → m v ≡ true → nested w x m s t u v ≡ other v
     set_m v il e =
         nest v il ∙ cond-true (x v || m v) (values v) (w.mechanism v (nested w x m s t u) u) (or_right (x v) (m v) e)
         ∙ cond-true (m v) (other v) (s v) e
