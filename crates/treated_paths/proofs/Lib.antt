@@ -7,4 +7,5 @@ pub mod Models
 pub mod Paths
 pub mod Positive
 pub mod Reading
+pub mod TwoValues
 pub mod Ways
