@@ -88,7 +88,7 @@ SHOWN = {
     "values under a condition": ("kidney_stones", "data", "document.getElementById('sample')?.click();" + BY % "condition"),
     "bounds": ("noncompliance", "data", "document.getElementById('sample')?.click()"),
     "the treated": ("kidney_stones", "effect", "document.querySelector('#panel [data-key=treated]').click()"),
-    "the treated, left open": ("napkin", "effect", "document.querySelector('#panel [data-key=treated]').click()"),
+    "the treated, by a path alone": ("napkin", "effect", "document.querySelector('#panel [data-key=treated]').click()"),
     "no record": ("kidney_stones", "data", DROP % FEW),
     "zero cells": ("kidney_stones", "data", DROP % FEW + "setTimeout(() => document.getElementById('zero').click(), 400)"),
     "a comparison": ("chain", "compare", """const t = document.querySelector('textarea.second');

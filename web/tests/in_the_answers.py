@@ -273,7 +273,7 @@ def asks_for_a_direct_effect(s):
 
 
 def asks_among_the_treated(s):
-    """The effect among the treated: its formula, what stands in its way, and what is left open."""
+    """The effect among the treated: its formula, and what stands in its way."""
     s.tab("effect")
     s.example("kidney_stones")
     s.one("#panel [data-key='treated']").click()
@@ -309,9 +309,9 @@ def asks_among_the_treated(s):
     fold(s, "next", is_open=False)
     s.example("napkin")
     s.one("#panel [data-key='treated']").click()
-    s.soon("what is left open", lambda: "no formula was found, and no proof that there is none" in s.panel(), s.panel)
+    s.soon("a path alone", lambda: "Not identifiable" in s.panel() and "P(Y|do(X)) = P(X,Y) + P(X') * P(Y|do(X),X')" in s.panel(), s.panel)
     s.check("its path", "Y <-> W <-> X" in s.one("#panel .verdict").text and len(s.all("#drawing .over path.open")) == 3, s.panel())
-    s.check("that says neither yes nor no", not {"yes", "no"} & set(s.one("#tab-effect .dot").get_attribute("class").split()))
+    s.check("that says no", "no" in s.one("#tab-effect .dot").get_attribute("class").split())
     s.write("dag { X [exposure] Y [outcome] A [exposure] X -> A -> Y }")
     s.one("#panel [data-key='treated']").click()
     s.soon("a treatment that acts on another", lambda: "Mark one exposure at a time" in s.panel(), s.panel)

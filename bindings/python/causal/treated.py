@@ -14,11 +14,11 @@ from causal.objects import Told
 
 @dataclass(frozen=True)
 class Confounded(Shown):
-    """Why no formula for an effect among the treated was found; it counts as false.
+    """Why an effect among the treated has no formula; it counts as false.
 
     `treatment` has the child `child`, to which `path` leads back by bidirected edges among the ancestors of the target: it is proved that
-    this is so. Where `hedge` is there, its two models show that the effect has no formula. Without one the joint effect `joint` has a
-    formula, and whether the effect among the treated has one is left open.
+    this is so, and that two models then exclude a formula. Where the joint effect `joint` has no formula either, they are those of its
+    `hedge`. Where it has one, `two_values` says for a single treatment how `joint` is made up, if the treatment has two values.
 
     >>> from causal import Diagram
     >>> answer = Diagram("dag { X -> Y X <-> Y }").treated("X", "Y")
@@ -32,15 +32,16 @@ class Confounded(Shown):
     path: Path
     joint: Term
     hedge: Optional[Hedge] = None
+    two_values: Optional[str] = None
 
     def __bool__(self) -> bool:
         return False
 
     def __str__(self) -> str:
-        why = f"{printed_name(self.treatment)} -> {printed_name(self.child)} and {self.path}"
-        if self.hedge is None:
-            return f"{self.target} is left open: {self.joint} is identifiable\n{why}"
-        return f"{self.target} is not identifiable\n{why}\n{self.hedge}"
+        why = f"{self.target} is not identifiable\n{printed_name(self.treatment)} -> {printed_name(self.child)} and {self.path}"
+        if self.hedge is not None:
+            return f"{why}\n{self.hedge}"
+        return why if self.two_values is None else f"{why}\ntwo values of {printed_name(self.treatment)}: {self.two_values}"
 
 
 Treated = Union[Formula, Confounded]
@@ -59,4 +60,5 @@ def read_treated(told: Told) -> Treated:
         Path(tuple(path["vertices"]), tuple(path["marks"])),
         Term(tuple(joint["y"]), tuple(joint["x"])),
         Hedge(**reading.hedge_parts({**told, "given": []}, None)) if told["answer"] == "hedge" else None,
+        told.get("two_values"),
     )

@@ -222,10 +222,12 @@ class Treated(unittest.TestCase):
         self.assertIsInstance(answer, Confounded)
         self.assertEqual(str(answer).split("\n")[:3], ["P(Y|do(X),X') is not identifiable", "X -> Y and Y <-> X", "P(Y|do(X)) is not identifiable"])
 
-    def test_open(self):
+    def test_path(self):
         answer = Diagram("dag { W -> Z -> X -> Y W <-> X W <-> Y }").treated("X", "Y")
         self.assertIsNone(answer.hedge)
-        self.assertEqual(str(answer), "P(Y|do(X),X') is left open: P(Y|do(X)) is identifiable\nX -> Y and Y <-> W <-> X")
+        split = "P(Y|do(X)) = P(X,Y) + P(X') * P(Y|do(X),X')"
+        self.assertEqual(answer.two_values, split)
+        self.assertEqual(str(answer), f"P(Y|do(X),X') is not identifiable\nX -> Y and Y <-> W <-> X\ntwo values of X: {split}")
 
 
 if __name__ == "__main__":

@@ -73,9 +73,10 @@ use Rattle.surrogate_command.specs.declared.answer.Answer.{Answer as SurrogateAn
 use Rattle.surrogate_command.specs.declared.answer.Answer.TheVariants as surrogated
 use Rattle.surrogate_command.specs.declared.sets.SurrogateSets.{SurrogateSets}
 use Rattle.treated_id.specs.Sets.{AreBefore}
-use Rattle.treated_drawn.specs.Drawn.{EqualsAmongAsDrawn, IsLostAmongAsDrawn}
+use Rattle.treated_drawn.specs.Drawn.{EqualsAmongAsDrawn, IsLostAmongAsDrawn, IsUnfixedAmongAsDrawn}
 use Rattle.treated_drawn.specs.Laws.{IsAsked}
 use Rattle.treated_drawn.proofs.Among.{right_among_is_drawn, joint_lost_is_drawn}
+use Rattle.treated_drawn.proofs.Differing.{differing_is_drawn}
 use Rattle.treated_command.specs.Right as treated_right
 use Rattle.treated_command.specs.Right.{IsTreatedAnswer}
 use Rattle.treated_command.specs.declared.answer.Answer.{Answer as TreatedAnswer}
@@ -349,7 +350,11 @@ treats_sets d s (treated.Excluded a c k pair) asked h =
     (joint_lost_is_drawn (graph_of d.read.graph) d.read.graph.valid (has d.read.latent.bits) (graph_of d.observed.graph) (observed d)
     s.x.bits s.y.bits s.given.bits asked
     (effect_lost d.read (graph_of d.observed.graph) (observed d) s.x.bits (union s.y.bits s.given.bits) pair h.1.found.right.counter))
-treats_sets d s (treated.Left a c) asked h = tt
+treats_sets d s (treated.Unfixed a c) asked h =
+    subst (λ (t : Sets). IsUnfixedAmongAsDrawn (graph_of d.read.graph) (has d.read.latent.bits) d.observed.graph.n t.x.bits t.y.bits t.given.bits)
+    (sym h.0.sets)
+    (differing_is_drawn (graph_of d.read.graph) d.read.graph.valid (has d.read.latent.bits) (graph_of d.observed.graph) (observed d)
+    s.x.bits s.y.bits s.given.bits asked.x_low h.1.differ)
 
 -- a right answer of `treated`
 pub treats : (x y : Names) (given : List (List ℕ)) (d : Diagram) (a : TreatedAnswer) → IsTreatedAnswer d x y given (Ok a) → IsTreatedAsDrawn d a

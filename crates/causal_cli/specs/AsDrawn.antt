@@ -39,7 +39,7 @@ use Rattle.adjust_command.specs.declared.answer.Answer.{Answer as AdjustAnswer}
 use Rattle.adjust_command.specs.declared.answer.Answer.TheVariants as adjusted
 use Rattle.surrogate_command.specs.declared.answer.Answer.{Answer as SurrogateAnswer}
 use Rattle.surrogate_command.specs.declared.answer.Answer.TheVariants as surrogated
-use Rattle.treated_drawn.specs.Drawn.{EqualsAmongAsDrawn, IsLostAmongAsDrawn}
+use Rattle.treated_drawn.specs.Drawn.{EqualsAmongAsDrawn, IsLostAmongAsDrawn, IsUnfixedAmongAsDrawn}
 use Rattle.treated_command.specs.declared.answer.Answer.{Answer as TreatedAnswer}
 use Rattle.treated_command.specs.declared.answer.Answer.TheVariants as treated
 use Rattle.separation_commands.specs.declared.separate.answer.Answer.{Answer as SeparateAnswer}
@@ -150,14 +150,15 @@ IsSurrogateAsDrawn d (surrogated.Blocked s district h) = IsNotIdentifiable d.rea
 
 -- ---- treated
 
--- A formula equals the effect among those whose x, and what is given, were observed. What a hedge for the joint effect excludes isn't identifiable: two
--- models show it. Of what is left open nothing is said.
+-- A formula equals the effect among those whose x, and what is given, were observed. Without one two models show that the effect isn't identifiable: those
+-- of a hedge for the joint effect, which isn't either, or those of the path from a child of a treatment to the treatment.
 abbrev pub IsTreatedAsDrawn : Diagram → TreatedAnswer → Type 0
 IsTreatedAsDrawn d (treated.Formula a f) = EqualsAmongAsDrawn (graph_of d.read.graph) (has d.read.latent.bits) a.sets.x.bits a.sets.y.bits a.sets.given.bits
     (formula_view f)
 IsTreatedAsDrawn d (treated.Excluded a c h pair) = IsLostAmongAsDrawn (graph_of d.read.graph) (has d.read.latent.bits) d.observed.graph.n a.sets.x.bits
     a.sets.y.bits a.sets.given.bits
-IsTreatedAsDrawn d (treated.Left a c) = Unit {0}
+IsTreatedAsDrawn d (treated.Unfixed a c) = IsUnfixedAmongAsDrawn (graph_of d.read.graph) (has d.read.latent.bits) d.observed.graph.n a.sets.x.bits
+    a.sets.y.bits a.sets.given.bits
 
 -- ---- separate and rule
 

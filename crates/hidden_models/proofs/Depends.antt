@@ -20,7 +20,7 @@ module _ (g : MixedGraph) (m : FiniteModel) (ok : IsMixedGraph g) (fit : Follows
       go true e h = let f : b' v ≡ true = sym (same_b v vl) ∙ e in rw (e, f) (at_b v vl e)
       go false e h = let f : b' v ≡ false = sym (same_b v vl) ∙ e in rw (e, f) h
 
-  same_agree : (u : ℕ → ℕ) → agree m.vertices a (solution (intervene m b s) u) s ≡ agree m.vertices a' (solution (intervene m b' t) u) t
+  pub same_agree : (u : ℕ → ℕ) → agree m.vertices a (solution (intervene m b s) u) s ≡ agree m.vertices a' (solution (intervene m b' t) u) t
   same_agree u = same_truth (agree m.vertices a (solution (intervene m b s) u) s) (agree m.vertices a' (solution (intervene m b' t) u) t)
       (λ h. agree_from m.vertices a' (solution (intervene m b' t) u) t
       (λ v vl e. let f : a v ≡ true = same_a v vl ∙ e in sym (same_round u m.vertices v vl)

@@ -206,7 +206,7 @@ module _ (p : MixedGraph) (l : ℕ → Bool) (n : ℕ) (m : FiniteModel) (two : 
           (solution (intervene (expanded l n m two) b s) u) placed_is
           (λ x xl. solution_is p (intervene (expanded l n m two) b s) rank ranked follows u x xl) v vl
 
-      agree_both : agree n a (solution (intervene (expanded l n m two) b s) u) s
+      pub agree_both : agree n a (solution (intervene (expanded l n m two) b s) u) s
           ≡ agree m.vertices (renumbered_set (observed_below l n) a) (solution (intervene m (renumbered_set (observed_below l n) b) (values_after l n s)) u)
           (values_after l n s)
       unfolding t

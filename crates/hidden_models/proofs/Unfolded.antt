@@ -1,10 +1,10 @@
 -- A model with a hidden vertex put back gives the events of the other vertices the same weights.
-use Rattle.std.proofs.Common.{ℕ, ◌≡◌, ◌<◌, Bool, true, false, cond, ◌&&◌, ◌==◌, ◌⊎◌, inl, inr, refl, sym, ap, ◌∙◌, arith, eqb-true, eq-eqb, ne_eqb}
+use Rattle.std.proofs.Common.{ℕ, ◌≡◌, ◌<◌, Bool, true, false, cond, ◌&&◌, ◌==◌, ◌⊎◌, inl, inr, refl, sym, ap, ap₂, ◌∙◌, arith, eqb-true, eq-eqb, ne_eqb}
 use Rattle.std.proofs.lemmas.Bool.{or_cases}
 use Rattle.std.proofs.lemmas.Nat.{div-mul-add, mod-mul-add}
 use Rattle.mixed_graph.specs.Graphs.{MixedGraph, IsMixedGraph}
 use Rattle.finite_models.specs.Tables.{radix, radix_range}
-use Rattle.finite_models.specs.Models.{FiniteModel, Fits, IsAssignment, solution, IsSolution, agree, intervene, weight_of, world_weight}
+use Rattle.finite_models.specs.Models.{FiniteModel, Fits, IsAssignment, solution, IsSolution, agree, intervene, weight_of, sum_worlds, world_weight}
 use Rattle.finite_models.proofs.Following.{Follows, follows_of, follows_intervene}
 use Rattle.finite_models.proofs.Ranks.{with_rank}
 use Rattle.finite_models.proofs.SumLaws.{over-congr_within}
@@ -16,6 +16,11 @@ use Rattle.hidden_models.specs.Digits.{digits}
 use Rattle.finite_models.specs.Served.{ServesTwo}
 use Rattle.hidden_models.proofs.DigitLaws.{digits_radix}
 use Rattle.hidden_models.proofs.Unfold.{serves_at, code, codes, parent_in, cause_in, seen, heard, put_back, arrow_of, fits_back, same_code, no_self}
+
+-- the weight of the worlds in which a has under do(b) the values s, and a' has under do(b') the values t
+abbrev pub two_weight : FiniteModel → (b a b' a' : ℕ → Bool) → (s t : ℕ → ℕ) → ℕ
+two_weight m b a b' a' s t = sum_worlds m (λ u. cond (agree m.vertices a (solution (intervene m b s) u) s
+    && agree m.vertices a' (solution (intervene m b' t) u) t) (world_weight m u) 0)
 
 module _ (g : MixedGraph) (k : ℕ) (m : FiniteModel) (two : ServesTwo m) (ok : IsMixedGraph g) (kl : k < m.vertices) (fit : Fits (without g k) m) where
   -- ---- what a code holds
@@ -147,3 +152,18 @@ module _ (g : MixedGraph) (k : ℕ) (m : FiniteModel) (two : ServesTwo m) (ok : 
       → weight_of m b a s ≡ weight_of (put_back g k m two) b a s
   back_weighs b a bk ak s hs hs' = with_rank g ok (weight_of m b a s) (weight_of (put_back g k m two) b a s)
       (λ rank ranked. back_weight rank ranked b a bk ak s hs hs')
+
+  -- and so have events of two worlds
+  pub back_two : (b a b' a' : ℕ → Bool) → b k ≡ false → a k ≡ false → b' k ≡ false → a' k ≡ false → (s t : ℕ → ℕ)
+      → IsAssignment m.vertices m.size s → IsAssignment m.vertices (λ v. cond (v == k) (codes g k m two) (m.size v)) s
+      → IsAssignment m.vertices m.size t → IsAssignment m.vertices (λ v. cond (v == k) (codes g k m two) (m.size v)) t
+      → two_weight m b a b' a' s t ≡ two_weight (put_back g k m two) b a b' a' s t
+  back_two b a b' a' bk ak bk' ak' s t hs hs' ht ht' = with_rank g ok (two_weight m b a b' a' s t) (two_weight (put_back g k m two) b a b' a' s t)
+      (λ rank ranked.
+      over-congr_within (λ j. true) m.values m.causes
+      (λ u. cond (agree m.vertices a (solution (intervene m b s) u) s && agree m.vertices a' (solution (intervene m b' t) u) t) (world_weight m u) 0)
+      (λ u. cond (agree m.vertices a (solution (intervene (put_back g k m two) b s) u) s
+      && agree m.vertices a' (solution (intervene (put_back g k m two) b' t) u) t) (world_weight m u) 0) (λ j. 0)
+      (λ u inside same. ap (λ x. cond x (world_weight m u) 0) (ap₂ (λ x y. x && y)
+      (back_agree rank ranked b a bk ak s hs hs' u (λ j jl. inside j jl refl))
+      (back_agree rank ranked b' a' bk' ak' t ht ht' u (λ j jl. inside j jl refl)))))

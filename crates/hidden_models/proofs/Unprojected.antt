@@ -12,7 +12,7 @@ use Rattle.latent_projection.proofs.Removals.{graph_without}
 use Rattle.latent_projection.proofs.Removing.{led_down, led_up, trek_down, trek_up}
 use Rattle.finite_models.specs.Served.{ServesTwo}
 use Rattle.hidden_models.proofs.Unfold.{arrow_of, both_of, codes, put_back, two_put_back, fits_back}
-use Rattle.hidden_models.proofs.Unfolded.{back_at, back_weighs}
+use Rattle.hidden_models.proofs.Unfolded.{back_at, two_weight, back_weighs, back_two}
 
 -- the hidden vertices but k
 abbrev pub but : (ℕ → Bool) → ℕ → ℕ → Bool
@@ -121,6 +121,10 @@ pub record IsUnprojected (g : MixedGraph) (l : ℕ → Bool) (m : FiniteModel) :
   pub worlds : (b : ℕ → Bool) → Apart b l → (s : ℕ → ℕ) → IsAssignment m.vertices (λ v. cond (l v) 1 (m.size v)) s → (u : ℕ → ℕ)
       → IsAssignment m.causes m.values u → (v : ℕ) → v < m.vertices → l v ≡ false
       → solution (intervene m b s) u v ≡ solution (intervene model b s) u v
+  -- the same of events of two worlds
+  pub weighs_two : (b a b' a' : ℕ → Bool) → Apart b l → Apart a l → Apart b' l → Apart a' l → (s t : ℕ → ℕ)
+      → IsAssignment m.vertices (λ v. cond (l v) 1 (m.size v)) s → IsAssignment m.vertices (λ v. cond (l v) 1 (m.size v)) t
+      → two_weight m b a b' a' s t ≡ two_weight model b a b' a' s t
 
 module _ (g : MixedGraph) (l : ℕ → Bool) (k : ℕ) (m : FiniteModel) (ok : IsMixedGraph g) (lk : l k ≡ true) (kl : k < g.vertices)
     (some : (v : ℕ) → v < m.vertices → 0 < m.size v) (un : IsUnprojected (without g k) (but l k) m) where
@@ -150,6 +154,12 @@ module _ (g : MixedGraph) (l : ℕ → Bool) (k : ℕ) (m : FiniteModel) (ok : I
         un.weighs b a (λ v e. rw (bo v e) refl) (λ v e. rw (ao v e) refl) s (λ v vl. less v (s v) vl (hs v vl) (l v) refl)
         ∙ back_weighs g k un.model un.two ok k_low un.fits b a (none b bo) (none a ao) s
         (λ v vl. within s hs v vl (l v) refl) (λ v vl. within' s hs v vl (l v) refl);
+    weighs_two = λ b a b' a' bo ao bo' ao' s t hs ht.
+        un.weighs_two b a b' a' (λ v e. rw (bo v e) refl) (λ v e. rw (ao v e) refl) (λ v e. rw (bo' v e) refl) (λ v e. rw (ao' v e) refl) s t
+        (λ v vl. less v (s v) vl (hs v vl) (l v) refl) (λ v vl. less v (t v) vl (ht v vl) (l v) refl)
+        ∙ back_two g k un.model un.two ok k_low un.fits b a b' a' (none b bo) (none a ao) (none b' bo') (none a' ao') s t
+        (λ v vl. within s hs v vl (l v) refl) (λ v vl. within' s hs v vl (l v) refl)
+        (λ v vl. within t ht v vl (l v) refl) (λ v vl. within' t ht v vl (l v) refl);
   }
     where
       none : (b : ℕ → Bool) → Apart b l → b k ≡ false
@@ -191,6 +201,7 @@ unprojected zero g ok l low le p is m fit two =
       weight = refl;
       worlds = λ b bo s hs u hu v vl e. refl;
       weighs = λ b a bo ao s hs. refl;
+      weighs_two = λ b a b' a' bo ao bo' ao' s t hs ht. refl;
     }
 unprojected (suc i) g ok l low le p is m fit two = go (l i) refl (λ g' ok' l' low' le' is'. unprojected i g' ok' l' low' le' p is' m fit two)
   where

@@ -25,7 +25,7 @@ use Rattle.told.specs.Telling.{Tells}
 use Rattle.told.proofs.ToldOnce.{EndAlike, told_answered}
 use Rattle.treated_id.specs.Sets.{IsConfounded}
 use Rattle.treated_command.specs.declared.answer.Answer.{Answer}
-use Rattle.treated_command.specs.declared.answer.Answer.TheVariants.{Formula, Excluded, Left}
+use Rattle.treated_command.specs.declared.answer.Answer.TheVariants.{Formula, Excluded, Unfixed}
 use Rattle.treated_command.specs.declared.fault.TreatedFault.{TreatedFault}
 use Rattle.treated_command.specs.declared.fault.TreatedFault.TheVariants.{Listed, After, TooMany, NoMemory}
 use Rattle.treated_command.specs.Faults.{treated_refusal}
@@ -59,23 +59,23 @@ one_request uses q r a b = λ i. record {
 abbrev IsSettled : MixedGraph → Sets → Answer → Type 0
 IsSettled q s (Formula a f) = IsConfounded q s.x.bits s.y.bits s.given.bits → ⊥
 IsSettled q s (Excluded a c h pair) = IsConfounded q s.x.bits s.y.bits s.given.bits
-IsSettled q s (Left a c) = IsConfounded q s.x.bits s.y.bits s.given.bits
+IsSettled q s (Unfixed a c) = IsConfounded q s.x.bits s.y.bits s.given.bits
 
 settled : (q : MixedGraph) (s : Sets) (a : Answer) → Decides q s a → IsSettled q s a
 settled q s (Formula a f) d = d.1.clear
 settled q s (Excluded a c h pair) d = d.1.by.confounded
-settled q s (Left a c) d = d.1.by.confounded
+settled q s (Unfixed a c) d = d.1.by.confounded
 
 same_outcome : (q : MixedGraph) (s : Sets) (a b : Answer) → IsSettled q s a → IsSettled q s b → treated_telling.outcome a ≡ treated_telling.outcome b
 same_outcome q s (Formula a f) (Formula b k) p r = refl
 same_outcome q s (Formula a f) (Excluded b c h pair) p r = absurd (p r)
-same_outcome q s (Formula a f) (Left b c) p r = absurd (p r)
+same_outcome q s (Formula a f) (Unfixed b c) p r = absurd (p r)
 same_outcome q s (Excluded a c h pair) (Formula b k) p r = absurd (r p)
 same_outcome q s (Excluded a c h pair) (Excluded b d k twin) p r = refl
-same_outcome q s (Excluded a c h pair) (Left b d) p r = refl
-same_outcome q s (Left a c) (Formula b k) p r = absurd (r p)
-same_outcome q s (Left a c) (Excluded b d k twin) p r = refl
-same_outcome q s (Left a c) (Left b d) p r = refl
+same_outcome q s (Excluded a c h pair) (Unfixed b d) p r = refl
+same_outcome q s (Unfixed a c) (Formula b k) p r = absurd (r p)
+same_outcome q s (Unfixed a c) (Excluded b d k twin) p r = refl
+same_outcome q s (Unfixed a c) (Unfixed b d) p r = refl
 
 module _ (q : MixedGraph) (l : Lists) where
   -- lists name one set each
@@ -125,7 +125,7 @@ alike q l (Err fault) (Err other) f g = refl
 answered : (a : Answer) → IsAnswered (treated_telling.outcome a)
 answered (Formula a f) = tt
 answered (Excluded a c h pair) = tt
-answered (Left a c) = tt
+answered (Unfixed a c) = tt
 
 -- what holds of each command holds of it
 pub treated_lawful : IsLawful treated_command

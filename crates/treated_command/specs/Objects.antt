@@ -1,18 +1,18 @@
 -- The members of the answers' objects.
-use Rattle.std.specs.Prelude.{ℕ, List, [], ◌∷◌, ◌++◌, map, codes}
-use Rattle.json.specs.Json.{Json, string}
+use Rattle.std.specs.Prelude.{ℕ, if◌then◌else◌, List, [], ◌∷◌, ◌++◌, map, codes}
+use Rattle.json.specs.Json.{Json, string, null}
 use Rattle.prob_expr.specs.Tree.{PlainFormula}
 use Rattle.hedge.specs.declared.hedge.Hedge.{Hedge}
 use Rattle.counter_models.specs.declared.counter_pair.CounterPair.{CounterPair}
 use Rattle.answer_json.specs.Progress.{array_of, object_of}
-use Rattle.answer_json.specs.Values.{set_json, vertex_json, vertices_json}
+use Rattle.answer_json.specs.Values.{set_json, text_json, vertex_json, vertices_json}
 use Rattle.hedge_json.specs.Hedges.{hedge_json}
 use Rattle.hedge_json.specs.Models.{models_json}
 use Rattle.effect_answers.specs.Objects.{effect_json, joint_json, formula_members}
 use Rattle.primed_names.specs.Primed.{primed_names}
 use Rattle.treated_id.specs.declared.answers.Confounding.{Confounding}
 use Rattle.treated_command.specs.declared.answer.Asked.{Asked}
-use Rattle.treated_command.specs.Sentences.{target_of, joint_of}
+use Rattle.treated_command.specs.Sentences.{target_of, joint_of, is_single, split_text}
 
 -- the answer's word, the sets, and the primed names of x in the order of x
 abbrev pub asked_members : (word : List ℕ) → List (List ℕ) → Asked → List (List ℕ × Json)
@@ -52,6 +52,10 @@ abbrev pub excluded_members : List (List ℕ) → Asked → Confounding → Hedg
 excluded_members names a c h pair =
     reason_members (codes "hedge") names a c ++ ((codes "hedge", hedge_json names h) ∷ (codes "models", models_json names pair) ∷ [])
 
+-- how the joint effect is made up where the treatment has two values; null where there are several treatments
+abbrev pub two_values_json : List (List ℕ) → Asked → Json
+two_values_json names a = if is_single a then text_json (split_text names a) else null
+
 -- the same where the joint effect has a formula
-abbrev pub left_members : List (List ℕ) → Asked → Confounding → List (List ℕ × Json)
-left_members names a c = reason_members (codes "open") names a c
+abbrev pub unfixed_members : List (List ℕ) → Asked → Confounding → List (List ℕ × Json)
+unfixed_members names a c = reason_members (codes "path") names a c ++ ((codes "two_values", two_values_json names a) ∷ [])

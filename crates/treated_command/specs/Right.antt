@@ -16,7 +16,7 @@ use Rattle.diagram.specs.declared.diagram.Diagram.{Diagram}
 use Rattle.diagram.specs.Sets.{Names, query_lists}
 use Rattle.effect_answers.specs.Hedges.{IsFoundHedge}
 use Rattle.treated_models.specs.NamedOnce.{FormulaNamesOnce}
-use Rattle.treated_models.specs.NoFormula.{HasNoFormulaAmong}
+use Rattle.treated_models.specs.NoFormula.{HasNoFormulaAmong, DifferAmong}
 use Rattle.treated_models.specs.Primes.{EqualsAmong, name_count}
 use Rattle.treated_id.specs.declared.answers.Confounding.{Confounding}
 use Rattle.treated_id.specs.Answers.{IsConfounding}
@@ -24,7 +24,7 @@ use Rattle.treated_id.specs.Sets.{AreBefore, IsAfter, IsConfounded}
 use Rattle.treated_id.specs.Terms.{AreNames, IsFormula}
 use Rattle.treated_command.specs.declared.answer.Asked.{Asked}
 use Rattle.treated_command.specs.declared.answer.Answer.{Answer}
-use Rattle.treated_command.specs.declared.answer.Answer.TheVariants.{Formula, Excluded, Left}
+use Rattle.treated_command.specs.declared.answer.Answer.TheVariants.{Formula, Excluded, Unfixed}
 use Rattle.treated_command.specs.declared.fault.TreatedFault.{TreatedFault}
 use Rattle.treated_command.specs.declared.fault.TreatedFault.TheVariants.{Listed, After, TooMany, NoMemory}
 
@@ -52,16 +52,18 @@ pub record IsExcluded (q : MixedGraph) (s : Sets) (c : Confounding) (h : Hedge) 
   pub found : IsFoundHedge q s.x.bits (union s.y.bits s.given.bits) h pair
   pub no_formula : HasNoFormulaAmong q s.x.bits s.y.bits s.given.bits
 
--- and there is no hedge for the joint effect: whether there is a formula is left open
-pub record IsLeft (q : MixedGraph) (s : Sets) (c : Confounding) : Type 0 where
+-- and there is no hedge for the joint effect; two positive models that agree on observations differ on the effect among the treated, so no formula equals it
+pub record IsUnfixed (q : MixedGraph) (s : Sets) (c : Confounding) : Type 0 where
   pub by : IsConfoundedBy q s c
   pub no_hedge : (h : Hedge) → IsHedge q s.x.bits (union s.y.bits s.given.bits) h → ⊥
+  pub differ : DifferAmong q s.x.bits s.y.bits s.given.bits
+  pub no_formula : HasNoFormulaAmong q s.x.bits s.y.bits s.given.bits
 
 -- the answer for these sets of the observed graph q
 abbrev pub Decides : MixedGraph → Sets → Answer → Type 0
 Decides q s (Formula a f) = IsAskedFor q s a × IsFormulaFor q s (formula_view f)
 Decides q s (Excluded a c h pair) = IsAskedFor q s a × IsExcluded q s c h pair
-Decides q s (Left a c) = IsAskedFor q s a × IsLeft q s c
+Decides q s (Unfixed a c) = IsAskedFor q s a × IsUnfixed q s c
 
 -- the answer where x acts on none of x and what is given, and there are at most 64 names with those of x as observed
 pub record IsForSets (q : MixedGraph) (s : Sets) (a : Answer) : Type 0 where

@@ -1,8 +1,9 @@
 -- The texts of the answers.
-use Rattle.std.specs.Prelude.{ℕ, List, ◌++◌, codes}
+use Rattle.std.specs.Prelude.{ℕ, ◌==◌, Bool, if◌then◌else◌, List, [], ◌++◌, length, codes}
 use Rattle.std.specs.List.{flat_map}
 use Rattle.answer_text.specs.declared.signs.Notation.{Notation}
 use Rattle.answer_text.specs.declared.signs.Notation.TheVariants as notations
+use Rattle.mixed_graph.specs.Bits.{has, members_below}
 use Rattle.mixed_graph.specs.Masks.{union}
 use Rattle.prob_expr.specs.Tree.{PlainTarget, PlainFormula, term_of}
 use Rattle.expr_text.specs.Write.{text_of}
@@ -54,8 +55,29 @@ abbrev pub excluded_text : List (List ℕ) → Asked → Confounding → Hedge �
 excluded_text names a c h pair =
     effect_text names a ++ (codes " is not identifiable\n" ++ (confounding_text names c ++ hedge_answer names a.sets.x.bits (joint_of a) h pair))
 
--- `P(Y|do(X),X') is left open: P(Y|do(X)) is identifiable`, and what confounds
-abbrev pub left_text : List (List ℕ) → Asked → Confounding → List ℕ
-left_text names a c =
-    effect_text names a ++ (codes " is left open: " ++ (text_of names (effect_term a.sets.x.bits (joint_of a))
-    ++ (codes " is identifiable\n" ++ confounding_text names c)))
+-- the treatment is one vertex
+abbrev pub is_single : Asked → Bool
+is_single a = length (members_below (has a.sets.x.bits) 64) == 1
+
+-- `P(X') * P(Y|do(X),X')`
+abbrev pub share_text : List (List ℕ) → Asked → List ℕ
+share_text names a =
+    text_of (primed_names names a.sets.x.bits) (effect_term 0 (union a.sets.given.bits a.primes.bits)) ++ (codes " * " ++ effect_text names a)
+
+-- `P(Y|do(X)) = P(X,Y) + P(X') * P(Y|do(X),X')`: how the joint effect is made up where X has two values (`TwoValuesSplitJoint`)
+abbrev pub split_text : List (List ℕ) → Asked → List ℕ
+split_text names a =
+    text_of names (effect_term a.sets.x.bits (joint_of a)) ++ (codes " = "
+    ++ (text_of names (effect_term 0 (union (joint_of a) a.sets.x.bits)) ++ (codes " + " ++ share_text names a)))
+
+-- `two values of X: P(Y|do(X)) = P(X,Y) + P(X') * P(Y|do(X),X')`
+abbrev pub two_values_line : List (List ℕ) → Asked → Confounding → List ℕ
+two_values_line names a c = codes "two values of " ++ (vertex_text names c.treatment ++ (codes ": " ++ (split_text names a ++ codes "\n")))
+
+-- this line, for a treatment of one vertex
+abbrev pub two_values_text : List (List ℕ) → Asked → Confounding → List ℕ
+two_values_text names a c = if is_single a then two_values_line names a c else []
+
+-- `P(Y|do(X),X') is not identifiable`, why, and how the joint effect, which is, is made up of it where X has two values
+abbrev pub unfixed_text : List (List ℕ) → Asked → Confounding → List ℕ
+unfixed_text names a c = effect_text names a ++ (codes " is not identifiable\n" ++ (confounding_text names c ++ two_values_text names a c))

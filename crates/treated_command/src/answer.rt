@@ -1,7 +1,7 @@
 //! What is answered of an effect among the treated.
 
-use crate::objects::{push_excluded, push_formula_of, push_left};
-use crate::texts::{excluded_text, formula_text, left_text};
+use crate::objects::{push_excluded, push_formula_of, push_unfixed};
+use crate::texts::{excluded_text, formula_text, unfixed_text};
 use answer_json::Object;
 use counter_models::CounterPair;
 use hedge::Hedge;
@@ -27,8 +27,8 @@ pub enum Answer {
     Formula(Asked, Formula),
     /// There is none: two models of a hedge for the joint effect on y and what is given show it.
     Excluded(Asked, Confounding, Hedge, CounterPair),
-    /// A treatment is confounded with a child of its own, and the joint effect has a formula.
-    Left(Asked, Confounding),
+    /// There is none, though the joint effect has a formula: two models of a path from a child of a treatment to the treatment show it.
+    Unfixed(Asked, Confounding),
 }
 
 impl Told for Answer {
@@ -40,7 +40,7 @@ impl Told for Answer {
         match self {
             Answer::Formula(_, _) => Outcome::Yes,
             Answer::Excluded(_, _, _, _) => Outcome::No,
-            Answer::Left(_, _) => Outcome::No,
+            Answer::Unfixed(_, _) => Outcome::No,
         }
     }
 
@@ -48,7 +48,7 @@ impl Told for Answer {
         match self {
             Answer::Formula(asked, f) => formula_text(alloc, names, *asked, f, writing),
             Answer::Excluded(asked, c, h, pair) => excluded_text(alloc, names, *asked, c, h, pair),
-            Answer::Left(asked, c) => left_text(alloc, names, *asked, c),
+            Answer::Unfixed(asked, c) => unfixed_text(alloc, names, *asked, c),
         }
     }
 
@@ -61,7 +61,7 @@ impl Told for Answer {
         match self {
             Answer::Formula(asked, f) => push_formula_of(object, names, *asked, f),
             Answer::Excluded(asked, c, h, pair) => push_excluded(object, names, *asked, c, h, pair),
-            Answer::Left(asked, c) => push_left(object, names, *asked, c),
+            Answer::Unfixed(asked, c) => push_unfixed(object, names, *asked, c),
         }
     }
 }

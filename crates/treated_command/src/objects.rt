@@ -8,10 +8,10 @@ ghost use Rattle.answer_json.specs.Values.{set_json, vertices_json};
 ghost use Rattle.effect_answers.specs.Objects.{effect_json, joint_json};
 ghost use Rattle.primed_names.specs.Primed.{primed_names};
 ghost use Rattle.treated_command.specs.Sentences.{target_of, joint_of};
-ghost use Rattle.treated_command.specs.Objects.{asked_members, path_object, formula_object, confounding_members, reason_members, excluded_members, left_members};
+ghost use Rattle.treated_command.specs.Objects.{asked_members, path_object, formula_object, confounding_members, reason_members, excluded_members, two_values_json, unfixed_members};
 
 use crate::answer::Asked;
-use crate::texts::{joint_of, target_of};
+use crate::texts::{is_single, joint_of, split_text, target_of};
 use answer_json::Object;
 use counter_models::CounterPair;
 use effect_answers::objects::{push_effect as push_target_effect, push_formula};
@@ -167,14 +167,27 @@ pub fn push_excluded(
     push_models(object, names, pair)
 }
 
+/// The member of how the joint effect is made up where the treatment has two values.
+fn push_two_values(object: &mut Object, names: &Names, asked: Asked) -> Result<(), AllocError>
+    ensures { OnOk result (object.new ≡ with_member (codes "two_values") (two_values_json names.now asked) object.old) }
+{
+    object.key("two_values")?;
+    if !is_single(asked) {
+        return object.null();
+    }
+    let text = split_text(object.alloc(), names, asked)?;
+    object.text(text.as_slice())
+}
+
 /// The members where the joint effect has a formula.
-pub fn push_left(
+pub fn push_unfixed(
     object: &mut Object,
     names: &Names,
     asked: Asked,
     c: &Confounding,
 ) -> Result<(), AllocError>
-    ensures { OnOk result (object.new ≡ with_members (left_members names.now asked c.now) object.old) }
+    ensures { OnOk result (object.new ≡ with_members (unfixed_members names.now asked c.now) object.old) }
 {
-    push_reason(object, "open", names, asked, c)
+    push_reason(object, "path", names, asked, c)?;
+    push_two_values(object, names, asked)
 }

@@ -115,6 +115,6 @@ fn unidentified(
     let _past = g.ancestors(asked.sets.x.union(asked.sets.given));
     match identify_formula(alloc, g, asked.sets.x, joint_of(asked))? {
         FormulaAnswer::Hedge(hedge, pair) => Ok(Answer::Excluded(asked, confounding, hedge, pair)),
-        FormulaAnswer::Formula(_) => Ok(Answer::Left(asked, confounding)),
+        FormulaAnswer::Formula(_) => Ok(Answer::Unfixed(asked, confounding)),
     }
 }

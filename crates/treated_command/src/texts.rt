@@ -7,7 +7,7 @@ ghost use Rattle.prob_expr.specs.Tree.{term_of};
 ghost use Rattle.prob_expr.specs.View.{formula_view, target_view};
 ghost use Rattle.expr_text.specs.Write.{text_of};
 ghost use Rattle.primed_names.specs.Primed.{primed_names};
-ghost use Rattle.treated_command.specs.Sentences.{target_of, joint_of, effect_text, step_text, confounding_text, notation_of, formula_text, excluded_text, left_text};
+ghost use Rattle.treated_command.specs.Sentences.{target_of, joint_of, effect_text, step_text, confounding_text, notation_of, formula_text, excluded_text, is_single, share_text, split_text, two_values_line, two_values_text, unfixed_text};
 
 use crate::answer::Asked;
 use answer_text::{Notation, push_vertex};
@@ -124,20 +124,91 @@ pub fn excluded_text(
     Ok(text)
 }
 
-/// That no formula was found, and that the joint effect has one.
-pub fn left_text(
+/// The treatment is one vertex.
+pub fn is_single(asked: Asked) -> bool
+    ensures { result ≡ is_single asked }
+{
+    asked.sets.x.count() == 1
+}
+
+/// What those whose other value of x was observed share in the joint effect, as `P(X') * P(Y|do(X),X')`.
+fn share_text(alloc: Global, names: &Names, asked: Asked) -> Result<Vec<u8>, AllocError>
+    ensures { IfOk result (λ v. v.items ≡ share_text names.now asked) }
+{
+    let all = primed_names(alloc, names, asked.sets.x)?;
+    let observed = asked.sets.given.union(asked.primes);
+    let mut text = plain_effect_text(alloc, VSet::EMPTY, observed, &all)?;
+    text.extend_from_slice(b" * ")?;
+    let effect = effect_text(alloc, names, asked)?;
+    text.extend_from_slice(effect.as_slice())?;
+    Ok(text)
+}
+
+/// How the joint effect is made up where x has two values, as `P(Y|do(X)) = P(X,Y) + P(X') * P(Y|do(X),X')`.
+pub fn split_text(alloc: Global, names: &Names, asked: Asked) -> Result<Vec<u8>, AllocError>
+    ensures { IfOk result (λ v. v.items ≡ split_text names.now asked) }
+{
+    let joint = joint_of(asked);
+    let all = joint.union(asked.sets.x);
+    let mut text = plain_effect_text(alloc, asked.sets.x, joint, names)?;
+    text.extend_from_slice(b" = ")?;
+    let observed = plain_effect_text(alloc, VSet::EMPTY, all, names)?;
+    text.extend_from_slice(observed.as_slice())?;
+    text.extend_from_slice(b" + ")?;
+    let share = share_text(alloc, names, asked)?;
+    text.extend_from_slice(share.as_slice())?;
+    Ok(text)
+}
+
+/// The line of how the joint effect is made up, as `two values of X: P(Y|do(X)) = P(X,Y) + P(X') * P(Y|do(X),X')`.
+fn two_values_line(
     alloc: Global,
     names: &Names,
     asked: Asked,
     c: &Confounding,
 ) -> Result<Vec<u8>, AllocError>
-    ensures { IfOk result (λ v. v.items ≡ left_text names.now asked c.now) }
+    ensures { IfOk result (λ v. v.items ≡ two_values_line names.now asked c.now) }
+{
+    let mut line = Vec::new(alloc);
+    line.extend_from_slice(b"two values of ")?;
+    push_vertex(&mut line, names, c.treatment)?;
+    line.extend_from_slice(b": ")?;
+    let split = split_text(alloc, names, asked)?;
+    line.extend_from_slice(split.as_slice())?;
+    line.push(b'\n')?;
+    Ok(line)
+}
+
+/// Appends this line, for a treatment of one vertex.
+fn push_two_values(
+    out: &mut Vec<u8>,
+    alloc: Global,
+    names: &Names,
+    asked: Asked,
+    c: &Confounding,
+) -> Result<(), AllocError>
+    ensures { OnOk result (out.new.items ≡ out.old.items ++ two_values_text names.now asked c.now) }
+{
+    if !is_single(asked) {
+        return Ok(());
+    }
+    let line = two_values_line(alloc, names, asked, c)?;
+    out.extend_from_slice(line.as_slice())?;
+    Ok(())
+}
+
+/// That there is no formula, why, and how the joint effect is made up where x has two values.
+pub fn unfixed_text(
+    alloc: Global,
+    names: &Names,
+    asked: Asked,
+    c: &Confounding,
+) -> Result<Vec<u8>, AllocError>
+    ensures { IfOk result (λ v. v.items ≡ unfixed_text names.now asked c.now) }
 {
     let mut text = effect_text(alloc, names, asked)?;
-    text.extend_from_slice(b" is left open: ")?;
-    let joint = plain_effect_text(alloc, asked.sets.x, joint_of(asked), names)?;
-    text.extend_from_slice(joint.as_slice())?;
-    text.extend_from_slice(b" is identifiable\n")?;
+    text.extend_from_slice(b" is not identifiable\n")?;
     push_confounding(&mut text, names, c)?;
+    push_two_values(&mut text, alloc, names, asked, c)?;
     Ok(text)
 }

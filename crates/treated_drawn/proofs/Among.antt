@@ -105,7 +105,7 @@ module _ (g : MixedGraph) (ok : IsMixedGraph g) (l : ℕ → Bool) (q : MixedGra
         omega (arith, e, is_none)
 
     -- the effect has one value in both
-    one_effect : (y z : ℕ) (c : ℕ → ℕ) → IsAssignment (drawn_with_primes l m x).vertices (drawn_with_primes l m x).size c
+    pub one_effect : (y z : ℕ) (c : ℕ → ℕ) → IsAssignment (drawn_with_primes l m x).vertices (drawn_with_primes l m x).size c
         → IsEqual (among m' x y z c) (drawn_among l m x y z c)
     one_effect y z c hc =
         one_fraction (weight_of_both m' (has x) (has y) (λ v. has x v || has z v) c (as_observed m'.vertices x c))

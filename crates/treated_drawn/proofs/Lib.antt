@@ -1,2 +1,4 @@
 pub mod Both
 pub mod Among
+pub mod Differing
+pub mod Unfolding

@@ -10,7 +10,7 @@ use Rattle.latent_projection.specs.Renumbering.{observed_below}
 use Rattle.prob_expr.specs.Tree.{PlainFormula, effect_on}
 use Rattle.prob_expr.specs.Values.{Weights, value_of}
 use Rattle.hidden_models.specs.Folding.{Folds, IsObservedPositive, set_before, values_before}
-use Rattle.hidden_models.specs.Unfolding.{NotIdentifiableAsDrawn}
+use Rattle.hidden_models.specs.Unfolding.{NotIdentifiableAsDrawn, AgreeAsDrawn}
 use Rattle.treated_models.specs.NamedOnce.{FormulaNamesOnce}
 use Rattle.treated_models.specs.Primes.{name_count, vertex_of, as_observed, plain_in, primed_in}
 use Rattle.treated_models.specs.Treated.{weight_of_both, effect_among}
@@ -63,4 +63,17 @@ DifferAmongAsDrawn l m₁ m₂ x y z = ((s : ℕ → ℕ) → IsAssignment (draw
 pub record IsLostAmongAsDrawn (g : MixedGraph) (l : ℕ → Bool) (n x y z : ℕ) : Type 0 where
   pub joint : NotIdentifiableAsDrawn g l (effect_on x (union y z))
   pub differ : DifferAmongAsDrawn l joint.first joint.second x y z
+  pub no_formula : HasNoFormulaAmongAsDrawn g l n x y z
+
+-- What is observed doesn't fix the effect among those whose x was observed: two models of the diagram as drawn, positive on the observed vertices, agree on
+-- all observations and differ there, and no formula equals it.
+pub record IsUnfixedAmongAsDrawn (g : MixedGraph) (l : ℕ → Bool) (n x y z : ℕ) : Type 0 where
+  pub first : FiniteModel
+  pub second : FiniteModel
+  pub first_fits : Fits g first
+  pub second_fits : Fits g second
+  pub first_positive : IsObservedPositive l first
+  pub second_positive : IsObservedPositive l second
+  pub observed : AgreeAsDrawn l first second
+  pub differ : DifferAmongAsDrawn l first second x y z
   pub no_formula : HasNoFormulaAmongAsDrawn g l n x y z

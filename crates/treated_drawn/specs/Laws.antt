@@ -4,12 +4,14 @@ use Rattle.mixed_graph.specs.Bits.{has}
 use Rattle.mixed_graph.specs.Graphs.{MixedGraph, IsMixedGraph, IsDirectedPath}
 use Rattle.mixed_graph.specs.Masks.{union}
 use Rattle.finite_models.specs.Models.{FiniteModel, Fits}
+use Rattle.finite_models.specs.Served.{ServesTwo}
 use Rattle.latent_projection.specs.Renumbering.{IsObserved}
 use Rattle.prob_expr.specs.Tree.{PlainFormula, effect_on}
 use Rattle.hidden_models.specs.Unfolding.{NotIdentifiableAsDrawn}
 use Rattle.treated_models.specs.NamedOnce.{FormulaNamesOnce}
+use Rattle.treated_models.specs.NoFormula.{DifferAmong}
 use Rattle.treated_models.specs.Primes.{EqualsAmong}
-use Rattle.treated_drawn.specs.Drawn.{FoldsBoth, EqualsAmongAsDrawn, IsLostAmongAsDrawn}
+use Rattle.treated_drawn.specs.Drawn.{FoldsBoth, EqualsAmongAsDrawn, IsLostAmongAsDrawn, IsUnfixedAmongAsDrawn}
 
 -- a model of the observed graph q that folds m, two worlds at once
 pub record HasBothFolded (q : MixedGraph) (l : ℕ → Bool) (m : FiniteModel) : Type 0 where
@@ -40,3 +42,19 @@ pub record IsAsked (q : MixedGraph) (x y z : ℕ) : Type 0 where
 abbrev pub JointLostIsDrawn : Type 0
 JointLostIsDrawn = (g : MixedGraph) → IsMixedGraph g → (l : ℕ → Bool) (q : MixedGraph) → IsObserved g l q → (x y z : ℕ) → IsAsked q x y z
     → NotIdentifiableAsDrawn g l (effect_on x (union y z)) → IsLostAmongAsDrawn g l q.vertices x y z
+
+-- a model of the graph with hidden vertices that m, a model of its observed graph, folds, two worlds at once
+pub record IsBothFoldedFrom (g : MixedGraph) (l : ℕ → Bool) (m : FiniteModel) : Type 0 where
+  pub drawn : FiniteModel
+  pub fits : Fits g drawn
+  pub folds : FoldsBoth l drawn m
+
+-- every model of the observed graph each of whose causes serves one vertex or two folds such a one
+abbrev pub EachIsBothFolded : Type 0
+EachIsBothFolded = (g : MixedGraph) → IsMixedGraph g → (l : ℕ → Bool) (q : MixedGraph) → IsObserved g l q → (m : FiniteModel) → Fits q m → ServesTwo m
+    → IsBothFoldedFrom g l m
+
+-- so two models of the observed graph that differ on the effect among those whose x was observed show that it isn't fixed in the diagram as drawn
+abbrev pub DifferingIsDrawn : Type 0
+DifferingIsDrawn = (g : MixedGraph) → IsMixedGraph g → (l : ℕ → Bool) (q : MixedGraph) → IsObserved g l q → (x y z : ℕ)
+    → ((v : ℕ) → has x v ≡ true → v < q.vertices) → DifferAmong q x y z → IsUnfixedAmongAsDrawn g l q.vertices x y z

@@ -1,20 +1,22 @@
--- Two models that differ on the joint effect leave no formula for the effect among the treated.
+-- Two models that differ on the joint effect, or on the effect among the treated, leave no formula for the latter.
 use Rattle.std.proofs.Common.{ℕ, ◌*◌, ◌≡◌, ◌<◌, Bool, true, false, cond, refl, sym, ap, ap₂, ◌∙◌, ◌||◌, ◌&&◌, subst, nat_lt, ltb-true}
-use Rattle.std.proofs.lemmas.Bool.{lt-ltb, le-ltb}
+use Rattle.std.proofs.lemmas.Bool.{lt-ltb, le-ltb, cond-false}
 use Rattle.mixed_graph.specs.Bits.{has}
 use Rattle.mixed_graph.specs.Graphs.{MixedGraph, IsMixedGraph}
 use Rattle.fractions.specs.Fractions.{Fraction, IsEqual, over}
 use Rattle.fractions.proofs.FractionLaws.{equal_sym, equal_trans}
 use Rattle.finite_models.specs.Agreement.{AgreeObserved}
-use Rattle.finite_models.specs.Models.{FiniteModel, Fits, IsAssignment, solution, agree, intervene, weight_of, world_weight, total}
+use Rattle.finite_models.specs.Models.{FiniteModel, Fits, IsAssignment, IsPositiveModel, solution, agree, intervene, weight_of, world_weight, total}
 use Rattle.finite_models.proofs.Bools.{same_truth}
 use Rattle.finite_models.proofs.Following.{intervene_alike}
 use Rattle.finite_models.proofs.Solutions.{agree_from, agree_gives}
 use Rattle.finite_models.proofs.SumLaws.{over-congr}
+use Rattle.prob_expr.specs.Tree.{PlainFormula}
 use Rattle.prob_expr.specs.Values.{value_of}
-use Rattle.treated_models.specs.NoFormula.{DifferenceExcludesAmong}
-use Rattle.treated_models.specs.Primes.{name_count, prime_of, vertex_of, as_observed, with_primes}
-use Rattle.treated_models.specs.Treated.{is_both, effect_among, IsBefore}
+use Rattle.treated_models.specs.NoFormula.{DifferenceExcludesAmong, DifferingExcludesAmong, DifferAmong, among_at}
+use Rattle.treated_models.specs.NamedOnce.{FormulaNamesOnce}
+use Rattle.treated_models.specs.Primes.{EqualsAmong, name_count, prime_of, vertex_of, as_observed, with_primes}
+use Rattle.treated_models.specs.Treated.{is_both, effect_among, IsBefore, joined}
 use Rattle.treated_models.proofs.Joint.{among_fixes_joint}
 use Rattle.treated_models.proofs.NamedOnce.{vertex_low, names_in_second, observed_fixes_named}
 use Rattle.treated_models.proofs.Primes.{vertex_plain, vertex_primed, prime_behind}
@@ -88,14 +90,53 @@ module _ (g : MixedGraph) (ok : IsMixedGraph g) (m₁ m₂ : FiniteModel) (f₁ 
       (subst (λ k. IsEqual k (among m₂ x y z (named m₁.vertices x s t))) (effect_at m₁ f₁.vertices s t elsewhere)
       (equal (named m₁.vertices x s t) (named_within m₁.vertices x s t m₁.size within inside))))
 
+-- a formula that equals the effect among the observed in both models gives it one value
+same_among : (g : MixedGraph) → IsMixedGraph g → (m₁ m₂ : FiniteModel) → Fits g m₁ → Fits g m₂ → IsPositiveModel m₁ → IsPositiveModel m₂
+    → AgreeObserved m₁ m₂ → (x y z : ℕ) (f : PlainFormula) → FormulaNamesOnce g.vertices x f → EqualsAmong g x y z f
+    → (c : ℕ → ℕ) → IsAssignment (with_primes m₁ x).vertices (with_primes m₁ x).size c → IsEqual (among m₁ x y z c) (among m₂ x y z c)
+same_among g ok m₁ m₂ f₁ f₂ p₁ p₂ agreed x y z f once equals c hc =
+    equal_trans (among m₁ x y z c) (value_of (with_primes m₁ x) f c) (among m₂ x y z c)
+    (equal_sym (value_of (with_primes m₁ x) f c) (among m₁ x y z c) (equals m₁ f₁ p₁ c hc))
+    (equal_trans (value_of (with_primes m₁ x) f c) (value_of (with_primes m₂ x) f c) (among m₂ x y z c)
+    (observed_fixes_named g ok m₁ m₂ f₁ f₂ p₁ p₂ agreed x f once c hc)
+    (equals m₂ f₂ p₂ c (names_in_second m₁ m₂ agreed.vertices agreed.sizes x c hc)))
+
 pub difference_excludes_among : DifferenceExcludesAmong
 difference_excludes_among g ok m₁ m₂ f₁ f₂ p₁ p₂ agreed x y z before x_low y_off_x y_off_z z_off_x s within differ f once equals =
-    differ (names_fix_joint g ok m₁ m₂ f₁ f₂ agreed x y z before x_low y_off_x y_off_z z_off_x one_effect s within)
-  where
-    one_effect : (c : ℕ → ℕ) → IsAssignment (with_primes m₁ x).vertices (with_primes m₁ x).size c → IsEqual (among m₁ x y z c) (among m₂ x y z c)
-    one_effect c hc =
-        equal_trans (among m₁ x y z c) (value_of (with_primes m₁ x) f c) (among m₂ x y z c)
-        (equal_sym (value_of (with_primes m₁ x) f c) (among m₁ x y z c) (equals m₁ f₁ p₁ c hc))
-        (equal_trans (value_of (with_primes m₁ x) f c) (value_of (with_primes m₂ x) f c) (among m₂ x y z c)
-        (observed_fixes_named g ok m₁ m₂ f₁ f₂ p₁ p₂ agreed x f once c hc)
-        (equals m₂ f₂ p₂ c (names_in_second m₁ m₂ agreed.vertices agreed.sizes x c hc)))
+    differ (names_fix_joint g ok m₁ m₂ f₁ f₂ agreed x y z before x_low y_off_x y_off_z z_off_x
+    (same_among g ok m₁ m₂ f₁ f₂ p₁ p₂ agreed x y z f once equals) s within)
+
+-- the effect among the observed at two assignments, as one of names
+among_named : (m : FiniteModel) (x y z : ℕ) → ((v : ℕ) → has x v ≡ true → v < m.vertices) → (s t : ℕ → ℕ)
+    → among m x y z (named m.vertices x s (joined (has x) s t)) ≡ among_at m x y z s t
+among_named m x y z low s t =
+    among_reads m (has x) (has y) (λ v. has x v || has z v) (named m.vertices x s (joined (has x) s t)) s
+    (as_observed m.vertices x (named m.vertices x s (joined (has x) s t))) (joined (has x) s t) low
+    (named_own m.vertices x s (joined (has x) s t))
+    (named_observed m.vertices x s (joined (has x) s t) (λ v e. cond-false (has x v) (t v) (s v) e))
+
+module _ (g : MixedGraph) (x y z : ℕ) (low : (v : ℕ) → has x v ≡ true → v < g.vertices) (d : DifferAmong g x y z) where
+  -- the values of names at which two models differ
+  abbrev pub point : ℕ → ℕ
+  point = named d.first.vertices x d.at (joined (has x) d.at d.seen)
+
+  pub point_within : IsAssignment (with_primes d.first x).vertices (with_primes d.first x).size point
+  point_within = named_within d.first.vertices x d.at (joined (has x) d.at d.seen) d.first.size d.at_within (λ v lt. go v lt (has x v))
+    where
+      go : (v : ℕ) → v < d.first.vertices → (b : Bool) → cond b (d.seen v) (d.at v) < d.first.size v
+      go v lt true = d.seen_within v lt
+      go v lt false = d.at_within v lt
+
+  pub differ_there : IsEqual (among d.first x y z point) (among d.second x y z point) → ⊥
+  differ_there equal =
+      d.unequal (subst (λ k. IsEqual k (among_at d.second x y z d.at d.seen))
+      (among_named d.first x y z (λ v e. rw d.first_fits.vertices (low v e)) d.at d.seen)
+      (subst (λ k. IsEqual (among d.first x y z point) k)
+      (ap (λ n. among d.second x y z (named n x d.at (joined (has x) d.at d.seen))) d.observed.vertices
+      ∙ among_named d.second x y z (λ v e. rw d.second_fits.vertices (low v e)) d.at d.seen)
+      equal))
+
+pub differing_excludes_among : DifferingExcludesAmong
+differing_excludes_among g ok x y z low d f once equals =
+    differ_there g x y z low d (same_among g ok d.first d.second d.first_fits d.second_fits d.first_positive d.second_positive d.observed x y z f once equals
+    (point g x y z low d) (point_within g x y z low d))

@@ -5,7 +5,7 @@ ghost use Rattle.treated_models.specs.Treated.{DistrictsMultiply, FactorIsEffect
 ghost use Rattle.treated_models.specs.Chain.{NextFactor, FirstFactor};
 ghost use Rattle.treated_models.specs.Differences.{JointEffectIsSum, AmongFixesJoint};
 ghost use Rattle.treated_models.specs.NamedOnce.{ObservedFixesNamed};
-ghost use Rattle.treated_models.specs.NoFormula.{DifferenceExcludesAmong};
+ghost use Rattle.treated_models.specs.NoFormula.{DifferenceExcludesAmong, DifferingExcludesAmong};
 ghost use Rattle.treated_models.specs.TwoValues.{TwoValuesSplit};
 
 /// The laws of effects among those for whom some values were observed.
@@ -25,5 +25,6 @@ pub fn laws()
     ensures joint_fixed { AmongFixesJoint }
     ensures observed { ObservedFixesNamed }
     ensures excludes { DifferenceExcludesAmong }
+    ensures differing { DifferingExcludesAmong }
     ensures two { TwoValuesSplit }
 {}

@@ -22,7 +22,7 @@ export async function amongTheTreated(ctx, kind, given, more) {
   const { object } = said, found = { ctx, words, said, object, kind, more };
   if (said.status === 0) return { dot: "yes", view: () => formulaView(found), marks: { vertices: new Map(given.map((name) => [name, "chosen"])) } };
   const vertices = object.hedge ? hedgeVertices(object.hedge) : new Map([object.treatment, object.child].map((name) => [name, "from"]));
-  return { dot: object.hedge ? "no" : "", view: () => noFormulaView(found), marks: { vertices, edges: confounding(object) } };
+  return { dot: "no", view: () => noFormulaView(found), marks: { vertices, edges: confounding(object) } };
 }
 
 /** The arrow from a treatment to its child, and the path back, as the drawing marks them. */
@@ -46,7 +46,7 @@ function formulaView({ words, object, kind, more }) {
 
 function noFormulaView({ ctx, words, said, object, kind, more }) {
   return h("div", {}, kind.row(),
-    object.hedge ? excluded(object) : leftOpen(object),
+    object.hedge ? excluded(object) : excludedByPath(object),
     fold(ctx, "next", "What would help", () => whatNext(ctx, words, false)),
     ...(object.hedge ? hedgeParts(object) : []),
     sourceOf(ctx, words, said),
@@ -62,5 +62,6 @@ const jointText = ({ joint }) => h("code", {}, termText({ term: joint.y, do: joi
 const excluded = (object) => verdict("no", "Not identifiable", reason(object), "No formula over what is observed equals ", h("code", {}, object.effect),
   ": two models fit the diagram and agree on all observations, but differ on ", jointText(object), ", which would follow from one.");
 
-const leftOpen = (object) => verdict("ask", "Left open", reason(object), "For ", h("code", {}, object.effect),
-  " no formula was found, and no proof that there is none. ", jointText(object), " itself has one.");
+const excludedByPath = (object) => verdict("no", "Not identifiable", reason(object), "No formula over what is observed equals ", h("code", {}, object.effect),
+  ": two models fit the diagram and agree on all observations, but differ on it. ", jointText(object), " itself has a formula",
+  object.two_values ? ["; where ", h("b", {}, object.treatment), " has two values, ", h("code", {}, object.two_values)] : [], ".");

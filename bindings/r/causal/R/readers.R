@@ -284,5 +284,6 @@ read_confounded <- function(object) {
   joint <- term_text(texts(object$joint$y), texts(object$joint$x))
   object$given <- list()
   c(list(target = target, treatment = text_in(object$treatment), child = text_in(object$child), path = read_path(object$path), joint = joint),
-    if (object$answer == "hedge") list(hedge = utils::modifyList(read_hedge(object), list(target = joint))))
+    if (object$answer == "hedge") list(hedge = utils::modifyList(read_hedge(object), list(target = joint)))
+    else if (!is.null(object$two_values)) list(two_values = text_in(object$two_values)))
 }

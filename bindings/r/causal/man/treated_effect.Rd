@@ -17,13 +17,14 @@ treated_effect(diagram, x = NULL, y = NULL, given = NULL)
   observed.
 
   Proved: a formula equals the effect in every positive finite model that fits the diagram's observed graph, at every assignment. Where a
-  treatment is joined by bidirected edges to a child of its own none is found; with a hedge for the joint effect its two models
-  show that there is none at all, and without one the question is left open.
+  treatment is joined by bidirected edges to a child of its own there is none, which two models show. Where the joint effect has a formula
+  even so, it gives the effect among the treated of a treatment with two values.
 }
 \value{
   For a formula a list of the class \code{causal_formula}, as \code{\link{identify_effect}} gives it. Else a list of the class
   \code{causal_confounded}: \code{identifiable} (\code{FALSE}), \code{target}, \code{treatment}, its \code{child}, the \code{path} that leads back,
-  the effect \code{joint}, and its \code{hedge} where it has one.
+  the effect \code{joint}, and its \code{hedge} where it has one; else \code{two_values}, which says how \code{joint} is made up for a treatment
+  of two values.
 }
 \seealso{\code{\link{identify_effect}}}
 \examples{

@@ -11,6 +11,7 @@ use Rattle.identify.specs.Answers.{is_hedge_alone}
 use Rattle.effect_answers.specs.Hedges.{IsFoundHedge}
 use Rattle.effect_answers.proofs.Found.{found_alone}
 use Rattle.treated_hedges.proofs.Excluding.{counter_models_exclude_among}
+use Rattle.treated_paths.proofs.Paths.{paths_differ_among, paths_exclude_among}
 use Rattle.treated_command.proofs.Sets.{joint_within, joint_apart, joint_some, target_of}
 use Rattle.treated_command.proofs.reply.unidentified.Goals as goal
 
@@ -53,11 +54,14 @@ returns-in-Hedge c =
 
 pub returns : goal.returns
 returns c =
-    let q = graph_of c.args.g.now in let s = c.args.asked.sets in (
+    let q = graph_of c.args.g.now in let s = c.args.asked.sets in
+    let target = target_of q s.x.bits s.y.bits s.given.bits c.requires.sets c.requires.before in (
       c.requires.asked,
       record {
         by = c.requires.by;
         no_hedge = λ h is. not_both (is_hedge_alone c.in_ok-hedge.field-0)
             (c.in_ok-hedge.ensures.exact.1 (h, subst (λ k. IsHedge q s.x.bits k h) (sym c.joint_of.ensures) is)) (ap is_hedge_alone c.in-Formula.is);
+        differ = paths_differ_among q c.args.g.now.valid s.x.bits s.y.bits s.given.bits target c.requires.by.confounded;
+        no_formula = paths_exclude_among q c.args.g.now.valid s.x.bits s.y.bits s.given.bits target c.requires.by.confounded;
       },
     )

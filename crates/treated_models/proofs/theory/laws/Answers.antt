@@ -10,7 +10,7 @@ use Rattle.treated_models.proofs.Differing.{among_fixes_effect}
 use Rattle.treated_models.proofs.Chain.{next_factor, first_factor}
 use Rattle.treated_models.proofs.Joint.{joint_effect_is_sum, among_fixes_joint}
 use Rattle.treated_models.proofs.NamedOnce.{observed_fixes_named}
-use Rattle.treated_models.proofs.NoFormula.{difference_excludes_among}
+use Rattle.treated_models.proofs.NoFormula.{difference_excludes_among, differing_excludes_among}
 
 pub returns-clause-held : goal.returns-clause-held
 returns-clause-held c = treated_is_held
@@ -56,6 +56,9 @@ returns-clause-observed c = observed_fixes_named
 
 pub returns-clause-excludes : goal.returns-clause-excludes
 returns-clause-excludes c = difference_excludes_among
+
+pub returns-clause-differing : goal.returns-clause-differing
+returns-clause-differing c = differing_excludes_among
 
 pub returns-clause-two : goal.returns-clause-two
 returns-clause-two c = two_values_split

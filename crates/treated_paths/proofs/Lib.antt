@@ -1,0 +1,11 @@
+pub mod Agreeing
+pub mod Bits
+pub mod Difference
+pub mod Event
+pub mod Fits
+pub mod Models
+pub mod Paths
+pub mod Positive
+pub mod Reading
+pub mod TwoValues
+pub mod Ways
