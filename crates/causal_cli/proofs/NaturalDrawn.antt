@@ -13,9 +13,10 @@ use Rattle.diagram.specs.Observed.{IsObservedGraph}
 use Rattle.diagram.specs.Sets.{Names}
 use Rattle.diagram.specs.declared.diagram.Diagram.{Diagram}
 use Rattle.diagram.proofs.ObservedParts.{part_of}
-use Rattle.nested_models.specs.Nested.{IsNestedQuery}
-use Rattle.natural_id.specs.Answers.{parts_view}
-use Rattle.natural_drawn.specs.Drawn.{EqualsNaturalAsDrawn, IsLostNestedAsDrawn}
+use Rattle.natural_id.specs.Answers.{parts_view, IsLostNested}
+use Rattle.natural_id.specs.Parts.{IsNaturalTarget}
+use Rattle.natural_drawn.specs.Drawn.{EqualsNaturalAsDrawn, IsLostNestedAsDrawn, DifferOnNestedAsDrawn}
+use Rattle.natural_drawn.proofs.Differing.{nested_difference_is_drawn}
 use Rattle.natural_drawn.proofs.Formulas.{right_parts_are_drawn}
 use Rattle.natural_drawn.proofs.Lost.{nested_lost_is_drawn}
 use Rattle.natural_drawn.proofs.Nil.{no_indirect_path_is_drawn, no_direct_path_is_drawn}
@@ -43,8 +44,7 @@ use Rattle.causal_cli.proofs.ToldAnswers.{answered}
 
 -- ---- a right answer
 
-module _ (d : Diagram) (q : Question)
-    (asked : IsNestedQuery (graph_of d.observed.graph) (has q.x.bits) (has q.through.bits) (has q.y.bits) (has q.given.bits)) where
+module _ (d : Diagram) (q : Question) (target : IsNaturalTarget (graph_of d.observed.graph) q.x.bits q.through.bits q.y.bits q.given.bits) where
   -- the graph that was read, and the observed one
   abbrev g : MixedGraph
   g = graph_of d.read.graph
@@ -58,10 +58,17 @@ module _ (d : Diagram) (q : Question)
   nil : (a : Asked) → IsAskedFor seen q a → AreNilAsDrawn d a.question a
   nil a h = subst (λ (k : Question). AreNilAsDrawn d k a) (sym h.question) (record {
     indirect_nil = λ e. no_indirect_path_is_drawn g d.read.graph.valid (has d.read.latent.bits) seen observed q.x.bits q.through.bits q.y.bits q.given.bits
-        asked (h.no_indirect e);
+        target.asked (h.no_indirect e);
     direct_nil = λ e. no_direct_path_is_drawn g d.read.graph.valid (has d.read.latent.bits) seen observed q.x.bits q.through.bits q.y.bits q.given.bits
-        asked (h.no_direct e);
+        target.asked (h.no_direct e);
   })
+
+  differ : (a : Asked) → IsAskedFor seen q a → IsLostNested seen q.x.bits q.through.bits q.y.bits q.given.bits
+      → DifferOnNestedAsDrawn g (has d.read.latent.bits) d.observed.graph.n a.question.x.bits a.question.through.bits a.question.y.bits a.question.given.bits
+  differ a h lost =
+      subst (λ (k : Question). DifferOnNestedAsDrawn g (has d.read.latent.bits) d.observed.graph.n k.x.bits k.through.bits k.y.bits k.given.bits)
+      (sym h.question) (nested_difference_is_drawn g d.read.graph.valid (has d.read.latent.bits) seen observed q.x.bits q.through.bits q.y.bits q.given.bits
+      target.x_low lost.models)
 
   of_question : (a : Answer) → Decides seen q a → IsNaturalAsDrawn d a
   of_question (Formula a f) h = (
@@ -75,17 +82,17 @@ module _ (d : Diagram) (q : Question)
     nil a h.0,
     subst (λ (k : Question). IsLostNestedAsDrawn g (has d.read.latent.bits) d.observed.graph.n k.x.bits k.through.bits k.y.bits k.given.bits)
         (sym h.0.question)
-        (nested_lost_is_drawn g d.read.graph.valid (has d.read.latent.bits) seen observed q.x.bits q.through.bits q.y.bits q.given.bits asked
+        (nested_lost_is_drawn g d.read.graph.valid (has d.read.latent.bits) seen observed q.x.bits q.through.bits q.y.bits q.given.bits target.asked
         (effect_lost d.read seen observed q.x.bits (union q.y.bits q.given.bits) pair h.1.right.counter)),
   )
-  of_question (Witness a w) h = nil a h.0
-  of_question (Split a s) h = nil a h.0
+  of_question (Witness a w) h = (nil a h.0, differ a h.0 h.1.lost)
+  of_question (Split a s) h = (nil a h.0, differ a h.0 h.1.lost)
 
 -- a right answer of `natural`
 naturals : (x y : Names) (through given : List (List ℕ)) (d : Diagram) (a : Answer) → IsNaturalAnswer d x y through given (Ok a) → IsNaturalAsDrawn d a
 naturals x y through given d a h =
     let sets = four_sets (natural_lists d x y through given) h.question h.named d.observed.graph.n d.observed.sized in
-    of_question d h.question (target_of (graph_of d.observed.graph) h.question sets h.is.before).asked a h.is.decided
+    of_question d h.question (target_of (graph_of d.observed.graph) h.question sets h.is.before) a h.is.decided
 
 -- ---- a run
 

@@ -6,7 +6,7 @@ use Rattle.mixed_graph.specs.Shown.{graph_of}
 use Rattle.replies.specs.Told.{Told}
 use Rattle.diagram.specs.declared.diagram.Diagram.{Diagram}
 use Rattle.natural_id.specs.Answers.{parts_view}
-use Rattle.natural_drawn.specs.Drawn.{EqualsNaturalAsDrawn, IsLostNestedAsDrawn, IsIndirectNilAsDrawn, IsDirectNilAsDrawn}
+use Rattle.natural_drawn.specs.Drawn.{EqualsNaturalAsDrawn, IsLostNestedAsDrawn, DifferOnNestedAsDrawn, IsIndirectNilAsDrawn, IsDirectNilAsDrawn}
 use Rattle.natural_command.specs.Requests as natural_requests
 use Rattle.natural_command.specs.Right.{IsNaturalAnswer}
 use Rattle.natural_command.specs.Telling.{natural_telling}
@@ -23,8 +23,7 @@ pub record AreNilAsDrawn (d : Diagram) (q : Question) (a : Asked) : Type 0 where
   pub direct_nil : a.direct ≡ false
       → IsDirectNilAsDrawn (graph_of d.read.graph) (has d.read.latent.bits) q.x.bits q.through.bits q.y.bits q.given.bits
 
--- A formula equals the nested effect. What a hedge for the joint effect excludes isn't identifiable: two models show it. Of what is left open nothing is
--- said but which effects are nil.
+-- A formula equals the nested effect. Else no formula does, and two models show it: those of the hedge for the joint effect, where it has one.
 abbrev pub IsNaturalAsDrawn : Diagram → Answer → Type 0
 IsNaturalAsDrawn d (Formula a f) = AreNilAsDrawn d a.question a
     × EqualsNaturalAsDrawn (graph_of d.read.graph) (has d.read.latent.bits) a.question.x.bits a.question.through.bits a.question.y.bits a.question.given.bits
@@ -33,7 +32,11 @@ IsNaturalAsDrawn d (Excluded a h pair) = AreNilAsDrawn d a.question a
     × IsLostNestedAsDrawn (graph_of d.read.graph) (has d.read.latent.bits) d.observed.graph.n a.question.x.bits a.question.through.bits a.question.y.bits
     a.question.given.bits
 IsNaturalAsDrawn d (Witness a w) = AreNilAsDrawn d a.question a
+    × DifferOnNestedAsDrawn (graph_of d.read.graph) (has d.read.latent.bits) d.observed.graph.n a.question.x.bits a.question.through.bits a.question.y.bits
+    a.question.given.bits
 IsNaturalAsDrawn d (Split a s) = AreNilAsDrawn d a.question a
+    × DifferOnNestedAsDrawn (graph_of d.read.graph) (has d.read.latent.bits) d.observed.graph.n a.question.x.bits a.question.through.bits a.question.y.bits
+    a.question.given.bits
 
 -- the answer to a request of `natural`
 abbrev pub IsNatural : natural_requests.Request → (bytes : List ℕ) (code : ℕ) (told : Told) → Type 0
