@@ -1,15 +1,13 @@
 -- The two models agree on what is observed: the last coin is the treatment's own bit, and with the other coins flipped where it is 1 each vertex gets in the
 -- second model what it gets in the first.
-use Rattle.std.proofs.Common.{ℕ, zero, suc, ◌+◌, ◌-◌, ◌*◌, ◌^◌, ◌≡◌, ◌<◌, ◌≤◌, Bool, true, false, cond, eqb, ltb, not, ◌&&◌, ◌||◌, refl, sym, ap, ap₂, ◌∙◌}
-use Rattle.std.proofs.Common.{arith, lt-ltb, le-ltb, ltb-true, ltb-false, eqb-true, eq-eqb}
+use Rattle.std.proofs.Common.{ℕ, zero, suc, ◌+◌, ◌-◌, ◌*◌, ◌^◌, ◌≡◌, ◌<◌, ◌≤◌, Bool, true, false, cond, eqb, ltb, not, ◌&&◌, refl, sym, ap, ap₂, ◌∙◌}
+use Rattle.std.proofs.Common.{arith, lt-ltb, le-ltb, ltb-true, ltb-false, eqb-true}
 use Rattle.mixed_graph.specs.Bits.{has}
 use Rattle.mixed_graph.specs.Graphs.{MixedGraph, IsMixedGraph}
 use Rattle.finite_models.specs.Agreement.{AgreeObserved}
 use Rattle.finite_models.specs.Models.{FiniteModel, event_weight, world_weight, total}
 use Rattle.finite_models.specs.Parities.{differ}
 use Rattle.finite_models.specs.Sums.{product_below}
-use Rattle.finite_models.specs.Packed.{mask_of}
-use Rattle.finite_models.proofs.Bools.{and_first}
 use Rattle.finite_models.proofs.Factors.{checks, weight_by_checks}
 use Rattle.finite_models.proofs.Following.{follows_of}
 use Rattle.finite_models.proofs.Indicators.{number}

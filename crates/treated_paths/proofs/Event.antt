@@ -1,6 +1,6 @@
 -- In the second model no world without noise shows what a world without noise shows in the first.
-use Rattle.std.proofs.Common.{ℕ, zero, suc, ◌+◌, ◌-◌, ◌*◌, ◌^◌, ◌≡◌, ◌<◌, ◌≤◌, ◌⊎◌, inl, inr, Bool, true, false, cond, eqb, ltb, not, ◌&&◌, ◌||◌, refl, sym}
-use Rattle.std.proofs.Common.{ap, ◌∙◌, arith, le-ltb, eqb-true, eq-eqb}
+use Rattle.std.proofs.Common.{ℕ, zero, suc, ◌+◌, ◌^◌, ◌≡◌, ◌<◌, ◌≤◌, ◌⊎◌, inl, inr, Bool, true, false, cond, eqb, ltb, ◌||◌, refl, sym}
+use Rattle.std.proofs.Common.{ap, ◌∙◌, arith, le-ltb, eqb-true}
 use Rattle.std.proofs.lemmas.Bool.{and_from, cond-false, cond-true, false_from_ne_true}
 use Rattle.std.proofs.lemmas.Nat.{pow_pos, pow_below}
 use Rattle.mixed_graph.specs.Bits.{has}
@@ -17,7 +17,7 @@ use Rattle.finite_models.proofs.Solutions.{IsRanked, solution_is, solution_withi
 use Rattle.finite_models.proofs.SumLaws.{eqb-refl}
 use Rattle.treated_models.specs.Treated.{is_both, joined}
 use Rattle.treated_paths.proofs.Fits.{IsPath, path_fits}
-use Rattle.treated_paths.proofs.Models.{coin, coin_in, before, own, carried, calm_bit, new_bit, path_model}
+use Rattle.treated_paths.proofs.Models.{coin_in, own, new_bit, path_model}
 use Rattle.treated_paths.proofs.Reading.{Carries, shown}
 
 -- the bit of a visit at a is read off a vertex of y under the intervention, or off one of o without it

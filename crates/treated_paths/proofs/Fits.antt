@@ -1,7 +1,7 @@
 -- The two models fit the graph.
-use Rattle.std.proofs.Common.{ℕ, zero, suc, ◌+◌, ◌-◌, ◌^◌, ◌≡◌, ◌≢◌, ◌<◌, ◌≤◌, ◌⊎◌, inl, inr, Bool, true, false, cond, eqb, ltb, not, ◌&&◌, ◌||◌, ◌==◌}
-use Rattle.std.proofs.Common.{nat_lt, refl, sym, ap, ap₂, ◌∙◌, IsTrue, arith, le-ltb, lt-ltb, ltb-true, ltb-false, eqb-true}
-use Rattle.std.proofs.lemmas.Bool.{or_cases, cases_lt}
+use Rattle.std.proofs.Common.{ℕ, zero, suc, ◌+◌, ◌-◌, ◌^◌, ◌≡◌, ◌≢◌, ◌<◌, ◌≤◌, ◌⊎◌, inl, inr, Bool, true, false, cond, eqb, ltb, not, ◌&&◌, ◌||◌}
+use Rattle.std.proofs.Common.{refl, sym, ap, ap₂, ◌∙◌, IsTrue, arith, le-ltb, lt-ltb, ltb-true, ltb-false, eqb-true}
+use Rattle.std.proofs.lemmas.Bool.{or_cases}
 use Rattle.std.proofs.lemmas.Nat.{pow_pos}
 use mathlib.Core.Path.{fun_ext}
 use Rattle.mixed_graph.specs.Bits.{has}
@@ -14,7 +14,7 @@ use Rattle.finite_models.proofs.Factors.{any_below}
 use Rattle.finite_models.proofs.SumLaws.{eqb-refl}
 use Rattle.finite_models.proofs.Totals.{sum_below-positive}
 use Rattle.treated_paths.proofs.Bits.{mask_same, mask_low}
-use Rattle.treated_paths.proofs.Models.{end, bits, coin, coin_in, before, own, carried, calm_bit, new_bit, path_model}
+use Rattle.treated_paths.proofs.Models.{coin, before, own, carried, calm_bit, new_bit, path_model}
 
 -- equal choices of equal things
 pub cond_same : (b : Bool) (p p' q q' : Bool) → (b ≡ true → p ≡ p') → (b ≡ false → q ≡ q') → cond b p q ≡ cond b p' q'

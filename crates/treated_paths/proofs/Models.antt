@@ -1,6 +1,6 @@
 -- The two models of a path of bidirected edges from a child of a treatment to the treatment. Each visit of the path has a bit, which the arrows that
 -- aren't out of x carry on; in the first model the bit of the child has the treatment's, too.
-use Rattle.std.proofs.Common.{ℕ, zero, suc, ◌+◌, ◌-◌, ◌^◌, ◌≡◌, ◌<◌, ◌≤◌, Bool, true, false, cond, eqb, ltb, not, ◌&&◌, ◌||◌, ◌==◌}
+use Rattle.std.proofs.Common.{ℕ, zero, suc, ◌+◌, ◌-◌, ◌^◌, Bool, false, cond, eqb, ltb, not, ◌&&◌, ◌||◌}
 use Rattle.mixed_graph.specs.Bits.{has}
 use Rattle.mixed_graph.specs.Graphs.{MixedGraph}
 use Rattle.finite_models.specs.Models.{FiniteModel}

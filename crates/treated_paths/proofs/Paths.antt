@@ -1,5 +1,5 @@
 -- A treatment that is joined to a child of its own by bidirected edges has two models that differ.
-use Rattle.std.proofs.Common.{ℕ, suc, ◌-◌, ◌≡◌, ◌<◌, Bool, true, false, cond, eqb, ltb, ◌||◌, refl}
+use Rattle.std.proofs.Common.{ℕ, suc, ◌-◌, ◌≡◌, Bool, true, false, cond, eqb, ltb, ◌||◌, refl}
 use Rattle.mixed_graph.specs.Bits.{has}
 use Rattle.mixed_graph.specs.Graphs.{MixedGraph, IsMixedGraph}
 use Rattle.finite_models.specs.Served.{ServesTwo}
@@ -7,12 +7,12 @@ use Rattle.treated_models.specs.NoFormula.{DifferAmong}
 use Rattle.treated_models.proofs.NoFormula.{differing_excludes_among}
 use Rattle.treated_paths.specs.Paths.{PathsDifferAmong, PathsExcludeAmong}
 use Rattle.treated_paths.proofs.Agreeing.{paths_agree}
-use Rattle.treated_paths.proofs.Difference.{many, some, at_point, seen_point, effects_differ}
+use Rattle.treated_paths.proofs.Difference.{many, some, at_point, effects_differ}
 use Rattle.treated_paths.proofs.Event.{IsReadPath, at_within, seen, seen_within}
 use Rattle.treated_paths.proofs.Fits.{path_fits}
 use Rattle.treated_paths.proofs.Models.{path_model}
 use Rattle.treated_paths.proofs.Positive.{path_positive}
-use Rattle.treated_paths.proofs.Ways.{Way, found, read_path}
+use Rattle.treated_paths.proofs.Ways.{found, read_path}
 
 -- a noise serves its vertex, and a coin the ends of its edge
 path_two : (g : MixedGraph) (x : ℕ → Bool) (k : ℕ) (w : ℕ → ℕ) (first : Bool) (often : ℕ) → ServesTwo (path_model g x k w first often)

@@ -1,6 +1,6 @@
 -- The two models are positive: noise shows each assignment.
 use Rattle.std.proofs.Common.{ℕ, zero, suc, ◌+◌, ◌-◌, ◌*◌, ◌^◌, ◌≡◌, ◌<◌, ◌≤◌, Bool, true, false, cond, eqb, ltb, ◌&&◌, refl, sym, ap, ap₂, ◌∙◌, arith}
-use Rattle.std.proofs.Common.{lt-ltb, le-ltb, ltb-true, ltb-false, eqb-true, ne_eqb}
+use Rattle.std.proofs.Common.{lt-ltb, le-ltb, ltb-true, eqb-true, ne_eqb}
 use Rattle.mixed_graph.specs.Bits.{has}
 use Rattle.mixed_graph.specs.Graphs.{MixedGraph}
 use Rattle.finite_models.specs.Sums.{product_below}
@@ -9,7 +9,6 @@ use Rattle.finite_models.proofs.Bools.{and_first, and_second}
 use Rattle.finite_models.proofs.Solutions.{agree_from}
 use Rattle.finite_models.proofs.SumLaws.{over-base, over-term, eqb-refl}
 use Rattle.treated_paths.proofs.Bits.{mask_same, mask_own}
-use Rattle.treated_paths.proofs.Fits.{cond_same}
 use Rattle.treated_paths.proofs.Models.{coin, calm_bit, new_bit, weight_in, path_model}
 
 -- a product of positive numbers is positive

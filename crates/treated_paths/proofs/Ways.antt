@@ -1,5 +1,5 @@
 -- From a treatment that is confounded with a child of its own to a path whose visits are read.
-use Rattle.std.proofs.Common.{ℕ, zero, suc, ◌≡◌, ◌<◌, ◌⊎◌, inl, inr, Bool, true, false, eqb, ◌||◌, ◌==◌, List, [], ◌∷◌, refl, sym, ap, ap₂, ◌∙◌, subst, arith}
+use Rattle.std.proofs.Common.{ℕ, zero, suc, ◌≡◌, ◌<◌, ◌⊎◌, inl, inr, Bool, true, false, eqb, ◌||◌, ◌==◌, List, [], ◌∷◌, refl, sym, ap, ◌∙◌, subst, arith}
 use Rattle.std.proofs.Common.{eqb-true}
 use Rattle.std.proofs.lemmas.Bool.{or_cases, or_left}
 use Rattle.mixed_graph.specs.Bits.{has}
@@ -12,7 +12,7 @@ use Rattle.hedge.specs.Linked.IsLinked.{at, by}
 use Rattle.treated_id.specs.Right.{IsTreatedTarget}
 use Rattle.treated_id.specs.Sets.{IsConfounded, IsAfter, AreBefore}
 use Rattle.treated_paths.proofs.Event.{IsRead, IsReadPath}
-use Rattle.treated_paths.proofs.Fits.{IsPath, unequal}
+use Rattle.treated_paths.proofs.Fits.{unequal}
 use Rattle.treated_paths.proofs.Reading.{Carries}
 use Rattle.treated_paths.proofs.Reading.Carries.{here, further}
 
