@@ -84,7 +84,7 @@ differing_is_drawn = λ g ok l q is x y z low d.
       first_positive = positive₁ g ok l q is x y z low d u₁ u₂;
       second_positive = positive₂ g ok l q is x y z low d u₁ u₂;
       observed = agree_drawn g ok l q is d.first d.second d.first_fits d.second_fits d.first_positive d.second_positive d.observed
-          (record { drawn = u₁.drawn; fits = u₁.fits; folds = u₁.folds.folds }) (record { drawn = u₂.drawn; fits = u₂.fits; folds = u₂.folds.folds });
+          (record { drawn = u₁.drawn; fits = u₁.fits; folds = u₁.folds.folds; shares = u₁.shares }) (record { drawn = u₂.drawn; fits = u₂.fits; folds = u₂.folds.folds; shares = u₂.shares });
       differ = differ_drawn g ok l q is x y z low d u₁ u₂;
       no_formula = none_drawn g ok l q is x y z low d u₁ u₂;
     }

@@ -15,7 +15,7 @@ use Rattle.latent_projection.proofs.Numbering.{IsMixedGraph-renumbered}
 use Rattle.latent_projection.proofs.Projected.{IsMixedGraph-projection}
 use Rattle.hidden_models.specs.Folding.{set_before, values_before, values_after}
 use Rattle.hidden_models.proofs.Depends.{same_agree}
-use Rattle.hidden_models.proofs.Drawing.{un, folds_model}
+use Rattle.hidden_models.proofs.Drawing.{un, folds_model, shares_model}
 use Rattle.hidden_models.proofs.Expanded.{new, new_lt, expanded, agree_both}
 use Rattle.hidden_models.proofs.FoldingLaw.{position}
 use Rattle.hidden_models.proofs.Positions.{member_is}
@@ -155,4 +155,5 @@ each_is_both_folded = λ g ok l q is m fit two.
       drawn = (un g l is.projection m two ok is.projects fit').model;
       fits = (un g l is.projection m two ok is.projects fit').fits;
       folds = folds_two g l is.projection m two ok is.projects fit';
+      shares = shares_model g l is.projection m two ok is.projects fit';
     }

@@ -7,7 +7,7 @@ use Rattle.finite_models.specs.Models.{FiniteModel, Fits}
 use Rattle.finite_models.specs.Served.{ServesTwo}
 use Rattle.latent_projection.specs.Renumbering.{IsObserved}
 use Rattle.prob_expr.specs.Tree.{PlainFormula, effect_on}
-use Rattle.hidden_models.specs.Unfolding.{NotIdentifiableAsDrawn}
+use Rattle.hidden_models.specs.Unfolding.{SharesWorlds, NotIdentifiableAsDrawn}
 use Rattle.treated_models.specs.NamedOnce.{FormulaNamesOnce}
 use Rattle.treated_models.specs.NoFormula.{DifferAmong}
 use Rattle.treated_models.specs.Primes.{EqualsAmong}
@@ -43,11 +43,12 @@ abbrev pub JointLostIsDrawn : Type 0
 JointLostIsDrawn = (g : MixedGraph) → IsMixedGraph g → (l : ℕ → Bool) (q : MixedGraph) → IsObserved g l q → (x y z : ℕ) → IsAsked q x y z
     → NotIdentifiableAsDrawn g l (effect_on x (union y z)) → IsLostAmongAsDrawn g l q.vertices x y z
 
--- a model of the graph with hidden vertices that m, a model of its observed graph, folds, two worlds at once
+-- a model of the graph with hidden vertices that m, a model of its observed graph, folds, two worlds at once, and shares its worlds with
 pub record IsBothFoldedFrom (g : MixedGraph) (l : ℕ → Bool) (m : FiniteModel) : Type 0 where
   pub drawn : FiniteModel
   pub fits : Fits g drawn
   pub folds : FoldsBoth l drawn m
+  pub shares : SharesWorlds l drawn m
 
 -- every model of the observed graph each of whose causes serves one vertex or two folds such a one
 abbrev pub EachIsBothFolded : Type 0
