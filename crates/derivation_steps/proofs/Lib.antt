@@ -1,0 +1,5 @@
+mod Asking
+mod Factors
+mod InTurn
+mod LemmaTurns
+mod Turns

@@ -1,0 +1,5 @@
+pub mod Moves
+pub mod Questions
+pub mod Asked
+pub mod Traces
+pub mod Parts
