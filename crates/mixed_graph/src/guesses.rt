@@ -10,18 +10,18 @@ pub struct NameGuesses {
 
 impl NameGuesses {
     /// The first vertex at each place.
-    pub fn new() -> NameGuesses {
+    pub(crate) fn new() -> NameGuesses {
         NameGuesses { vertices: [0; 256] }
     }
 
     /// The next guess for a name.
     #[inline(always)]
-    pub fn guess(&self, name: &[u8], key: u64) -> u8 {
+    pub(crate) fn guess(&self, name: &[u8], key: u64) -> u8 {
         self.vertices[place(name, key) as usize]
     }
 
     /// Keeps the index of a name as the next guess.
-    pub fn keep(&mut self, name: &[u8], key: u64, v: u8) {
+    pub(crate) fn keep(&mut self, name: &[u8], key: u64, v: u8) {
         self.vertices[place(name, key) as usize] = v;
     }
 }

@@ -162,9 +162,9 @@ pub fn identify_with(
     requires few { length experiments.now ≤ 8 }
     requires experiments { are_sets g.now.n (masks_of experiments.now) ≡ true }
 
-    // A formula has an accepted derivation, terms that are observed or under an experiment, and the value of the effect;
-    // where the procedure stops, there are two models that agree on all observations and differ on the effect;
-    // those of the common hedge agree under each experiment too, so no such formula exists.
+    // A formula has an accepted derivation, terms that are observed or under an experiment, and the value of the effect.
+    // Where the procedure stops, there are two models that agree on all observations and differ on the effect.
+    // Those of the common hedge agree under each experiment too, so no such formula exists.
     ensures right { IfOk result (IsRightWith (graph_of g.now) (masks_of experiments.now) x.bits y.bits) }
 
     // It stops exactly where some district is blocked: under no experiment and under each that leaves it alone there is a hedge for it.
