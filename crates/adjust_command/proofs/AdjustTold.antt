@@ -1,21 +1,18 @@
 -- What the old definition asks of what is told of sets that may be adjusted for: it follows from the answer's being right.
 use Rattle.std.proofs.Common.{◌≡◌, ℕ, Bool, true, false, List, Result, Ok, Err, inl, inr, refl, sym, subst, ap, ◌∙◌}
-use Rattle.mixed_graph.specs.Graphs.{MixedGraph}
-use Rattle.mixed_graph.specs.Shown.{graph_of}
+use Rattle.mixed_graph.specs.Vocabulary.{MixedGraph, graph_of}
 use Rattle.targets.specs.declared.query.Sets.{Sets}
 use Rattle.targets.specs.declared.fault.TargetFault.{TargetFault}
 use Rattle.targets.specs.declared.fault.TargetFault.TheVariants.{NotOneX}
-use Rattle.targets.specs.Targets.{Lists}
+use Rattle.targets.specs.Vocabulary.{Lists}
 use Rattle.diagram.specs.declared.diagram.Diagram.{Diagram}
-use Rattle.diagram.specs.Sets.{Names}
+use Rattle.diagram.specs.Vocabulary.{Names}
 use Rattle.replies.specs.declared.format.Format.{Format}
 use Rattle.replies.specs.declared.outcome.Outcome.{Outcome}
 use Rattle.replies.specs.declared.outcome.Outcome.TheVariants.{Graph}
-use Rattle.replies.specs.Refusals.{target_told}
-use Rattle.replies.specs.Told.{Told, answer_of}
-use Rattle.told.specs.Forms.{plain_form}
-use Rattle.told.specs.Refusals.{target_refusal}
-use Rattle.told.specs.Telling.{Tells, outcome_in, told_in}
+use Rattle.replies.specs.Vocabulary.{target_told, answer_of}
+use Rattle.replies.specs.Told.{Told}
+use Rattle.told.specs.Vocabulary.{plain_form, target_refusal, Tells, outcome_in, told_in}
 use Rattle.adjust_command.specs.Answers.{texts_of, CriterionAnswer, ListingAnswer, SetsAnswer, adjust_lists, ListsAnswer, AdjustAnswer}
 use Rattle.adjust_command.specs.Objects.{admissible_json}
 use Rattle.adjust_command.specs.Queries.{Query, by_set, by_back_door, listing}

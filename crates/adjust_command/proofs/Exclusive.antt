@@ -2,28 +2,25 @@
 use Rattle.std.proofs.Common.{◌≡◌, ◌==◌, ℕ, List, [], ◌∷◌, length, inl, inr, refl, sym, ap, ◌∙◌, subst, arith}
 use Rattle.std.specs.Prelude.{slice_index, All, Some}
 use Rattle.std.proofs.lemmas.Bool.{eq-eqb, eqb-true}
-use Rattle.mixed_graph.specs.Bits.{has}
-use Rattle.mixed_graph.specs.Graphs.{MixedGraph}
-use Rattle.mixed_graph.specs.Shown.{graph_of}
 use Rattle.mixed_graph.specs.declared.sets.VSet.{VSet}
+use Rattle.mixed_graph.specs.Vocabulary.{has, MixedGraph, graph_of, one}
 use Rattle.mixed_graph.proofs.Masks.{has-pow}
-use Rattle.m_separation.specs.Walks.{IsOpenWalk, IsPath}
+use Rattle.m_separation.specs.Vocabulary.{IsOpenWalk, IsPath}
 use Rattle.do_derivation.proofs.TermSets.{apart_back}
-use Rattle.targets.specs.Targets.{Lists, AreSets}
-use Rattle.mixed_graph.specs.Masks.{one}
+use Rattle.targets.specs.Vocabulary.{Lists, AreSets}
 use Rattle.adjustment.specs.declared.criteria.AdjFault.{AdjFault}
 use Rattle.adjustment.specs.declared.criteria.AdjFault.TheVariants.{Forbidden, Unblocked}
-use Rattle.adjustment.specs.Criteria.{IsBackDoorSet}
-use Rattle.adjustment.specs.Faults.{IsAdjustmentFault, IsBackDoorFault, steps_of}
-use Rattle.minimal_sets.specs.MinimalSets.{IsMinimalSet}
+use Rattle.adjustment.specs.Vocabulary.{IsBackDoorSet, IsAdjustmentFault, IsBackDoorFault, steps_of}
+use Rattle.minimal_sets.specs.Vocabulary.{IsMinimalSet}
 use Rattle.replies.specs.declared.outcome.Outcome.{Outcome}
 use Rattle.replies.specs.declared.outcome.Outcome.TheVariants.{Yes, No, Graph}
-use Rattle.diagram.specs.declared.diagram.Diagram.{Diagram}
-use Rattle.diagram.specs.Sets.{Names}
-use Rattle.diagram.proofs.OneDiagram.{AreSameDiagrams, same_query_lists}
 use Rattle.replies.specs.declared.format.Format.{Format}
+use Rattle.replies.specs.Vocabulary.{IsAnswerOn}
+use Rattle.diagram.specs.declared.diagram.Diagram.{Diagram}
+use Rattle.diagram.specs.Vocabulary.{Names}
+use Rattle.diagram.proofs.OneDiagram.{AreSameDiagrams, same_query_lists}
 use Rattle.replies.specs.Told.{Told}
-use Rattle.replies.specs.OneOutcome.{OneOutcome, IsAnswerOn}
+use Rattle.replies.specs.OneOutcome.{OneOutcome}
 use Rattle.replies.proofs.OneOutcome.{IsOneOf, one_of_three, one_for_diagrams}
 use Rattle.replies.proofs.OneTarget.{sets_refused, same_three}
 use Rattle.adjust_command.specs.Queries.{Query, by_set, by_back_door, listing}

@@ -1,8 +1,7 @@
 -- Whether a set is one vertex.
 use Rattle.std.proofs.Common.{◌≡◌, ℕ, ◌==◌, true, sym, subst, ap, ◌∙◌, arith}
-use Rattle.mixed_graph.specs.Bits.{has}
+use Rattle.mixed_graph.specs.Vocabulary.{has, one}
 use Rattle.mixed_graph.proofs.Masks.{has-pow, same_from_has}
-use Rattle.mixed_graph.specs.Masks.{one}
 
 -- the mask of one vertex
 pub is_one : (m v : ℕ) → ((u : ℕ) → has m u ≡ (u == v)) → m ≡ one v

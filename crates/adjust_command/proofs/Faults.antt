@@ -1,10 +1,10 @@
 -- From an answer for sets, or their fault, to that for the lists that name them.
 use Rattle.std.proofs.Common.{Result, Ok, Err, IfOk, IfErr, inl, inr}
-use Rattle.mixed_graph.specs.Graphs.{MixedGraph}
+use Rattle.mixed_graph.specs.Vocabulary.{MixedGraph}
 use Rattle.targets.specs.declared.query.Sets.{Sets}
 use Rattle.targets.specs.declared.fault.TargetFault.{TargetFault}
 use Rattle.targets.specs.declared.fault.TargetFault.TheVariants.{NoMemory}
-use Rattle.targets.specs.Targets.{Lists, AreSets, IsTargetFault, OrMemory}
+use Rattle.targets.specs.Vocabulary.{Lists, AreSets, IsTargetFault, OrMemory}
 use Rattle.adjust_command.specs.Queries.{Query}
 use Rattle.adjust_command.specs.Right.{Decides, IsNotDecided, IsForLists, IsAdjustFault}
 use Rattle.adjust_command.specs.declared.answer.Answer.{Answer}

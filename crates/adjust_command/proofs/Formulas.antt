@@ -1,15 +1,13 @@
 -- The adjustment formula of three disjoint sets has no fault.
 use Rattle.std.proofs.Common.{◌≡◌, ℕ, ◌<◌, Bool, true, false, cond, not, None, Ok, refl, sym, ap, ◌∙◌, arith}
-use Rattle.mixed_graph.specs.Bits.{has}
+use Rattle.mixed_graph.specs.Vocabulary.{has, union, is_empty, is_below}
 use Rattle.finite_models.proofs.Bools.{and_first, and_second}
-use Rattle.do_rules.specs.Rules.{AreThreeSets}
-use Rattle.mixed_graph.specs.Masks.{union, is_empty, is_below}
-use Rattle.prob_expr.specs.TermSets.{are_term_sets}
-use Rattle.prob_expr.specs.Tree.{Tree, prob, sum, product, no_trees, tree}
-use Rattle.prob_expr.specs.Check.{◌>>=◌, next_node, check_tree, check_trees, fault_of, fault_in}
+use Rattle.do_rules.specs.Vocabulary.{AreThreeSets}
+use Rattle.prob_expr.specs.Vocabulary.{are_term_sets, no_trees, ◌>>=◌, next_node, check_tree, check_trees, fault_of, fault_in}
+use Rattle.prob_expr.specs.Tree.{Tree, prob, sum, product, tree}
 use Rattle.mixed_graph.proofs.MaskLaws.{has_none, below_from, filled_from}
 use Rattle.do_derivation.proofs.TermSets.{IsTerm, apart_back, join_cases, join_false, term_test}
-use Rattle.adjustment.specs.Formulas.{adjusted_sum, adjustment_formula}
+use Rattle.adjustment.specs.Vocabulary.{adjusted_sum, adjustment_formula}
 
 not_so : (p : Bool) → not p ≡ true → p ≡ false
 not_so true e = sym e

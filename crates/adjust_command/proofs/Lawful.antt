@@ -2,14 +2,13 @@
 use Rattle.std.proofs.Common.{◌≡◌, ℕ, List, sym, ap, ◌∙◌}
 use Rattle.std.specs.Prelude.{codes, is_some}
 use Rattle.std.proofs.lemmas.Option.{same_Some}
-use Rattle.command_words.specs.Form.{Use, value_of, has_flag}
+use Rattle.command_words.specs.Vocabulary.{Use, value_of, has_flag}
 use Rattle.command_words.proofs.OneValue.{one_listed, one_number_or}
-use Rattle.diagram.specs.Sets.{Names}
+use Rattle.diagram.specs.Vocabulary.{Names}
 use Rattle.adjust_command.specs.Queries.{query_for}
-use Rattle.replies.specs.Outcomes.{IsAnswered}
+use Rattle.replies.specs.Vocabulary.{IsAnswered}
 use Rattle.replies.proofs.Commands.{IsLawful, lawful_on_file}
-use Rattle.told.specs.Forms.{plain_form}
-use Rattle.told.specs.Refusals.{target_refusal}
+use Rattle.told.specs.Vocabulary.{plain_form, target_refusal}
 use Rattle.told.proofs.ToldOnce.{told_answered}
 use Rattle.adjust_command.specs.Requests.{Request, IsRequest}
 use Rattle.adjust_command.specs.Command.{adjust_command}

@@ -2,19 +2,18 @@
 use Rattle.std.proofs.Common.{◌≡◌, ℕ, List, ◌++◌, length, Result, Ok, Err, IfOk, inl, inr, sym, ap, subst, ◌∙◌}
 use Rattle.std.specs.Prelude.{OnOk}
 use Rattle.std.proofs.lemmas.List.{append_assoc}
-use Rattle.mixed_graph.specs.Bits.{has}
-use Rattle.do_rules.specs.Rules.{AreThreeSets}
+use Rattle.mixed_graph.specs.Vocabulary.{has}
+use Rattle.do_rules.specs.Vocabulary.{AreThreeSets}
 use Rattle.targets.specs.declared.fault.TargetFault.{TargetFault}
 use Rattle.targets.specs.declared.fault.TargetFault.TheVariants.{NoMemory}
-use Rattle.targets.specs.Targets.{Lists, AreSets, IsTargetFault, OrMemory}
+use Rattle.targets.specs.Vocabulary.{Lists, AreSets, IsTargetFault, OrMemory}
 use Rattle.targets.proofs.Disjoint.{disjoint_sets}
 use Rattle.targets.proofs.Faults.{not_memory}
 use Rattle.replies.specs.declared.outcome.Outcome.{Outcome}
 use Rattle.replies.specs.declared.outcome.Outcome.TheVariants.{Graph}
 use Rattle.replies.specs.declared.outcome.Reply.{Reply}
-use Rattle.replies.specs.Refusals.{target_told}
-use Rattle.replies.specs.Told.{Told, told_of}
-use Rattle.replies.specs.Observed.{IsTargetRefusal, IsOfThreeSets, AnswerForSets}
+use Rattle.replies.specs.Vocabulary.{target_told, told_of, IsTargetRefusal, IsOfThreeSets, AnswerForSets}
+use Rattle.replies.specs.Told.{Told}
 
 -- the sets of a query are those that the criteria ask for
 pub three_sets : (l : Lists) (n x y given : ℕ) → length l.observed ≡ n → AreSets l x y given → AreThreeSets n (has x) (has y) (has given)

@@ -1,15 +1,13 @@
 -- Where there is no minimal set, no set is admissible.
 use Rattle.std.proofs.Common.{◌≡◌, ℕ, ◌≤◌, Bool, true, false, List, [], ◌∷◌, length, arith, refl}
 use Rattle.std.proofs.lemmas.Bool.{false_from_ne_true}
-use Rattle.mixed_graph.specs.Graphs.{MixedGraph}
 use Rattle.mixed_graph.specs.declared.sets.VSet.{VSet}
-use Rattle.do_rules.specs.Rules.{AreThreeSets}
+use Rattle.mixed_graph.specs.Vocabulary.{MixedGraph}
+use Rattle.do_rules.specs.Vocabulary.{AreThreeSets}
 use Rattle.do_derivation.proofs.TermSets.{apart_back}
-use Rattle.adjustment.specs.Criteria.{IsAdmissible}
-use Rattle.minimal_sets.specs.Separators.{IsPart}
-use Rattle.minimal_sets.specs.Listings.{IsListingOf}
+use Rattle.adjustment.specs.Vocabulary.{IsAdmissible}
+use Rattle.minimal_sets.specs.Vocabulary.{IsPart, IsListingOf, IsMinimalSet}
 use Rattle.minimal_sets.proofs.Smallest.{none_at_all}
-use Rattle.minimal_sets.specs.MinimalSets.{IsMinimalSet}
 
 module _ (g : MixedGraph) (x y : ℕ → Bool) where
   -- a part of a set is disjoint from what the set is disjoint from

@@ -2,11 +2,9 @@
 use Rattle.std.proofs.Common.{append-nil, ◌≡◌, ◌==◌, ◌||◌, ℕ, Bool, true, List, [], ◌∷◌, ◌++◌, ◌⊎◌, inl, inr, map, refl, sym, ap, ◌∙◌, eqb-true}
 use Rattle.std.proofs.lemmas.Bool.{or_cases}
 use Rattle.std.proofs.lemmas.List.{append_assoc}
-use Rattle.mixed_graph.specs.Bits.{has, members_below}
-use Rattle.mixed_graph.specs.Names.{name_of}
-use Rattle.answer_text.specs.Printing.{is_plain, printed}
+use Rattle.mixed_graph.specs.Vocabulary.{has, members_below, name_of}
 use Rattle.answer_text.specs.declared.signs.Notation.TheVariants.{Plain}
-use Rattle.answer_text.specs.Texts.{comma_before, names_in, member_names}
+use Rattle.answer_text.specs.Vocabulary.{is_plain, printed, comma_before, names_in, member_names}
 use Rattle.adjust_command.specs.Bare.{AreBare}
 
 names_first : (names : List (List ℕ)) (v : ℕ) (vs : List ℕ)

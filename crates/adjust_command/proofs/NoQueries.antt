@@ -1,7 +1,6 @@
 -- Where nothing is asked for a set that is listed, nothing is asked for any list of the same value.
 use Rattle.std.proofs.Common.{◌≡◌, ℕ, Bool, true, false, List, Option, Some, None}
-use Rattle.command_words.specs.Form.{Text}
-use Rattle.command_words.specs.Values.{IsListed}
+use Rattle.command_words.specs.Vocabulary.{Text, IsListed}
 use Rattle.adjust_command.specs.Queries.{Query, query_for}
 
 pub no_query : (value : Option Text) (set other : Option (List (List ℕ))) (b c : Bool) (most number : ℕ) (q : Query) → IsListed value set

@@ -1,14 +1,13 @@
 -- Which outcomes the command answers.
 use Rattle.std.proofs.Common.{ℕ, List}
-use Rattle.mixed_graph.specs.Graphs.{MixedGraph}
-use Rattle.mixed_graph.specs.Shown.{graph_of}
+use Rattle.mixed_graph.specs.Vocabulary.{MixedGraph, graph_of}
 use Rattle.diagram.specs.declared.diagram.Diagram.{Diagram}
-use Rattle.diagram.specs.Sets.{Names}
+use Rattle.diagram.specs.Vocabulary.{Names}
 use Rattle.replies.specs.declared.outcome.Outcome.{Outcome}
 use Rattle.replies.specs.declared.outcome.Outcome.TheVariants.{Words, Read, Write, Memory}
 use Rattle.replies.specs.declared.format.Format.{Format}
+use Rattle.replies.specs.Vocabulary.{IsAnswered}
 use Rattle.replies.specs.Told.{Told}
-use Rattle.replies.specs.Outcomes.{IsAnswered}
 use Rattle.replies.proofs.Outcomes.{answered}
 use Rattle.adjust_command.specs.Queries.{Query, by_set, by_back_door, listing}
 use Rattle.adjust_command.specs.Answers.{texts_of, SetAnswer, BackDoorAnswer, ListingAnswer, SetsAnswer, adjust_lists, IsAnswerOfSets, AdjustAnswer}

@@ -1,12 +1,12 @@
 -- From what a criterion says of a set to the answer.
 use Rattle.std.proofs.Common.{◌≡◌, ℕ, Bool, true, false, Result, Ok, Err, IfOk, sym, subst}
-use Rattle.mixed_graph.specs.Graphs.{MixedGraph}
+use Rattle.mixed_graph.specs.Vocabulary.{MixedGraph}
 use Rattle.targets.specs.declared.fault.TargetFault.TheVariants.{NotOneX}
 use Rattle.adjustment.specs.declared.criteria.AdjFault.{AdjFault}
 use Rattle.replies.specs.declared.outcome.Reply.{Reply}
-use Rattle.replies.specs.Refusals.{target_told}
-use Rattle.replies.specs.Told.{Told, told_of, answer_of}
 use Rattle.replies.specs.declared.outcome.Outcome.TheVariants.{Yes, No, Graph}
+use Rattle.replies.specs.Vocabulary.{target_told, told_of, answer_of}
+use Rattle.replies.specs.Told.{Told}
 use Rattle.adjust_command.specs.declared.criteria.Verdict.TheVariants.{Meets, Breaks, NotOne}
 use Rattle.adjust_command.specs.Answers.{SetTexts, BackDoorAnswer, CriterionAnswer}
 use Rattle.adjust_command.specs.Verdicts.{IsVerdict}

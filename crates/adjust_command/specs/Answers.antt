@@ -1,32 +1,23 @@
 -- The answer of `adjust`: whether a set may be adjusted for to compute the effect of x on y, or the minimal such sets, in the observed graph of a diagram.
 use Rattle.std.specs.Prelude.{ℕ, ◌≡◌, ◌↔◌, Bool, true, false, List, [], All, Some, codes}
-use Rattle.mixed_graph.specs.Bits.{has}
-use Rattle.mixed_graph.specs.Graphs.{MixedGraph}
-use Rattle.mixed_graph.specs.Shown.{graph_of}
 use Rattle.mixed_graph.specs.declared.sets.VSet.{VSet}
+use Rattle.mixed_graph.specs.Vocabulary.{has, MixedGraph, graph_of, one}
 use Rattle.dag_reader.specs.declared.graph.ReadGraph.{ReadGraph}
-use Rattle.do_rules.specs.Rules.{AreThreeSets}
+use Rattle.do_rules.specs.Vocabulary.{AreThreeSets}
 use Rattle.targets.specs.declared.fault.TargetFault.TheVariants.{NotOneX}
-use Rattle.targets.specs.Targets.{Lists}
-use Rattle.answer_json.specs.Progress.{json_line}
+use Rattle.targets.specs.Vocabulary.{Lists}
+use Rattle.answer_json.specs.Vocabulary.{json_line}
 use Rattle.replies.specs.declared.format.Format.{Format}
-use Rattle.replies.specs.Refusals.{target_told}
-use Rattle.replies.specs.Told.{Told, answer_of, text_in}
 use Rattle.replies.specs.declared.outcome.Outcome.{Outcome}
 use Rattle.replies.specs.declared.outcome.Outcome.TheVariants.{Yes, No, Graph}
+use Rattle.replies.specs.Vocabulary.{target_told, answer_of, text_in, IsOfThreeSets, AnswerForSets}
+use Rattle.replies.specs.Told.{Told}
 use Rattle.diagram.specs.declared.diagram.Diagram.{Diagram}
-use Rattle.diagram.specs.Sets.{Names, query_lists}
-use Rattle.replies.specs.Observed.{IsOfThreeSets, AnswerForSets}
-use Rattle.mixed_graph.specs.Masks.{one}
-use Rattle.prob_expr.specs.Failing.{FailsSomewhere}
-use Rattle.prob_expr.specs.Values.{EqualsEffect}
+use Rattle.diagram.specs.Vocabulary.{Names, query_lists}
+use Rattle.prob_expr.specs.Vocabulary.{FailsSomewhere, EqualsEffect, effect_on}
 use Rattle.adjustment.specs.declared.criteria.AdjFault.{AdjFault}
-use Rattle.adjustment.specs.Criteria.{IsAdmissible, IsBackDoorSet}
-use Rattle.adjustment.specs.Faults.{IsAdjustmentFault, IsBackDoorFault}
-use Rattle.prob_expr.specs.Tree.{effect_on}
-use Rattle.adjustment.specs.Formulas.{adjustment_formula}
-use Rattle.minimal_sets.specs.Listings.{IsListingOf}
-use Rattle.minimal_sets.specs.MinimalSets.{IsMinimalSet, IsMinimalAdjustment}
+use Rattle.adjustment.specs.Vocabulary.{IsAdmissible, IsBackDoorSet, IsAdjustmentFault, IsBackDoorFault, adjustment_formula}
+use Rattle.minimal_sets.specs.Vocabulary.{IsListingOf, IsMinimalSet, IsMinimalAdjustment}
 use Rattle.adjust_command.specs.Queries.{Query, by_set, by_back_door, listing}
 use Rattle.adjust_command.specs.Lines.{admissible_text, not_admissible_text, listing_text}
 use Rattle.adjust_command.specs.Objects.{admissible_json, not_admissible_json, sets_json, none_json}

@@ -1,7 +1,7 @@
 -- Vertices whose names are printed bare. Words for code inside this crate.
 use Rattle.std.specs.Prelude.{ℕ, ◌≡◌, Bool, List, IsTrue}
-use Rattle.mixed_graph.specs.Names.{name_of}
-use Rattle.answer_text.specs.Printing.{printed}
+use Rattle.mixed_graph.specs.Vocabulary.{name_of}
+use Rattle.answer_text.specs.Vocabulary.{printed}
 
 -- each of them is printed as its name is
 abbrev pub AreBare : List (List ℕ) → (ℕ → Bool) → Type 0

@@ -1,7 +1,6 @@
 -- The command `adjust`.
-use Rattle.replies.specs.Command.{CommandForm}
-use Rattle.told.specs.Commands.{told_on_file}
-use Rattle.told.specs.Forms.{plain_form}
+use Rattle.replies.specs.Vocabulary.{CommandForm}
+use Rattle.told.specs.Vocabulary.{told_on_file, plain_form}
 use Rattle.adjust_command.specs.Requests.{Request, IsRequest}
 use Rattle.adjust_command.specs.Right.{IsAdjustAnswer}
 use Rattle.adjust_command.specs.Telling.{adjust_telling}

@@ -8,3 +8,4 @@ pub mod Telling
 pub mod Bare
 pub mod Requests
 pub mod Command
+pub mod Vocabulary

@@ -1,16 +1,15 @@
 -- The printed answers of `adjust`.
 use Rattle.std.specs.Prelude.{ℕ, Bool, true, false, List, [], ◌∷◌, ◌++◌, codes}
-use Rattle.mixed_graph.specs.Names.{name_of}
 use Rattle.mixed_graph.specs.declared.sets.VSet.{VSet}
-use Rattle.answer_text.specs.Printing.{printed}
-use Rattle.answer_text.specs.Texts.{set_text}
-use Rattle.replies.specs.Lines.{open_text}
+use Rattle.mixed_graph.specs.Vocabulary.{name_of}
+use Rattle.answer_text.specs.Vocabulary.{printed, set_text}
+use Rattle.replies.specs.Vocabulary.{open_text}
 use Rattle.adjustment.specs.declared.criteria.AdjFault.{AdjFault}
 use Rattle.adjustment.specs.declared.criteria.AdjFault.TheVariants.{Forbidden, Unblocked}
-use Rattle.prob_expr.specs.Tree.{effect_on}
-use Rattle.adjustment.specs.Formulas.{adjustment_formula}
+use Rattle.adjustment.specs.Vocabulary.{adjustment_formula}
+use Rattle.prob_expr.specs.Vocabulary.{effect_on}
 use Rattle.answer_text.specs.declared.signs.Notation.TheVariants as notations
-use Rattle.identify_text.specs.Answers.{answer_in}
+use Rattle.identify_text.specs.Vocabulary.{answer_in}
 
 -- a set on a line of its own
 abbrev pub set_line : List (List ℕ) → ℕ → List ℕ

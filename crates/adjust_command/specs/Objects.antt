@@ -2,14 +2,13 @@
 use Rattle.std.specs.Prelude.{ℕ, Bool, false, List, [], ◌∷◌, ◌++◌, map, codes}
 use Rattle.mixed_graph.specs.declared.sets.VSet.{VSet}
 use Rattle.json.specs.Json.{Json, string, boolean}
-use Rattle.answer_json.specs.Progress.{object_of}
-use Rattle.answer_json.specs.Values.{vertex_json, set_json, path_json}
+use Rattle.answer_json.specs.Vocabulary.{object_of, vertex_json, set_json, path_json}
 use Rattle.answer_json.specs.Values as values
 use Rattle.adjustment.specs.declared.criteria.AdjFault.{AdjFault}
 use Rattle.adjustment.specs.declared.criteria.AdjFault.TheVariants.{Forbidden, Unblocked}
-use Rattle.adjustment.specs.Formulas.{adjustment_formula}
-use Rattle.prob_expr.specs.Tree.{effect_on}
-use Rattle.effect_answers.specs.Objects.{formula_members}
+use Rattle.adjustment.specs.Vocabulary.{adjustment_formula}
+use Rattle.prob_expr.specs.Vocabulary.{effect_on}
+use Rattle.effect_answers.specs.Vocabulary.{formula_members}
 
 -- the members up to the effect of x on y, behind the answer in a word
 abbrev pub begun_members : (word : List ℕ) → List (List ℕ) → (x y : ℕ) → List (List ℕ × Json)

@@ -1,6 +1,6 @@
 -- What `adjust` is asked.
 use Rattle.std.specs.Prelude.{ℕ, ◌≡◌, ◌≤◌, Bool, List, Option, Some, None, if◌then◌else◌}
-use Rattle.command_words.specs.ListViews.{names_in}
+use Rattle.command_words.specs.Vocabulary.{names_in}
 use Rattle.adjust_command.specs.declared.query.Query.{Query as CodeQuery}
 use Rattle.adjust_command.specs.declared.query.Query.TheVariants as query
 

@@ -1,11 +1,10 @@
 -- What `adjust` is asked for.
 use Rattle.std.specs.Prelude.{ℕ, ◌≡◌, List, Some, [], ◌∷◌, codes, option_map, is_some}
-use Rattle.command_words.specs.Form.{Text, Row, Use, word_of, value_of, has_flag}
+use Rattle.command_words.specs.Vocabulary.{Text, Row, Use, word_of, value_of, has_flag, names_in}
 use Rattle.command_words.specs.Values as values
-use Rattle.diagram.specs.Sets.{Names}
-use Rattle.command_words.specs.ListViews.{names_in}
+use Rattle.diagram.specs.Vocabulary.{Names}
 use Rattle.replies.specs.declared.format.Format.{Format}
-use Rattle.replies.specs.Told.{format_of}
+use Rattle.replies.specs.Vocabulary.{format_of}
 use Rattle.adjust_command.specs.Queries.{Query, query_of, query_for}
 use Rattle.adjust_command.specs.declared.request.Request.{Request as CodeRequest}
 

@@ -1,23 +1,17 @@
 -- Which answers of `adjust` are right: whether a set may be adjusted for to compute the effect of x on y, or the minimal such sets, in the observed graph.
 use Rattle.std.specs.Prelude.{ℕ, ◌≡◌, ◌↔◌, ◌⊎◌, Bool, true, false, List, [], All, Result, Ok, Err}
-use Rattle.mixed_graph.specs.Bits.{has}
-use Rattle.mixed_graph.specs.Graphs.{MixedGraph}
-use Rattle.mixed_graph.specs.Masks.{one}
-use Rattle.mixed_graph.specs.Shown.{graph_of}
 use Rattle.mixed_graph.specs.declared.sets.VSet.{VSet}
-use Rattle.do_rules.specs.Rules.{AreThreeSets}
+use Rattle.mixed_graph.specs.Vocabulary.{has, MixedGraph, one, graph_of}
+use Rattle.do_rules.specs.Vocabulary.{AreThreeSets}
 use Rattle.targets.specs.declared.query.Sets.{Sets}
 use Rattle.targets.specs.declared.fault.TargetFault.{TargetFault}
 use Rattle.targets.specs.declared.fault.TargetFault.TheVariants.{NotOneX}
-use Rattle.targets.specs.Targets.{Lists, AreSets, IsTargetFault}
-use Rattle.prob_expr.specs.Tree.{effect_on}
-use Rattle.prob_expr.specs.Values.{EqualsEffect}
-use Rattle.adjustment.specs.Criteria.{IsAdmissible}
-use Rattle.adjustment.specs.Formulas.{adjustment_formula}
-use Rattle.minimal_sets.specs.Listings.{IsListingOf}
-use Rattle.minimal_sets.specs.MinimalSets.{IsMinimalSet, IsMinimalAdjustment}
+use Rattle.targets.specs.Vocabulary.{Lists, AreSets, IsTargetFault}
+use Rattle.prob_expr.specs.Vocabulary.{effect_on, EqualsEffect}
+use Rattle.adjustment.specs.Vocabulary.{IsAdmissible, adjustment_formula}
+use Rattle.minimal_sets.specs.Vocabulary.{IsListingOf, IsMinimalSet, IsMinimalAdjustment}
 use Rattle.diagram.specs.declared.diagram.Diagram.{Diagram}
-use Rattle.diagram.specs.Sets.{Names}
+use Rattle.diagram.specs.Vocabulary.{Names}
 use Rattle.adjust_command.specs.Answers.{adjust_lists}
 use Rattle.adjust_command.specs.Queries.{Query, by_set, by_back_door, listing}
 use Rattle.adjust_command.specs.Verdicts.{IsVerdict}

@@ -1,14 +1,8 @@
 -- What a criterion says of a set.
 use Rattle.std.specs.Prelude.{ℕ, ◌≡◌, Bool, true, false}
-use Rattle.mixed_graph.specs.Bits.{has}
-use Rattle.mixed_graph.specs.Graphs.{MixedGraph}
-use Rattle.mixed_graph.specs.Masks.{one}
-use Rattle.prob_expr.specs.Failing.{FailsSomewhere}
-use Rattle.prob_expr.specs.Values.{EqualsEffect}
-use Rattle.adjustment.specs.Criteria.{IsAdmissible, IsBackDoorSet}
-use Rattle.adjustment.specs.Faults.{IsAdjustmentFault, IsBackDoorFault}
-use Rattle.prob_expr.specs.Tree.{effect_on}
-use Rattle.adjustment.specs.Formulas.{adjustment_formula}
+use Rattle.mixed_graph.specs.Vocabulary.{has, MixedGraph, one}
+use Rattle.prob_expr.specs.Vocabulary.{FailsSomewhere, EqualsEffect, effect_on}
+use Rattle.adjustment.specs.Vocabulary.{IsAdmissible, IsBackDoorSet, IsAdjustmentFault, IsBackDoorFault, adjustment_formula}
 use Rattle.adjust_command.specs.declared.criteria.Verdict.{Verdict}
 use Rattle.adjust_command.specs.declared.criteria.Verdict.TheVariants.{Meets, Breaks, NotOne}
 

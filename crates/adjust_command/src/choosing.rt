@@ -1,9 +1,7 @@
 //! Which query the values of the words are.
 
 ghost use Rattle.std.specs.Prelude.{◌≡◌, ◌≤◌, List, IfSome, is_some, codes, option_map};
-ghost use Rattle.command_words.specs.Form.{Use, value_of};
-ghost use Rattle.command_words.specs.Gives.{HoldsCall};
-ghost use Rattle.command_words.specs.ListViews.{names_in};
+ghost use Rattle.command_words.specs.Vocabulary.{Use, value_of, HoldsCall, names_in};
 ghost use Rattle.adjust_command.specs.Queries.{query_of, query_for, HasRange};
 ghost use Rattle.adjust_command.specs.Requests.{adjust_row};
 

@@ -1,9 +1,8 @@
 //! What either criterion says of the set that is asked about.
 
 ghost use Rattle.std.specs.Prelude.{◌<◌, true, IfOk, IfErr};
-ghost use Rattle.mixed_graph.specs.Bits.{has};
-ghost use Rattle.mixed_graph.specs.Shown.{graph_of};
-ghost use Rattle.do_rules.specs.Rules.{AreThreeSets};
+ghost use Rattle.mixed_graph.specs.Vocabulary.{has, graph_of};
+ghost use Rattle.do_rules.specs.Vocabulary.{AreThreeSets};
 ghost use Rattle.adjust_command.specs.Right.{Judges, IsNotJudged};
 ghost use Rattle.adjust_command.specs.Verdicts.{IsVerdict};
 

@@ -1,7 +1,7 @@
 //! The members of the objects of `adjust`.
 
 ghost use Rattle.std.specs.Prelude.{◌≡◌, OnOk};
-ghost use Rattle.answer_json.specs.Progress.{with_member, with_members};
+ghost use Rattle.answer_json.specs.Vocabulary.{with_member, with_members};
 ghost use Rattle.adjust_command.specs.Objects.{begun_members, listing_members, admissible_members, not_admissible_members, fault_member};
 
 use adjustment::{AdjFault, formula_for};

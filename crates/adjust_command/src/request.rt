@@ -1,8 +1,7 @@
 //! What `adjust` is asked for, read from its words.
 
 ghost use Rattle.std.specs.Prelude.{List, IfOk, IsErrOf};
-ghost use Rattle.command_words.specs.Form.{Use};
-ghost use Rattle.command_words.specs.Gives.{HoldsCall};
+ghost use Rattle.command_words.specs.Vocabulary.{Use, HoldsCall};
 ghost use Rattle.adjust_command.specs.Queries.{query_of, HasRange};
 
 use crate::choosing::{has_most, query_from};

@@ -1,10 +1,8 @@
 //! The lines of a listing. Each name is asked once whether it is printed bare, and not in each set again.
 
 ghost use Rattle.std.specs.Prelude.{◌≡◌, ◌++◌, ◌<◌, IfOk, OnOk};
-ghost use Rattle.mixed_graph.specs.Bits.{has};
-ghost use Rattle.mixed_graph.specs.Names.{name_of};
-ghost use Rattle.answer_text.specs.Printing.{printed};
-ghost use Rattle.answer_text.specs.Texts.{comma_before, names_in, member_names, set_text};
+ghost use Rattle.mixed_graph.specs.Vocabulary.{has, name_of};
+ghost use Rattle.answer_text.specs.Vocabulary.{printed, comma_before, names_in, member_names, set_text};
 ghost use Rattle.answer_text.specs.declared.signs.Notation.TheVariants as notations;
 ghost use Rattle.adjust_command.specs.Lines.{set_line, set_lines, listing_text};
 ghost use Rattle.adjust_command.specs.Bare.{AreBare};

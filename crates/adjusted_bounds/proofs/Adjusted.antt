@@ -4,22 +4,20 @@ use Rattle.std.proofs.Common.{refl, sym, ap, ap₂, ◌∙◌, subst, IsTrue, ar
 use Rattle.std.proofs.Math.Nat.{eq_of_mul-eq-mul_left}
 use Rattle.std.proofs.lemmas.Bool.{and_parts, and_from, or_left, or_right}
 use mathlib.Core.Path.{fun_ext}
-use Rattle.mixed_graph.specs.Graphs.{MixedGraph, IsMixedGraph}
-use Rattle.m_separation.specs.Walks.{IsSeparated}
-use Rattle.fractions.specs.Fractions.{Fraction, over, IsEqual, mul}
+use Rattle.mixed_graph.specs.Vocabulary.{MixedGraph, IsMixedGraph}
+use Rattle.m_separation.specs.Vocabulary.{IsSeparated}
+use Rattle.fractions.specs.Vocabulary.{Fraction, over, IsEqual, mul}
 use Rattle.fractions.proofs.FractionLaws.{equal_refl}
-use Rattle.finite_models.specs.Sums.{sum_over, set_at}
-use Rattle.finite_models.specs.Models.{FiniteModel, Fits, IsAssignment, event_weight, intervene, weight_of, probability, total}
+use Rattle.finite_models.specs.Vocabulary.{sum_over, set_at, FiniteModel, Fits, IsAssignment, event_weight, intervene, weight_of, probability, total}
 use Rattle.finite_models.proofs.Bools.{either, not_both}
 use Rattle.finite_models.proofs.Following.{follows_of}
 use Rattle.finite_models.proofs.Ranks.{with_rank}
 use Rattle.finite_models.proofs.SumLaws.{set_at-other}
 use Rattle.finite_models.proofs.Tested.{Test, tested, stable}
 use Rattle.finite_models.proofs.Weights.{weight-none, weight_of-none}
-use Rattle.prob_expr.specs.Proportional.{AreProportional}
-use Rattle.prob_expr.specs.Values.{Weights, weights_of, add_over}
+use Rattle.prob_expr.specs.Vocabulary.{AreProportional, Weights, weights_of, add_over}
 use Rattle.prob_expr.proofs.Boxes.{assignment_set, IsStable, add_over_whole}
-use Rattle.adjustment.specs.Proper.{IsBetween}
+use Rattle.adjustment.specs.Vocabulary.{IsBetween}
 use Rattle.adjustment.proofs.Causal.{below_from, between_first}
 use Rattle.adjustment.proofs.FirstEdges.{cut_arrows, firsts}
 use Rattle.adjustment.proofs.Held.{hold_arrows, term_is, sum_is_effect}
@@ -28,9 +26,8 @@ use Rattle.adjustment.proofs.Walks.{IsClear}
 use Rattle.hidden_models.proofs.Totals.{total_positive}
 use Rattle.natural_bounds.specs.declared.ends.End.{End}
 use Rattle.natural_bounds.specs.declared.ends.End.TheVariants.{AtLeast, AtMost}
-use Rattle.natural_bounds.specs.Natural.{nothing}
-use Rattle.natural_bounds.specs.Orders.{IsAtMost, Bounds, trivial}
-use Rattle.natural_bounds.specs.Bounds.{Asked, fixed, joint, treated, share, stratum, condition}
+use Rattle.natural_bounds.specs.Vocabulary.{nothing, IsAtMost, trivial, Asked, fixed, joint, treated, share, stratum, condition}
+use Rattle.natural_bounds.specs.Orders.{Bounds}
 use Rattle.natural_bounds.proofs.Effects.{sum_over_sizes, positive_left}
 use Rattle.natural_bounds.proofs.Natural.{wider}
 use Rattle.natural_bounds.proofs.Orders.{positive-times, trivial_bottom, bounds_equal, add_over_bounds}

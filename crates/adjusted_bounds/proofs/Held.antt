@@ -1,8 +1,8 @@
 -- Held arrows change nothing of a set that isn't below them.
 use Rattle.std.proofs.Common.{ℕ, zero, suc, ◌≡◌, ◌<◌, Bool, true, false, cond, refl, sym, ap, ◌∙◌, ◌∷◌, [], arith}
 use Rattle.std.proofs.lemmas.Bool.{false_from_ne_true, cond-false}
-use Rattle.mixed_graph.specs.Graphs.{MixedGraph, IsMixedGraph, IsAncestor}
-use Rattle.finite_models.specs.Models.{FiniteModel, IsAssignment, solution, agree, event_weight, world_weight}
+use Rattle.mixed_graph.specs.Vocabulary.{MixedGraph, IsMixedGraph, IsAncestor}
+use Rattle.finite_models.specs.Vocabulary.{FiniteModel, IsAssignment, solution, agree, event_weight, world_weight}
 use Rattle.finite_models.proofs.Following.{Follows}
 use Rattle.finite_models.proofs.Solutions.{IsRanked, solution_is, agree_same}
 use Rattle.finite_models.proofs.SumLaws.{over-congr}

@@ -1,14 +1,13 @@
 -- Bounds by an admissible set (Shpitser, VanderWeele and Robins 2010; Manski 1990): the adjusted value where a stratum has records of the arm, and from
 -- 0 to the stratum's share where it has none.
 use Rattle.std.specs.Prelude.{ℕ, ◌≡◌, Bool, true, false, ◌||◌, ◌==◌, if◌then◌else◌, IsTrue}
-use Rattle.mixed_graph.specs.Graphs.{MixedGraph, IsMixedGraph}
-use Rattle.fractions.specs.Fractions.{Fraction, over, mul}
-use Rattle.do_rules.specs.Rules.{AreThreeSets}
-use Rattle.prob_expr.specs.Values.{Weights, add_over}
-use Rattle.adjustment.specs.Criteria.{IsAdmissible}
+use Rattle.mixed_graph.specs.Vocabulary.{MixedGraph, IsMixedGraph}
+use Rattle.fractions.specs.Vocabulary.{Fraction, over, mul}
+use Rattle.do_rules.specs.Vocabulary.{AreThreeSets}
+use Rattle.prob_expr.specs.Vocabulary.{Weights, add_over}
+use Rattle.adjustment.specs.Vocabulary.{IsAdmissible}
 use Rattle.natural_bounds.specs.declared.ends.End.{End}
-use Rattle.natural_bounds.specs.Orders.{trivial}
-use Rattle.natural_bounds.specs.Bounds.{Asked, joint, treated, share, BoundsEffect}
+use Rattle.natural_bounds.specs.Vocabulary.{trivial, Asked, joint, treated, share, BoundsEffect}
 
 -- the strata are those of an admissible set, without instruments and condition, and every vertex of the sets is used
 pub record IsAdjusted (g : MixedGraph) (used : ℕ → Bool) (q : Asked) : Type 0 where

@@ -1,1 +1,2 @@
 pub mod Adjusted
+pub mod Vocabulary

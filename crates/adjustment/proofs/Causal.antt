@@ -1,12 +1,11 @@
 -- The vertices on proper causal paths, by directed paths that don't come back to x.
 use Rattle.std.proofs.Common.{ℕ, ◌≡◌, ◌<◌, Bool, true, false, not, refl, sym, ◌&&◌, inl, inr, List, [], ◌∷◌, ◌++◌, IsTrue, subst}
 use Rattle.std.proofs.lemmas.Bool.{and_parts, and_from, not-true, not_from_false}
-use Rattle.mixed_graph.specs.Graphs.{MixedGraph, IsMixedGraph, IsDirectedPath, IsAncestor, IsDescendant}
-use Rattle.mixed_graph.specs.Sets.{Within}
+use Rattle.mixed_graph.specs.Vocabulary.{MixedGraph, IsMixedGraph, IsDirectedPath, IsAncestor, IsDescendant, Within}
 use Rattle.mixed_graph.proofs.Paths.{end_below}
 use Rattle.m_separation.specs.declared.marks.Mark.TheVariants.{Out}
-use Rattle.m_separation.specs.Walks.{Step, IsJoined, IsWalk, last, Avoids, IsPath}
-use Rattle.do_rules.specs.Cuts.{cut_into}
+use Rattle.m_separation.specs.Vocabulary.{Step, IsJoined, IsWalk, last, Avoids, IsPath}
+use Rattle.do_rules.specs.Vocabulary.{cut_into}
 use Rattle.adjustment.specs.Proper.{AreOutside, IsCausal, IsOn, IsProperPath, IsBetween}
 
 -- the walk forwards along a directed path

@@ -1,24 +1,20 @@
 -- The adjustment formula is the effect.
 use Rattle.std.proofs.Common.{ℕ, zero, suc, ◌*◌, ◌≡◌, ◌<◌, ◌≤◌, ◌↔◌, ◌==◌, Bool, true, false, cond, refl, sym, ap, ◌∙◌, ◌||◌, IsTrue, subst, arith, eqb-true}
 use Rattle.std.proofs.lemmas.Bool.{and_parts, and_from}
-use Rattle.mixed_graph.specs.Bits.{has}
-use Rattle.mixed_graph.specs.Graphs.{MixedGraph, IsMixedGraph, IsAncestor, IsDescendant}
+use Rattle.mixed_graph.specs.Vocabulary.{has, MixedGraph, IsMixedGraph, IsAncestor, IsDescendant, union, one, is_empty}
 use Rattle.mixed_graph.proofs.Masks.{has-zero, has-pow}
-use Rattle.m_separation.specs.Walks.{IsSeparated}
-use Rattle.do_rules.specs.Cuts.{cut_into, cut_out}
-use Rattle.fractions.specs.Fractions.{Fraction, over, IsEqual}
-use Rattle.finite_models.specs.Sums.{sum_over, set_at}
-use Rattle.finite_models.specs.Models.{FiniteModel, Fits, IsAssignment, IsPositiveModel, event_weight, weight_of, total}
+use Rattle.m_separation.specs.Vocabulary.{IsSeparated}
+use Rattle.do_rules.specs.Vocabulary.{cut_into, cut_out, AreThreeSets}
+use Rattle.fractions.specs.Vocabulary.{Fraction, over, IsEqual}
+use Rattle.finite_models.specs.Vocabulary.{sum_over, set_at, FiniteModel, Fits, IsAssignment, IsPositiveModel, event_weight, weight_of, total}
 use Rattle.finite_models.proofs.Bools.{not_both}
 use Rattle.finite_models.proofs.Following.{follows_of}
 use Rattle.finite_models.proofs.Ranks.{with_rank}
 use Rattle.finite_models.proofs.SumLaws.{along, set_at-other}
 use Rattle.finite_models.proofs.Tested.{Test, tested, stable}
 use Rattle.finite_models.proofs.Weights.{weight-none}
-use Rattle.do_rules.specs.Rules.{AreThreeSets}
-use Rattle.mixed_graph.specs.Masks.{union, one, is_empty}
-use Rattle.prob_expr.specs.Tree.{prob, product, tree, no_trees, effect_on}
-use Rattle.prob_expr.specs.Values.{weights_of, value, value_of, effect, EqualsEffect}
+use Rattle.prob_expr.specs.Tree.{prob, product, tree}
+use Rattle.prob_expr.specs.Vocabulary.{no_trees, effect_on, weights_of, value, value_of, effect, EqualsEffect}
 use Rattle.prob_expr.proofs.Boxes.{assignment_set, add_over_whole}
 use Rattle.prob_expr.proofs.ValueLaws.{value_positive, formula_positive, term_positive}
 use Rattle.adjustment.specs.Proper.{IsBetween}

@@ -1,19 +1,16 @@
 -- Where one stratum exceeds the effect, the formula isn't the effect.
 use Rattle.std.proofs.Common.{ℕ, ◌+◌, ◌*◌, ◌≡◌, ◌<◌, ◌≤◌, Bool, true, false, cond, refl, sym, ap, ◌∙◌, ◌||◌, arith, eqb-true}
 use Rattle.std.proofs.Math.Nat.{mul-le-mul_left}
-use Rattle.mixed_graph.specs.Bits.{has}
-use Rattle.mixed_graph.specs.Graphs.{MixedGraph, IsMixedGraph}
-use Rattle.mixed_graph.specs.Masks.{union, is_empty}
+use Rattle.mixed_graph.specs.Vocabulary.{has, MixedGraph, IsMixedGraph, union, is_empty}
 use Rattle.mixed_graph.proofs.Masks.{has-zero}
-use Rattle.fractions.specs.Fractions.{Fraction, over, IsEqual, IsPositive}
-use Rattle.finite_models.specs.Models.{FiniteModel, IsAssignment, event_weight, weight_of, total}
+use Rattle.fractions.specs.Vocabulary.{Fraction, over, IsEqual, IsPositive}
+use Rattle.finite_models.specs.Vocabulary.{FiniteModel, IsAssignment, event_weight, weight_of, total}
 use Rattle.finite_models.proofs.Weights.{weight-none, weight_of-none}
-use Rattle.prob_expr.specs.Tree.{prob, product, tree, no_trees, effect_on}
-use Rattle.prob_expr.specs.Values.{weights_of, value, effect, add_over}
-use Rattle.prob_expr.specs.Failing.{FailsSomewhere}
+use Rattle.prob_expr.specs.Tree.{prob, product, tree}
+use Rattle.prob_expr.specs.Vocabulary.{no_trees, effect_on, weights_of, value, effect, add_over, FailsSomewhere}
 use Rattle.prob_expr.proofs.Boxes.{assignment_set}
 use Rattle.prob_expr.proofs.ValueLaws.{value_positive}
-use Rattle.walk_models.specs.Laws.{IsBelowSomewhere, event}
+use Rattle.walk_models.specs.Vocabulary.{IsBelowSomewhere, event}
 use Rattle.adjustment.specs.Formulas.{adjusted_sum, adjustment_formula}
 use Rattle.adjustment.proofs.Observed.{no_bits, turned, turned_pair, turned_one, joined, whole, observed, all_worlds}
 use Rattle.adjustment.proofs.SingleTerms.{IsAtMost, single_term}

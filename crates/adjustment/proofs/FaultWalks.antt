@@ -1,27 +1,24 @@
 -- What breaks the adjustment criterion makes one stratum exceed the effect.
 use Rattle.std.proofs.Common.{◌⊎◌, inl, inr, ℕ, zero, suc, ◌≡◌, ◌<◌, ◌≤◌, Bool, true, false, ◌&&◌, List, [], ◌∷◌, length, refl, sym, ap, ◌∙◌, subst}
 use Rattle.std.proofs.Common.{IsTrue, slice_index, arith}
-use Rattle.mixed_graph.specs.Bits.{has}
-use Rattle.mixed_graph.specs.Graphs.{MixedGraph, IsMixedGraph, IsDirectedPath}
+use Rattle.mixed_graph.specs.Vocabulary.{has, MixedGraph, IsMixedGraph, IsDirectedPath}
 use Rattle.std.proofs.lemmas.Bool.{cases_lt}
 use Rattle.m_separation.specs.declared.marks.Mark.TheVariants.{Out}
-use Rattle.m_separation.specs.Walks.{Step, IsWalk, IsOpenWalk, last, heads_first, heads_second}
+use Rattle.m_separation.specs.Vocabulary.{Step, IsWalk, IsOpenWalk, last, heads_first, heads_second}
 use Rattle.m_separation.proofs.Going.{passed_from_start}
 use Rattle.finite_models.proofs.Bools.{not_both}
-use Rattle.do_rules.specs.Rules.{AreThreeSets}
+use Rattle.do_rules.specs.Vocabulary.{AreThreeSets}
 use Rattle.adjustment.specs.Proper.{AreOutside, IsCausal, IsOn, IsProperPath}
-use Rattle.walk_models.specs.Visits.{vertex_at}
-use Rattle.walk_models.specs.Strict.{AreStrictFrom, IsCausalOutside, IsLate}
+use Rattle.walk_models.specs.Vocabulary.{vertex_at, AreStrictFrom, IsCausalOutside, IsLate}
 use Rattle.walk_models.proofs.Firsts.{search}
 use Rattle.walk_models.proofs.LateSteps.{causal_marks, causal_outside, late_walks_exceed}
 use Rattle.walk_models.proofs.Middle.{middles_exceed}
 use Rattle.walk_models.proofs.Stricts.{StrictSteps, late_or_causal, late_from, around, walk_of, visits, starts_at, ends_at}
-use Rattle.prob_expr.specs.Failing.{FailsSomewhere}
+use Rattle.prob_expr.specs.Vocabulary.{FailsSomewhere, effect_on}
 use Rattle.adjustment.specs.declared.criteria.AdjFault.{AdjFault}
 use Rattle.adjustment.specs.declared.criteria.AdjFault.TheVariants.{Forbidden, Unblocked}
 use Rattle.adjustment.specs.Criteria.{IsForbidden}
 use Rattle.adjustment.specs.Faults.{IsAdjustmentFault, steps_of}
-use Rattle.prob_expr.specs.Tree.{effect_on}
 use Rattle.adjustment.specs.Formulas.{adjustment_formula}
 use Rattle.adjustment.specs.Laws.{FaultsFail, AdjustsExactly}
 use Rattle.adjustment.proofs.Effects.{admissible_adjusts}

@@ -1,11 +1,10 @@
 -- The first edges of proper causal paths are the arrows from x to the vertices between.
 use Rattle.std.proofs.Common.{ℕ, ◌≡◌, Bool, true, false, not, refl, sym, ap, ◌∙◌, ◌&&◌, ◌↔◌, inl, inr, List, [], ◌∷◌, IsTrue}
 use Rattle.std.proofs.lemmas.Bool.{and_parts, and_from, not-true, not_from_false, false_from_ne_true}
-use Rattle.mixed_graph.specs.Graphs.{MixedGraph, IsMixedGraph}
-use Rattle.mixed_graph.specs.Sets.{Within}
+use Rattle.mixed_graph.specs.Vocabulary.{MixedGraph, IsMixedGraph, Within}
 use Rattle.mixed_graph.proofs.Restricting.{same_graph}
 use Rattle.m_separation.specs.declared.marks.Mark.TheVariants.{Out}
-use Rattle.m_separation.specs.Walks.{Step}
+use Rattle.m_separation.specs.Vocabulary.{Step}
 use Rattle.adjustment.specs.Proper.{IsOn, IsBetween, BeginsProperCausalPath, IsBackDoorGraph}
 use Rattle.adjustment.proofs.Causal.{forwards, causal_forwards, proper_forwards, above_from}
 

@@ -1,11 +1,10 @@
 -- The model in which some arrows carry fixed values, and its weights.
 use Rattle.std.proofs.Common.{ℕ, zero, suc, ◌*◌, ◌≡◌, ◌<◌, Bool, true, false, cond, not, refl, sym, ap, ◌∙◌, ◌||◌, ◌&&◌, ◌∷◌, [], arith}
 use Rattle.std.proofs.lemmas.Bool.{and_parts, and_from, not_from_false, false_from_ne_true, or_left, cond-true, cond-false}
-use Rattle.mixed_graph.specs.Graphs.{MixedGraph, IsMixedGraph, IsAncestor}
-use Rattle.m_separation.specs.Walks.{IsSeparated}
-use Rattle.do_rules.specs.Cuts.{cut_into}
-use Rattle.finite_models.specs.Sums.{sum_over}
-use Rattle.finite_models.specs.Models.{FiniteModel, IsAssignment, IsSolution, solution, agree, event_weight, world_weight, intervene, weight_of}
+use Rattle.mixed_graph.specs.Vocabulary.{MixedGraph, IsMixedGraph, IsAncestor}
+use Rattle.m_separation.specs.Vocabulary.{IsSeparated}
+use Rattle.do_rules.specs.Vocabulary.{cut_into}
+use Rattle.finite_models.specs.Vocabulary.{sum_over, FiniteModel, IsAssignment, IsSolution, solution, agree, event_weight, world_weight, intervene, weight_of}
 use Rattle.finite_models.proofs.Bools.{not_both}
 use Rattle.finite_models.proofs.Factors.{marginal}
 use Rattle.finite_models.proofs.Following.{Follows}

@@ -1,10 +1,9 @@
 -- Weights of what is observed.
 use Rattle.std.proofs.Common.{ℕ, ◌≡◌, Bool, true, false, refl, sym, ap, ◌∙◌, ◌||◌}
 use mathlib.Core.Path.{fun_ext}
-use Rattle.mixed_graph.specs.Bits.{has}
-use Rattle.mixed_graph.specs.Masks.{union}
+use Rattle.mixed_graph.specs.Vocabulary.{has, union}
 use Rattle.mixed_graph.proofs.Masks.{has-zero, has-or}
-use Rattle.finite_models.specs.Models.{FiniteModel, event_weight, weight_of, intervene, total}
+use Rattle.finite_models.specs.Vocabulary.{FiniteModel, event_weight, weight_of, intervene, total}
 use Rattle.finite_models.proofs.Weights.{weight-none, weight_of-none}
 
 pub no_bits : (a : ℕ → Bool) → (λ v. a v || has 0 v) ≡ a

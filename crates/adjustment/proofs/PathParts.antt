@@ -1,13 +1,11 @@
 -- A path from its last vertex in a set on is a proper path.
 use Rattle.std.proofs.Common.{◌≡◌, ℕ, zero, suc, ◌+◌, ◌-◌, ◌<◌, ◌≤◌, Bool, false, List, get_or, refl, sym, ap, ◌∙◌, ◌↔◌, inl, inr, IsTrue, subst, arith}
 use Rattle.std.proofs.lemmas.Bool.{cases_eq}
-use Rattle.mixed_graph.specs.Sets.{Within, Apart}
-use Rattle.mixed_graph.specs.Graphs.{MixedGraph, IsMixedGraph}
+use Rattle.mixed_graph.specs.Vocabulary.{Within, Apart, MixedGraph, IsMixedGraph}
 use Rattle.m_separation.specs.declared.marks.Mark.{Mark}
 use Rattle.m_separation.specs.declared.marks.Mark.TheVariants.{Out}
 use Rattle.m_separation.specs.declared.paths.OpenPath.{OpenPath}
-use Rattle.m_separation.specs.Walks.{Step, IsWalk, last, heads_second, ArePassed, IsPath, IsOpenWalk}
-use Rattle.m_separation.specs.Paths.{steps_from, IsOpenPath}
+use Rattle.m_separation.specs.Vocabulary.{Step, IsWalk, last, heads_second, ArePassed, IsPath, IsOpenWalk, steps_from, IsOpenPath}
 use Rattle.m_separation.proofs.Going.{joined_below, passed_inside}
 use Rattle.adjustment.specs.Proper.{AreOutside, IsCausal, IsBetween}
 use Rattle.adjustment.proofs.FirstEdges.{cut_arrows, firsts}

@@ -1,14 +1,12 @@
 -- The two criteria over paths are separation in a graph with fewer arrows.
 use Rattle.std.proofs.Common.{ℕ, ◌≡◌, Bool, true, false, not, refl, ◌&&◌, ◌⊎◌, ◌↔◌, ◌==◌, inl, inr, List, [], ◌∷◌, IsTrue, slice_index, subst}
 use Rattle.std.proofs.lemmas.Bool.{and_parts, and_from, not-true, false_from_ne_true, eqb-true, eq-eqb}
-use Rattle.mixed_graph.specs.Graphs.{MixedGraph, IsMixedGraph, IsDescendant}
-use Rattle.mixed_graph.specs.Sets.{Within, Apart}
+use Rattle.mixed_graph.specs.Vocabulary.{MixedGraph, IsMixedGraph, IsDescendant, Within, Apart}
 use Rattle.mixed_graph.proofs.Paths.{end_below}
 use Rattle.m_separation.specs.declared.marks.Mark.{Mark}
 use Rattle.m_separation.specs.declared.marks.Mark.TheVariants.{Out, Into, Both}
-use Rattle.m_separation.specs.Walks.{Step, IsJoined, IsWalk, last, heads_first, heads_second, ArePassedFrom, ArePassed, IsOpenWalk, IsSeparated, Avoids, IsPath}
-use Rattle.m_separation.specs.Paths.{IsOpenPath}
 use Rattle.m_separation.specs.declared.paths.OpenPath.{OpenPath}
+use Rattle.m_separation.specs.Vocabulary.{Step, IsJoined, IsWalk, last, heads_first, heads_second, ArePassedFrom, ArePassed, IsOpenWalk, IsSeparated, Avoids, IsPath, IsOpenPath}
 use Rattle.m_separation.proofs.Going.{passed_inside, passed_from_start}
 use Rattle.m_separation.proofs.OpenPaths.{open_path_from}
 use Rattle.finite_models.proofs.Bools.{not_both}

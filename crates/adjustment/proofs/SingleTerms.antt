@@ -2,11 +2,11 @@
 use Rattle.std.proofs.Common.{ℕ, zero, suc, ◌+◌, ◌*◌, ◌≡◌, ◌<◌, ◌≤◌, Bool, true, false, inl, inr, subst, arith, refl}
 use Rattle.std.proofs.Math.Nat.{le_of_mul-le-mul_left, mul-le-mul_left}
 use Rattle.std.proofs.lemmas.Bool.{cases_eq}
-use Rattle.fractions.specs.Fractions.{Fraction, IsPositive, add, add_below}
+use Rattle.fractions.specs.Vocabulary.{Fraction, IsPositive, add, add_below}
 use Rattle.fractions.proofs.FractionLaws.{add_below_positive}
-use Rattle.finite_models.specs.Sums.{set_at}
+use Rattle.finite_models.specs.Vocabulary.{set_at}
 use Rattle.finite_models.proofs.SumLaws.{set_at-own}
-use Rattle.prob_expr.specs.Values.{add_over}
+use Rattle.prob_expr.specs.Vocabulary.{add_over}
 use Rattle.prob_expr.proofs.Boxes.{IsStable, along_box, add_over_positive}
 
 -- f is at most g, in products

@@ -1,10 +1,10 @@
 -- Open walks of a graph, and of the graph without some arrows.
 use Rattle.std.proofs.Common.{ℕ, ◌≡◌, Bool, true, false, not, refl, ◌&&◌, List, [], ◌∷◌}
 use Rattle.std.proofs.lemmas.Bool.{and_parts, and_from, not_from_false, false_from_ne_true}
-use Rattle.mixed_graph.specs.Graphs.{MixedGraph, IsMixedGraph, IsDirectedPath}
+use Rattle.mixed_graph.specs.Vocabulary.{MixedGraph, IsMixedGraph, IsDirectedPath}
 use Rattle.m_separation.specs.declared.marks.Mark.{Mark}
 use Rattle.m_separation.specs.declared.marks.Mark.TheVariants.{Out, Into, Both}
-use Rattle.m_separation.specs.Walks.{Step, IsJoined, IsWalk, heads_first, heads_second, IsPassed, ArePassedFrom, ArePassed, IsOpenWalk}
+use Rattle.m_separation.specs.Vocabulary.{Step, IsJoined, IsWalk, heads_first, heads_second, IsPassed, ArePassedFrom, ArePassed, IsOpenWalk}
 use Rattle.do_rules.proofs.Fewer.{HasFewer, graph_of_fewer}
 use Rattle.finite_models.proofs.Bools.{not_both}
 use Rattle.adjustment.specs.Proper.{AreOutside, IsCausal}

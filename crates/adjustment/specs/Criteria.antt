@@ -1,8 +1,8 @@
 -- The adjustment criterion (Shpitser, VanderWeele and Robins, 2010; van der Zander, Liskiewicz and Textor, 2014) and the back-door criterion (Pearl,
 -- Causality, section 3.3).
 use Rattle.std.specs.Prelude.{ℕ, Bool, ◌==◌, List, [], ◌∷◌, IsTrue}
-use Rattle.mixed_graph.specs.Graphs.{MixedGraph, IsDirectedPath, IsDescendant}
-use Rattle.m_separation.specs.Walks.{Step, IsPath, IsOpenWalk, heads_first}
+use Rattle.mixed_graph.specs.Vocabulary.{MixedGraph, IsDirectedPath, IsDescendant}
+use Rattle.m_separation.specs.Vocabulary.{Step, IsPath, IsOpenWalk, heads_first}
 use Rattle.adjustment.specs.Proper.{IsProperPath, IsCausal, IsBetween}
 
 -- v is forbidden (the forbidden set of Perkovic, Textor, Kalisch and Maathuis, 2018): it has a directed path to it from a vertex outside x on a

@@ -1,9 +1,8 @@
 -- What breaks the criteria: a forbidden member, or an open path.
 use Rattle.std.specs.Prelude.{ℕ, ◌-◌, ◌≤◌, ◌==◌, Bool, List, IsTrue, slice_index}
-use Rattle.mixed_graph.specs.Graphs.{MixedGraph, IsDescendant}
+use Rattle.mixed_graph.specs.Vocabulary.{MixedGraph, IsDescendant}
 use Rattle.m_separation.specs.declared.paths.OpenPath.{OpenPath}
-use Rattle.m_separation.specs.Paths.{IsOpenPath, steps_from}
-use Rattle.m_separation.specs.Walks.{Step}
+use Rattle.m_separation.specs.Vocabulary.{IsOpenPath, steps_from, Step}
 use Rattle.adjustment.specs.Proper.{IsProperPath, IsCausal}
 use Rattle.adjustment.specs.declared.criteria.AdjFault.{AdjFault}
 use Rattle.adjustment.specs.declared.criteria.AdjFault.TheVariants.{Forbidden, Unblocked}

@@ -1,7 +1,8 @@
 -- The adjustment formula (Pearl, Causality, section 3.3).
 use Rattle.std.specs.Prelude.{ℕ, [], if◌then◌else◌}
-use Rattle.mixed_graph.specs.Masks.{union, is_empty}
-use Rattle.prob_expr.specs.Tree.{Tree, prob, sum, product, no_trees, tree, PlainFormula}
+use Rattle.mixed_graph.specs.Vocabulary.{union, is_empty}
+use Rattle.prob_expr.specs.Tree.{Tree, prob, sum, product, tree}
+use Rattle.prob_expr.specs.Vocabulary.{no_trees, PlainFormula}
 
 -- sum{z} P(z) * P(y | x, z)
 abbrev pub adjusted_sum : (x y z : ℕ) → Tree

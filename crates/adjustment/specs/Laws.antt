@@ -1,18 +1,13 @@
 -- The criteria are separation in a graph with fewer arrows, and their formula is the effect.
 use Rattle.std.specs.Prelude.{ℕ, ◌==◌, Bool, ◌↔◌}
-use Rattle.mixed_graph.specs.Bits.{has}
-use Rattle.mixed_graph.specs.Graphs.{MixedGraph, IsMixedGraph, IsDescendant}
-use Rattle.m_separation.specs.Walks.{IsSeparated}
-use Rattle.do_rules.specs.Cuts.{cut_out}
-use Rattle.do_rules.specs.Rules.{AreThreeSets}
+use Rattle.mixed_graph.specs.Vocabulary.{has, MixedGraph, IsMixedGraph, IsDescendant, one}
+use Rattle.m_separation.specs.Vocabulary.{IsSeparated}
+use Rattle.do_rules.specs.Vocabulary.{cut_out, AreThreeSets}
 use Rattle.adjustment.specs.Proper.{IsBackDoorGraph}
-use Rattle.mixed_graph.specs.Masks.{one}
-use Rattle.prob_expr.specs.Values.{EqualsEffect}
-use Rattle.prob_expr.specs.Failing.{FailsSomewhere}
+use Rattle.prob_expr.specs.Vocabulary.{EqualsEffect, FailsSomewhere, effect_on}
 use Rattle.adjustment.specs.declared.criteria.AdjFault.{AdjFault}
 use Rattle.adjustment.specs.Criteria.{IsForbidden, IsAdmissible, IsBackDoorSet}
 use Rattle.adjustment.specs.Faults.{IsClearOf, IsAdjustmentFault}
-use Rattle.prob_expr.specs.Tree.{effect_on}
 use Rattle.adjustment.specs.Formulas.{adjustment_formula}
 
 -- a set is admissible exactly where none of its members is forbidden and it separates x from y in the back-door graph

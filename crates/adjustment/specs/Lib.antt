@@ -4,3 +4,4 @@ pub mod Formulas
 pub mod Laws
 pub mod Parts
 pub mod Proper
+pub mod Vocabulary

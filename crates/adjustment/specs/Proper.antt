@@ -1,8 +1,8 @@
 -- Proper and causal paths, and the back-door graph (Shpitser, VanderWeele and Robins, 2010; van der Zander, Liskiewicz and Textor, 2014).
 use Rattle.std.specs.Prelude.{ℕ, ◌≡◌, Bool, false, ◌⊎◌, ◌↔◌, List, [], ◌∷◌, IsTrue}
-use Rattle.mixed_graph.specs.Graphs.{MixedGraph}
+use Rattle.mixed_graph.specs.Vocabulary.{MixedGraph}
 use Rattle.m_separation.specs.declared.marks.Mark.TheVariants.{Out}
-use Rattle.m_separation.specs.Walks.{Step, IsWalk, IsPath, last}
+use Rattle.m_separation.specs.Vocabulary.{Step, IsWalk, IsPath, last}
 
 -- each vertex that a step leads to is outside x
 abbrev pub AreOutside : (ℕ → Bool) → List Step → Type 0

@@ -1,15 +1,11 @@
 //! The adjustment criterion and the back-door criterion (Pearl; Shpitser, VanderWeele and Robins).
 
 ghost use Rattle.std.specs.Prelude.{ℕ, ◌<◌, ◌==◌, IfErr, IfSome, IfNone, OnOk, IsTrue};
-ghost use Rattle.mixed_graph.specs.Bits.{has};
-ghost use Rattle.mixed_graph.specs.Shown.{graph_of};
-ghost use Rattle.do_rules.specs.Rules.{AreThreeSets};
-ghost use Rattle.mixed_graph.specs.Masks.{one};
-ghost use Rattle.prob_expr.specs.Failing.{FailsSomewhere};
-ghost use Rattle.prob_expr.specs.Values.{EqualsEffect};
+ghost use Rattle.mixed_graph.specs.Vocabulary.{has, graph_of, one};
+ghost use Rattle.do_rules.specs.Vocabulary.{AreThreeSets};
+ghost use Rattle.prob_expr.specs.Vocabulary.{FailsSomewhere, EqualsEffect, effect_on};
 ghost use Rattle.adjustment.specs.Criteria.{IsAdmissible, IsBackDoorSet};
 ghost use Rattle.adjustment.specs.Faults.{IsLowestIn, IsClearOf, IsAdjustmentFault, IsBackDoorFault};
-ghost use Rattle.prob_expr.specs.Tree.{effect_on};
 ghost use Rattle.adjustment.specs.Formulas.{adjustment_formula};
 
 use crate::parts::last_part;

@@ -1,9 +1,10 @@
 //! The adjustment formula.
 
 ghost use Rattle.std.specs.Prelude.{◌≡◌, IfOk};
-ghost use Rattle.mixed_graph.specs.Masks.{union};
-ghost use Rattle.prob_expr.specs.Tree.{prob, tree, no_trees};
-ghost use Rattle.prob_expr.specs.View.{view, views, formula_view};
+ghost use Rattle.mixed_graph.specs.Vocabulary.{union};
+ghost use Rattle.prob_expr.specs.Tree.{prob, tree};
+ghost use Rattle.prob_expr.specs.Vocabulary.{no_trees, views, formula_view};
+ghost use Rattle.prob_expr.specs.View.{view};
 ghost use Rattle.adjustment.specs.Formulas.{adjusted_sum, adjustment_formula};
 
 use mixed_graph::VSet;

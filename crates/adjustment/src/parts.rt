@@ -1,7 +1,7 @@
 //! The part of a path from its last vertex in x on.
 
 ghost use Rattle.std.specs.Prelude.{◌<◌, ◌≤◌};
-ghost use Rattle.mixed_graph.specs.Bits.{has};
+ghost use Rattle.mixed_graph.specs.Vocabulary.{has};
 ghost use Rattle.adjustment.specs.Parts.{BeginsIn, IsLastPlace, IsPartFrom, IsLastPart};
 
 use m_separation::{Mark, OpenPath};

@@ -1,7 +1,7 @@
 -- Values that are written one after another, as the items of an array.
 use Rattle.std.proofs.Common.{◌≡◌, ℕ, ◌+◌, Bool, true, false, cond, List, [], ◌∷◌, ◌++◌, map, refl, sym, ap, ◌∙◌, add-one, append_assoc, append-nil}
 use Rattle.std.proofs.lemmas.List.{map-append}
-use Rattle.mixed_graph.specs.Bits.{members_below}
+use Rattle.mixed_graph.specs.Vocabulary.{members_below}
 use Rattle.json.specs.Json.{Json}
 use Rattle.answer_json.specs.Progress.{Progress, items, with_value, with_values, array_of, ended_array}
 

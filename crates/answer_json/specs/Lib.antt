@@ -4,3 +4,4 @@ pub mod Written
 pub mod Codes
 pub mod Values
 pub mod Faults
+pub mod Vocabulary

@@ -1,8 +1,7 @@
 //! Members of an object: a key and its value.
 
 ghost use Rattle.std.specs.Prelude.{◌≡◌, ◌∷◌, [], ◌<◌, ◌≤◌, ℕ, All, OnOk, decimal, length, slice_index};
-ghost use Rattle.mixed_graph.specs.Bits.{has};
-ghost use Rattle.mixed_graph.specs.Sets.{Within};
+ghost use Rattle.mixed_graph.specs.Vocabulary.{has, Within};
 ghost use Rattle.json.specs.Json.{string, number};
 ghost use Rattle.answer_json.specs.Progress.{with_member, with_members};
 ghost use Rattle.answer_json.specs.Values.{text_json, texts_json, vertex_json, vertices_json, set_json, path_json, query_members};

@@ -1,8 +1,7 @@
 //! Texts, names, sets and paths as values.
 
 ghost use Rattle.std.specs.Prelude.{◌≡◌, ◌∷◌, [], ◌<◌, ◌≤◌, ℕ, All, OnOk, decimal, length, map, slice_index};
-ghost use Rattle.mixed_graph.specs.Bits.{has};
-ghost use Rattle.mixed_graph.specs.Sets.{Within};
+ghost use Rattle.mixed_graph.specs.Vocabulary.{has, Within};
 ghost use Rattle.json.specs.Json.{string};
 ghost use Rattle.answer_json.specs.Progress.{with_value};
 ghost use Rattle.answer_json.specs.Values.{text_json, bytes_json, texts_json, vertex_json, vertices_json, pair_json, pairs_json, marks_json, set_json, sets_json, path_json, mark_word};

@@ -2,7 +2,7 @@
 use Rattle.std.proofs.Common.{Bool, codes, append-nil, ◌≡◌, ℕ, ◌+◌, List, [], ◌∷◌, ◌++◌, map, refl, sym, ap, ◌∙◌, arith}
 use Rattle.std.specs.Prelude.{suc, slice_index, slice_index_or}
 use Rattle.std.proofs.lemmas.List.{append_assoc}
-use Rattle.mixed_graph.specs.Bits.{has, members_below}
+use Rattle.mixed_graph.specs.Vocabulary.{has, members_below, name_of}
 use Rattle.answer_text.specs.Printing.{printed}
 use Rattle.m_separation.specs.declared.marks.Mark.{Mark}
 use Rattle.m_separation.specs.declared.marks.Mark.TheVariants.{Out}
@@ -11,7 +11,6 @@ use Rattle.answer_text.specs.declared.signs.Sign.{Sign}
 use Rattle.answer_text.specs.declared.signs.Sign.TheVariants.{Comma, Bar, Do}
 use Rattle.answer_text.specs.Notations.{sign_text, name_in}
 use Rattle.answer_text.specs.Texts.{comma_in, names_in, names_behind, mark_text, steps_text, path_text, member_names, conditions_in}
-use Rattle.mixed_graph.specs.Names.{name_of}
 
 -- the first name, the comma behind it where more names follow, and these
 pub names_in-first : (w : Notation) (names : List (List ℕ)) (v : ℕ) (vs : List ℕ) →

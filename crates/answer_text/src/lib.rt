@@ -4,8 +4,7 @@
 #![tactic(auto)]
 
 ghost use Rattle.std.specs.Prelude.{◌≡◌, ◌++◌, ◌+◌, ◌∷◌, [], ℕ, length, map, OnOk, slice_index, slice_index_or};
-ghost use Rattle.mixed_graph.specs.Bits.{has, members_below};
-ghost use Rattle.mixed_graph.specs.Names.{name_of};
+ghost use Rattle.mixed_graph.specs.Vocabulary.{has, members_below, name_of};
 ghost use Rattle.m_separation.specs.declared.marks.Mark.TheVariants.{Out};
 ghost use Rattle.answer_text.specs.Printing.{printed};
 ghost use Rattle.answer_text.specs.Notations.{name_in, sign_text};

@@ -1,8 +1,8 @@
 -- Bounds along the levels of a vertex.
 use Rattle.std.proofs.Common.{◌≡◌, ℕ, ◌+◌, ◌-◌, ◌<◌, ◌≤◌, Bool, List, ◌++◌, length, set, get_or, drop, Err, sym, ap, subst, ◌∙◌, append_assoc}
 use Rattle.std.specs.List.{flat_map, range_with_len}
-use Rattle.count_rows.specs.Rows.{Table}
-use Rattle.natural_bounds.specs.Bounds.{Asked}
+use Rattle.count_rows.specs.Vocabulary.{Table}
+use Rattle.natural_bounds.specs.Vocabulary.{Asked}
 use Rattle.bound_values.specs.declared.questions.Method.{Method}
 use Rattle.bound_values.specs.declared.values.CellBounds.{CellBounds}
 use Rattle.bound_values.specs.declared.values.CellFault.{CellFault}

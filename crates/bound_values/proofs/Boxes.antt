@@ -2,14 +2,15 @@
 use Rattle.std.proofs.Common.{ℕ, zero, suc, ◌+◌, ◌≡◌, ◌<◌, ◌≤◌, Bool, true, false, cond, eqb, refl, sym, ap, ◌∙◌, subst, Result, Ok, Err, arith, eqb-true}
 use Rattle.std.proofs.Common.{List, length, set}
 use mathlib.Core.Path.{fun_ext}
-use Rattle.count_eval.specs.Programs.{cell_of}
+use Rattle.count_eval.specs.Vocabulary.{cell_of}
 use Rattle.count_eval.proofs.CellSteps.{cell_of-set}
-use Rattle.finite_models.specs.Sums.{set_at}
-use Rattle.fractions.specs.Fractions.{Fraction}
-use Rattle.quantity.specs.Kinds.{Pair, Kind}
+use Rattle.finite_models.specs.Vocabulary.{set_at}
+use Rattle.fractions.specs.Vocabulary.{Fraction}
+use Rattle.quantity.specs.Kinds.{Pair}
 use Rattle.quantity.specs.declared.fault.QuantityFault.{QuantityFault}
+use Rattle.quantity.specs.Vocabulary.{Kind}
 use Rattle.natural_bounds.specs.declared.ends.End.{End}
-use Rattle.natural_bounds.specs.Orders.{tighter, tightest_below, tightest_over}
+use Rattle.natural_bounds.specs.Vocabulary.{tighter, tightest_below, tightest_over}
 use Rattle.bound_values.specs.Values.{plus, total_below, total_over}
 
 -- ---- the tightest bound

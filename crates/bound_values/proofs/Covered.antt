@@ -1,28 +1,25 @@
 -- What the value of a bound covers, and what it says of models.
 use Rattle.std.proofs.Common.{ℕ, zero, suc, ◌≡◌, ◌<◌, ◌≤◌, Bool, true, false, cond, eqb, refl, sym, ◌∙◌, subst, Result, Ok, Err, arith}
-use Rattle.fractions.specs.Fractions.{Fraction, over, add, add_below, mul}
-use Rattle.finite_models.specs.Sums.{set_at}
-use Rattle.prob_expr.specs.Values.{Weights, add_over}
-use Rattle.quantity.specs.Kinds.{Pair, Kind, gives}
-use Rattle.quantity.specs.Lawful.{Keeps}
+use Rattle.fractions.specs.Vocabulary.{Fraction, over, add, add_below, mul}
+use Rattle.finite_models.specs.Vocabulary.{set_at}
+use Rattle.prob_expr.specs.Vocabulary.{Weights, add_over}
+use Rattle.quantity.specs.Kinds.{Pair}
 use Rattle.quantity.specs.declared.fault.QuantityFault.{QuantityFault}
+use Rattle.quantity.specs.Vocabulary.{Kind, gives, Keeps}
 use Rattle.natural_bounds.specs.declared.ends.End.{End}
-use Rattle.natural_bounds.specs.Bounds.{Asked, joint, treated, share, condition, BoundsHold}
-use Rattle.natural_bounds.specs.Orders.{trivial}
+use Rattle.natural_bounds.specs.Vocabulary.{Asked, joint, treated, share, condition, BoundsHold, trivial, BoundsEffect}
 use Rattle.natural_bounds.proofs.Orders.{trivial_bottom}
 use Rattle.natural_bounds.proofs.Strata.{stratum_bottom}
-use Rattle.crossed_bounds.specs.Crossed.{PairedBoundsHold}
+use Rattle.crossed_bounds.specs.Vocabulary.{PairedBoundsHold}
 use Rattle.crossed_bounds.proofs.Sharper.{paired_bottom}
-use Rattle.adjusted_bounds.specs.Adjusted.{adjusted_at, AdjustedBoundsHold}
-use Rattle.mixed_graph.specs.Graphs.{MixedGraph, IsMixedGraph}
-use Rattle.mixed_graph.specs.Sets.{Apart}
+use Rattle.adjusted_bounds.specs.Vocabulary.{adjusted_at, AdjustedBoundsHold}
+use Rattle.mixed_graph.specs.Vocabulary.{MixedGraph, IsMixedGraph, Apart}
 use Rattle.finite_models.proofs.Bools.{not_both}
 use Rattle.count_eval.proofs.TableLaws.{counted_local}
 use Rattle.std.proofs.Common.{IfOk}
-use Rattle.count_rows.specs.Rows.{Table}
-use Rattle.count_table.specs.Cells.{total}
-use Rattle.count_eval.specs.Programs.{weights_in, is_used}
-use Rattle.natural_bounds.specs.Bounds.{BoundsEffect}
+use Rattle.count_rows.specs.Vocabulary.{Table}
+use Rattle.count_table.specs.Vocabulary.{total}
+use Rattle.count_eval.specs.Vocabulary.{weights_in, is_used}
 use Rattle.bound_values.specs.declared.questions.Method.{Method}
 use Rattle.bound_values.specs.declared.questions.Method.TheVariants.{Instruments, LevelPairs, Adjustment}
 use Rattle.bound_values.specs.Questions.{HasPairs}

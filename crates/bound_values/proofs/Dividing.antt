@@ -3,7 +3,7 @@ use Rattle.std.proofs.Common.{ℕ, ◌+◌, ◌-◌, ◌*◌, ◌/◌, ◌%◌, 
 use Rattle.std.proofs.Common.{mul-le-mul_right}
 use Rattle.std.proofs.Math.Nat.{div-lt_iff_lt-mul}
 use Rattle.std.proofs.lemmas.Bool.{cases_lt}
-use Rattle.quantity.specs.Intervals.{ceiling}
+use Rattle.quantity.specs.Vocabulary.{ceiling}
 
 -- a quotient is at most k where n is at most k d
 pub quotient_most : (n d k : ℕ) → 1 ≤ d → n ≤ k * d → n / d ≤ k

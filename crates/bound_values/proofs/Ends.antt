@@ -1,25 +1,21 @@
 -- What the told ends of bounds say of models.
 use Rattle.std.proofs.Common.{◌≡◌, ℕ, ◌≤◌, Bool, true, false, cond, eqb, List, [], ◌∷◌, Result, Ok, Err, All, refl, sym, ap, subst, ◌∙◌, arith}
 use Rattle.std.proofs.lemmas.List.Elements.{All-nil, All-cons}
-use Rattle.mixed_graph.specs.Sets.{Apart}
-use Rattle.finite_models.specs.Models.{probability}
-use Rattle.fractions.specs.Fractions.{Fraction, over}
+use Rattle.mixed_graph.specs.Vocabulary.{Apart}
+use Rattle.finite_models.specs.Vocabulary.{probability}
+use Rattle.fractions.specs.Vocabulary.{Fraction, over}
 use Rattle.quantity.specs.Kinds.{Pair}
-use Rattle.quantity.specs.Lawful.{Keeps}
-use Rattle.quantity.specs.Exacts.{Equals}
-use Rattle.quantity.specs.Intervals.{Covers}
-use Rattle.quantity.specs.Laws.Exact.{exact_lawful}
-use Rattle.quantity.specs.Laws.Interval.{bounds_lawful}
 use Rattle.quantity.specs.declared.fault.QuantityFault.{QuantityFault}
-use Rattle.count_rows.specs.Rows.{Table}
-use Rattle.count_eval.specs.Programs.{weights_in, cell_of}
+use Rattle.quantity.specs.Vocabulary.{Keeps, Equals, Covers, exact_lawful, bounds_lawful}
+use Rattle.count_rows.specs.Vocabulary.{Table}
+use Rattle.count_eval.specs.Vocabulary.{weights_in, cell_of}
 use Rattle.natural_bounds.specs.declared.ends.End.{End}
 use Rattle.natural_bounds.specs.declared.ends.End.TheVariants.{AtLeast, AtMost}
-use Rattle.natural_bounds.specs.Bounds.{Asked, condition, BoundsHold}
+use Rattle.natural_bounds.specs.Vocabulary.{Asked, condition, BoundsHold}
 use Rattle.natural_bounds.specs.Orders.{Bounds}
 use Rattle.natural_bounds.proofs.Orders.{equal_at_most, equal_at_least, bounds_trans}
-use Rattle.crossed_bounds.specs.Crossed.{PairedBoundsHold}
-use Rattle.adjusted_bounds.specs.Adjusted.{AdjustedBoundsHold}
+use Rattle.crossed_bounds.specs.Vocabulary.{PairedBoundsHold}
+use Rattle.adjusted_bounds.specs.Vocabulary.{AdjustedBoundsHold}
 use Rattle.bound_values.specs.declared.questions.Method.{Method}
 use Rattle.bound_values.specs.declared.questions.Method.TheVariants.{LevelPairs}
 use Rattle.bound_values.specs.declared.values.Value.{Value}

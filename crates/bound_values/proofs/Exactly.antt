@@ -5,10 +5,8 @@ use Rattle.std.proofs.lemmas.Bool.{le-leb, ne_eqb}
 use Rattle.std.proofs.lemmas.Nat.Gcd.{dvd_antisymm}
 use Rattle.quantity.specs.declared.fault.QuantityFault.{QuantityFault}
 use Rattle.quantity.specs.declared.fault.QuantityFault.TheVariants.{TooWide, ZeroBelow}
-use Rattle.quantity.specs.Divisors.{gcd_of}
-use Rattle.quantity.specs.Laws.Gcd.{coprime_from}
-use Rattle.quantity.specs.Kinds.{Pair, pair, most}
-use Rattle.quantity.specs.Exacts.{lowest, product_by, exact_div}
+use Rattle.quantity.specs.Vocabulary.{gcd_of, coprime_from, most, lowest, product_by, exact_div}
+use Rattle.quantity.specs.Kinds.{Pair, pair}
 
 -- a whole number is in lowest terms
 pub whole_lowest : (p : ℕ) → gcd_of p 1 ≡ 1

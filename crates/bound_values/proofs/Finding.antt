@@ -4,7 +4,7 @@ use Rattle.std.proofs.Common.{Some, None, ◌∙◌}
 use Rattle.std.specs.Option.{option_or}
 use Rattle.std.specs.List.{find, flat_map, range_with_len}
 use Rattle.std.proofs.lemmas.List.Folds.{find-append}
-use Rattle.count_rows.specs.Rows.{Table}
+use Rattle.count_rows.specs.Vocabulary.{Table}
 use Rattle.bound_values.specs.Cells.{cells_along, level_count}
 use Rattle.bound_values.proofs.CellLists.{cells_at_first, numbers_more, numbers_around}
 

@@ -5,22 +5,20 @@ use Rattle.std.proofs.lemmas.Bool.{cases_eq, cases_Bool, or_left, or_right, eqb-
 use Rattle.std.proofs.lemmas.List.{get_or-map, length-map}
 use Rattle.std.proofs.lemmas.List.Elements.{All-head, All-tail}
 use Rattle.std.proofs.lemmas.List.Sums.{sum_by-cons}
-use Rattle.finite_models.specs.Sums.{sum_below, sum_over, set_at}
+use Rattle.finite_models.specs.Vocabulary.{sum_below, sum_over, set_at}
 use Rattle.finite_models.proofs.Bools.{and_first, and_second, not_both}
 use Rattle.finite_models.proofs.Positive.{over-mono}
 use Rattle.finite_models.proofs.SumLaws.{sum_below-congr, sum_below-zero, set_at-same, set_at-other, over-congr, over-add, over-scale}
-use Rattle.count_rows.specs.Records.{Field}
-use Rattle.count_rows.specs.Rows.{Row, Table, agrees, counted}
-use Rattle.count_table.specs.Cells.{sizes_of, IsCell}
-use Rattle.count_table.specs.Tables.{AreCounts, levels_in}
+use Rattle.count_rows.specs.Vocabulary.{Field, Row, Table, agrees, counted}
+use Rattle.count_table.specs.Vocabulary.{sizes_of, IsCell, AreCounts, levels_in}
 use Rattle.count_table.proofs.CellLists.{cells_of-are}
-use Rattle.count_eval.specs.Programs.{weights_in}
+use Rattle.count_eval.specs.Vocabulary.{weights_in}
 use Rattle.count_eval.proofs.CountedLaws.{counted_shrinks}
 use Rattle.count_eval.proofs.TableLaws.{counted_local}
 use Rattle.natural_bounds.specs.declared.ends.End.{End}
 use Rattle.natural_bounds.specs.declared.ends.End.TheVariants.{AtLeast, AtMost}
-use Rattle.natural_bounds.specs.Bounds.{Asked, fixed, joint, level}
-use Rattle.crossed_bounds.specs.Crossed.{at_level, untaken, chosen}
+use Rattle.natural_bounds.specs.Vocabulary.{Asked, fixed, joint, level}
+use Rattle.crossed_bounds.specs.Vocabulary.{at_level, untaken, chosen}
 use Rattle.bound_values.specs.Questions.{joint_set, level_set, IsCounted, HasPairs}
 use Rattle.bound_values.proofs.Used.{used_level}
 

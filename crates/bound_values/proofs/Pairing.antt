@@ -3,20 +3,19 @@ use Rattle.std.proofs.Common.{ℕ, zero, suc, ◌+◌, ◌-◌, ◌*◌, ◌≡�
 use Rattle.std.proofs.Common.{mul-le-mul, mul-le-mul_right, get_or-set_same, get_or-set_other}
 use mathlib.Core.Path.{fun_ext}
 use Rattle.std.proofs.lemmas.Bool.{cases_eq, or_left, or_right, eq-eqb, ne_eqb}
-use Rattle.finite_models.specs.Sums.{sum_below, sum_over, set_at}
+use Rattle.finite_models.specs.Vocabulary.{sum_below, sum_over, set_at}
 use Rattle.finite_models.proofs.Bools.{not_both}
-use Rattle.count_rows.specs.Rows.{Table}
-use Rattle.count_table.specs.Tables.{AreCounts}
-use Rattle.count_eval.specs.Programs.{weights_in, cell_of}
+use Rattle.count_rows.specs.Vocabulary.{Table}
+use Rattle.count_table.specs.Vocabulary.{AreCounts}
+use Rattle.count_eval.specs.Vocabulary.{weights_in, cell_of}
 use Rattle.count_eval.proofs.CellSteps.{cell_of-set}
 use Rattle.count_eval.proofs.TableLaws.{counted_local}
-use Rattle.prob_expr.specs.Values.{Weights}
-use Rattle.fractions.specs.Fractions.{over}
+use Rattle.prob_expr.specs.Vocabulary.{Weights}
+use Rattle.fractions.specs.Vocabulary.{over}
 use Rattle.natural_bounds.specs.declared.ends.End.{End}
 use Rattle.natural_bounds.specs.declared.ends.End.TheVariants.{AtLeast, AtMost}
-use Rattle.natural_bounds.specs.Bounds.{Asked, fixed, joint, level}
-use Rattle.natural_bounds.specs.Orders.{trivial}
-use Rattle.crossed_bounds.specs.Crossed.{other, at_level, untaken, chosen, shown, two_levels, levels_bound}
+use Rattle.natural_bounds.specs.Vocabulary.{Asked, fixed, joint, level, trivial}
+use Rattle.crossed_bounds.specs.Vocabulary.{other, at_level, untaken, chosen, shown, two_levels, levels_bound}
 use Rattle.bound_values.specs.Questions.{level_set, IsCounted, HasPairs, AreAlikeOutside}
 use Rattle.bound_values.proofs.Outcomes.{both_most}
 use Rattle.bound_values.proofs.Sums.{small}

@@ -3,19 +3,17 @@ use Rattle.std.proofs.Common.{ℕ, ◌*◌, ◌≡◌, Bool, true, false, cond, 
 use Rattle.std.proofs.lemmas.Bool.{ltb-true, lt-ltb, le-ltb, lt-leb, le-leb, cases_lt}
 use Rattle.std.proofs.lemmas.List.Elements.{All-append}
 use Rattle.std.specs.Prelude.{nat_le, nat_lt, not, ◌≢◌}
-use Rattle.mixed_graph.specs.Bits.{has, members_below}
-use Rattle.fractions.specs.Fractions.{Fraction, over}
-use Rattle.prob_expr.specs.Values.{Weights}
-use Rattle.count_rows.specs.Rows.{Table}
-use Rattle.count_table.specs.Cells.{total}
-use Rattle.count_table.specs.Tables.{HasLevels}
-use Rattle.count_eval.specs.Programs.{weights_in, is_used, cell_of}
+use Rattle.mixed_graph.specs.Vocabulary.{has, members_below}
+use Rattle.fractions.specs.Vocabulary.{Fraction, over}
+use Rattle.prob_expr.specs.Vocabulary.{Weights}
+use Rattle.count_rows.specs.Vocabulary.{Table}
+use Rattle.count_table.specs.Vocabulary.{total, HasLevels}
+use Rattle.count_eval.specs.Vocabulary.{weights_in, is_used, cell_of}
 use Rattle.natural_bounds.specs.declared.ends.End.{End}
 use Rattle.natural_bounds.specs.declared.ends.End.TheVariants.{AtLeast, AtMost}
-use Rattle.natural_bounds.specs.Orders.{trivial}
-use Rattle.natural_bounds.specs.Bounds.{Asked, joint, treated, level, said, bound_at, stratum_bound, CrossedHaveNoModel}
-use Rattle.crossed_bounds.specs.Crossed.{paired_bound, PairedCrossedHaveNoModel}
-use Rattle.adjusted_bounds.specs.Adjusted.{adjusted_at}
+use Rattle.natural_bounds.specs.Vocabulary.{trivial, Asked, joint, treated, level, said, bound_at, stratum_bound, CrossedHaveNoModel}
+use Rattle.crossed_bounds.specs.Vocabulary.{paired_bound, PairedCrossedHaveNoModel}
+use Rattle.adjusted_bounds.specs.Vocabulary.{adjusted_at}
 use Rattle.bound_values.specs.declared.questions.Question.{Question}
 use Rattle.bound_values.specs.declared.questions.Method.{Method}
 use Rattle.bound_values.specs.declared.questions.Method.TheVariants.{Instruments, LevelPairs, Adjustment}

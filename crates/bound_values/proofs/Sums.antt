@@ -3,16 +3,14 @@ use Rattle.std.proofs.Common.{ℕ, ◌≡◌, ◌<◌, ◌≤◌, Bool, true, fa
 use Rattle.std.proofs.Common.{get_or-set_same, get_or-set_other}
 use mathlib.Core.Path.{fun_ext}
 use Rattle.std.proofs.lemmas.Bool.{or_left, or_right}
-use Rattle.mixed_graph.specs.Bits.{has}
-use Rattle.mixed_graph.specs.Sets.{Apart}
+use Rattle.mixed_graph.specs.Vocabulary.{has, Apart}
 use Rattle.finite_models.proofs.Bools.{either, not_both}
-use Rattle.count_rows.specs.Rows.{Table, counted}
-use Rattle.count_table.specs.Tables.{AreCounts, HasLevels, levels_in}
-use Rattle.count_table.specs.Sums.{Margins}
-use Rattle.count_eval.specs.Programs.{weights_in, is_used, cell_of}
+use Rattle.count_rows.specs.Vocabulary.{Table, counted}
+use Rattle.count_table.specs.Vocabulary.{AreCounts, HasLevels, levels_in, Margins}
+use Rattle.count_eval.specs.Vocabulary.{weights_in, is_used, cell_of}
 use Rattle.count_eval.proofs.CountedLaws.{counted_shrinks, counted_small}
 use Rattle.count_eval.proofs.TableLaws.{counted_local}
-use Rattle.natural_bounds.specs.Bounds.{Asked, fixed, joint, treated, level, stratum, condition}
+use Rattle.natural_bounds.specs.Vocabulary.{Asked, fixed, joint, treated, level, stratum, condition}
 use Rattle.bound_values.specs.declared.questions.Method.{Method}
 use Rattle.bound_values.specs.Questions.{level_set, treated_set, joint_set, IsScope}
 

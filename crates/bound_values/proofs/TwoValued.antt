@@ -2,13 +2,13 @@
 use Rattle.std.proofs.Common.{set, ◌-◌, ◌++◌, ap₂, zero, ℕ, suc, ◌≡◌, ◌<◌, ◌≤◌, ◌^◌, Bool, true, false, cond, eqb, List, [], ◌∷◌, length, get_or, refl, sym, ap, subst, ◌∙◌, arith}
 use mathlib.Core.Path.{fun_ext}
 use Rattle.std.proofs.lemmas.Bool.{eqb-false, eqb-true, eq-eqb, ne_eqb, false≢true}
-use Rattle.mixed_graph.specs.Bits.{has, members_below}
+use Rattle.mixed_graph.specs.Vocabulary.{has, members_below}
 use Rattle.mixed_graph.proofs.Masks.{below_64, has-zero}
-use Rattle.count_rows.specs.Rows.{Table}
-use Rattle.count_table.specs.Tables.{levels_in}
-use Rattle.count_eval.specs.Programs.{weights_in, cell_of}
+use Rattle.count_rows.specs.Vocabulary.{Table}
+use Rattle.count_table.specs.Vocabulary.{levels_in}
+use Rattle.count_eval.specs.Vocabulary.{weights_in, cell_of}
 use Rattle.count_eval.proofs.CellSteps.{cell_of-set}
-use Rattle.crossed_bounds.specs.Crossed.{IsTwoValued, other}
+use Rattle.crossed_bounds.specs.Vocabulary.{IsTwoValued, other}
 use Rattle.bound_values.specs.Questions.{is_two_valued}
 use Rattle.bound_values.proofs.Used.{member_stands}
 

@@ -7,16 +7,14 @@ use Rattle.std.proofs.lemmas.List.{get_or-set_same, get_or-set_other}
 use Rattle.std.proofs.lemmas.List.Elements.{All-nil, All-cons, All-head, All-tail, All-append, All-get_or}
 use Rattle.std.proofs.Common.{◌||◌}
 use Rattle.std.specs.Prelude.{replicate}
-use Rattle.mixed_graph.specs.Bits.{has, members_below}
-use Rattle.mixed_graph.specs.Masks.{union}
+use Rattle.mixed_graph.specs.Vocabulary.{has, members_below, union}
 use Rattle.mixed_graph.proofs.MaskLaws.{has_join}
 use Rattle.count_eval.proofs.CellSteps.{zeros, length-zeros}
 use Rattle.bound_values.specs.declared.questions.Question.{Question}
 use Rattle.bound_values.specs.Questions.{asked_of, joint_set, IsCounted, fixed_mask, level_mask, joint_mask}
-use Rattle.count_rows.specs.Records.{Field}
-use Rattle.count_rows.specs.Rows.{Table}
-use Rattle.count_table.specs.Tables.{levels_in, AreCounts}
-use Rattle.count_eval.specs.Programs.{is_used}
+use Rattle.count_rows.specs.Vocabulary.{Field, Table}
+use Rattle.count_table.specs.Vocabulary.{levels_in, AreCounts}
+use Rattle.count_eval.specs.Vocabulary.{is_used}
 use Rattle.bound_values.specs.Cells.{IsCell, level_count, first_cell}
 
 -- ---- members of a list

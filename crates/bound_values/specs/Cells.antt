@@ -1,10 +1,9 @@
 -- The cells of a table at which bounds are asked for.
 use Rattle.std.specs.Prelude.{ℕ, ◌≡◌, false, List, [], ◌∷◌, ◌++◌, map, length, set, replicate, slice_index}
-use Rattle.mixed_graph.specs.Bits.{has, members_below}
-use Rattle.count_rows.specs.Rows.{Table}
-use Rattle.count_table.specs.Cells.{cells_of}
-use Rattle.count_table.specs.Tables.{levels_in, HasLevels}
-use Rattle.count_eval.specs.Programs.{is_used}
+use Rattle.mixed_graph.specs.Vocabulary.{has, members_below}
+use Rattle.count_rows.specs.Vocabulary.{Table}
+use Rattle.count_table.specs.Vocabulary.{cells_of, levels_in, HasLevels}
+use Rattle.count_eval.specs.Vocabulary.{is_used}
 use Rattle.bound_values.specs.declared.questions.Question.{Question}
 
 -- how many levels a vertex has

@@ -2,11 +2,11 @@
 use Rattle.std.specs.Prelude.{ℕ, ◌≡◌, ◌*◌, nat_lt, Bool, false, List, All, Option, Some, None, Ok}
 use Rattle.std.specs.Global.{Vec}
 use Rattle.std.specs.List.{find}
-use Rattle.prob_expr.specs.Values.{Weights}
-use Rattle.count_rows.specs.Rows.{Table}
-use Rattle.count_eval.specs.Programs.{weights_in, is_used, cell_of}
+use Rattle.prob_expr.specs.Vocabulary.{Weights}
+use Rattle.count_rows.specs.Vocabulary.{Table}
+use Rattle.count_eval.specs.Vocabulary.{weights_in, is_used, cell_of}
 use Rattle.natural_bounds.specs.declared.ends.End.TheVariants.{AtLeast, AtMost}
-use Rattle.natural_bounds.specs.Bounds.{Asked}
+use Rattle.natural_bounds.specs.Vocabulary.{Asked}
 use Rattle.bound_values.specs.declared.questions.Question.{Question}
 use Rattle.bound_values.specs.declared.questions.Method.{Method}
 use Rattle.bound_values.specs.declared.questions.Method.TheVariants.{Instruments, LevelPairs, Adjustment}

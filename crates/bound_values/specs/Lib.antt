@@ -3,3 +3,4 @@ pub mod Values
 pub mod Cells
 pub mod Told
 pub mod Found
+pub mod Vocabulary

@@ -1,14 +1,11 @@
 -- What is asked of a table of counts.
 use Rattle.std.specs.Prelude.{ℕ, ◌≡◌, ◌*◌, ◌<◌, ◌≤◌, Bool, true, false, ◌||◌, ◌&&◌, ◌==◌, not, nat_le, IsTrue, List, [], ◌∷◌, length}
-use Rattle.mixed_graph.specs.Bits.{has, members_below}
-use Rattle.mixed_graph.specs.Masks.{union, is_empty, is_apart}
-use Rattle.mixed_graph.specs.Sets.{Apart}
-use Rattle.count_rows.specs.Rows.{Table}
-use Rattle.count_table.specs.Tables.{AreCounts, levels_in}
-use Rattle.count_table.specs.Sums.{Margins, cells_under}
-use Rattle.count_eval.specs.Programs.{weights_in, is_used}
-use Rattle.crossed_bounds.specs.Crossed.{IsTwoValued}
-use Rattle.natural_bounds.specs.Bounds.{Asked, fixed}
+use Rattle.mixed_graph.specs.Vocabulary.{has, members_below, union, is_empty, is_apart, Apart}
+use Rattle.count_rows.specs.Vocabulary.{Table}
+use Rattle.count_table.specs.Vocabulary.{AreCounts, levels_in, Margins, cells_under}
+use Rattle.count_eval.specs.Vocabulary.{weights_in, is_used}
+use Rattle.crossed_bounds.specs.Vocabulary.{IsTwoValued}
+use Rattle.natural_bounds.specs.Vocabulary.{Asked, fixed}
 use Rattle.bound_values.specs.declared.questions.Question.{Question}
 use Rattle.bound_values.specs.declared.questions.Method.{Method}
 use Rattle.bound_values.specs.declared.questions.Method.TheVariants.{LevelPairs}

@@ -1,18 +1,19 @@
 -- The bounds at cells, as they are told.
 use Rattle.std.specs.Prelude.{ℕ, ◌≡◌, ◌^◌, ◌==◌, Bool, true, false, if◌then◌else◌, List, [], ◌∷◌, ◌++◌, Result, Ok, Err}
-use Rattle.mixed_graph.specs.Graphs.{MixedGraph, IsMixedGraph}
-use Rattle.fractions.specs.Fractions.{Fraction, over}
-use Rattle.prob_expr.specs.Values.{Weights}
-use Rattle.quantity.specs.Kinds.{Pair, Kind}
+use Rattle.mixed_graph.specs.Vocabulary.{MixedGraph, IsMixedGraph}
+use Rattle.fractions.specs.Vocabulary.{Fraction, over}
+use Rattle.prob_expr.specs.Vocabulary.{Weights}
+use Rattle.quantity.specs.Kinds.{Pair}
+use Rattle.quantity.specs.declared.fault.QuantityFault.{QuantityFault}
+use Rattle.quantity.specs.Vocabulary.{Kind}
 use Rattle.quantity.specs.Exacts.{exact}
 use Rattle.quantity.specs.Intervals.{bounds}
-use Rattle.quantity.specs.declared.fault.QuantityFault.{QuantityFault}
-use Rattle.count_rows.specs.Rows.{Table}
-use Rattle.count_table.specs.Cells.{total}
-use Rattle.count_eval.specs.Programs.{weights_in, is_used, cell_of}
+use Rattle.count_rows.specs.Vocabulary.{Table}
+use Rattle.count_table.specs.Vocabulary.{total}
+use Rattle.count_eval.specs.Vocabulary.{weights_in, is_used, cell_of}
 use Rattle.natural_bounds.specs.declared.ends.End.{End}
 use Rattle.natural_bounds.specs.declared.ends.End.TheVariants.{AtLeast, AtMost}
-use Rattle.natural_bounds.specs.Bounds.{Asked, condition, BoundsEffect}
+use Rattle.natural_bounds.specs.Vocabulary.{Asked, condition, BoundsEffect}
 use Rattle.bound_values.specs.declared.questions.Method.{Method}
 use Rattle.bound_values.specs.declared.values.Value.{Value}
 use Rattle.bound_values.specs.declared.values.Value.TheVariants.{Fraction as Ratio, Units}

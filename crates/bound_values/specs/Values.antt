@@ -1,18 +1,19 @@
 -- The bounds of an effect over a table of counts, in a kind of quantity.
 use Rattle.std.specs.Prelude.{ℕ, zero, suc, ◌≡◌, Bool, false, if◌then◌else◌, Result, Ok, Err}
-use Rattle.mixed_graph.specs.Graphs.{MixedGraph, IsMixedGraph}
-use Rattle.finite_models.specs.Sums.{set_at}
-use Rattle.fractions.specs.Fractions.{Fraction, over}
-use Rattle.prob_expr.specs.Values.{Weights}
-use Rattle.quantity.specs.Kinds.{Pair, Kind}
+use Rattle.mixed_graph.specs.Vocabulary.{MixedGraph, IsMixedGraph}
+use Rattle.finite_models.specs.Vocabulary.{set_at}
+use Rattle.fractions.specs.Vocabulary.{Fraction, over}
+use Rattle.prob_expr.specs.Vocabulary.{Weights}
+use Rattle.quantity.specs.Kinds.{Pair}
 use Rattle.quantity.specs.declared.fault.QuantityFault.{QuantityFault}
+use Rattle.quantity.specs.Vocabulary.{Kind}
 use Rattle.natural_bounds.specs.declared.ends.End.{End}
-use Rattle.count_rows.specs.Rows.{Table}
-use Rattle.count_table.specs.Cells.{total}
-use Rattle.count_eval.specs.Programs.{weights_in, is_used}
-use Rattle.natural_bounds.specs.Bounds.{Asked, share, stratum_bound, effect_bound, IsAskedOf, BoundsEffect, HasNoModel}
-use Rattle.crossed_bounds.specs.Crossed.{paired_bound, paired_effect}
-use Rattle.adjusted_bounds.specs.Adjusted.{adjusted_at, adjusted_bound, IsAdjusted}
+use Rattle.natural_bounds.specs.Vocabulary.{Asked, share, stratum_bound, effect_bound, IsAskedOf, BoundsEffect, HasNoModel}
+use Rattle.count_rows.specs.Vocabulary.{Table}
+use Rattle.count_table.specs.Vocabulary.{total}
+use Rattle.count_eval.specs.Vocabulary.{weights_in, is_used}
+use Rattle.crossed_bounds.specs.Vocabulary.{paired_bound, paired_effect}
+use Rattle.adjusted_bounds.specs.Vocabulary.{adjusted_at, adjusted_bound, IsAdjusted}
 use Rattle.bound_values.specs.declared.ratios.Ratio.{Ratio}
 use Rattle.bound_values.specs.declared.questions.Method.{Method}
 use Rattle.bound_values.specs.declared.questions.Method.TheVariants.{Instruments, LevelPairs, Adjustment}

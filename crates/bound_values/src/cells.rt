@@ -1,13 +1,12 @@
 //! The bound of a stratum.
 
 ghost use Rattle.std.specs.Prelude.{ℕ, ◌≡◌, ◌≤◌};
-ghost use Rattle.mixed_graph.specs.Bits.{has};
-ghost use Rattle.count_table.specs.Tables.{HasLevels};
-ghost use Rattle.count_eval.specs.Programs.{weights_in, is_used, cell_of};
+ghost use Rattle.mixed_graph.specs.Vocabulary.{has};
+ghost use Rattle.count_table.specs.Vocabulary.{HasLevels};
+ghost use Rattle.count_eval.specs.Vocabulary.{weights_in, is_used, cell_of};
 ghost use Rattle.natural_bounds.specs.declared.ends.End.TheVariants.{AtLeast, AtMost};
-ghost use Rattle.natural_bounds.specs.Bounds.{level, said, bound_at, stratum_bound};
-ghost use Rattle.natural_bounds.specs.Orders.{tightest_over};
-ghost use Rattle.adjusted_bounds.specs.Adjusted.{adjusted_at};
+ghost use Rattle.natural_bounds.specs.Vocabulary.{level, said, bound_at, stratum_bound, tightest_over};
+ghost use Rattle.adjusted_bounds.specs.Vocabulary.{adjusted_at};
 ghost use Rattle.bound_values.specs.Questions.{asked_of, IsScope};
 ghost use Rattle.bound_values.specs.Values.{fraction_of, bound_by};
 

@@ -1,8 +1,8 @@
 //! Bounds that cross.
 
 ghost use Rattle.std.specs.Prelude.{ℕ, ◌≡◌, ◌≢◌, true, false, IfSome, IfNone};
-ghost use Rattle.count_table.specs.Tables.{HasLevels};
-ghost use Rattle.count_eval.specs.Programs.{weights_in, is_used, cell_of};
+ghost use Rattle.count_table.specs.Vocabulary.{HasLevels};
+ghost use Rattle.count_eval.specs.Vocabulary.{weights_in, is_used, cell_of};
 ghost use Rattle.natural_bounds.specs.declared.ends.End.TheVariants.{AtLeast, AtMost};
 ghost use Rattle.bound_values.specs.Questions.{asked_of, IsScope};
 ghost use Rattle.bound_values.specs.Values.{fraction_of, bound_by, DeniesModels};

@@ -1,9 +1,8 @@
 //! The bounds at all cells, or a crossing.
 
 ghost use Rattle.std.specs.Prelude.{ℕ, ◌≡◌, ◌≢◌, ◌≤◌, ◌<◌, ◌∷◌, [], All, true, IfOk, IfErr, OnOk};
-ghost use Rattle.mixed_graph.specs.Sets.{Apart};
-ghost use Rattle.mixed_graph.specs.Bits.{has};
-ghost use Rattle.count_eval.specs.Programs.{is_used};
+ghost use Rattle.mixed_graph.specs.Vocabulary.{Apart, has};
+ghost use Rattle.count_eval.specs.Vocabulary.{is_used};
 ghost use Rattle.bound_values.specs.Cells.{IsCell, cells_along, printed_vertices, crossing_vertices};
 ghost use Rattle.bound_values.specs.Questions.{asked_of, IsCounted, IsScope};
 ghost use Rattle.bound_values.specs.Told.{Appends, IsFaultAt};

@@ -1,9 +1,9 @@
 //! The method that is used over a table.
 
 ghost use Rattle.std.specs.Prelude.{ℕ, ◌≡◌, ◌≤◌, IsTrue, IfOk};
-ghost use Rattle.mixed_graph.specs.Bits.{has, members_below};
-ghost use Rattle.crossed_bounds.specs.Crossed.{IsTwoValued};
-ghost use Rattle.count_eval.specs.Programs.{weights_in};
+ghost use Rattle.mixed_graph.specs.Vocabulary.{has, members_below};
+ghost use Rattle.crossed_bounds.specs.Vocabulary.{IsTwoValued};
+ghost use Rattle.count_eval.specs.Vocabulary.{weights_in};
 ghost use Rattle.bound_values.specs.Questions.{asked_of, is_two_valued, pair_steps, has_pairs, HasPairs};
 ghost use Rattle.bound_values.specs.Values.{method_over};
 

@@ -1,13 +1,12 @@
 //! The bounds of a stratum by pairs of levels, for a treatment with two values.
 
 ghost use Rattle.std.specs.Prelude.{ℕ, ◌≡◌, ◌≤◌, ◌*◌};
-ghost use Rattle.mixed_graph.specs.Bits.{has};
-ghost use Rattle.finite_models.specs.Sums.{sum_over};
-ghost use Rattle.count_table.specs.Tables.{HasLevels};
-ghost use Rattle.count_eval.specs.Programs.{weights_in, is_used, cell_of};
-ghost use Rattle.natural_bounds.specs.Bounds.{joint, level};
-ghost use Rattle.natural_bounds.specs.Orders.{tightest_over};
-ghost use Rattle.crossed_bounds.specs.Crossed.{other, untaken, chosen, shown, levels_bound, crossed_bound, paired_bound};
+ghost use Rattle.mixed_graph.specs.Vocabulary.{has};
+ghost use Rattle.finite_models.specs.Vocabulary.{sum_over};
+ghost use Rattle.count_table.specs.Vocabulary.{HasLevels};
+ghost use Rattle.count_eval.specs.Vocabulary.{weights_in, is_used, cell_of};
+ghost use Rattle.natural_bounds.specs.Vocabulary.{joint, level, tightest_over};
+ghost use Rattle.crossed_bounds.specs.Vocabulary.{other, untaken, chosen, shown, levels_bound, crossed_bound, paired_bound};
 ghost use Rattle.bound_values.specs.Questions.{asked_of, IsScope, HasPairs, AreAlikeOutside};
 ghost use Rattle.bound_values.specs.Values.{fraction_of};
 

@@ -1,8 +1,8 @@
 //! What is asked.
 
 ghost use Rattle.std.specs.Prelude.{ℕ, ◌≡◌};
-ghost use Rattle.mixed_graph.specs.Bits.{has};
-ghost use Rattle.natural_bounds.specs.Bounds.{fixed};
+ghost use Rattle.mixed_graph.specs.Vocabulary.{has};
+ghost use Rattle.natural_bounds.specs.Vocabulary.{fixed};
 ghost use Rattle.bound_values.specs.Questions.{asked_of, joint_set, treated_set, level_set, fixed_mask, level_mask, joint_mask};
 
 use count_table::Counts;

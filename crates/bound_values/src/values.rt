@@ -1,12 +1,11 @@
 //! The bounds at a cell.
 
 ghost use Rattle.std.specs.Prelude.{ℕ, ◌≡◌, ◌≤◌, true, false};
-ghost use Rattle.mixed_graph.specs.Sets.{Apart};
-ghost use Rattle.mixed_graph.specs.Bits.{has};
-ghost use Rattle.count_table.specs.Tables.{HasLevels};
-ghost use Rattle.count_eval.specs.Programs.{weights_in, is_used, cell_of};
+ghost use Rattle.mixed_graph.specs.Vocabulary.{Apart, has};
+ghost use Rattle.count_table.specs.Vocabulary.{HasLevels};
+ghost use Rattle.count_eval.specs.Vocabulary.{weights_in, is_used, cell_of};
 ghost use Rattle.quantity.specs.Kinds.{pair};
-ghost use Rattle.natural_bounds.specs.Bounds.{condition};
+ghost use Rattle.natural_bounds.specs.Vocabulary.{condition};
 ghost use Rattle.bound_values.specs.Questions.{asked_of, IsScope};
 ghost use Rattle.bound_values.specs.Told.{value_in, end_value, cell_bounds};
 

@@ -2,24 +2,20 @@
 use Rattle.std.proofs.Common.{◌≡◌, ◌==◌, ℕ, Bool, List, Option, None, Result, Err, cond}
 use Rattle.std.specs.Prelude.{length}
 use Rattle.std.specs.List.{find}
-use Rattle.count_rows.specs.Rows.{Table}
-use Rattle.count_table.specs.Tables.{levels_in}
-use Rattle.count_eval.specs.Programs.{weights_in, cell_of}
+use Rattle.count_rows.specs.Vocabulary.{Table}
+use Rattle.count_table.specs.Vocabulary.{levels_in}
+use Rattle.count_eval.specs.Vocabulary.{weights_in, cell_of}
 use Rattle.count_answers.proofs.OneReading.{AreAlike}
-use Rattle.prob_expr.specs.Values.{Weights}
+use Rattle.prob_expr.specs.Vocabulary.{Weights}
 use Rattle.natural_bounds.specs.declared.ends.End.TheVariants.{AtLeast, AtMost}
-use Rattle.natural_bounds.specs.Bounds.{Asked, condition}
+use Rattle.natural_bounds.specs.Vocabulary.{Asked, condition}
 use Rattle.bound_values.specs.declared.questions.Question.{Question}
 use Rattle.bound_values.specs.declared.questions.Method.{Method}
 use Rattle.bound_values.specs.declared.questions.Method.TheVariants.{Instruments, LevelPairs, Adjustment}
 use Rattle.bound_values.specs.declared.values.CellBounds.{CellBounds}
 use Rattle.bound_values.specs.declared.values.CellFault.{CellFault}
 use Rattle.bound_values.specs.declared.values.CellFault.TheVariants.{NoRecords}
-use Rattle.bound_values.specs.Questions.{asked_of}
-use Rattle.bound_values.specs.Values.{over_table}
-use Rattle.bound_values.specs.Cells.{cells_along, first_cell, printed_vertices, crossing_vertices, printed_cells}
-use Rattle.bound_values.specs.Told.{end_value, both_ends, cell_bounds, bounds_at}
-use Rattle.bound_values.specs.Found.{are_crossed, crossing_in}
+use Rattle.bound_values.specs.Vocabulary.{asked_of, over_table, cells_along, first_cell, printed_vertices, crossing_vertices, printed_cells, end_value, both_ends, cell_bounds, bounds_at, are_crossed, crossing_in}
 
 -- the bounds at a cell, by weights
 abbrev bounds_in : (is_exact : Bool) → Method → Weights → Asked → List ℕ → Result CellBounds CellFault

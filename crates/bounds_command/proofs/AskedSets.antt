@@ -3,18 +3,16 @@ use Rattle.std.proofs.Common.{◌≡◌, ◌<◌, ℕ, Bool, true, false, ◌||�
 use Rattle.std.specs.Str.{bytes_eq}
 use Rattle.std.proofs.lemmas.Bool.{cases_Bool}
 use Rattle.std.proofs.lemmas.List.Folds.{list_any-append}
-use Rattle.mixed_graph.specs.Bits.{has}
-use Rattle.mixed_graph.specs.Names.{is_named}
-use Rattle.mixed_graph.specs.Sets.{Within, Apart}
-use Rattle.do_rules.specs.Rules.{AreFourSets}
-use Rattle.targets.specs.Targets.{first_fault, walked_in, Lists, IsListedSet, AreSets}
+use Rattle.mixed_graph.specs.Vocabulary.{has, is_named, Within, Apart}
+use Rattle.do_rules.specs.Vocabulary.{AreFourSets}
+use Rattle.targets.specs.Vocabulary.{first_fault, walked_in, Lists, IsListedSet, AreSets}
 use Rattle.targets.proofs.Disjoint.{disjoint_sets}
 use Rattle.targets.proofs.Queries.{behind, set_test, set_within}
 use Rattle.targets.proofs.RuleWalks.{not_walked, sets_apart}
 use Rattle.targets.proofs.Walking.{same_first_fault}
-use Rattle.natural_bounds.specs.Bounds.{fixed}
+use Rattle.natural_bounds.specs.Vocabulary.{fixed}
 use Rattle.bound_values.specs.declared.questions.Question.{Question}
-use Rattle.bound_values.specs.Questions.{asked_of}
+use Rattle.bound_values.specs.Vocabulary.{asked_of}
 use Rattle.bounds_command.specs.Asking.{BoundLists, later_fault, AreNamed}
 
 or_or : (a b c : Bool) → (a || (b || c)) ≡ ((a || b) || c)

@@ -1,27 +1,21 @@
 -- Right answers end alike.
 use Rattle.std.proofs.Common.{◌≡◌, ◌<◌, ◌≤◌, ℕ, Bool, List, Option, Some, None, Result, Ok, Err, length, refl, sym, subst, ◌∙◌, arith}
 use Rattle.std.proofs.lemmas.Option.{none-some}
-use Rattle.mixed_graph.specs.Graphs.{MixedGraph}
+use Rattle.mixed_graph.specs.Vocabulary.{MixedGraph}
 use Rattle.targets.specs.declared.fault.TargetFault.{TargetFault}
 use Rattle.replies.specs.declared.outcome.Outcome.{Outcome}
-use Rattle.told.specs.Refusals.{target_refusal}
-use Rattle.told.specs.Telling.{outcome_in}
-use Rattle.count_rows.specs.Records.{Field}
-use Rattle.count_rows.specs.Rows.{Table}
+use Rattle.told.specs.Vocabulary.{target_refusal, outcome_in}
 use Rattle.count_rows.specs.declared.fault.CountFault.{CountFault}
-use Rattle.count_answers.specs.Reads.{HoldsCounts}
+use Rattle.count_rows.specs.Vocabulary.{Field, Table}
+use Rattle.count_answers.specs.Vocabulary.{HoldsCounts}
 use Rattle.count_answers.proofs.OneReading.{AreAlike, one_table}
 use Rattle.bound_values.specs.declared.questions.Question.{Question}
 use Rattle.bound_values.specs.declared.values.CellBounds.{CellBounds}
 use Rattle.bound_values.specs.declared.values.CellFault.{CellFault}
+use Rattle.bound_values.specs.declared.found.Found.TheVariants.{Crossed, Bounded}
+use Rattle.bound_values.specs.Vocabulary.{asked_of, joint_mask, printed_cells, over_table, cell_bounds, bounds_at, crossing_in, IsFound, IsUnfound}
 use Rattle.bound_values.specs.declared.values.CellFault.TheVariants as cell
 use Rattle.bound_values.specs.declared.found.Found.{Found}
-use Rattle.bound_values.specs.declared.found.Found.TheVariants.{Crossed, Bounded}
-use Rattle.bound_values.specs.Questions.{asked_of, joint_mask}
-use Rattle.bound_values.specs.Cells.{printed_cells}
-use Rattle.bound_values.specs.Values.{over_table}
-use Rattle.bound_values.specs.Told.{cell_bounds, bounds_at}
-use Rattle.bound_values.specs.Found.{crossing_in, IsFound, IsUnfound}
 use Rattle.bounds_command.specs.declared.answer.Answer.{Answer}
 use Rattle.bounds_command.specs.declared.faults.BoundsFault.{BoundsFault}
 use Rattle.bounds_command.specs.declared.faults.BoundsFault.TheVariants.{TooLong, Counts, NoRecords, TooWide, NoMemory}

@@ -1,14 +1,13 @@
 -- What is known before counts are read, as it is told.
 use Rattle.std.proofs.Common.{◌≡◌, false, true, Result, Ok, Err, ap, subst}
-use Rattle.mixed_graph.specs.Graphs.{MixedGraph}
+use Rattle.mixed_graph.specs.Vocabulary.{MixedGraph}
 use Rattle.targets.specs.declared.fault.TargetFault.{TargetFault}
 use Rattle.targets.specs.declared.fault.TargetFault.TheVariants.{NoMemory}
-use Rattle.targets.specs.Targets.{OrMemory}
+use Rattle.targets.specs.Vocabulary.{OrMemory}
 use Rattle.targets.proofs.Faults.{not_memory}
-use Rattle.diagram.specs.Sets.{Names}
 use Rattle.diagram.specs.declared.diagram.Diagram.{Diagram}
-use Rattle.told.specs.Refusals.{is_memory, target_refusal}
-use Rattle.told.specs.Telling.{is_wanting}
+use Rattle.diagram.specs.Vocabulary.{Names}
+use Rattle.told.specs.Vocabulary.{is_memory, target_refusal, is_wanting}
 use Rattle.bounds_command.specs.declared.first.First.{First}
 use Rattle.bounds_command.specs.declared.first.First.TheVariants as first
 use Rattle.bounds_command.specs.declared.first.Unmet.{Unmet}

@@ -2,27 +2,21 @@
 use Rattle.std.proofs.Common.{◌≡◌, ◌<◌, ◌≤◌, ℕ, Bool, true, false, ◌||◌, List, All, length, refl, sym, ap, subst, ◌∙◌, inl, inr, arith}
 use Rattle.std.proofs.lemmas.Bool.{or_left, true≢false}
 use Rattle.std.proofs.Common.{get_or}
-use Rattle.mixed_graph.specs.Bits.{has, members_below}
-use Rattle.mixed_graph.specs.Graphs.{MixedGraph, IsMixedGraph}
-use Rattle.mixed_graph.specs.Sets.{Within}
+use Rattle.mixed_graph.specs.Vocabulary.{has, members_below, MixedGraph, IsMixedGraph, Within}
 use Rattle.mixed_graph.proofs.Masks.{has-zero}
 use Rattle.finite_models.proofs.Bools.{either}
-use Rattle.count_rows.specs.Rows.{Table}
-use Rattle.count_table.specs.Tables.{AreCounts}
-use Rattle.count_eval.specs.Programs.{is_used}
-use Rattle.natural_bounds.specs.Bounds.{Asked, fixed, IsAskedOf}
+use Rattle.count_rows.specs.Vocabulary.{Table}
+use Rattle.count_table.specs.Vocabulary.{AreCounts}
+use Rattle.count_eval.specs.Vocabulary.{is_used}
+use Rattle.natural_bounds.specs.Vocabulary.{Asked, fixed, IsAskedOf}
 use Rattle.replies.proofs.OneTarget.{some_member}
 use Rattle.bound_values.specs.declared.questions.Method.{Method}
 use Rattle.bound_values.specs.declared.questions.Method.TheVariants.{Instruments, LevelPairs, Adjustment}
 use Rattle.bound_values.specs.declared.questions.Question.{Question}
 use Rattle.bound_values.specs.declared.values.CellBounds.{CellBounds}
-use Rattle.bound_values.specs.declared.found.Found.{Found}
 use Rattle.bound_values.specs.declared.found.Found.TheVariants.{Crossed, Bounded}
-use Rattle.bound_values.specs.Questions.{asked_of, joint_set, level_set, joint_mask}
-use Rattle.bound_values.specs.Values.{MayBeUsed, in_place, over_table}
-use Rattle.bound_values.specs.Questions.{has_pairs}
-use Rattle.bound_values.specs.Told.{AreEnds}
-use Rattle.bound_values.specs.Found.{IsFound}
+use Rattle.bound_values.specs.Vocabulary.{asked_of, joint_set, level_set, joint_mask, MayBeUsed, in_place, over_table, has_pairs, AreEnds, IsFound}
+use Rattle.bound_values.specs.declared.found.Found.{Found}
 use Rattle.bound_values.proofs.Used.{joint_has, counted_of}
 use Rattle.bounds_command.specs.Right.{IsKnown, IsCounted, Encloses, HoldsInModels}
 use Rattle.bounds_command.proofs.Known.{among_all}

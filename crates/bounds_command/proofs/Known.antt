@@ -1,16 +1,14 @@
 -- What lists ask for is known of the question.
 use Rattle.std.proofs.Common.{◌≡◌, ℕ, Bool, true, false, ◌||◌, Some, refl, sym, ap, subst, ◌∙◌}
-use Rattle.mixed_graph.specs.Bits.{has}
-use Rattle.mixed_graph.specs.Shown.{graph_of}
+use Rattle.mixed_graph.specs.Vocabulary.{has, graph_of}
 use Rattle.mixed_graph.proofs.Masks.{has-zero}
-use Rattle.diagram.specs.Sets.{Names, query_lists}
 use Rattle.diagram.specs.declared.diagram.Diagram.{Diagram}
+use Rattle.diagram.specs.Vocabulary.{Names, query_lists}
 use Rattle.targets.proofs.Effects.{query_exposure}
 use Rattle.adjust_command.proofs.Lists.{three_sets}
 use Rattle.bound_values.specs.declared.questions.Method.{Method}
 use Rattle.bound_values.specs.declared.questions.Question.{Question}
-use Rattle.bound_values.specs.Questions.{asked_of, joint_mask}
-use Rattle.bound_values.specs.Values.{MayBeUsed}
+use Rattle.bound_values.specs.Vocabulary.{asked_of, joint_mask, MayBeUsed}
 use Rattle.bound_values.proofs.Used.{joint_has}
 use Rattle.bounds_command.specs.Ways.{Way, by_instruments, by_adjusting}
 use Rattle.bounds_command.specs.Requests.{Request}

@@ -1,15 +1,13 @@
 -- Lists ask for one question, and have no fault where they ask for one.
 use Rattle.std.proofs.Common.{◌≡◌, ◌⊎◌, ℕ, List, [], Option, Some, None, inl, inr, sym, ap, subst, ◌∙◌}
 use Rattle.std.specs.Prelude.{slice_index}
-use Rattle.mixed_graph.specs.Bits.{has}
-use Rattle.mixed_graph.specs.Graphs.{MixedGraph}
 use Rattle.mixed_graph.specs.declared.sets.VSet.{VSet}
+use Rattle.mixed_graph.specs.Vocabulary.{has, MixedGraph}
 use Rattle.targets.specs.declared.fault.TargetFault.{TargetFault}
-use Rattle.targets.specs.Targets.{Lists, IsListedSet, AreSets}
-use Rattle.adjustment.specs.Criteria.{IsAdmissible}
-use Rattle.adjustment.specs.Faults.{IsAdjustmentFault, steps_of}
+use Rattle.targets.specs.Vocabulary.{Lists, IsListedSet, AreSets}
 use Rattle.adjustment.specs.declared.criteria.AdjFault.{AdjFault}
 use Rattle.adjustment.specs.declared.criteria.AdjFault.TheVariants.{Forbidden, Unblocked}
+use Rattle.adjustment.specs.Vocabulary.{IsAdmissible, IsAdjustmentFault, steps_of}
 use Rattle.replies.proofs.OneTarget.{one_set, no_fault_of, same_three}
 use Rattle.bound_values.specs.declared.questions.Question.{Question}
 use Rattle.bounds_command.specs.Asking.{BoundLists, later_fault, AreNamed, IsBoundFault, HasInstrument, IsByInstruments, IsOfSet, IsByAdjusting}

@@ -1,18 +1,15 @@
 -- What the lists of `bounds` ask for.
 use Rattle.std.specs.Prelude.{ℕ, ◌≡◌, ◌⊎◌, List, ◌++◌, Option, Some, None}
-use Rattle.mixed_graph.specs.Bits.{has}
-use Rattle.mixed_graph.specs.Graphs.{MixedGraph}
-use Rattle.mixed_graph.specs.Names.{is_named}
+use Rattle.mixed_graph.specs.Vocabulary.{has, MixedGraph, is_named}
 use Rattle.targets.specs.declared.fault.TargetFault.{TargetFault}
-use Rattle.targets.specs.Targets.{Lists, NameFault, first_fault, IsFaultOfTarget, IsListedSet, AreSets, IsTargetFault}
-use Rattle.diagram.specs.Sets.{Names, query_lists}
+use Rattle.targets.specs.Vocabulary.{Lists, NameFault, first_fault, IsFaultOfTarget, IsListedSet, AreSets, IsTargetFault}
 use Rattle.diagram.specs.declared.diagram.Diagram.{Diagram}
-use Rattle.adjustment.specs.Criteria.{IsAdmissible}
-use Rattle.natural_bounds.specs.Bounds.{fixed}
-use Rattle.natural_bounds.specs.Instruments.{IsInstrument}
+use Rattle.diagram.specs.Vocabulary.{Names, query_lists}
+use Rattle.adjustment.specs.Vocabulary.{IsAdmissible}
+use Rattle.natural_bounds.specs.Vocabulary.{fixed, IsInstrument}
 use Rattle.bound_values.specs.declared.questions.Question.{Question}
 use Rattle.bound_values.specs.declared.questions.Method.TheVariants.{Instruments, Adjustment}
-use Rattle.bound_values.specs.Questions.{asked_of}
+use Rattle.bound_values.specs.Vocabulary.{asked_of}
 use Rattle.bounds_command.specs.Ways.{Way, by_instruments, by_adjusting}
 
 -- ---- lists

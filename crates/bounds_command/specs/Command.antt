@@ -1,14 +1,12 @@
 -- The command `bounds`.
 use Rattle.std.specs.Prelude.{Bool, Option, Some}
-use Rattle.command_words.specs.Form.{Text}
-use Rattle.mixed_graph.specs.Shown.{graph_of}
+use Rattle.command_words.specs.Vocabulary.{Text}
+use Rattle.mixed_graph.specs.Vocabulary.{graph_of}
 use Rattle.dag_reader.specs.declared.graph.ReadGraph.{ReadGraph}
 use Rattle.diagram.specs.declared.diagram.Diagram.{Diagram}
 use Rattle.replies.specs.declared.format.Format.{Format}
-use Rattle.replies.specs.Command.{CommandForm, on_two_inputs, Remainder}
-use Rattle.told.specs.Forms.{plain_form}
-use Rattle.told.specs.Refusals.{target_refusal}
-use Rattle.told.specs.Telling.{Tells}
+use Rattle.replies.specs.Vocabulary.{CommandForm, on_two_inputs, Remainder}
+use Rattle.told.specs.Vocabulary.{plain_form, target_refusal, Tells}
 use Rattle.bound_values.specs.declared.questions.Question.{Question}
 use Rattle.bounds_command.specs.Asking.{IsAsked}
 use Rattle.bounds_command.specs.First.{unmet_telling, IsNotAsked, lists_of}

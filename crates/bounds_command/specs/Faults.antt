@@ -1,22 +1,21 @@
 -- What is told where there are no bounds over counts.
 use Rattle.std.specs.Prelude.{ℕ, Bool, true, false, List, [], ◌∷◌, ◌++◌, codes, decimal}
 use Rattle.json.specs.Json.{Json, null, number}
-use Rattle.mixed_graph.specs.Bits.{has, members_below}
-use Rattle.answer_text.specs.Lines.{line_of}
-use Rattle.answer_json.specs.Progress.{Progress, with_members, json_line}
-use Rattle.answer_json.specs.Faults.{fault_json, fault_begun}
-use Rattle.count_rows.specs.Rows.{Table}
-use Rattle.count_rows.specs.FaultTexts.{count_fault_text, count_size_text}
+use Rattle.mixed_graph.specs.Vocabulary.{has, members_below}
+use Rattle.answer_text.specs.Vocabulary.{line_of}
+use Rattle.answer_json.specs.Progress.{Progress}
+use Rattle.answer_json.specs.Vocabulary.{with_members, json_line, fault_json, fault_begun}
 use Rattle.count_rows.specs.declared.fault.CountFault.{CountFault}
+use Rattle.count_rows.specs.Vocabulary.{Table, count_fault_text, count_size_text}
 use Rattle.count_rows.specs.declared.fault.CountFault.TheVariants as count
-use Rattle.count_eval.specs.Programs.{cell_of}
-use Rattle.count_answers.specs.Lines.{assignments}
-use Rattle.count_json.specs.Cells.{cell_json}
-use Rattle.count_json.specs.CountFaults.{count_fault_json, count_size_json}
+use Rattle.count_eval.specs.Vocabulary.{cell_of}
+use Rattle.count_answers.specs.Vocabulary.{assignments}
+use Rattle.count_json.specs.Vocabulary.{cell_json, count_fault_json, count_size_json}
 use Rattle.replies.specs.declared.outcome.Outcome.{Outcome}
 use Rattle.replies.specs.declared.outcome.Outcome.TheVariants.{Second, Evaluation}
-use Rattle.replies.specs.Told.{Told, refusal_of, answer_of}
-use Rattle.told.specs.Telling.{Refusal}
+use Rattle.replies.specs.Vocabulary.{refusal_of, answer_of}
+use Rattle.replies.specs.Told.{Told}
+use Rattle.told.specs.Vocabulary.{Refusal}
 use Rattle.bounds_command.specs.declared.faults.BoundsFault.{BoundsFault}
 use Rattle.bounds_command.specs.declared.faults.BoundsFault.TheVariants.{TooLong, Counts, NoRecords, TooWide, NoMemory}
 

@@ -1,25 +1,20 @@
 -- What is known before counts are read.
 use Rattle.std.specs.Prelude.{ℕ, List, ◌∷◌, ◌++◌, Result, Ok, Err, codes}
 use Rattle.json.specs.Json.{Json, string}
-use Rattle.mixed_graph.specs.Bits.{has}
-use Rattle.mixed_graph.specs.Graphs.{MixedGraph}
-use Rattle.mixed_graph.specs.Shown.{graph_of}
+use Rattle.mixed_graph.specs.Vocabulary.{has, MixedGraph, graph_of}
 use Rattle.targets.specs.declared.fault.TargetFault.{TargetFault}
-use Rattle.targets.specs.Targets.{OrMemory, AreSets}
+use Rattle.targets.specs.Vocabulary.{OrMemory, AreSets}
 use Rattle.diagram.specs.declared.diagram.Diagram.{Diagram}
 use Rattle.replies.specs.declared.outcome.Outcome.TheVariants.{No}
-use Rattle.replies.specs.Told.{told_of}
-use Rattle.told.specs.Forms.{plain_form}
-use Rattle.told.specs.Refusals.{target_refusal}
-use Rattle.told.specs.Telling.{Telling, Tells}
-use Rattle.adjustment.specs.Faults.{IsAdjustmentFault}
-use Rattle.adjust_command.specs.Lines.{not_admissible_text}
-use Rattle.adjust_command.specs.Objects.{not_admissible_members}
-use Rattle.natural_bounds.specs.Bounds.{fixed}
-use Rattle.natural_bounds.specs.Instruments.{IsInstrumentFault}
+use Rattle.replies.specs.Vocabulary.{told_of}
+use Rattle.told.specs.Vocabulary.{plain_form, target_refusal, Tells}
+use Rattle.told.specs.Telling.{Telling}
+use Rattle.adjustment.specs.Vocabulary.{IsAdjustmentFault}
+use Rattle.adjust_command.specs.Vocabulary.{not_admissible_text, not_admissible_members}
 use Rattle.natural_bounds.specs.declared.instruments.InstrumentFault.{InstrumentFault}
+use Rattle.natural_bounds.specs.Vocabulary.{fixed, IsInstrumentFault}
 use Rattle.bound_values.specs.declared.questions.Question.{Question}
-use Rattle.bound_values.specs.Questions.{asked_of}
+use Rattle.bound_values.specs.Vocabulary.{asked_of}
 use Rattle.bounds_command.specs.declared.first.Unmet.{Unmet}
 use Rattle.bounds_command.specs.declared.first.Unmet.TheVariants.{NoInstrument, NotAdmissible}
 use Rattle.bounds_command.specs.declared.first.First.{First}

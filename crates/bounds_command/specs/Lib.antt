@@ -9,3 +9,4 @@ pub mod BoundsTelling
 pub mod Faults
 pub mod Right
 pub mod Command
+pub mod Vocabulary

@@ -1,17 +1,16 @@
 -- The lines that `bounds` prints.
 use Rattle.std.specs.Prelude.{ℕ, List, [], ◌∷◌, ◌++◌, codes, decimal, if◌then◌else◌}
-use Rattle.mixed_graph.specs.Bits.{has, members_below}
-use Rattle.mixed_graph.specs.Masks.{is_empty}
-use Rattle.quantity.specs.Texts.{units_text}
-use Rattle.count_rows.specs.Rows.{Table}
-use Rattle.count_eval.specs.Programs.{cell_of}
-use Rattle.count_answers.specs.Lines.{assignments}
+use Rattle.mixed_graph.specs.Vocabulary.{has, members_below, is_empty}
+use Rattle.quantity.specs.Vocabulary.{units_text}
+use Rattle.count_rows.specs.Vocabulary.{Table}
+use Rattle.count_eval.specs.Vocabulary.{cell_of}
+use Rattle.count_answers.specs.Vocabulary.{assignments}
 use Rattle.bound_values.specs.declared.questions.Question.{Question}
 use Rattle.bound_values.specs.declared.values.Value.{Value}
 use Rattle.bound_values.specs.declared.values.Value.TheVariants.{Fraction, Units}
 use Rattle.bound_values.specs.declared.values.CellBounds.{CellBounds}
 use Rattle.bound_values.specs.declared.found.CellCrossing.{CellCrossing}
-use Rattle.bound_values.specs.Questions.{fixed_mask}
+use Rattle.bound_values.specs.Vocabulary.{fixed_mask}
 
 -- `3/5`
 abbrev pub ratio_text : ℕ → ℕ → List ℕ

@@ -1,11 +1,11 @@
 -- The members of the objects of `bounds`.
 use Rattle.std.specs.Prelude.{ℕ, Bool, List, [], ◌∷◌, ◌++◌, map, codes}
 use Rattle.json.specs.Json.{Json, string, boolean}
-use Rattle.mixed_graph.specs.Bits.{has, members_below}
-use Rattle.count_rows.specs.Rows.{Table}
-use Rattle.count_eval.specs.Programs.{cell_of}
-use Rattle.count_json.specs.Cells.{cell_json}
-use Rattle.answer_json.specs.Progress.{array_of, object_of}
+use Rattle.mixed_graph.specs.Vocabulary.{has, members_below}
+use Rattle.count_rows.specs.Vocabulary.{Table}
+use Rattle.count_eval.specs.Vocabulary.{cell_of}
+use Rattle.count_json.specs.Vocabulary.{cell_json}
+use Rattle.answer_json.specs.Vocabulary.{array_of, object_of}
 use Rattle.bound_values.specs.declared.questions.Question.{Question}
 use Rattle.bound_values.specs.declared.values.CellBounds.{CellBounds}
 use Rattle.bound_values.specs.declared.found.CellCrossing.{CellCrossing}

@@ -1,33 +1,25 @@
 -- Which answers of `bounds` are right over the bytes of counts.
 use Rattle.std.specs.Prelude.{ℕ, ◌≡◌, ◌<◌, ◌≤◌, Bool, List, All, Option, Some, None, Result, Ok, Err, length}
-use Rattle.mixed_graph.specs.Bits.{has, members_below}
-use Rattle.mixed_graph.specs.Graphs.{MixedGraph, IsMixedGraph}
-use Rattle.mixed_graph.specs.Sets.{Apart}
+use Rattle.mixed_graph.specs.Vocabulary.{has, members_below, MixedGraph, IsMixedGraph, Apart}
 use Rattle.replies.specs.declared.format.Format.{Format}
 use Rattle.replies.specs.declared.outcome.Outcome.{Outcome}
 use Rattle.replies.specs.Told.{Told}
-use Rattle.told.specs.Forms.{plain_form}
-use Rattle.told.specs.Telling.{Tells}
-use Rattle.count_rows.specs.Records.{Field}
-use Rattle.count_rows.specs.Rows.{Table}
+use Rattle.told.specs.Vocabulary.{plain_form, Tells}
+use Rattle.count_rows.specs.Vocabulary.{Field, Table}
 use Rattle.count_rows.specs.declared.fault.CountFault.TheVariants as count
-use Rattle.count_table.specs.Cells.{total}
-use Rattle.count_table.specs.Reading.{text_fault}
-use Rattle.count_eval.specs.Programs.{weights_in, is_used, cell_of}
-use Rattle.count_answers.specs.Reads.{HoldsCounts}
+use Rattle.count_table.specs.Vocabulary.{total, text_fault}
+use Rattle.count_eval.specs.Vocabulary.{weights_in, is_used, cell_of}
+use Rattle.count_answers.specs.Vocabulary.{HoldsCounts}
 use Rattle.natural_bounds.specs.declared.ends.End.{End}
 use Rattle.natural_bounds.specs.declared.ends.End.TheVariants.{AtLeast, AtMost}
-use Rattle.natural_bounds.specs.Bounds.{BoundsEffect, HasNoModel}
+use Rattle.natural_bounds.specs.Vocabulary.{BoundsEffect, HasNoModel}
 use Rattle.bound_values.specs.declared.questions.Question.{Question}
 use Rattle.bound_values.specs.declared.values.Value.{Value}
 use Rattle.bound_values.specs.declared.values.CellBounds.{CellBounds}
+use Rattle.bound_values.specs.declared.found.Found.TheVariants.{Crossed, Bounded}
+use Rattle.bound_values.specs.Vocabulary.{asked_of, joint_mask, MayBeUsed, over_table, number_of, IsFound, IsUnfound}
 use Rattle.bound_values.specs.declared.values.CellFault.TheVariants as cell
 use Rattle.bound_values.specs.declared.found.Found.{Found}
-use Rattle.bound_values.specs.declared.found.Found.TheVariants.{Crossed, Bounded}
-use Rattle.bound_values.specs.Questions.{asked_of, joint_mask}
-use Rattle.bound_values.specs.Values.{MayBeUsed, over_table}
-use Rattle.bound_values.specs.Told.{number_of}
-use Rattle.bound_values.specs.Found.{IsFound, IsUnfound}
 use Rattle.bounds_command.specs.declared.answer.Answer.{Answer}
 use Rattle.bounds_command.specs.declared.faults.BoundsFault.{BoundsFault}
 use Rattle.bounds_command.specs.declared.faults.BoundsFault.TheVariants.{TooLong, Counts, NoRecords, TooWide, NoMemory}

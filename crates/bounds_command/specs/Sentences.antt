@@ -1,17 +1,16 @@
 -- The parts of what is told of a question without an instrument.
 use Rattle.std.specs.Prelude.{ℕ, List, [], ◌∷◌, ◌++◌, codes}
 use Rattle.json.specs.Json.{Json, string}
-use Rattle.mixed_graph.specs.Names.{name_of}
-use Rattle.answer_text.specs.Printing.{printed}
-use Rattle.answer_text.specs.Texts.{set_text}
-use Rattle.answer_json.specs.Values.{set_json, query_members, vertex_json, path_json}
-use Rattle.replies.specs.Lines.{open_text}
+use Rattle.mixed_graph.specs.Vocabulary.{name_of}
+use Rattle.answer_text.specs.Vocabulary.{printed, set_text}
+use Rattle.answer_json.specs.Vocabulary.{set_json, query_members, vertex_json, path_json}
+use Rattle.replies.specs.Vocabulary.{open_text}
 use Rattle.natural_bounds.specs.declared.instruments.InstrumentFault.{InstrumentFault}
 use Rattle.natural_bounds.specs.declared.instruments.InstrumentFault.TheVariants.{Moved, Open}
 use Rattle.bound_values.specs.declared.questions.Method.{Method}
 use Rattle.bound_values.specs.declared.questions.Method.TheVariants.{Instruments, LevelPairs, Adjustment}
 use Rattle.bound_values.specs.declared.questions.Question.{Question}
-use Rattle.bound_values.specs.Questions.{fixed_mask}
+use Rattle.bound_values.specs.Vocabulary.{fixed_mask}
 
 -- `no instrument: {Z} given {W}`
 abbrev pub refused_text : List (List ℕ) → Question → List ℕ

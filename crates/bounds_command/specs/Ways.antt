@@ -1,6 +1,6 @@
 -- By what an effect is bounded.
 use Rattle.std.specs.Prelude.{ℕ, List, [], ◌∷◌, Option, Some, None}
-use Rattle.command_words.specs.ListViews.{names_in}
+use Rattle.command_words.specs.Vocabulary.{names_in}
 use Rattle.bounds_command.specs.declared.way.Way.{Way as CodeWay}
 use Rattle.bounds_command.specs.declared.way.Way.TheVariants.{Instruments, Adjusting}
 

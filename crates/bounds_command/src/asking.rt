@@ -1,9 +1,9 @@
 //! The sets that the lists of a question name.
 
 ghost use Rattle.std.specs.Prelude.{IfOk, IfErr};
-ghost use Rattle.mixed_graph.specs.Names.{texts};
-ghost use Rattle.diagram.specs.Sets.{lent};
-ghost use Rattle.targets.specs.Targets.{OrMemory};
+ghost use Rattle.mixed_graph.specs.Vocabulary.{texts};
+ghost use Rattle.diagram.specs.Vocabulary.{lent};
+ghost use Rattle.targets.specs.Vocabulary.{OrMemory};
 ghost use Rattle.bounds_command.specs.Asking.{bound_lists, AreNamed, IsBoundFault};
 
 use bound_values::{Method, Question};

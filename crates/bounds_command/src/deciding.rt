@@ -1,7 +1,7 @@
 //! The bounds over the bytes of counts.
 
 ghost use Rattle.std.specs.Prelude.{ℕ, ◌≡◌, ◌≤◌, false, IfOk, IfErr, length, option_map};
-ghost use Rattle.mixed_graph.specs.Shown.{graph_of};
+ghost use Rattle.mixed_graph.specs.Vocabulary.{graph_of};
 ghost use Rattle.bounds_command.specs.Faults.{is_memory};
 ghost use Rattle.bounds_command.specs.Right.{IsKnown, IsCounted, IsOverTable, IsFaultOver, IsForCounts, IsFaultFor};
 

@@ -2,11 +2,11 @@
 
 ghost use Rattle.std.specs.Prelude.{◌≡◌, false, IfOk, OnOk, codes};
 ghost use Rattle.std.specs.Str.{IsUtf8};
-ghost use Rattle.answer_json.specs.Progress.{json_line};
-ghost use Rattle.answer_text.specs.Lines.{line_of};
-ghost use Rattle.count_eval.specs.Programs.{cell_of};
+ghost use Rattle.answer_json.specs.Vocabulary.{json_line};
+ghost use Rattle.answer_text.specs.Vocabulary.{line_of};
+ghost use Rattle.count_eval.specs.Vocabulary.{cell_of};
 ghost use Rattle.quantity.specs.declared.fault.QuantityFault.{QuantityFault as Why};
-ghost use Rattle.replies.specs.Told.{told_of};
+ghost use Rattle.replies.specs.Vocabulary.{told_of};
 ghost use Rattle.told.specs.Telling.{Telling};
 ghost use Rattle.bounds_command.specs.Faults.{bounds_refusal, records_text, records_json, wide_text, wide_json, stop_begun};
 

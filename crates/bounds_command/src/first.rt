@@ -1,15 +1,13 @@
 //! What is known before counts are read: the question, or the answer.
 
 ghost use Rattle.std.specs.Prelude.{◌≡◌, ◌++◌, IfOk, OnOk};
-ghost use Rattle.mixed_graph.specs.Bits.{has};
-ghost use Rattle.mixed_graph.specs.Names.{texts};
-ghost use Rattle.mixed_graph.specs.Shown.{graph_of};
-ghost use Rattle.do_rules.specs.Rules.{AreThreeSets, AreFourSets};
-ghost use Rattle.targets.specs.Targets.{Lists, AreSets};
-ghost use Rattle.diagram.specs.Sets.{lent};
-ghost use Rattle.natural_bounds.specs.Bounds.{fixed};
-ghost use Rattle.answer_json.specs.Progress.{with_members};
-ghost use Rattle.bound_values.specs.Questions.{asked_of};
+ghost use Rattle.mixed_graph.specs.Vocabulary.{has, texts, graph_of};
+ghost use Rattle.do_rules.specs.Vocabulary.{AreThreeSets, AreFourSets};
+ghost use Rattle.targets.specs.Vocabulary.{Lists, AreSets};
+ghost use Rattle.diagram.specs.Vocabulary.{lent};
+ghost use Rattle.natural_bounds.specs.Vocabulary.{fixed};
+ghost use Rattle.answer_json.specs.Vocabulary.{with_members};
+ghost use Rattle.bound_values.specs.Vocabulary.{asked_of};
 ghost use Rattle.bounds_command.specs.Asking.{BoundLists, of_instruments, of_set, asked_lists, AreNamed};
 ghost use Rattle.bounds_command.specs.Ways.{by_instruments as way_by_instruments, by_adjusting as way_by_adjusting};
 ghost use Rattle.bounds_command.specs.Requests.{request_of};

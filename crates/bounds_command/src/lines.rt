@@ -2,8 +2,8 @@
 
 ghost use Rattle.std.specs.Prelude.{◌≡◌, ◌++◌, OnOk, IfOk, string_bytes};
 ghost use Rattle.std.specs.List.{flat_map};
-ghost use Rattle.count_eval.specs.Programs.{cell_of};
-ghost use Rattle.quantity.specs.Texts.{units_text};
+ghost use Rattle.count_eval.specs.Vocabulary.{cell_of};
+ghost use Rattle.quantity.specs.Vocabulary.{units_text};
 ghost use Rattle.bounds_command.specs.Lines.{given_text, effect_text, value_text, ratio_text, ends_text, bounds_line, crossing_lines};
 
 use bound_values::{CellBounds, CellCrossing, Question, Ratio, Value};

@@ -1,7 +1,7 @@
 //! The members of the objects.
 
 ghost use Rattle.std.specs.Prelude.{◌≡◌, map, OnOk, codes};
-ghost use Rattle.answer_json.specs.Progress.{with_value, with_values, with_member, with_members, array_of};
+ghost use Rattle.answer_json.specs.Vocabulary.{with_value, with_values, with_member, with_members, array_of};
 ghost use Rattle.bounds_command.specs.Sentences.{asked_members, method_members};
 ghost use Rattle.bounds_command.specs.Objects.{level_members, ends_members, bounds_json, bounds_begun, bounds_members, crossing_json, crossing_members};
 

@@ -1,14 +1,12 @@
 //! The answer of `bounds`.
 
 ghost use Rattle.std.specs.Prelude.{ℕ, ◌≡◌, ◌<◌, ◌≤◌, Bool, List, Option, Ok, IfOk, OnOk, length, option_map};
-ghost use Rattle.count_rows.specs.Records.{Field};
+ghost use Rattle.count_rows.specs.Vocabulary.{Field};
 ghost use Rattle.replies.specs.declared.format.Format.{Format as AskedFormat};
+ghost use Rattle.replies.specs.Vocabulary.{told_of};
 ghost use Rattle.bound_values.specs.declared.questions.Question.{Question as AskedQuestion};
-ghost use Rattle.mixed_graph.specs.Graphs.{MixedGraph};
-ghost use Rattle.mixed_graph.specs.Shown.{graph_of};
-ghost use Rattle.replies.specs.Told.{told_of};
-ghost use Rattle.told.specs.Forms.{plain_form};
-ghost use Rattle.told.specs.Telling.{outcome_in, told_in};
+ghost use Rattle.mixed_graph.specs.Vocabulary.{MixedGraph, graph_of};
+ghost use Rattle.told.specs.Vocabulary.{plain_form, outcome_in, told_in};
 ghost use Rattle.bounds_command.specs.BoundsTelling.{bounds_telling};
 ghost use Rattle.bounds_command.specs.Faults.{bounds_refusal};
 ghost use Rattle.bounds_command.specs.Right.{IsKnown, CountsAnswer};

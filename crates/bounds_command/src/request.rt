@@ -1,9 +1,7 @@
 //! What `bounds` is asked.
 
 ghost use Rattle.std.specs.Prelude.{ℕ, ◌≡◌, List, IfOk, IsErrOf, option_map};
-ghost use Rattle.command_words.specs.Form.{Use};
-ghost use Rattle.command_words.specs.Gives.{HoldsCall};
-ghost use Rattle.command_words.specs.ListViews.{names_in};
+ghost use Rattle.command_words.specs.Vocabulary.{Use, HoldsCall, names_in};
 ghost use Rattle.bounds_command.specs.Ways.{way_of, way_for};
 
 use crate::way::Way;

@@ -5,12 +5,11 @@ use Rattle.std.specs.Bool.{OnTrue, OnFalse}
 use Rattle.std.specs.Int.{abs_diff}
 use Rattle.std.proofs.lemmas.Bool.{false≢true}
 use Rattle.std.proofs.lemmas.Int.{ints}
-use Rattle.count_rows.specs.Rows.{Table}
-use Rattle.count_eval.specs.Programs.{cell_of}
+use Rattle.count_rows.specs.Vocabulary.{Table}
+use Rattle.count_eval.specs.Vocabulary.{cell_of}
 use Rattle.implications.specs.declared.pairs.Implication.{Implication}
 use Rattle.implied_differences.specs.declared.largest.Difference.{Difference}
-use Rattle.implied_differences.specs.Differences.{IsReadable, IsLargest, left, right, distance}
-use Rattle.implied_differences.specs.Laws.{IsZeroWhereMatched}
+use Rattle.implied_differences.specs.Vocabulary.{IsReadable, IsLargest, left, right, distance, IsZeroWhereMatched}
 use Rattle.broken_pairs.specs.Broken.{is_apart, IsBroken, Refutes}
 
 pub not_zero : (z : ℤ) → is_apart z ≡ true → z ≢ pos 0

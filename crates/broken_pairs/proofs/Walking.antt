@@ -5,13 +5,13 @@ use Rattle.std.specs.Bool.{OnTrue, OnFalse}
 use Rattle.std.proofs.lemmas.Bool.{false≢true}
 use Rattle.std.proofs.lemmas.List.{take-append-drop, take_all, drop_more, take_more}
 use Rattle.std.proofs.lemmas.List.Elements.{All-push, All-head, All-tail}
-use Rattle.mixed_graph.specs.Graphs.{MixedGraph, IsMixedGraph}
-use Rattle.count_rows.specs.Rows.{Table}
-use Rattle.count_table.specs.Cells.{total}
-use Rattle.count_eval.specs.Programs.{weights_in, is_used}
-use Rattle.natural_bounds.specs.Bounds.{HasNoModel}
+use Rattle.mixed_graph.specs.Vocabulary.{MixedGraph, IsMixedGraph}
+use Rattle.count_rows.specs.Vocabulary.{Table}
+use Rattle.count_table.specs.Vocabulary.{total}
+use Rattle.count_eval.specs.Vocabulary.{weights_in, is_used}
+use Rattle.natural_bounds.specs.Vocabulary.{HasNoModel}
 use Rattle.implications.specs.declared.pairs.Implication.{Implication}
-use Rattle.implications.specs.Implications.{IsImplication}
+use Rattle.implications.specs.Vocabulary.{IsImplication}
 use Rattle.broken_pairs.specs.Broken.{IsBroken, IsFirstOf, IsFirstBroken, Refutes}
 
 -- what a test says

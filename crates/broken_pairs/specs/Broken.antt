@@ -1,14 +1,14 @@
 -- Which of the pairs that a graph implies counts break: one of their cross differences isn't 0.
 use Rattle.std.specs.Prelude.{ℕ, ℤ, pos, zero, ◌≡◌, ◌≢◌, Bool, true, false, List, ◌∷◌, ◌++◌, Option, Some, None, All}
-use Rattle.mixed_graph.specs.Graphs.{MixedGraph, IsMixedGraph}
-use Rattle.count_rows.specs.Rows.{Table}
-use Rattle.count_table.specs.Axes.{cell_at}
-use Rattle.count_table.specs.Cells.{IsCell, total}
-use Rattle.count_eval.specs.Programs.{weights_in, is_used}
-use Rattle.natural_bounds.specs.Bounds.{HasNoModel}
+use Rattle.mixed_graph.specs.Vocabulary.{MixedGraph, IsMixedGraph}
+use Rattle.count_rows.specs.Vocabulary.{Table}
+use Rattle.count_table.specs.Vocabulary.{cell_at, IsCell, total}
+use Rattle.count_eval.specs.Vocabulary.{weights_in, is_used}
+use Rattle.natural_bounds.specs.Vocabulary.{HasNoModel}
 use Rattle.implications.specs.declared.pairs.Implication.{Implication}
-use Rattle.implications.specs.Implications.{IsImplication}
-use Rattle.implied_differences.specs.Differences.{IsReadable, axes_in, difference}
+use Rattle.implications.specs.Vocabulary.{IsImplication}
+use Rattle.implied_differences.specs.Differences.{difference}
+use Rattle.implied_differences.specs.Vocabulary.{IsReadable, axes_in}
 
 -- a difference isn't 0
 abbrev pub is_apart : ℤ → Bool

@@ -2,12 +2,12 @@
 
 ghost use Rattle.std.specs.Prelude.{◌≡◌, ℕ, List, IfOk, IfSome};
 ghost use Rattle.std.specs.Bool.{OnTrue, OnFalse};
-ghost use Rattle.mixed_graph.specs.Shown.{graph_of};
-ghost use Rattle.count_table.specs.Cells.{total};
-ghost use Rattle.count_eval.specs.Programs.{weights_in, is_used};
-ghost use Rattle.natural_bounds.specs.Bounds.{HasNoModel};
+ghost use Rattle.mixed_graph.specs.Vocabulary.{graph_of};
+ghost use Rattle.count_table.specs.Vocabulary.{total};
+ghost use Rattle.count_eval.specs.Vocabulary.{weights_in, is_used};
+ghost use Rattle.natural_bounds.specs.Vocabulary.{HasNoModel};
 ghost use Rattle.implications.specs.declared.pairs.Implication.{Implication as Pair};
-ghost use Rattle.implications.specs.Implications.{AreImplications};
+ghost use Rattle.implications.specs.Vocabulary.{AreImplications};
 ghost use Rattle.broken_pairs.specs.Broken.{is_apart, IsBroken, IsFirstBroken, Refutes};
 
 use count_table::Counts;

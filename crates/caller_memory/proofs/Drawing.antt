@@ -2,12 +2,10 @@
 use Rattle.std.proofs.Common.{◌≡◌, ℕ, length, ap, sym, subst}
 use Rattle.std.proofs.Math.Logic.{∥∥₁_elim, ∥∥₁_map}
 use Rattle.std.proofs.Math.Nat.{ℕ_set}
-use Rattle.mixed_graph.specs.Bits.{has}
-use Rattle.mixed_graph.specs.Graphs.{MixedGraph}
-use Rattle.mixed_graph.specs.Shown.{graph_of}
+use Rattle.mixed_graph.specs.Vocabulary.{has, MixedGraph, graph_of}
 use Rattle.dag_reader.specs.declared.graph.ReadGraph.{ReadGraph}
-use Rattle.latent_projection.specs.Renumbering.{IsObserved, observed_below}
-use Rattle.diagram.specs.Observed.{IsObservedGraph}
+use Rattle.latent_projection.specs.Vocabulary.{IsObserved, observed_below}
+use Rattle.diagram.specs.Vocabulary.{IsObservedGraph}
 use Rattle.caller_memory.specs.declared.kept.kept.KeptDiagram.{KeptDiagram}
 use Rattle.caller_memory.specs.Kept.{graph_in}
 

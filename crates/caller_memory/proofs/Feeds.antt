@@ -12,7 +12,7 @@ use Rattle.std.proofs.lemmas.List.Folds.{list_any_none}
 use Rattle.std.proofs.lemmas.List.Sums.{AllPass-from_list_all, position_or_len_is, split_at_first, passes_at_first}
 use Rattle.std.proofs.lemmas.Option.{get_or_from_slice_get}
 use Rattle.std.proofs.lemmas.Slice.Eq.{bytes_eq-Decides}
-use Rattle.mixed_graph.specs.Names.{AreNames, IsName, is_line_byte, is_named}
+use Rattle.mixed_graph.specs.Vocabulary.{AreNames, IsName, is_line_byte, is_named}
 use Rattle.mixed_graph.proofs.NameLists.{position-index}
 use Rattle.caller_memory.specs.Kept.{lines_of}
 use Rattle.caller_memory.specs.Lines.{is_feed}

@@ -1,16 +1,11 @@
 -- One graph is kept: whatever text it was read of, what is kept gives a graph of that text.
 use Rattle.std.proofs.Common.{◌≡◌, ℕ, List, sym, ap, ◌∙◌, subst}
-use Rattle.mixed_graph.specs.Bits.{has}
-use Rattle.mixed_graph.specs.Built.{IsGraphOf}
-use Rattle.mixed_graph.specs.Graphs.{IsAcyclic}
-use Rattle.mixed_graph.specs.Shown.{graph_of}
+use Rattle.mixed_graph.specs.Vocabulary.{has, IsGraphOf, IsAcyclic, graph_of}
 use Rattle.dag_reader.specs.declared.graph.ReadGraph.{ReadGraph}
 use Rattle.dag_reader.specs.declared.marks.Role.{Role}
 use Rattle.dag_reader.specs.declared.marks.Role.TheVariants.{Exposure, Outcome, Adjusted, Latent}
-use Rattle.dag_reader.specs.Grammar.{Said}
-use Rattle.dag_reader.specs.Passes.{arrows_of, doubles_of}
-use Rattle.dag_reader.specs.Reads.{Tells, is_marked}
-use Rattle.replies.specs.Observed.{HoldsGraph}
+use Rattle.dag_reader.specs.Vocabulary.{Said, arrows_of, doubles_of, Tells, is_marked}
+use Rattle.replies.specs.Vocabulary.{HoldsGraph}
 use Rattle.caller_memory.specs.declared.kept.kept.KeptDiagram.{KeptDiagram}
 use Rattle.caller_memory.specs.Kept.{KeepsText, Keeps}
 use Rattle.caller_memory.proofs.Feeds.{one_list}

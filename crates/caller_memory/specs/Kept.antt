@@ -1,16 +1,13 @@
 -- A diagram that a caller keeps: what it holds, and what may be asked of it.
 use Rattle.std.specs.Prelude.{ℕ, ◌≡◌, ◌≢◌, ◌<◌, ◌≤◌, List, [], ◌∷◌, ◌++◌, length, Err}
-use Rattle.mixed_graph.specs.Bits.{has}
-use Rattle.mixed_graph.specs.Graphs.{MixedGraph, graph_from}
-use Rattle.mixed_graph.specs.Sets.{Within, Apart}
-use Rattle.mixed_graph.specs.Shown.{graph_of}
-use Rattle.do_rules.specs.Rules.{AreThreeSets}
+use Rattle.mixed_graph.specs.Vocabulary.{has, MixedGraph, graph_from, Within, Apart, graph_of}
+use Rattle.do_rules.specs.Vocabulary.{AreThreeSets}
 use Rattle.dag_reader.specs.declared.graph.ReadGraph.{ReadGraph}
 use Rattle.dag_reader.specs.declared.faults.GraphFault.{GraphFault}
 use Rattle.dag_reader.specs.declared.faults.GraphFault.TheVariants.{NoMemory}
 use Rattle.dag_reader.specs.Reads.{Reads}
-use Rattle.diagram.specs.Observed.{IsObservedGraph}
-use Rattle.replies.specs.Observed.{HoldsGraph}
+use Rattle.diagram.specs.Vocabulary.{IsObservedGraph}
+use Rattle.replies.specs.Vocabulary.{HoldsGraph}
 use Rattle.caller_memory.specs.declared.kept.kept.KeptGraph.{KeptGraph}
 use Rattle.caller_memory.specs.declared.kept.kept.KeptDiagram.{KeptDiagram}
 

@@ -4,3 +4,4 @@ pub mod Laws
 pub mod Words
 pub mod Kept
 pub mod Lines
+pub mod Vocabulary

@@ -1,16 +1,13 @@
 -- A model that carries bits of hidden coins: the value of a vertex packs three bits for each vertex that they may begin at.
 use Rattle.std.proofs.Common.{ℕ, zero, suc, ◌+◌, ◌-◌, ◌^◌, ◌≡◌, ◌≢◌, ◌<◌, Bool, true, false, cond, not, refl, sym, ap, ap₂, ◌∙◌, ◌&&◌, ◌||◌}
 use Rattle.std.proofs.Common.{eqb, ltb, nat_lt, lt-ltb, ltb-true, ne_eqb, bit_or, IsTrue, arith}
-use Rattle.mixed_graph.specs.Bits.{has}
-use Rattle.mixed_graph.specs.Graphs.{MixedGraph}
+use Rattle.mixed_graph.specs.Vocabulary.{has, MixedGraph}
 use Rattle.mixed_graph.proofs.Masks.{le_from_subset}
-use Rattle.finite_models.specs.Models.{FiniteModel, Fits}
-use Rattle.finite_models.specs.Packed.{mask_of}
-use Rattle.finite_models.specs.Parities.{differ, odd_below}
+use Rattle.finite_models.specs.Vocabulary.{FiniteModel, Fits, mask_of, differ, odd_below}
 use Rattle.finite_models.proofs.Bools.{and_first, and_second}
 use Rattle.finite_models.proofs.Factors.{any_below}
 use Rattle.finite_models.proofs.Packed.{has-mask}
-use Rattle.twisted_models.specs.Twisted.{IsTwist}
+use Rattle.twisted_models.specs.Vocabulary.{IsTwist}
 use Rattle.counter_models.proofs.ParityLaws.{odd-congr, odd-differ}
 use Rattle.carrying_models.proofs.Channels.{is_handed, IsCarried}
 

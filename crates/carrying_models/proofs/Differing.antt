@@ -1,10 +1,9 @@
 -- Made positive, the pairs differ on the nested effect, so no formula equals it.
 use Rattle.std.proofs.Common.{ℕ, ◌≡◌, ◌<◌, true}
-use Rattle.mixed_graph.specs.Bits.{has}
-use Rattle.mixed_graph.specs.Graphs.{MixedGraph, IsMixedGraph}
-use Rattle.nested_models.specs.NoFormula.{HasNoFormulaNested}
+use Rattle.mixed_graph.specs.Vocabulary.{has, MixedGraph, IsMixedGraph}
+use Rattle.nested_models.specs.Vocabulary.{HasNoFormulaNested}
 use Rattle.nested_models.proofs.NoFormula.{difference_excludes_nested}
-use Rattle.twisted_models.specs.Pairs.{DifferOnNested}
+use Rattle.twisted_models.specs.Vocabulary.{DifferOnNested}
 use Rattle.twisted_models.proofs.Differing.{apart_differ}
 use Rattle.carrying_models.specs.Apart.{WitnessDiffers, SplitDiffers, WitnessExcludesNested, SplitExcludesNested}
 use Rattle.carrying_models.proofs.Split.{split_is_apart}

@@ -2,26 +2,23 @@
 use Rattle.std.proofs.Common.{ℕ, zero, suc, ◌+◌, ◌-◌, ◌*◌, ◌≡◌, ◌≢◌, ◌<◌, Bool, true, false, cond, refl, sym, ap, ◌∙◌, ◌&&◌, ◌||◌, nat_lt, not, eqb, eqb-true}
 use Rattle.std.proofs.Common.{List, [], ◌∷◌, arith, zero-mul}
 use Rattle.std.proofs.lemmas.Bool.{and_from, and_right, cond-false, cond-true, or_from, false_from_ne_true}
-use Rattle.mixed_graph.specs.Bits.{has}
-use Rattle.mixed_graph.specs.Graphs.{MixedGraph, IsMixedGraph, IsDirectedPath, IsAncestor}
+use Rattle.mixed_graph.specs.Vocabulary.{has, MixedGraph, IsMixedGraph, IsDirectedPath, IsAncestor}
 use Rattle.mixed_graph.proofs.Masks.{has-zero}
 use Rattle.mixed_graph.proofs.Paths.{end_below}
-use Rattle.finite_models.specs.Models.{FiniteModel, IsAssignment, solution, intervene, agree, world_weight}
-use Rattle.finite_models.specs.Parities.{differ, odd_below}
-use Rattle.finite_models.specs.Sums.{product_below}
-use Rattle.finite_models.specs.Packed.{mask_of}
+use Rattle.finite_models.specs.Vocabulary.{FiniteModel, IsAssignment, solution, intervene, agree, world_weight, differ, odd_below, product_below, mask_of}
 use Rattle.finite_models.proofs.Bools.{and_first, and_second, not_both, either}
 use Rattle.finite_models.proofs.Following.{Follows, follows_of, intervene_alike}
 use Rattle.finite_models.proofs.Packed.{has-mask}
 use Rattle.finite_models.proofs.Ranks.{with_rank}
 use Rattle.finite_models.proofs.Solutions.{IsRanked, solution_within, agree_from, agree_gives}
 use Rattle.finite_models.proofs.SumLaws.{over-term, over-congr_within, over-scale}
-use Rattle.do_rules.specs.Cuts.{cut_into, cut_out}
+use Rattle.do_rules.specs.Vocabulary.{cut_into, cut_out}
 use Rattle.do_rules.proofs.Altered.{follows_into}
 use Rattle.counter_models.proofs.ParityLaws.{odd-congr, odd-false, differ-false}
-use Rattle.nested_models.specs.Nested.{nested, is_nested, weight_of_nested, IsNestedQuery, LeadsPast, LeadsThrough}
+use Rattle.nested_models.specs.Nested.{nested}
+use Rattle.nested_models.specs.Vocabulary.{is_nested, weight_of_nested, IsNestedQuery, LeadsPast, LeadsThrough}
 use Rattle.nested_models.proofs.Worlds.{done, set_x, values_within}
-use Rattle.twisted_models.specs.Pairs.{AreApart}
+use Rattle.twisted_models.specs.Vocabulary.{AreApart}
 use Rattle.carrying_models.proofs.Core.{Coins, core, own, tossed, many, core_fits, is_twist}
 use Rattle.carrying_models.proofs.Reading.{read_plain, read_past, read_through}
 

@@ -2,13 +2,12 @@
 use Rattle.std.proofs.Common.{ℕ, ◌+◌, ◌-◌, ◌≡◌, ◌<◌, Bool, true, false, cond, sym, ap, subst, ◌∙◌, ◌&&◌, ◌||◌, eqb}
 use Rattle.std.proofs.Common.{List, lt-ltb, le-ltb, ltb, arith}
 use Rattle.std.proofs.lemmas.Bool.{and_parts, and_from, cond-false}
-use Rattle.mixed_graph.specs.Bits.{has}
-use Rattle.mixed_graph.specs.Graphs.{MixedGraph, IsMixedGraph, IsDirectedPath}
-use Rattle.finite_models.specs.Models.{FiniteModel, IsAssignment, solution, intervene}
+use Rattle.mixed_graph.specs.Vocabulary.{has, MixedGraph, IsMixedGraph, IsDirectedPath}
+use Rattle.finite_models.specs.Vocabulary.{FiniteModel, IsAssignment, solution, intervene}
 use Rattle.finite_models.proofs.Factors.{any_below, any_below_from, any_below_gives}
 use Rattle.finite_models.proofs.Following.{Follows, follows_of}
 use Rattle.finite_models.proofs.Solutions.{IsRanked, solution_is}
-use Rattle.do_rules.specs.Cuts.{cut_out}
+use Rattle.do_rules.specs.Vocabulary.{cut_out}
 use Rattle.nested_models.specs.Nested.{nested}
 use Rattle.nested_models.proofs.Worlds.{done, nest, set_m}
 use Rattle.carrying_models.proofs.Channels.{IsCarried, one_source, carries, only_there, begins_there}

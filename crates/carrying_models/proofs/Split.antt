@@ -2,19 +2,16 @@
 use Rattle.std.proofs.Common.{ℕ, ◌⊎◌, inl, inr, ◌≡◌, Bool, true, false, refl, sym, ap, ap₂, ◌∙◌, ◌&&◌, eqb, eqb-true, ne_eqb}
 use Rattle.std.proofs.Common.{subst, arith}
 use Rattle.std.proofs.lemmas.Bool.{or_cases}
-use Rattle.mixed_graph.specs.Bits.{has}
-use Rattle.mixed_graph.specs.Graphs.{MixedGraph, IsMixedGraph, IsAncestor, induced}
-use Rattle.mixed_graph.specs.Masks.{union, minus, all}
+use Rattle.mixed_graph.specs.Vocabulary.{has, MixedGraph, IsMixedGraph, IsAncestor, induced, union, minus, all}
 use Rattle.mixed_graph.proofs.MaskLaws.{has_join}
-use Rattle.finite_models.specs.Parities.{differ}
+use Rattle.finite_models.specs.Vocabulary.{differ}
 use Rattle.finite_models.proofs.Bools.{not_both}
 use Rattle.finite_models.proofs.SumLaws.{eqb-refl}
-use Rattle.do_rules.specs.Cuts.{cut_out}
+use Rattle.do_rules.specs.Vocabulary.{cut_out}
 use Rattle.counter_models.proofs.ParityLaws.{odd-congr}
-use Rattle.nested_models.specs.Nested.{IsNestedQuery, LeadsPast, LeadsThrough}
+use Rattle.nested_models.specs.Vocabulary.{IsNestedQuery, LeadsPast, LeadsThrough, IsSplitDistrict}
 use Rattle.nested_models.proofs.Leading.{to_cut, past_or_through}
-use Rattle.nested_models.specs.Split.{IsSplitDistrict}
-use Rattle.twisted_models.specs.Pairs.{AreApart}
+use Rattle.twisted_models.specs.Vocabulary.{AreApart}
 use Rattle.carrying_models.specs.Apart.{SplitIsApart}
 use Rattle.carrying_models.proofs.Core.{heads, tossed}
 use Rattle.carrying_models.proofs.Pair.{Refuted, are_apart}

@@ -1,10 +1,9 @@
 -- One coin for each bidirected edge of a walk: the parities of all vertices of a set that holds the walk add up to none.
 use Rattle.std.proofs.Common.{ℕ, zero, suc, ◌≡◌, ◌≢◌, ◌<◌, ◌≤◌, ◌⊎◌, inl, inr, Bool, true, false, refl, sym, ap, ap₂, ◌∙◌, ◌&&◌, ◌||◌, ◌==◌, eqb, eqb-true}
 use Rattle.std.proofs.Common.{ne_eqb, IsTrue, arith}
-use Rattle.mixed_graph.specs.Graphs.{MixedGraph, IsMixedGraph}
-use Rattle.hedge.specs.Linked.{IsLinked}
-use Rattle.hedge.specs.Linked.IsLinked.{at, by}
-use Rattle.finite_models.specs.Parities.{differ, odd_below}
+use Rattle.mixed_graph.specs.Vocabulary.{MixedGraph, IsMixedGraph}
+use Rattle.hedge.specs.Vocabulary.{IsLinked, at, by}
+use Rattle.finite_models.specs.Vocabulary.{differ, odd_below}
 use Rattle.finite_models.proofs.Bools.{not_both}
 use Rattle.finite_models.proofs.SumLaws.{eqb-refl}
 use Rattle.counter_models.proofs.ParityLaws.{differ-self, and-comm, and-differ, odd-congr, odd-differ, odd-false, odd-one, incidences}

@@ -1,6 +1,6 @@
 -- A recanting witness gives a pair of models: one coin serves it alone.
 use Rattle.std.proofs.Common.{ℕ, ◌≡◌, ◌<◌, ◌||◌, Bool, true, false, refl, sym, ap, ◌∙◌, eqb, eqb-true}
-use Rattle.mixed_graph.specs.Graphs.{MixedGraph}
+use Rattle.mixed_graph.specs.Vocabulary.{MixedGraph}
 use Rattle.finite_models.proofs.Bools.{not_both}
 use Rattle.finite_models.proofs.SumLaws.{eqb-refl}
 use Rattle.carrying_models.specs.Apart.{WitnessIsApart}

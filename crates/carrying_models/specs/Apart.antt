@@ -1,11 +1,8 @@
 -- A recanting witness and a split district give a pair of models that a nested event tells apart.
 use Rattle.std.specs.Prelude.{ℕ, ◌≡◌, ◌<◌, true}
-use Rattle.mixed_graph.specs.Bits.{has}
-use Rattle.mixed_graph.specs.Graphs.{MixedGraph, IsMixedGraph}
-use Rattle.nested_models.specs.Nested.{IsNestedQuery, IsRecantingWitness}
-use Rattle.nested_models.specs.NoFormula.{HasNoFormulaNested}
-use Rattle.nested_models.specs.Split.{IsSplitDistrict}
-use Rattle.twisted_models.specs.Pairs.{AreApart, DifferOnNested}
+use Rattle.mixed_graph.specs.Vocabulary.{has, MixedGraph, IsMixedGraph}
+use Rattle.nested_models.specs.Vocabulary.{IsNestedQuery, IsRecantingWitness, HasNoFormulaNested, IsSplitDistrict}
+use Rattle.twisted_models.specs.Vocabulary.{AreApart, DifferOnNested}
 
 -- with a recanting witness there is a model and a twist of it, where the nested event is possible in the one alone (Avin, Shpitser and Pearl 2005)
 abbrev pub WitnessIsApart : Type 0

@@ -2,22 +2,16 @@
 #![tactic(auto)]
 
 ghost use Rattle.std.specs.Prelude.{◌≡◌, ◌≤◌, ◌⊎◌, List, ℕ, Some, None};
-ghost use Rattle.mixed_graph.specs.Bits.{has};
-ghost use Rattle.m_separation.specs.Walks.{IsSeparated, HasOpenWalk};
+ghost use Rattle.mixed_graph.specs.Vocabulary.{has};
+ghost use Rattle.m_separation.specs.Vocabulary.{IsSeparated, HasOpenWalk};
 ghost use Rattle.dag_reader.specs.declared.graph.ReadGraph.{ReadGraph};
-ghost use Rattle.prob_expr.specs.Failing.{FailsSomewhere};
-ghost use Rattle.prob_expr.specs.Tree.{effect_on};
-ghost use Rattle.prob_expr.specs.Values.{EqualsEffect};
-ghost use Rattle.adjustment.specs.Criteria.{IsAdmissible};
-ghost use Rattle.adjustment.specs.Formulas.{adjustment_formula};
-ghost use Rattle.identify.specs.Deciding.{IsIdentifiable, IsNotIdentifiable};
-ghost use Rattle.caller_memory.specs.Kept.{AreAskable, AreEffectSets, KeepsText, IsNoGraphText, Keeps, graph_in};
-ghost use Rattle.span_call.specs.Called.{Called, LacksInput};
-ghost use Rattle.span_call.specs.Ends.{IsEnd};
-ghost use Rattle.span_call.specs.Keeping.{HasKept};
-ghost use Rattle.span_call.specs.Wanted.{TellsInputs, AskForNothing};
-ghost use Rattle.caller_memory.specs.Words.{AreTexts, IsNoText};
-ghost use Rattle.explain_call.specs.Calls.{Explained};
+ghost use Rattle.prob_expr.specs.Vocabulary.{FailsSomewhere, effect_on, EqualsEffect};
+ghost use Rattle.adjustment.specs.Vocabulary.{IsAdmissible, adjustment_formula};
+ghost use Rattle.identify.specs.Vocabulary.{IsIdentifiable, IsNotIdentifiable};
+ghost use Rattle.caller_memory.specs.Vocabulary.{AreAskable, AreEffectSets, KeepsText, IsNoGraphText, Keeps, graph_in, AreTexts, IsNoText};
+ghost use Rattle.span_call.specs.Called.{Called};
+ghost use Rattle.span_call.specs.Vocabulary.{LacksInput, IsEnd, HasKept, TellsInputs, AskForNothing};
+ghost use Rattle.explain_call.specs.Vocabulary.{Explained};
 
 use caller_memory::kept::{
     Adjustment, Identification, KeepFault, KeptDiagram, ReadDiagram, Separation,

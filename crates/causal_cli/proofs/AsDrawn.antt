@@ -4,108 +4,90 @@ use Rattle.std.specs.Prelude.{IsSome, IfSome, IsTrue, All}
 use Rattle.std.proofs.lemmas.Bool.{false≢true}
 use Rattle.std.proofs.lemmas.Option.{none-some, same_Some}
 use Rattle.std.proofs.lemmas.List.Elements.{All-weaker}
-use Rattle.mixed_graph.specs.Bits.{has}
-use Rattle.mixed_graph.specs.Graphs.{MixedGraph}
-use Rattle.mixed_graph.specs.Masks.{union}
-use Rattle.mixed_graph.proofs.MaskLaws.{has_join}
-use Rattle.mixed_graph.specs.Shown.{graph_of}
 use Rattle.mixed_graph.specs.declared.sets.VSet.{VSet}
-use Rattle.finite_models.specs.Data.{meaning}
-use Rattle.do_rules.specs.Rules.{AreThreeSets, AreIndependent, left_of, right_of}
+use Rattle.mixed_graph.specs.Vocabulary.{has, MixedGraph, union, graph_of}
+use Rattle.mixed_graph.proofs.MaskLaws.{has_join}
+use Rattle.finite_models.specs.Vocabulary.{meaning}
 use Rattle.do_rules.specs.declared.rules.Rule.{Rule}
-use Rattle.prob_expr.specs.Differences.{DifferOnTarget}
-use Rattle.prob_expr.specs.Experiments.{AgreeUnderAll}
-use Rattle.prob_expr.specs.Listed.{masks_of}
-use Rattle.prob_expr.specs.Tree.{PlainFormula, PlainTarget, effect_on}
-use Rattle.prob_expr.specs.Values.{EqualsEffect}
-use Rattle.prob_expr.specs.View.{target_view, formula_view}
-use Rattle.counter_models.specs.Events.{AreCounterModels}
+use Rattle.do_rules.specs.Vocabulary.{AreThreeSets, AreIndependent, left_of, right_of}
+use Rattle.prob_expr.specs.Vocabulary.{DifferOnTarget, AgreeUnderAll, masks_of, PlainFormula, PlainTarget, effect_on, EqualsEffect, target_view, formula_view}
 use Rattle.counter_models.specs.declared.counter_pair.CounterPair.{CounterPair}
+use Rattle.counter_models.specs.Vocabulary.{AreCounterModels}
 use Rattle.counter_models.proofs.Excluded.{differ_on}
 use Rattle.dag_reader.specs.declared.graph.ReadGraph.{ReadGraph}
 use Rattle.hidden_models.proofs.Drawn.{right_as_drawn, matched_folded}
 use Rattle.hidden_models.proofs.Folded.{each_has_folded}
 use Rattle.hidden_models.proofs.Drawing.{difference_is_drawn, difference_over_is_drawn, formula_as_drawn_fixes, formula_failure_is_drawn}
 use Rattle.hidden_models.proofs.Statements.{independence_is_drawn, equation_is_drawn, dependence_is_drawn, failure_is_drawn}
-use Rattle.adjustment.specs.Criteria.{IsAdmissible}
-use Rattle.adjustment.specs.Formulas.{adjustment_formula}
+use Rattle.adjustment.specs.Vocabulary.{IsAdmissible, adjustment_formula}
 use Rattle.adjustment.proofs.Exceeding.{Exceeds, exceeds_fails}
 use Rattle.adjustment.proofs.FaultWalks.{forbidden_exceeds, unblocked_exceeds}
-use Rattle.diagram.specs.Observed.{IsObservedGraph}
-use Rattle.diagram.specs.Sets.{Names, effect_lists, query_lists}
 use Rattle.diagram.specs.declared.diagram.Diagram.{Diagram}
+use Rattle.diagram.specs.Vocabulary.{IsObservedGraph, Names, effect_lists, query_lists}
 use Rattle.diagram.proofs.ObservedParts.{part_of}
 use Rattle.diagram.proofs.OneObserved.{observed_is_mixed}
 use Rattle.hedge.specs.declared.hedge.Hedge.{Hedge}
-use Rattle.hidden_models.specs.Unfolding.{FailsSomewhereAsDrawn}
-use Rattle.count_rows.specs.Rows.{Table}
-use Rattle.count_table.specs.Cells.{total}
-use Rattle.count_eval.specs.Programs.{weights_in, is_used}
-use Rattle.natural_bounds.specs.Bounds.{HasNoModel}
-use Rattle.natural_bounds.specs.Drawn.{HasNoModelAsDrawn}
+use Rattle.hidden_models.specs.Vocabulary.{FailsSomewhereAsDrawn}
+use Rattle.count_rows.specs.Vocabulary.{Table}
+use Rattle.count_table.specs.Vocabulary.{total}
+use Rattle.count_eval.specs.Vocabulary.{weights_in, is_used}
+use Rattle.natural_bounds.specs.Vocabulary.{HasNoModel, HasNoModelAsDrawn}
 use Rattle.natural_bounds.proofs.Drawn.{no_model_is_as_drawn}
-use Rattle.implications.specs.Separable.{only}
 use Rattle.implications.specs.declared.pairs.Implication.{Implication}
-use Rattle.implied_differences.specs.Laws.{IsZeroIfMatched}
+use Rattle.implications.specs.Vocabulary.{only}
+use Rattle.implied_differences.specs.Vocabulary.{IsZeroIfMatched}
 use Rattle.implied_differences.specs.declared.largest.Difference.{Difference}
-use Rattle.command_words.specs.Form.{Text}
-use Rattle.surrogates.specs.Answers.{IsRightBlock}
+use Rattle.command_words.specs.Vocabulary.{Text}
 use Rattle.surrogates.specs.declared.answer.CommonHedge.{CommonHedge}
-use Rattle.targets.specs.Targets.{EffectLists, Lists}
+use Rattle.surrogates.specs.Vocabulary.{IsRightBlock}
 use Rattle.targets.specs.declared.query.Sets.{Sets}
 use Rattle.targets.specs.declared.query.RuleSets.{RuleSets}
-use Rattle.experiment_lists.specs.Words.{Lists as Experiments}
+use Rattle.targets.specs.Vocabulary.{EffectLists, Lists}
+use Rattle.experiment_lists.specs.Vocabulary.{Lists as Experiments}
 use Rattle.effect_answers.specs.declared.hedges.EffectHedge.{EffectHedge}
-use Rattle.effect_answers.specs.HedgeTelling.{effect_of}
-use Rattle.effect_answers.specs.Right.{IsEffectHedge}
+use Rattle.effect_answers.specs.Vocabulary.{effect_of, IsEffectHedge}
 use Rattle.identify_command.specs.declared.answer.Answer.{Answer as IdentifyAnswer}
+use Rattle.identify_command.specs.Vocabulary.{IsJointHedge, IsForEffect, IsForTarget, IsAnswerFor, IsIdentifyAnswer, asked_of}
 use Rattle.identify_command.specs.declared.answer.Answer.TheVariants as identified
-use Rattle.identify_command.specs.Right.{IsJointHedge, IsForEffect, IsForTarget, IsAnswerFor, IsIdentifyAnswer, asked_of}
-use Rattle.adjust_command.specs.Queries.{Query, by_set, by_back_door, listing}
-use Rattle.adjust_command.specs.Right.{Decides, IsAdjustAnswer}
-use Rattle.adjust_command.specs.Verdicts.{IsVerdict}
+use Rattle.adjust_command.specs.Queries.{Query}
 use Rattle.adjust_command.specs.declared.criteria.Verdict.TheVariants.{Meets}
 use Rattle.adjust_command.specs.declared.answer.Answer.{Answer as AdjustAnswer}
+use Rattle.adjust_command.specs.Vocabulary.{by_set, by_back_door, listing, Decides, IsAdjustAnswer, IsVerdict}
 use Rattle.adjust_command.specs.declared.answer.Answer.TheVariants as adjusted
 use Rattle.surrogate_command.specs.Right as surrogate_right
-use Rattle.surrogate_command.specs.Right.{IsStop, IsSurrogateAnswer, stop_shown}
 use Rattle.surrogate_command.specs.declared.answer.Answer.{Answer as SurrogateAnswer}
-use Rattle.surrogate_command.specs.declared.answer.Answer.TheVariants as surrogated
 use Rattle.surrogate_command.specs.declared.sets.SurrogateSets.{SurrogateSets}
-use Rattle.treated_id.specs.Sets.{AreBefore}
-use Rattle.treated_drawn.specs.Drawn.{EqualsAmongAsDrawn, IsLostAmongAsDrawn, IsUnfixedAmongAsDrawn}
-use Rattle.treated_drawn.specs.Laws.{IsAsked}
+use Rattle.surrogate_command.specs.Vocabulary.{IsStop, IsSurrogateAnswer, stop_shown}
+use Rattle.surrogate_command.specs.declared.answer.Answer.TheVariants as surrogated
+use Rattle.treated_id.specs.Vocabulary.{AreBefore}
+use Rattle.treated_drawn.specs.Vocabulary.{EqualsAmongAsDrawn, IsLostAmongAsDrawn, IsUnfixedAmongAsDrawn, IsAsked}
 use Rattle.treated_drawn.proofs.Among.{right_among_is_drawn, joint_lost_is_drawn}
 use Rattle.treated_drawn.proofs.Differing.{differing_is_drawn}
 use Rattle.treated_command.specs.Right as treated_right
-use Rattle.treated_command.specs.Right.{IsTreatedAnswer}
 use Rattle.treated_command.specs.declared.answer.Answer.{Answer as TreatedAnswer}
+use Rattle.treated_command.specs.Vocabulary.{IsTreatedAnswer}
 use Rattle.treated_command.specs.declared.answer.Answer.TheVariants as treated
 use Rattle.treated_command.proofs.Sets.{three_sets, turned}
 use Rattle.separation_commands.specs.SeparateRight as separate_right
-use Rattle.separation_commands.specs.SeparateRight.{IsSeparateAnswer}
+use Rattle.separation_commands.specs.Vocabulary.{IsSeparateAnswer, IsRuleAnswer}
 use Rattle.separation_commands.specs.declared.separate.answer.Answer.{Answer as SeparateAnswer}
 use Rattle.separation_commands.specs.declared.separate.answer.Answer.TheVariants as separated
 use Rattle.separation_commands.specs.RuleRight as rule_right
-use Rattle.separation_commands.specs.RuleRight.{IsRuleAnswer}
 use Rattle.separation_commands.specs.declared.rule.answer.Answer.{Answer as RuleAnswer}
 use Rattle.separation_commands.specs.declared.rule.answer.Answer.TheVariants as ruled
-use Rattle.implications_command.specs.Pairs.{ArePairs, pairs_in}
-use Rattle.implications_command.specs.Differences.{first_broken}
-use Rattle.implications_command.specs.Right.{IsForGraph, IsForCounts}
 use Rattle.implications_command.specs.declared.differences.Measured.{Measured}
 use Rattle.implications_command.specs.declared.answer.Answer.{Answer as ImplicationsAnswer}
+use Rattle.implications_command.specs.Vocabulary.{ArePairs, pairs_in, first_broken, IsForGraph, IsForCounts}
 use Rattle.implications_command.specs.declared.answer.Answer.TheVariants as implied
-use Rattle.certificate.specs.Plain.{formula}
-use Rattle.do_derivation.specs.Plans.{PlainDerivation}
-use Rattle.do_derivation.specs.View.{derivation_view}
+use Rattle.certificate.specs.Vocabulary.{formula}
 use Rattle.do_derivation.specs.declared.steps.Derivation.{Derivation}
-use Rattle.evaluate_command.specs.First.{IsForDiagram}
-use Rattle.evaluate_command.specs.Ways.{Way, by_procedure, by_adjusting, by_condition}
+use Rattle.do_derivation.specs.Vocabulary.{PlainDerivation, derivation_view}
 use Rattle.evaluate_command.specs.declared.answer.Answer.{Answer as EvaluateAnswer}
+use Rattle.evaluate_command.specs.Vocabulary.{IsForDiagram, by_procedure, by_adjusting, by_condition}
+use Rattle.evaluate_command.specs.Ways.{Way}
 use Rattle.evaluate_command.specs.declared.answer.Answer.TheVariants as evaluated
-use Rattle.check_command.specs.Right.{IsForText, of_formula, of_hedge, IsForCertificate}
 use Rattle.check_command.specs.declared.answer.Answer.{Answer as CheckAnswer}
+use Rattle.check_command.specs.Vocabulary.{IsForText, of_formula, of_hedge, IsForCertificate}
 use Rattle.check_command.specs.declared.answer.Answer.TheVariants as checked
 use Rattle.causal_cli.specs.AsDrawn.{IsTreatedAsDrawn, IsUnevaluatedAsDrawn, IsCheckedAsDrawn}
 use Rattle.causal_cli.specs.AsDrawn.{IsRightAsDrawn, IsNotIdentifiable, IsNotIdentifiableOver, IsJointLost, IdentifiesAsDrawn, AdjustsAsDrawn}

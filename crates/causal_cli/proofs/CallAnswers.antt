@@ -3,14 +3,13 @@ use Rattle.std.proofs.Common.{◌≡◌, ℕ, ◌≤◌, List, Option, Some, Non
 use Rattle.std.proofs.lemmas.Option.{same_Some, none-some}
 use Rattle.std.specs.Prelude.{IfSome}
 use Rattle.std.specs.Io.KnownBytes.{Appends}
-use Rattle.command_words.specs.Form.{Text, Use, IsCall, row_named}
+use Rattle.command_words.specs.Vocabulary.{Text, Use, IsCall, row_named}
 use Rattle.replies.specs.Told.{Told}
 use Rattle.replies.specs.declared.outcome.Outcome.{Outcome}
 use Rattle.replies.specs.declared.outcome.Outcome.TheVariants.{Yes, No}
-use Rattle.replies.specs.Outcomes.{code_of}
-use Rattle.command_run.specs.Answers.{WordsAnswer, Defined, DefinedWith}
-use Rattle.command_run.specs.Commands.{Request, of, command_of, file_of, second_of, IsRequest, Asks}
-use Rattle.command_run.specs.Run.{Run, Answers, by_words, by_file, by_both, Ends}
+use Rattle.replies.specs.Vocabulary.{code_of}
+use Rattle.command_run.specs.Vocabulary.{WordsAnswer, Defined, DefinedWith, Request, of, command_of, file_of, second_of, IsRequest, Asks, by_words, by_file, by_both}
+use Rattle.command_run.specs.Run.{Run, Answers, Ends}
 use Rattle.command_run.proofs.Deliveries.{mapped, told}
 use Rattle.command_run.proofs.OneRequest.{words_ask_once}
 use Rattle.causal_cli.specs.Calls.{Call, call_of, IsCallOf, WrittenFor}

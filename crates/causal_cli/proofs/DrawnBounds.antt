@@ -1,12 +1,10 @@
 -- What bounds say of the diagram as drawn.
 use Rattle.std.proofs.Common.{ℕ, Bool, List, Option, sym, subst}
 use Rattle.std.proofs.lemmas.List.Elements.{All-weaker}
-use Rattle.mixed_graph.specs.Bits.{has}
-use Rattle.mixed_graph.specs.Shown.{graph_of}
-use Rattle.count_rows.specs.Records.{Field}
-use Rattle.count_rows.specs.Rows.{Table}
-use Rattle.count_table.specs.Cells.{total}
-use Rattle.count_eval.specs.Programs.{weights_in, is_used, cell_of}
+use Rattle.mixed_graph.specs.Vocabulary.{has, graph_of}
+use Rattle.count_rows.specs.Vocabulary.{Field, Table}
+use Rattle.count_table.specs.Vocabulary.{total}
+use Rattle.count_eval.specs.Vocabulary.{weights_in, is_used, cell_of}
 use Rattle.diagram.specs.declared.diagram.Diagram.{Diagram}
 use Rattle.diagram.proofs.ObservedParts.{part_of}
 use Rattle.natural_bounds.specs.declared.ends.End.{End}
@@ -15,11 +13,11 @@ use Rattle.natural_bounds.proofs.Drawn.{bounding_is_as_drawn, no_model_is_as_dra
 use Rattle.bound_values.specs.declared.questions.Question.{Question}
 use Rattle.bound_values.specs.declared.values.Value.{Value}
 use Rattle.bound_values.specs.declared.values.CellBounds.{CellBounds}
-use Rattle.bound_values.specs.declared.found.Found.{Found}
 use Rattle.bound_values.specs.declared.found.Found.TheVariants.{Crossed, Bounded}
-use Rattle.bound_values.specs.Told.{number_of}
+use Rattle.bound_values.specs.Vocabulary.{number_of}
+use Rattle.bound_values.specs.declared.found.Found.{Found}
 use Rattle.bounds_command.specs.declared.answer.Answer.{Answer}
-use Rattle.bounds_command.specs.Right.{EndHolds, Encloses, HoldsInModels, IsForCounts}
+use Rattle.bounds_command.specs.Vocabulary.{EndHolds, Encloses, HoldsInModels, IsForCounts}
 use Rattle.causal_cli.specs.AsDrawn.{EndHoldsAsDrawn, EnclosesAsDrawn, IsFoundAsDrawn, IsBoundedAsDrawn}
 
 module _ (d : Diagram) (q : Question) (t : Table) where

@@ -2,43 +2,34 @@
 use Rattle.std.proofs.Common.{◌≡◌, ℕ, ◌<◌, Bool, true, false, ◌||◌, List, Option, Some, None, Ok, refl, sym, ap₂, subst}
 use Rattle.std.specs.Prelude.{All}
 use Rattle.std.proofs.lemmas.List.Elements.{All-weaker}
-use Rattle.mixed_graph.specs.Bits.{has}
-use Rattle.mixed_graph.specs.Graphs.{MixedGraph, IsMixedGraph}
-use Rattle.mixed_graph.specs.Shown.{graph_of}
-use Rattle.fractions.specs.Fractions.{Fraction, over, IsEqual}
-use Rattle.finite_models.specs.Models.{FiniteModel, Fits}
+use Rattle.mixed_graph.specs.Vocabulary.{has, MixedGraph, IsMixedGraph, graph_of}
+use Rattle.fractions.specs.Vocabulary.{Fraction, over, IsEqual}
+use Rattle.finite_models.specs.Vocabulary.{FiniteModel, Fits}
 use Rattle.finite_models.proofs.Following.{follows_of}
-use Rattle.prob_expr.specs.Tree.{PlainTarget}
-use Rattle.prob_expr.specs.Values.{effect}
+use Rattle.prob_expr.specs.Vocabulary.{PlainTarget, effect}
 use Rattle.dag_reader.specs.declared.graph.ReadGraph.{ReadGraph}
-use Rattle.hidden_models.specs.Folding.{drawn_effect, values_after}
+use Rattle.hidden_models.specs.Vocabulary.{drawn_effect, values_after}
 use Rattle.hidden_models.proofs.Depends.{weight_depends}
 use Rattle.hidden_models.proofs.Drawn.{matched_folded, folded_is_positive, folded_keeps_effects}
 use Rattle.hidden_models.proofs.Folded.{each_has_folded}
-use Rattle.quantity.specs.Exacts.{exact, Equals}
-use Rattle.quantity.specs.Intervals.{bounds, Covers}
-use Rattle.quantity.specs.Kinds.{Pair, Kind}
-use Rattle.quantity.specs.Lawful.{IsLawful}
-use Rattle.quantity.specs.Laws.Exact.{exact_lawful}
-use Rattle.quantity.specs.Laws.Interval.{bounds_lawful}
-use Rattle.count_rows.specs.Rows.{Table}
+use Rattle.quantity.specs.Exacts.{exact}
+use Rattle.quantity.specs.Vocabulary.{Equals, Covers, Kind, IsLawful, exact_lawful, bounds_lawful}
+use Rattle.quantity.specs.Intervals.{bounds}
+use Rattle.quantity.specs.Kinds.{Pair}
+use Rattle.count_rows.specs.Vocabulary.{Table}
 use Rattle.count_table.specs.Cells as cells
-use Rattle.count_eval.specs.Programs.{weights_in, is_used, cell_of}
+use Rattle.count_eval.specs.Vocabulary.{weights_in, is_used, cell_of}
 use Rattle.implications.specs.declared.pairs.Implication.{Implication}
 use Rattle.natural_bounds.proofs.Drawn.{no_model_is_as_drawn}
-use Rattle.diagram.specs.Observed.{IsObservedGraph}
-use Rattle.command_words.specs.Form.{Text}
-use Rattle.diagram.specs.Sets.{Names}
 use Rattle.diagram.specs.declared.diagram.Diagram.{Diagram}
+use Rattle.diagram.specs.Vocabulary.{IsObservedGraph, Names}
+use Rattle.command_words.specs.Vocabulary.{Text}
 use Rattle.diagram.proofs.ObservedParts.{part_of}
-use Rattle.evaluate_command.specs.Breaks.{IsBreak}
-use Rattle.evaluate_command.specs.Cells.{CellValue}
-use Rattle.evaluate_command.specs.Effects.{PlainEffect, target_of, Identifies}
-use Rattle.evaluate_command.specs.Right.{CoversEffect, IsOverTable, IsForTable, IsForCounts}
+use Rattle.evaluate_command.specs.declared.answer.Answer.{Answer}
+use Rattle.evaluate_command.specs.Vocabulary.{IsBreak, CellValue, PlainEffect, target_of, Identifies, CoversEffect, IsOverTable, IsForTable, IsForCounts}
 use Rattle.evaluate_command.specs.Ways.{Way}
 use Rattle.evaluate_command.specs.declared.answer.Values.{Values}
 use Rattle.evaluate_command.specs.declared.answer.Values.TheVariants as values
-use Rattle.evaluate_command.specs.declared.answer.Answer.{Answer}
 use Rattle.evaluate_command.specs.declared.answer.Answer.TheVariants as evaluated
 use Rattle.causal_cli.specs.AsDrawn.{CoversAsDrawn, EachCoversAsDrawn, AreCoveredAsDrawn, IsBreakAsDrawn, IsUnmatchedAsDrawn, IsEvaluatedAsDrawn}
 use Rattle.causal_cli.proofs.AsDrawn.{drawn}

@@ -3,78 +3,55 @@ use Rattle.std.proofs.Common.{◌≡◌, ◌∙◌, ℕ, ◌<◌, ◌≤◌, Boo
 use Rattle.std.proofs.lemmas.Option.{none-some}
 use Rattle.std.specs.Prelude.{IfSome}
 use Rattle.std.specs.Io.KnownBytes.{Appends}
-use Rattle.mixed_graph.specs.Shown.{graph_of}
-use Rattle.command_words.specs.Form.{Text, Use}
+use Rattle.mixed_graph.specs.Vocabulary.{graph_of}
+use Rattle.command_words.specs.Vocabulary.{Text, Use}
 use Rattle.targets.specs.declared.fault.TargetFault.{TargetFault}
 use Rattle.replies.specs.declared.outcome.Outcome.{Outcome}
 use Rattle.replies.specs.declared.outcome.Outcome.TheVariants.{Yes, No}
-use Rattle.replies.specs.Outcomes.{code_of}
+use Rattle.replies.specs.Vocabulary.{code_of}
 use Rattle.replies.specs.Told.{Told}
-use Rattle.diagram.specs.Sets.{Names}
 use Rattle.diagram.specs.declared.diagram.Diagram.{Diagram}
-use Rattle.told.specs.Forms.{plain_form}
-use Rattle.told.specs.Refusals.{target_refusal}
-use Rattle.told.specs.Telling.{Tells, outcome_in}
-use Rattle.identify_command.specs.Forms.{is_certified, told_form}
+use Rattle.diagram.specs.Vocabulary.{Names}
+use Rattle.told.specs.Vocabulary.{plain_form, target_refusal, Tells, outcome_in}
+use Rattle.identify_command.specs.Vocabulary.{is_certified, told_form, IsIdentifyAnswer, identify_telling}
 use Rattle.identify_command.specs.Requests as identify_requests
-use Rattle.identify_command.specs.Right.{IsIdentifyAnswer}
-use Rattle.identify_command.specs.Telling.{identify_telling}
 use Rattle.adjust_command.specs.Requests as adjust_requests
-use Rattle.adjust_command.specs.Right.{IsAdjustAnswer}
-use Rattle.adjust_command.specs.Telling.{adjust_telling}
-use Rattle.surrogate_command.specs.Forms.{wants_common, told_form as surrogate_form}
+use Rattle.adjust_command.specs.Vocabulary.{IsAdjustAnswer, adjust_telling}
+use Rattle.surrogate_command.specs.Vocabulary.{wants_common, told_form as surrogate_form, IsSurrogateAnswer, surrogate_telling}
 use Rattle.surrogate_command.specs.Requests as surrogate_requests
-use Rattle.surrogate_command.specs.Right.{IsSurrogateAnswer}
-use Rattle.surrogate_command.specs.Telling.{surrogate_telling}
-use Rattle.treated_command.specs.Faults.{treated_refusal}
-use Rattle.treated_command.specs.Requests as treated_requests
-use Rattle.treated_command.specs.Right.{IsTreatedAnswer}
-use Rattle.treated_command.specs.Telling.{treated_telling}
 use Rattle.treated_command.specs.declared.fault.TreatedFault.{TreatedFault}
+use Rattle.treated_command.specs.Vocabulary.{treated_refusal, IsTreatedAnswer, treated_telling}
+use Rattle.treated_command.specs.Requests as treated_requests
 use Rattle.separation_commands.specs.SeparateRequests as separate_requests
-use Rattle.separation_commands.specs.SeparateRight.{IsSeparateAnswer}
-use Rattle.separation_commands.specs.SeparateTelling.{separate_telling}
+use Rattle.separation_commands.specs.Vocabulary.{IsSeparateAnswer, separate_telling, IsRuleAnswer, rule_telling}
 use Rattle.separation_commands.specs.RuleRequests as rule_requests
-use Rattle.separation_commands.specs.RuleRight.{IsRuleAnswer}
-use Rattle.separation_commands.specs.RuleTelling.{rule_telling}
-use Rattle.implications_command.specs.CountsFaults.{counts_refusal}
-use Rattle.implications_command.specs.Pairs.{ArePairs, pairs_in}
-use Rattle.implications_command.specs.Requests.{Request as ImplicationsRequest}
-use Rattle.implications_command.specs.Right.{IsForGraph, IsForCounts}
-use Rattle.implications_command.specs.Telling.{implications_telling}
 use Rattle.implications_command.specs.declared.answer.Answer.{Answer}
-use Rattle.implications_command.specs.declared.answer.Answer.TheVariants.{NoPairs, Pairs, Differences}
+use Rattle.implications_command.specs.declared.answer.Answer.TheVariants.{NoPairs}
 use Rattle.implications_command.specs.declared.fault.CountsFault.{CountsFault}
-use Rattle.experiment_lists.specs.Words.{Lists as Experiments}
-use Rattle.check_command.specs.CertificateFaults.{certificate_refusal}
-use Rattle.check_command.specs.Requests as check_requests
-use Rattle.check_command.specs.Right.{AreExperimentsOn, IsForFirst, IsForCertificate}
-use Rattle.check_command.specs.Telling.{check_telling}
+use Rattle.implications_command.specs.Vocabulary.{counts_refusal, ArePairs, pairs_in, IsForGraph, IsForCounts, implications_telling}
+use Rattle.implications_command.specs.Requests.{Request as ImplicationsRequest}
+use Rattle.implications_command.specs.declared.answer.Answer.TheVariants.{Pairs, Differences}
+use Rattle.experiment_lists.specs.Vocabulary.{Lists as Experiments}
 use Rattle.check_command.specs.declared.answer.Answer.{Answer as CheckAnswer}
 use Rattle.check_command.specs.declared.fault.CertificateFault.{CertificateFault}
+use Rattle.check_command.specs.Vocabulary.{certificate_refusal, AreExperimentsOn, IsForFirst, IsForCertificate, check_telling}
+use Rattle.check_command.specs.Requests as check_requests
 use Rattle.check_command.specs.declared.fault.CertificateFault.TheVariants as certificates
-use Rattle.evaluate_command.specs.Effects.{PlainEffect, Identifies}
-use Rattle.evaluate_command.specs.First.{IsForDiagram}
+use Rattle.evaluate_command.specs.declared.answer.Answer.{Answer as EvaluateAnswer}
+use Rattle.evaluate_command.specs.declared.faults.ValuesFault.{ValuesFault}
+use Rattle.evaluate_command.specs.Vocabulary.{PlainEffect, Identifies, IsForDiagram, evaluate_telling, values_refusal, by_procedure, by_adjusting, by_condition}
 use Rattle.evaluate_command.specs.Requests as evaluate_requests
 use Rattle.evaluate_command.specs.Right as evaluations_right
-use Rattle.evaluate_command.specs.Telling.{evaluate_telling}
-use Rattle.evaluate_command.specs.ValuesFaults.{values_refusal}
-use Rattle.evaluate_command.specs.Ways.{Way, by_procedure, by_adjusting, by_condition}
-use Rattle.evaluate_command.specs.declared.answer.Answer.{Answer as EvaluateAnswer}
+use Rattle.evaluate_command.specs.Ways.{Way}
 use Rattle.evaluate_command.specs.declared.answer.Answer.TheVariants as evaluations
-use Rattle.evaluate_command.specs.declared.faults.ValuesFault.{ValuesFault}
 use Rattle.evaluate_command.specs.declared.faults.ValuesFault.TheVariants as faults
-use Rattle.bounds_command.specs.Asking.{IsAsked}
-use Rattle.bounds_command.specs.BoundsTelling.{bounds_telling}
-use Rattle.bounds_command.specs.Faults.{bounds_refusal}
-use Rattle.bounds_command.specs.First.{lists_of, unmet_telling}
+use Rattle.bounds_command.specs.declared.faults.BoundsFault.{BoundsFault}
+use Rattle.bounds_command.specs.declared.first.Unmet.{Unmet}
+use Rattle.bounds_command.specs.Vocabulary.{IsAsked, bounds_telling, bounds_refusal, lists_of, unmet_telling}
 use Rattle.bounds_command.specs.Requests as bounds_requests
 use Rattle.bounds_command.specs.Right as bounds_right
-use Rattle.bounds_command.specs.declared.faults.BoundsFault.{BoundsFault}
 use Rattle.bounds_command.specs.declared.faults.BoundsFault.TheVariants as bound_faults
-use Rattle.bounds_command.specs.declared.first.Unmet.{Unmet}
-use Rattle.command_run.specs.Answers.{HoldsAnswer, Defined, DefinedWith}
-use Rattle.command_run.specs.Commands.{Request, of}
+use Rattle.command_run.specs.Vocabulary.{HoldsAnswer, Defined, DefinedWith, Request, of}
 use Rattle.command_run.proofs.Deliveries.{mapped}
 use Rattle.causal_cli.specs.AsDrawn.{IdentifiesAsDrawn, IsAdjustedAsDrawn, IsSurrogateAsDrawn, IsSeparatedAsDrawn, IsRuledAsDrawn, ArePairsAsDrawn}
 use Rattle.causal_cli.specs.AsDrawn.{IsTreatedAsDrawn, AreDifferencesAsDrawn, IsUnevaluatedAsDrawn, IsEvaluatedAsDrawn, IsCheckedAsDrawn, IsBoundedAsDrawn}

@@ -3,45 +3,35 @@ use Rattle.std.proofs.Common.{◌≡◌, ◌⊎◌, ℕ, List, [], ◌∷◌, Op
 use Rattle.std.proofs.lemmas.Option.{same_Some, none-some}
 use Rattle.std.specs.Prelude.{Bool, unwrap_or, IfSome}
 use Rattle.std.specs.Option.{option_or}
-use Rattle.mixed_graph.specs.Graphs.{MixedGraph}
-use Rattle.mixed_graph.specs.Shown.{graph_of}
-use Rattle.causal_io.specs.Causes.{Rose}
-use Rattle.command_words.specs.Form.{Text, Use}
-use Rattle.prob_expr.specs.Tree.{effect_on}
-use Rattle.prob_expr.specs.View.{formula_view}
-use Rattle.dag_reader.specs.RoundTrip.{AreSame}
-use Rattle.dag_reader.proofs.OneReading.{reads_either}
+use Rattle.mixed_graph.specs.Vocabulary.{MixedGraph, graph_of}
+use Rattle.causal_io.specs.Vocabulary.{Rose}
+use Rattle.command_words.specs.Vocabulary.{Text, Use}
+use Rattle.prob_expr.specs.Vocabulary.{effect_on, formula_view}
 use Rattle.dag_reader.specs.declared.graph.ReadGraph.{ReadGraph}
-use Rattle.targets.specs.Targets.{EffectLists, AreEffectSets, IsEffectFault, listed}
+use Rattle.dag_reader.specs.Vocabulary.{AreSame}
+use Rattle.dag_reader.proofs.OneReading.{reads_either}
 use Rattle.targets.specs.declared.fault.TargetFault.{TargetFault}
 use Rattle.targets.specs.declared.query.EffectSets.{EffectSets}
+use Rattle.targets.specs.Vocabulary.{EffectLists, AreEffectSets, IsEffectFault, listed}
 use Rattle.replies.specs.Told.{Told}
 use Rattle.replies.specs.declared.outcome.Outcome.{Outcome}
 use Rattle.replies.specs.declared.outcome.Outcome.TheVariants.{Graph}
-use Rattle.replies.specs.Refusals.{IsGraphRefusal, too_long, faulty}
-use Rattle.replies.specs.Observed.{HoldsGraph, HoldsDiagram}
+use Rattle.replies.specs.Vocabulary.{IsGraphRefusal, too_long, faulty, HoldsGraph, HoldsDiagram, code_of}
 use Rattle.replies.proofs.OneGraph.{one_reading}
 use Rattle.replies.proofs.OneTarget.{no_effect_fault}
-use Rattle.replies.specs.Outcomes.{code_of}
-use Rattle.diagram.specs.Observed.{IsObservedGraph, observed_names}
-use Rattle.diagram.proofs.OneObserved.{same_observed_names}
-use Rattle.diagram.specs.Sets.{Names, effect_lists}
 use Rattle.diagram.specs.declared.diagram.Diagram.{Diagram}
+use Rattle.diagram.specs.Vocabulary.{IsObservedGraph, observed_names, Names, effect_lists}
+use Rattle.diagram.proofs.OneObserved.{same_observed_names}
 use Rattle.diagram.proofs.ObservedParts.{as_read, part_of}
-use Rattle.told.specs.Refusals.{target_refusal}
-use Rattle.told.specs.Telling.{outcome_in}
+use Rattle.told.specs.Vocabulary.{target_refusal, outcome_in}
 use Rattle.identify_command.specs.declared.answer.Answer.{Answer}
 use Rattle.identify_command.specs.declared.answer.Answer.TheVariants.{Formula, Hedge, Joint}
-use Rattle.identify_command.specs.Command.{identify_command}
-use Rattle.identify_command.specs.Forms.{is_certified, told_form}
-use Rattle.identify_command.specs.Requests.{Request as Asked, IsRequest, identify_row}
-use Rattle.identify_command.specs.Right.{IsFaultFor, IsForEffect, IsIdentifyAnswer, asked_of}
-use Rattle.identify_command.specs.Telling.{identify_telling}
+use Rattle.identify_command.specs.Vocabulary.{identify_command, is_certified, told_form, IsRequest, identify_row, IsFaultFor, IsForEffect, IsIdentifyAnswer, asked_of, identify_telling}
+use Rattle.identify_command.specs.Requests.{Request as Asked}
 use Rattle.identify_command.proofs.Lawful.{identify_lawful}
-use Rattle.command_run.specs.Commands.{Request, of, command_of, Asks, IsRequest as IsRequestOf}
-use Rattle.command_run.specs.Answers.{Defined}
-use Rattle.command_run.specs.Run.{Run, ReadsName, file, second}
-use Rattle.command_run.specs.Complete.{Complete, NothingFailed}
+use Rattle.command_run.specs.Vocabulary.{Request, of, command_of, Asks, IsRequest as IsRequestOf, Defined, ReadsName, file, second, NothingFailed}
+use Rattle.command_run.specs.Run.{Run}
+use Rattle.command_run.specs.Complete.{Complete}
 use Rattle.command_run.proofs.Deliveries.{mapped}
 use Rattle.causal_cli.specs.Answered.{told_of_answer}
 use Rattle.causal_cli.specs.Calls.{Call, call_of, IsCallOf, WrittenFor}

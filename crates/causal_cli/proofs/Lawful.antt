@@ -3,7 +3,7 @@ use Rattle.std.specs.Prelude.{◌≡◌, Option, Some, refl, find}
 use Rattle.std.specs.Str.{bytes_eq}
 use Rattle.std.proofs.Common.{sym, ap, ◌∙◌}
 use Rattle.std.proofs.lemmas.Option.{same_Some}
-use Rattle.command_words.specs.Form.{Text}
+use Rattle.command_words.specs.Vocabulary.{Text}
 use Rattle.replies.proofs.Commands.{IsLawful}
 use Rattle.separation_commands.proofs.GraphLawful.{graph_lawful}
 use Rattle.separation_commands.proofs.SeparateLawful.{separate_lawful}
@@ -20,8 +20,7 @@ use Rattle.bounds_command.proofs.Lawful.{bounds_lawful}
 use Rattle.treated_command.proofs.Lawful.{treated_lawful}
 use Rattle.instruments_command.proofs.Lawful.{instruments_lawful}
 use Rattle.natural_command.proofs.Lawful.{natural_lawful}
-use Rattle.command_run.specs.Commands.{AreApart}
-use Rattle.command_run.specs.Laws.{AreLawful}
+use Rattle.command_run.specs.Vocabulary.{AreApart, AreLawful}
 use Rattle.causal_cli.specs.Commands.{commands, all_commands, row_for, form_of}
 use Rattle.causal_cli.specs.declared.commands.Command.{Command}
 use Rattle.causal_cli.specs.declared.commands.Command.TheVariants as command

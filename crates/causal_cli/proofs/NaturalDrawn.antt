@@ -1,39 +1,30 @@
 -- What right answers of `natural` say of the diagram as drawn, and from the end of a run to those that were told.
 use Rattle.std.proofs.Common.{ℕ, ◌≡◌, ◌<◌, ◌≤◌, List, Ok, refl, sym, subst, arith}
 use Rattle.std.specs.Io.KnownBytes.{Appends}
-use Rattle.mixed_graph.specs.Bits.{has}
-use Rattle.mixed_graph.specs.Graphs.{MixedGraph}
-use Rattle.mixed_graph.specs.Masks.{union}
-use Rattle.mixed_graph.specs.Shown.{graph_of}
-use Rattle.command_words.specs.Form.{Use}
+use Rattle.mixed_graph.specs.Vocabulary.{has, MixedGraph, union, graph_of}
+use Rattle.command_words.specs.Vocabulary.{Use}
 use Rattle.replies.specs.declared.outcome.Outcome.{Outcome}
-use Rattle.replies.specs.Outcomes.{code_of}
+use Rattle.replies.specs.Vocabulary.{code_of}
 use Rattle.replies.specs.Told.{Told}
-use Rattle.diagram.specs.Observed.{IsObservedGraph}
-use Rattle.diagram.specs.Sets.{Names}
 use Rattle.diagram.specs.declared.diagram.Diagram.{Diagram}
+use Rattle.diagram.specs.Vocabulary.{IsObservedGraph, Names}
 use Rattle.diagram.proofs.ObservedParts.{part_of}
-use Rattle.natural_id.specs.Answers.{parts_view, IsLostNested}
-use Rattle.natural_id.specs.Parts.{IsNaturalTarget}
-use Rattle.natural_drawn.specs.Drawn.{EqualsNaturalAsDrawn, IsLostNestedAsDrawn, DifferOnNestedAsDrawn}
+use Rattle.natural_id.specs.Vocabulary.{parts_view, IsLostNested, IsNaturalTarget}
+use Rattle.natural_drawn.specs.Vocabulary.{EqualsNaturalAsDrawn, IsLostNestedAsDrawn, DifferOnNestedAsDrawn}
 use Rattle.natural_drawn.proofs.Differing.{nested_difference_is_drawn}
 use Rattle.natural_drawn.proofs.Formulas.{right_parts_are_drawn}
 use Rattle.natural_drawn.proofs.Lost.{nested_lost_is_drawn}
 use Rattle.natural_drawn.proofs.Nil.{no_indirect_path_is_drawn, no_direct_path_is_drawn}
-use Rattle.natural_command.specs.Asking.{natural_lists}
-use Rattle.natural_command.specs.Faults.{natural_refusal}
-use Rattle.natural_command.specs.Requests as natural_requests
-use Rattle.natural_command.specs.Right.{IsAskedFor, Decides, IsNaturalAnswer}
-use Rattle.natural_command.specs.Telling.{natural_telling}
 use Rattle.natural_command.specs.declared.asking.Question.{Question}
 use Rattle.natural_command.specs.declared.answer.Asked.{Asked}
 use Rattle.natural_command.specs.declared.answer.Answer.{Answer}
 use Rattle.natural_command.specs.declared.answer.Answer.TheVariants.{Formula, Excluded, Witness, Split}
 use Rattle.natural_command.specs.declared.fault.NaturalFault.{NaturalFault}
+use Rattle.natural_command.specs.Vocabulary.{natural_lists, natural_refusal, IsAskedFor, Decides, IsNaturalAnswer, natural_telling}
+use Rattle.natural_command.specs.Requests as natural_requests
 use Rattle.natural_command.proofs.Naming.{four_sets}
 use Rattle.natural_command.proofs.Ways.{target_of}
-use Rattle.command_run.specs.Answers.{HoldsAnswer, Defined}
-use Rattle.command_run.specs.Commands.{Request, of}
+use Rattle.command_run.specs.Vocabulary.{HoldsAnswer, Defined, Request, of}
 use Rattle.causal_cli.specs.Calls.{Call, WrittenFor}
 use Rattle.causal_cli.specs.Commands.{commands}
 use Rattle.causal_cli.specs.NaturalDrawn.{AreNilAsDrawn, IsNaturalAsDrawn, IsNatural}

@@ -2,10 +2,11 @@
 use Rattle.std.proofs.Common.{◌≡◌, ℕ, List, [], Option, Some, None, refl, sym, ap, ◌∙◌}
 use Rattle.std.proofs.lemmas.Option.{none-some, same_Some}
 use Rattle.targets.specs.declared.fault.TargetFault.{TargetFault}
-use Rattle.targets.specs.declared.fault.TargetFault.TheVariants.{Unknown, Latent, Twice, EmptyY, EmptyX}
-use Rattle.targets.specs.Targets.{NameFault, unknown, latent, twice, IsFaultOfTarget, Lists, fault_in, IsListFault, RuleLists, rule_fault, EffectLists}
-use Rattle.targets.specs.Targets.{effect_fault, IsEffectFault, IsTargetFault, IsRuleFault}
-use Rattle.surrogate_command.specs.Sets.{SurrogateLists, surrogate_fault, IsSurrogateFault}
+use Rattle.targets.specs.declared.fault.TargetFault.TheVariants.{EmptyY, EmptyX}
+use Rattle.targets.specs.Vocabulary.{NameFault, IsFaultOfTarget, Lists, fault_in, IsListFault, RuleLists, rule_fault, EffectLists, effect_fault, IsEffectFault, IsTargetFault, IsRuleFault}
+use Rattle.targets.specs.declared.fault.TargetFault.TheVariants.{Unknown, Latent, Twice}
+use Rattle.targets.specs.Targets.{unknown, latent, twice}
+use Rattle.surrogate_command.specs.Vocabulary.{SurrogateLists, surrogate_fault, IsSurrogateFault}
 
 -- the fault of a target that a name at fault makes
 abbrev named : NameFault → TargetFault

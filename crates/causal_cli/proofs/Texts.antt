@@ -3,86 +3,63 @@ use Rattle.std.proofs.Common.{◌≡◌, ◌≢◌, ◌≤◌, ℕ, Bool, true, 
 use Rattle.std.proofs.Common.{subst, arith}
 use mathlib.Core.Path.{fun_ext}
 use Rattle.std.proofs.lemmas.Bool.{false≢true}
-use Rattle.mixed_graph.specs.Graphs.{MixedGraph}
-use Rattle.mixed_graph.specs.Shown.{graph_of}
+use Rattle.mixed_graph.specs.Vocabulary.{MixedGraph, graph_of}
 use Rattle.dag_reader.specs.declared.graph.ReadGraph.{ReadGraph}
-use Rattle.dag_reader.specs.RoundTrip.{AreSame}
-use Rattle.dag_reader.specs.Rows.{count_up, pairs_below}
-use Rattle.dag_reader.specs.Written.{role_at, drawn_of, written}
+use Rattle.dag_reader.specs.Vocabulary.{AreSame, count_up, pairs_below, role_at, drawn_of}
+use Rattle.dag_reader.specs.Written.{written}
 use Rattle.do_rules.specs.declared.rules.Rule.{Rule}
-use Rattle.prob_expr.specs.Tree.{PlainTarget, effect_on}
-use Rattle.prob_expr.specs.View.{target_view}
-use Rattle.targets.specs.Targets.{Lists, EffectLists, RuleLists, AreSets, AreRuleSets, IsEffectFault, IsListFault}
+use Rattle.prob_expr.specs.Vocabulary.{PlainTarget, effect_on, target_view}
 use Rattle.targets.specs.declared.fault.TargetFault.{TargetFault}
 use Rattle.targets.specs.declared.query.Sets.{Sets}
 use Rattle.targets.specs.declared.query.RuleSets.{RuleSets}
 use Rattle.targets.specs.declared.query.EffectSets.{EffectSets}
+use Rattle.targets.specs.Vocabulary.{Lists, EffectLists, RuleLists, AreSets, AreRuleSets, IsEffectFault, IsListFault}
 use Rattle.replies.specs.declared.format.Format.{Format}
-use Rattle.replies.specs.Told.{Told, text_in, answer_of}
-use Rattle.replies.specs.Outcomes.{code_of}
-use Rattle.json.specs.Json.{string}
-use Rattle.answer_json.specs.Progress.{array_of, object_of, json_line}
-use Rattle.answer_json.specs.Values.{text_json, vertex_json, pairs_json}
 use Rattle.replies.specs.declared.outcome.Outcome.{Outcome}
 use Rattle.replies.specs.declared.outcome.Outcome.TheVariants.{Yes, No}
-use Rattle.replies.specs.OneOutcome.{IsAnswerOn}
-use Rattle.diagram.specs.Sets.{Names, effect_lists, query_lists, rule_lists}
+use Rattle.replies.specs.Vocabulary.{text_in, answer_of, code_of, IsAnswerOn, target_told}
+use Rattle.replies.specs.Told.{Told}
+use Rattle.json.specs.Json.{string}
+use Rattle.answer_json.specs.Vocabulary.{array_of, object_of, json_line, text_json, vertex_json, pairs_json}
 use Rattle.diagram.specs.declared.diagram.Diagram.{Diagram}
+use Rattle.diagram.specs.Vocabulary.{Names, effect_lists, query_lists, rule_lists}
 use Rattle.diagram.proofs.OneDiagram.{AreSameDiagrams, same_drawing, same_effect_lists, same_query_lists, same_rule_lists}
 use Rattle.replies.proofs.OneGraph.{one_holding}
 use Rattle.replies.proofs.OneTarget.{one_set}
 use Rattle.told.specs.declared.form.Form.{Form}
-use Rattle.replies.specs.Refusals.{target_told}
+use Rattle.told.specs.Vocabulary.{plain_form, target_refusal, Refusal, Tells, outcome_in, told_in}
 use Rattle.told.proofs.OneTold.{one_told as told_once}
-use Rattle.told.specs.Forms.{plain_form}
-use Rattle.told.specs.Refusals.{target_refusal}
-use Rattle.told.specs.Telling.{Telling, Refusal, Tells, outcome_in, told_in}
-use Rattle.effect_answers.specs.HedgeTelling.{effect_of, joint_text, joint_object}
+use Rattle.told.specs.Telling.{Telling}
+use Rattle.effect_answers.specs.Vocabulary.{effect_of, joint_text, joint_object}
 use Rattle.effect_answers.proofs.OneNo.{one_hedge_text, one_joint_text, one_joint_object}
-use Rattle.separation_commands.specs.GraphCommand.{graph_command}
-use Rattle.separation_commands.specs.GraphObjects.{role_json, graph_members}
-use Rattle.separation_commands.specs.GraphRight.{IsGraphAnswer, shown_of}
-use Rattle.separation_commands.specs.GraphTelling.{graph_telling}
+use Rattle.separation_commands.specs.Vocabulary.{graph_command, role_json, graph_members, IsGraphAnswer, shown_of, graph_telling, separate_command, separate_telling, rule_command, rule_telling}
 use Rattle.separation_commands.specs.declared.graph.answer.Answer.{Answer as GraphAnswer}
-use Rattle.separation_commands.specs.SeparateCommand.{separate_command}
 use Rattle.separation_commands.specs.SeparateRight as separate_right
-use Rattle.separation_commands.specs.SeparateTelling.{separate_telling}
 use Rattle.separation_commands.specs.declared.separate.answer.Answer.{Answer as SeparateAnswer}
 use Rattle.separation_commands.specs.declared.separate.answer.Answer.TheVariants as separated
-use Rattle.separation_commands.specs.RuleCommand.{rule_command}
 use Rattle.separation_commands.specs.RuleRight as rule_right
-use Rattle.separation_commands.specs.RuleTelling.{rule_telling}
 use Rattle.separation_commands.specs.declared.rule.answer.Answer.{Answer as RuleAnswer}
 use Rattle.separation_commands.specs.declared.rule.answer.Answer.TheVariants as ruled
 use Rattle.identify_command.specs.declared.form.Form.{Form as IdentifyForm}
 use Rattle.identify_command.specs.declared.answer.Answer.{Answer as IdentifyAnswer}
+use Rattle.identify_command.specs.Vocabulary.{identify_command, is_certified, told_form, Asked, an_effect, a_target, asked_of, IsForNames, IsFaultFor, IsJointHedge, identify_telling}
 use Rattle.identify_command.specs.declared.answer.Answer.TheVariants as identified
-use Rattle.identify_command.specs.Command.{identify_command}
-use Rattle.identify_command.specs.Forms.{is_certified, told_form}
-use Rattle.identify_command.specs.Right.{Asked, an_effect, a_target, asked_of, IsForNames, IsFaultFor, IsJointHedge}
-use Rattle.identify_command.specs.Telling.{identify_telling}
 use Rattle.identify_command.proofs.Lawful.{same_asked}
 use Rattle.identify_command.proofs.Lists.{one_target}
 use Rattle.identify_command.proofs.OneText.{one_identification, joint_sets, one_sets as one_effect_sets}
-use Rattle.surrogate_command.specs.Forms.{wants_common, told_form as surrogate_form}
-use Rattle.surrogate_command.specs.Right.{IsForNames as IsForExperiments}
-use Rattle.surrogate_command.specs.Sets.{SurrogateLists, surrogate_lists}
-use Rattle.surrogate_command.specs.Telling.{surrogate_telling}
 use Rattle.surrogate_command.specs.declared.answer.Answer.{Answer as SurrogateAnswer}
-use Rattle.surrogate_command.specs.declared.answer.Answer.TheVariants as surrogated
 use Rattle.surrogate_command.specs.declared.form.Form.{Form as SurrogateForm}
+use Rattle.surrogate_command.specs.Vocabulary.{wants_common, told_form as surrogate_form, IsForNames as IsForExperiments, SurrogateLists, surrogate_lists, surrogate_telling, surrogate_command}
+use Rattle.surrogate_command.specs.declared.answer.Answer.TheVariants as surrogated
 use Rattle.surrogate_command.proofs.Exclusive.{same_surrogate_lists}
-use Rattle.surrogate_command.specs.Command.{surrogate_command}
 use Rattle.surrogate_command.proofs.OneText.{one_over_experiments}
 use Rattle.survey_command.proofs.OneText.{one_survey_text}
-use Rattle.implications_command.specs.Command.{implications_command}
+use Rattle.implications_command.specs.Vocabulary.{implications_command}
 use Rattle.implications_command.proofs.OneText.{one_listing, IsMeasured, one_measuring}
-use Rattle.evaluate_command.specs.Command.{evaluate_command}
-use Rattle.evaluate_command.specs.First.{HasHedge, HasJointHedge, IsForDiagram}
-use Rattle.evaluate_command.specs.Telling.{evaluate_telling}
 use Rattle.evaluate_command.specs.declared.answer.Answer.{Answer as EvaluateAnswer}
+use Rattle.evaluate_command.specs.Vocabulary.{evaluate_command, HasHedge, HasJointHedge, IsForDiagram, evaluate_telling, by_procedure, by_adjusting, by_condition}
 use Rattle.evaluate_command.specs.declared.answer.Answer.TheVariants as evaluated
-use Rattle.evaluate_command.specs.Ways.{Way, by_procedure, by_adjusting, by_condition}
+use Rattle.evaluate_command.specs.Ways.{Way}
 use Rattle.evaluate_command.proofs.OneText.{one_evaluation}
 use Rattle.causal_cli.specs.Texts.{IsOneText, adjusts, TextsAreOne}
 use Rattle.causal_cli.proofs.OneFault.{one_target_fault, one_rule_fault, one_list_fault, one_effect_fault, one_surrogate_fault}

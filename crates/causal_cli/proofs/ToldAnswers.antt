@@ -1,12 +1,12 @@
 -- From what a command answers to a call to the right answer that was told.
 use Rattle.std.proofs.Common.{◌≡◌, ℕ, ◌<◌, ◌≤◌, List, Result, Ok, Err, ap, ◌∙◌, arith}
 use Rattle.replies.specs.declared.outcome.Outcome.{Outcome}
-use Rattle.replies.specs.Outcomes.{code_of}
-use Rattle.replies.specs.Observed.{HoldsDiagram}
+use Rattle.replies.specs.Vocabulary.{code_of, HoldsDiagram}
 use Rattle.replies.specs.Told.{Told}
 use Rattle.diagram.specs.declared.diagram.Diagram.{Diagram}
 use Rattle.told.specs.declared.form.Form.{Form}
-use Rattle.told.specs.Telling.{Telling, Refusal, Tells, outcome_in, told_in}
+use Rattle.told.specs.Vocabulary.{Refusal, Tells, outcome_in, told_in}
+use Rattle.told.specs.Telling.{Telling}
 use Rattle.causal_cli.specs.Answered.{IsAnswered, IsAnsweredOnBoth}
 
 -- a status of 0 or 1 is none of a refusal

@@ -1,19 +1,15 @@
 -- Two models of the observed graph that give a target two values are two of the diagram as drawn.
 use Rattle.std.proofs.Common.{ℕ, ◌≡◌, ◌<◌, Bool, sym, subst, ◌∙◌}
-use Rattle.mixed_graph.specs.Bits.{has}
-use Rattle.mixed_graph.specs.Graphs.{MixedGraph}
-use Rattle.mixed_graph.specs.Shown.{graph_of}
+use Rattle.mixed_graph.specs.Vocabulary.{has, MixedGraph, graph_of}
 use Rattle.fractions.proofs.FractionLaws.{equal_sym, equal_trans}
-use Rattle.finite_models.specs.Models.{FiniteModel, IsAssignment}
-use Rattle.prob_expr.specs.Tree.{PlainTarget}
-use Rattle.prob_expr.specs.Values.{term_value, effect}
+use Rattle.finite_models.specs.Vocabulary.{FiniteModel, IsAssignment}
+use Rattle.prob_expr.specs.Vocabulary.{PlainTarget, term_value, effect}
 use Rattle.dag_reader.specs.declared.graph.ReadGraph.{ReadGraph}
-use Rattle.diagram.specs.Observed.{IsObservedGraph}
-use Rattle.hidden_models.specs.Folding.{IsObservedPositive, drawn_weights}
-use Rattle.hidden_models.specs.Unfolding.{IsFoldedFrom}
+use Rattle.diagram.specs.Vocabulary.{IsObservedGraph}
+use Rattle.hidden_models.specs.Vocabulary.{IsObservedPositive, drawn_weights, IsFoldedFrom}
 use Rattle.hidden_models.proofs.Drawing.{each_is_folded, unfolded_is_positive, agree_drawn}
 use Rattle.hidden_models.proofs.Drawn.{keeps_term}
-use Rattle.conditional_id.specs.HedgeLaws.{AreModelsOf}
+use Rattle.conditional_id.specs.Vocabulary.{AreModelsOf}
 use Rattle.causal_cli.specs.AsDrawn.{HasTwoModels}
 
 module _ (g : ReadGraph) (q : MixedGraph) (seen : IsObservedGraph g q) (t : PlainTarget) (m : AreModelsOf q t) where

@@ -1,10 +1,9 @@
 -- A right answer that was told: what a run says of its answer as a value, apart from how that is written.
 use Rattle.std.specs.Prelude.{ℕ, ◌≡◌, List, Result, Ok}
 use Rattle.diagram.specs.declared.diagram.Diagram.{Diagram}
-use Rattle.answer_json.specs.Progress.{object_of, json_line}
-use Rattle.replies.specs.Told.{Told, text_in, answer_of}
-use Rattle.replies.specs.Outcomes.{code_of}
-use Rattle.replies.specs.Observed.{HoldsDiagram}
+use Rattle.answer_json.specs.Vocabulary.{object_of, json_line}
+use Rattle.replies.specs.Told.{Told}
+use Rattle.replies.specs.Vocabulary.{text_in, answer_of, code_of, HoldsDiagram}
 use Rattle.told.specs.declared.form.Form.{Form}
 use Rattle.told.specs.Telling.{Telling}
 

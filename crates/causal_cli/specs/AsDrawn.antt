@@ -1,74 +1,63 @@
 -- What an answer says of the diagram as drawn, with its hidden vertices: of the models of the graph that was read, whatever the mechanisms of these.
 -- What it says of the observed graph stands with the answers that are right, in the crate of each command.
 use Rattle.std.specs.Prelude.{ℕ, ◌≡◌, ◌<◌, Bool, true, false, List, Option, All, IsTrue, IfSome, pos}
-use Rattle.mixed_graph.specs.Bits.{has}
-use Rattle.mixed_graph.specs.Graphs.{MixedGraph}
-use Rattle.mixed_graph.specs.Shown.{graph_of}
 use Rattle.mixed_graph.specs.declared.sets.VSet.{VSet}
-use Rattle.fractions.specs.Fractions.{Fraction}
-use Rattle.finite_models.specs.Models.{FiniteModel, Fits, IsAssignment}
-use Rattle.do_rules.specs.Rules.{AreThreeSets, left_of, right_of}
-use Rattle.prob_expr.specs.Listed.{masks_of}
-use Rattle.prob_expr.specs.Terms.{is_do_free}
-use Rattle.prob_expr.specs.Tree.{PlainFormula, PlainTarget, effect_on}
-use Rattle.prob_expr.specs.View.{target_view, formula_view}
+use Rattle.mixed_graph.specs.Vocabulary.{has, MixedGraph, graph_of}
+use Rattle.fractions.specs.Vocabulary.{Fraction}
+use Rattle.finite_models.specs.Vocabulary.{FiniteModel, Fits, IsAssignment}
+use Rattle.do_rules.specs.Vocabulary.{AreThreeSets, left_of, right_of}
+use Rattle.prob_expr.specs.Vocabulary.{masks_of, is_do_free, PlainFormula, PlainTarget, effect_on, target_view, formula_view}
 use Rattle.dag_reader.specs.declared.graph.ReadGraph.{ReadGraph}
-use Rattle.hidden_models.specs.Folding.{IsObservedPositive, IsMatchedAsDrawn, values_after, drawn_effect}
-use Rattle.hidden_models.specs.FoldingLaws.{EqualsAsDrawn}
-use Rattle.hidden_models.specs.Statements.{AreIndependentAsDrawn, AreDependentAsDrawn, AreEqualSidesAsDrawn, DifferSomewhereAsDrawn}
-use Rattle.hidden_models.specs.Unfolding.{AgreeAsDrawn, DifferOnAsDrawn}
-use Rattle.hidden_models.specs.Unfolding.{NotIdentifiableAsDrawn, NotIdentifiableOverAsDrawn, FailsSomewhereAsDrawn}
-use Rattle.adjustment.specs.Formulas.{adjustment_formula}
-use Rattle.surrogates.specs.Answers.{IsBlockedTogether}
-use Rattle.count_rows.specs.Rows.{Table}
-use Rattle.count_table.specs.Cells.{total}
-use Rattle.count_eval.specs.Programs.{weights_in, is_used, cell_of}
+use Rattle.hidden_models.specs.Vocabulary.{IsObservedPositive, IsMatchedAsDrawn, values_after, drawn_effect, EqualsAsDrawn, AreIndependentAsDrawn, AreDependentAsDrawn, AreEqualSidesAsDrawn, DifferSomewhereAsDrawn, AgreeAsDrawn, DifferOnAsDrawn, NotIdentifiableAsDrawn, NotIdentifiableOverAsDrawn, FailsSomewhereAsDrawn}
+use Rattle.adjustment.specs.Vocabulary.{adjustment_formula}
+use Rattle.surrogates.specs.Vocabulary.{IsBlockedTogether}
+use Rattle.count_rows.specs.Vocabulary.{Table}
+use Rattle.count_table.specs.Vocabulary.{total}
+use Rattle.count_eval.specs.Vocabulary.{weights_in, is_used, cell_of}
 use Rattle.quantity.specs.Kinds.{Pair}
-use Rattle.quantity.specs.Exacts.{Equals}
-use Rattle.quantity.specs.Intervals.{Covers}
-use Rattle.implications.specs.Separable.{only}
+use Rattle.quantity.specs.Vocabulary.{Equals, Covers}
 use Rattle.implications.specs.declared.pairs.Implication.{Implication}
+use Rattle.implications.specs.Vocabulary.{only}
 use Rattle.implied_differences.specs.declared.largest.Difference.{Difference}
 use Rattle.diagram.specs.declared.diagram.Diagram.{Diagram}
 use Rattle.effect_answers.specs.declared.hedges.EffectHedge.{EffectHedge}
-use Rattle.effect_answers.specs.HedgeTelling.{effect_of}
+use Rattle.effect_answers.specs.Vocabulary.{effect_of}
 use Rattle.identify_command.specs.declared.answer.Answer.{Answer as IdentifyAnswer}
 use Rattle.identify_command.specs.declared.answer.Answer.TheVariants as identified
-use Rattle.adjust_command.specs.Queries.{Query, by_set, by_back_door, listing}
+use Rattle.adjust_command.specs.Queries.{Query}
 use Rattle.adjust_command.specs.declared.answer.Answer.{Answer as AdjustAnswer}
+use Rattle.adjust_command.specs.Vocabulary.{by_set, by_back_door, listing}
 use Rattle.adjust_command.specs.declared.answer.Answer.TheVariants as adjusted
 use Rattle.surrogate_command.specs.declared.answer.Answer.{Answer as SurrogateAnswer}
 use Rattle.surrogate_command.specs.declared.answer.Answer.TheVariants as surrogated
-use Rattle.treated_drawn.specs.Drawn.{EqualsAmongAsDrawn, IsLostAmongAsDrawn, IsUnfixedAmongAsDrawn}
+use Rattle.treated_drawn.specs.Vocabulary.{EqualsAmongAsDrawn, IsLostAmongAsDrawn, IsUnfixedAmongAsDrawn}
 use Rattle.treated_command.specs.declared.answer.Answer.{Answer as TreatedAnswer}
 use Rattle.treated_command.specs.declared.answer.Answer.TheVariants as treated
 use Rattle.separation_commands.specs.declared.separate.answer.Answer.{Answer as SeparateAnswer}
 use Rattle.separation_commands.specs.declared.separate.answer.Answer.TheVariants as separated
 use Rattle.separation_commands.specs.declared.rule.answer.Answer.{Answer as RuleAnswer}
 use Rattle.separation_commands.specs.declared.rule.answer.Answer.TheVariants as ruled
-use Rattle.implications_command.specs.Differences.{first_broken}
 use Rattle.implications_command.specs.declared.differences.Measured.{Measured}
 use Rattle.implications_command.specs.declared.answer.Answer.{Answer as ImplicationsAnswer}
+use Rattle.implications_command.specs.Vocabulary.{first_broken}
 use Rattle.implications_command.specs.declared.answer.Answer.TheVariants as implied
-use Rattle.evaluate_command.specs.Cells.{CellValue}
-use Rattle.evaluate_command.specs.Listed.{plain_in, exact_numbers, bounds_numbers}
-use Rattle.evaluate_command.specs.Effects.{PlainEffect, target_of}
-use Rattle.evaluate_command.specs.Ways.{Way, by_procedure, by_adjusting, by_condition}
+use Rattle.evaluate_command.specs.declared.answer.Answer.{Answer as EvaluateAnswer}
+use Rattle.evaluate_command.specs.Vocabulary.{CellValue, plain_in, exact_numbers, bounds_numbers, PlainEffect, target_of, by_procedure, by_adjusting, by_condition}
+use Rattle.evaluate_command.specs.Ways.{Way}
 use Rattle.evaluate_command.specs.declared.answer.Values.{Values}
 use Rattle.evaluate_command.specs.declared.answer.Values.TheVariants as values
-use Rattle.evaluate_command.specs.declared.answer.Answer.{Answer as EvaluateAnswer}
 use Rattle.evaluate_command.specs.declared.answer.Answer.TheVariants as evaluated
 use Rattle.check_command.specs.declared.answer.Answer.{Answer as CheckAnswer}
 use Rattle.check_command.specs.declared.answer.Answer.TheVariants as checked
 use Rattle.natural_bounds.specs.declared.ends.End.{End}
 use Rattle.natural_bounds.specs.declared.ends.End.TheVariants.{AtLeast, AtMost}
-use Rattle.natural_bounds.specs.Drawn.{BoundsAsDrawn, HasNoModelAsDrawn}
+use Rattle.natural_bounds.specs.Vocabulary.{BoundsAsDrawn, HasNoModelAsDrawn}
 use Rattle.bound_values.specs.declared.questions.Question.{Question}
 use Rattle.bound_values.specs.declared.values.Value.{Value}
 use Rattle.bound_values.specs.declared.values.CellBounds.{CellBounds}
-use Rattle.bound_values.specs.declared.found.Found.{Found}
 use Rattle.bound_values.specs.declared.found.Found.TheVariants.{Crossed, Bounded}
-use Rattle.bound_values.specs.Told.{number_of}
+use Rattle.bound_values.specs.Vocabulary.{number_of}
+use Rattle.bound_values.specs.declared.found.Found.{Found}
 use Rattle.bounds_command.specs.declared.answer.Answer.{Answer as BoundsAnswer}
 
 -- ---- formulas and effects

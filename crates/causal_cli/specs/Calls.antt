@@ -2,7 +2,7 @@
 use Rattle.std.specs.Prelude.{ℕ, List, [], ◌∷◌, Option, IfSome}
 use Rattle.std.specs.Option.{option_or}
 use Rattle.std.specs.Io.KnownBytes.{Appends}
-use Rattle.command_words.specs.Form.{Text, Row, Use, IsCall}
+use Rattle.command_words.specs.Vocabulary.{Text, Row, Use, IsCall}
 use Rattle.replies.specs.Told.{Told}
 use Rattle.command_run.specs.Run.{Run}
 

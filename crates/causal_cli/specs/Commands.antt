@@ -1,41 +1,38 @@
 -- The commands: one list, and of each what it is, which stands in its own crate; and what the code's values stand for.
 use Rattle.std.specs.Prelude.{List, [], ◌∷◌, map, option_map}
-use Rattle.command_words.specs.Form.{Row}
+use Rattle.command_words.specs.Vocabulary.{Row}
 use Rattle.diagram.specs.declared.diagram.Diagram.{Diagram}
-use Rattle.replies.specs.Command.{CommandForm, Remainder}
-use Rattle.command_run.specs.Commands.{CommandSet, Request, of}
-use Rattle.separation_commands.specs.GraphCommand.{graph_command}
+use Rattle.replies.specs.Vocabulary.{CommandForm, Remainder}
+use Rattle.command_run.specs.Vocabulary.{CommandSet, Request, of}
+use Rattle.separation_commands.specs.Vocabulary.{graph_command, separate_command, rule_command}
 use Rattle.separation_commands.specs.GraphRequests as of_graph
-use Rattle.separation_commands.specs.SeparateCommand.{separate_command}
 use Rattle.separation_commands.specs.SeparateRequests as of_separate
-use Rattle.separation_commands.specs.RuleCommand.{rule_command}
 use Rattle.separation_commands.specs.RuleRequests as of_rule
-use Rattle.identify_command.specs.Command.{identify_command}
+use Rattle.identify_command.specs.Vocabulary.{identify_command}
 use Rattle.identify_command.specs.Requests as of_identify
-use Rattle.check_command.specs.Command.{check_command, check_left}
+use Rattle.check_command.specs.Vocabulary.{check_command, check_left}
 use Rattle.check_command.specs.Requests as of_check
-use Rattle.adjust_command.specs.Command.{adjust_command}
+use Rattle.adjust_command.specs.Vocabulary.{adjust_command}
 use Rattle.adjust_command.specs.Requests as of_adjust
-use Rattle.evaluate_command.specs.Command.{evaluate_command, evaluate_left}
+use Rattle.evaluate_command.specs.Vocabulary.{evaluate_command, evaluate_left, effect_in}
 use Rattle.evaluate_command.specs.Requests as of_evaluate
-use Rattle.equivalent_command.specs.Command.{equivalent_command, equivalent_left}
+use Rattle.equivalent_command.specs.Vocabulary.{equivalent_command, equivalent_left}
 use Rattle.equivalent_command.specs.Requests as of_equivalent
-use Rattle.implications_command.specs.Command.{implications_command, implications_left}
+use Rattle.implications_command.specs.Vocabulary.{implications_command, implications_left}
 use Rattle.implications_command.specs.Requests as of_implications
-use Rattle.survey_command.specs.Command.{survey_command}
+use Rattle.survey_command.specs.Vocabulary.{survey_command}
 use Rattle.survey_command.specs.Requests as of_survey
-use Rattle.surrogate_command.specs.Command.{surrogate_command}
+use Rattle.surrogate_command.specs.Vocabulary.{surrogate_command}
 use Rattle.surrogate_command.specs.Requests as of_surrogate
-use Rattle.bounds_command.specs.Command.{bounds_command, bounds_left}
+use Rattle.bounds_command.specs.Vocabulary.{bounds_command, bounds_left}
 use Rattle.bounds_command.specs.Requests as of_bounds
-use Rattle.treated_command.specs.Command.{treated_command}
+use Rattle.treated_command.specs.Vocabulary.{treated_command}
 use Rattle.treated_command.specs.Requests as of_treated
-use Rattle.instruments_command.specs.Command.{instruments_command}
+use Rattle.instruments_command.specs.Vocabulary.{instruments_command}
 use Rattle.instruments_command.specs.Requests as of_instruments
-use Rattle.natural_command.specs.Command.{natural_command}
+use Rattle.natural_command.specs.Vocabulary.{natural_command}
 use Rattle.natural_command.specs.Requests as of_natural
-use Rattle.prob_expr.specs.Listed.{masks_of}
-use Rattle.evaluate_command.specs.Effects.{effect_in}
+use Rattle.prob_expr.specs.Vocabulary.{masks_of}
 use Rattle.causal_cli.specs.declared.commands.Command.{Command}
 use Rattle.causal_cli.specs.declared.commands.Command.TheVariants as command
 use Rattle.causal_cli.specs.declared.request.Request.{Request as CodeRequest}

@@ -1,57 +1,31 @@
 -- What the answers of the commands say of the diagram as drawn, with its hidden vertices, beside what they say of the observed graph.
 use Rattle.std.specs.Prelude.{ℕ, ◌≡◌, ◌≤◌, List, Option, Some, None, IfSome}
 use Rattle.std.specs.Io.KnownBytes.{Appends}
-use Rattle.mixed_graph.specs.Shown.{graph_of}
-use Rattle.command_words.specs.Form.{Text, Use}
+use Rattle.mixed_graph.specs.Vocabulary.{graph_of}
+use Rattle.command_words.specs.Vocabulary.{Text, Use}
 use Rattle.replies.specs.Told.{Told}
-use Rattle.told.specs.Forms.{plain_form}
-use Rattle.identify_command.specs.Forms.{is_certified, told_form}
-use Rattle.identify_command.specs.Requests.{identify_row}
+use Rattle.told.specs.Vocabulary.{plain_form}
+use Rattle.identify_command.specs.Vocabulary.{is_certified, told_form, identify_row, IsIdentifyAnswer, identify_telling}
 use Rattle.identify_command.specs.Requests as identify_requests
-use Rattle.identify_command.specs.Right.{IsIdentifyAnswer}
-use Rattle.identify_command.specs.Telling.{identify_telling}
-use Rattle.adjust_command.specs.Requests.{adjust_row}
+use Rattle.adjust_command.specs.Vocabulary.{adjust_row, IsAdjustAnswer, adjust_telling}
 use Rattle.adjust_command.specs.Requests as adjust_requests
-use Rattle.adjust_command.specs.Right.{IsAdjustAnswer}
-use Rattle.adjust_command.specs.Telling.{adjust_telling}
-use Rattle.surrogate_command.specs.Forms.{wants_common, told_form as surrogate_form}
-use Rattle.surrogate_command.specs.Requests.{surrogate_row}
+use Rattle.surrogate_command.specs.Vocabulary.{wants_common, told_form as surrogate_form, surrogate_row, IsSurrogateAnswer, surrogate_telling}
 use Rattle.surrogate_command.specs.Requests as surrogate_requests
-use Rattle.surrogate_command.specs.Right.{IsSurrogateAnswer}
-use Rattle.surrogate_command.specs.Telling.{surrogate_telling}
-use Rattle.treated_command.specs.Requests.{treated_row}
+use Rattle.treated_command.specs.Vocabulary.{treated_row, IsTreatedAnswer, treated_telling}
 use Rattle.treated_command.specs.Requests as treated_requests
-use Rattle.treated_command.specs.Right.{IsTreatedAnswer}
-use Rattle.treated_command.specs.Telling.{treated_telling}
-use Rattle.natural_command.specs.Requests.{natural_row}
+use Rattle.natural_command.specs.Vocabulary.{natural_row}
 use Rattle.natural_command.specs.Requests as natural_requests
-use Rattle.separation_commands.specs.SeparateRequests.{separate_row}
+use Rattle.separation_commands.specs.Vocabulary.{separate_row, IsSeparateAnswer, separate_telling, rule_row, IsRuleAnswer, rule_telling}
 use Rattle.separation_commands.specs.SeparateRequests as separate_requests
-use Rattle.separation_commands.specs.SeparateRight.{IsSeparateAnswer}
-use Rattle.separation_commands.specs.SeparateTelling.{separate_telling}
-use Rattle.separation_commands.specs.RuleRequests.{rule_row}
 use Rattle.separation_commands.specs.RuleRequests as rule_requests
-use Rattle.separation_commands.specs.RuleRight.{IsRuleAnswer}
-use Rattle.separation_commands.specs.RuleTelling.{rule_telling}
-use Rattle.implications_command.specs.Pairs.{ArePairs, pairs_in}
-use Rattle.implications_command.specs.Requests.{implications_row}
+use Rattle.implications_command.specs.Vocabulary.{ArePairs, pairs_in, implications_row, IsForGraph, IsForCounts, implications_telling}
 use Rattle.implications_command.specs.Requests as implications_requests
-use Rattle.implications_command.specs.Right.{IsForGraph, IsForCounts}
-use Rattle.implications_command.specs.Telling.{implications_telling}
-use Rattle.check_command.specs.Requests.{check_row}
+use Rattle.check_command.specs.Vocabulary.{check_row, AreExperimentsOn, IsForCertificate, check_telling}
 use Rattle.check_command.specs.Requests as check_requests
-use Rattle.check_command.specs.Right.{AreExperimentsOn, IsForCertificate}
-use Rattle.check_command.specs.Telling.{check_telling}
-use Rattle.evaluate_command.specs.Effects.{Identifies}
-use Rattle.evaluate_command.specs.First.{IsForDiagram}
-use Rattle.evaluate_command.specs.Requests.{evaluate_row}
+use Rattle.evaluate_command.specs.Vocabulary.{Identifies, IsForDiagram, evaluate_row, evaluate_telling}
 use Rattle.evaluate_command.specs.Requests as evaluate_requests
 use Rattle.evaluate_command.specs.Right as evaluate_right
-use Rattle.evaluate_command.specs.Telling.{evaluate_telling}
-use Rattle.bounds_command.specs.Asking.{IsAsked}
-use Rattle.bounds_command.specs.BoundsTelling.{bounds_telling}
-use Rattle.bounds_command.specs.First.{lists_of}
-use Rattle.bounds_command.specs.Requests.{bounds_row}
+use Rattle.bounds_command.specs.Vocabulary.{IsAsked, bounds_telling, lists_of, bounds_row}
 use Rattle.bounds_command.specs.Requests as bounds_requests
 use Rattle.bounds_command.specs.Right as bounds_right
 use Rattle.causal_cli.specs.Answered.{IsAnswered, IsAnsweredOnBoth}

@@ -1,30 +1,26 @@
 -- The headline, on a run: what words that ask for `identify` are answered.
 use Rattle.std.specs.Prelude.{ℕ, ◌≡◌, ◌≤◌, ◌⊎◌, List, [], Some, unwrap_or}
 use Rattle.std.specs.Option.{option_or}
-use Rattle.mixed_graph.specs.Graphs.{MixedGraph}
-use Rattle.command_words.specs.Form.{Use}
-use Rattle.prob_expr.specs.Tree.{effect_on}
-use Rattle.prob_expr.specs.View.{target_view, formula_view}
-use Rattle.do_derivation.specs.Plans.{PlainDerivation}
+use Rattle.mixed_graph.specs.Vocabulary.{MixedGraph}
+use Rattle.command_words.specs.Vocabulary.{Use}
+use Rattle.prob_expr.specs.Vocabulary.{effect_on, target_view, formula_view}
+use Rattle.do_derivation.specs.Vocabulary.{PlainDerivation}
 use Rattle.dag_reader.specs.declared.graph.ReadGraph.{ReadGraph}
-use Rattle.hedge.specs.Hedges.{IsHedge}
-use Rattle.counter_models.specs.Pairs.{IsPairOf}
-use Rattle.identify.specs.Answers.{IsRightFormula, IsRightHedge}
-use Rattle.targets.specs.Targets.{AreEffectSets}
+use Rattle.hedge.specs.Vocabulary.{IsHedge}
+use Rattle.counter_models.specs.Vocabulary.{IsPairOf}
+use Rattle.identify.specs.Vocabulary.{IsRightFormula, IsRightHedge}
+use Rattle.targets.specs.Vocabulary.{AreEffectSets}
 use Rattle.replies.specs.Told.{Told}
-use Rattle.replies.specs.Outcomes.{code_of}
-use Rattle.replies.specs.Observed.{HoldsGraph}
-use Rattle.diagram.specs.Observed.{IsObservedGraph, observed_names}
-use Rattle.diagram.specs.Sets.{effect_lists}
+use Rattle.replies.specs.Vocabulary.{code_of, HoldsGraph}
+use Rattle.diagram.specs.Vocabulary.{IsObservedGraph, observed_names, effect_lists}
 use Rattle.effect_answers.specs.declared.formulas.EffectFormula.{EffectFormula}
 use Rattle.effect_answers.specs.declared.hedges.EffectHedge.{EffectHedge}
-use Rattle.effect_answers.specs.HedgeTelling.{effect_of}
+use Rattle.effect_answers.specs.Vocabulary.{effect_of}
 use Rattle.identify_command.specs.declared.answer.Answer.{Answer}
 use Rattle.identify_command.specs.declared.answer.Answer.TheVariants.{Formula, Hedge, Joint}
-use Rattle.identify_command.specs.Forms.{told_form}
-use Rattle.identify_command.specs.Requests.{Request, IsRequest, identify_row}
-use Rattle.identify_command.specs.Telling.{identify_telling}
-use Rattle.causal_io.specs.Causes.{Rose}
+use Rattle.identify_command.specs.Vocabulary.{told_form, IsRequest, identify_row, identify_telling}
+use Rattle.identify_command.specs.Requests.{Request}
+use Rattle.causal_io.specs.Vocabulary.{Rose}
 use Rattle.command_run.specs.Run.{Run}
 use Rattle.causal_cli.specs.Answered.{told_of_answer}
 use Rattle.causal_cli.specs.AsDrawn.{IsRightAsDrawn, IsNotIdentifiable}

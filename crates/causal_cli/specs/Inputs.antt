@@ -1,11 +1,10 @@
 -- The inputs that words may ask for.
 use Rattle.std.specs.Prelude.{ℕ, ◌≡◌, ◌<◌, List, length, option_map}
-use Rattle.command_words.specs.Form.{Text}
+use Rattle.command_words.specs.Vocabulary.{Text}
 use Rattle.diagram.specs.declared.diagram.Diagram.{Diagram}
 use Rattle.replies.specs.Told.{Told}
 use Rattle.replies.specs.declared.outcome.Outcome.{Outcome}
-use Rattle.command_run.specs.Commands.{Request, Asks, file_of, second_of}
-use Rattle.command_run.specs.Answers.{SecondAnswer}
+use Rattle.command_run.specs.Vocabulary.{Request, Asks, file_of, second_of, SecondAnswer}
 use Rattle.causal_cli.specs.Commands.{commands}
 use Rattle.causal_cli.specs.declared.inputs.Inputs.{Inputs}
 

@@ -7,3 +7,4 @@ pub mod Headline
 pub mod Drawn
 pub mod Inputs
 pub mod Texts
+pub mod Vocabulary

@@ -1,19 +1,17 @@
 -- What an answer of `natural` says of the diagram as drawn, with its hidden vertices: of the models of the graph that was read, whatever the mechanisms
 -- of these.
 use Rattle.std.specs.Prelude.{ℕ, ◌≡◌, false, List}
-use Rattle.mixed_graph.specs.Bits.{has}
-use Rattle.mixed_graph.specs.Shown.{graph_of}
+use Rattle.mixed_graph.specs.Vocabulary.{has, graph_of}
 use Rattle.replies.specs.Told.{Told}
 use Rattle.diagram.specs.declared.diagram.Diagram.{Diagram}
-use Rattle.natural_id.specs.Answers.{parts_view}
-use Rattle.natural_drawn.specs.Drawn.{EqualsNaturalAsDrawn, IsLostNestedAsDrawn, DifferOnNestedAsDrawn, IsIndirectNilAsDrawn, IsDirectNilAsDrawn}
+use Rattle.natural_id.specs.Vocabulary.{parts_view}
+use Rattle.natural_drawn.specs.Vocabulary.{EqualsNaturalAsDrawn, IsLostNestedAsDrawn, DifferOnNestedAsDrawn, IsIndirectNilAsDrawn, IsDirectNilAsDrawn}
 use Rattle.natural_command.specs.Requests as natural_requests
-use Rattle.natural_command.specs.Right.{IsNaturalAnswer}
-use Rattle.natural_command.specs.Telling.{natural_telling}
 use Rattle.natural_command.specs.declared.asking.Question.{Question}
 use Rattle.natural_command.specs.declared.answer.Asked.{Asked}
 use Rattle.natural_command.specs.declared.answer.Answer.{Answer}
 use Rattle.natural_command.specs.declared.answer.Answer.TheVariants.{Formula, Excluded, Witness, Split}
+use Rattle.natural_command.specs.Vocabulary.{IsNaturalAnswer, natural_telling}
 use Rattle.causal_cli.specs.Answered.{IsAnswered}
 
 -- where no directed path leads from x to y through the mediators the indirect effect is nil, and where none leads past them the direct one

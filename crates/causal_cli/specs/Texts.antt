@@ -3,17 +3,14 @@ use Rattle.std.specs.Prelude.{ℕ, ◌≡◌, ◌≢◌, Bool, true, false, List
 use Rattle.replies.specs.Told.{Told}
 use Rattle.replies.specs.declared.outcome.Outcome.{Outcome}
 use Rattle.replies.specs.declared.outcome.Outcome.TheVariants.{Yes, No}
-use Rattle.replies.specs.Command.{CommandForm}
-use Rattle.replies.specs.OneOutcome.{IsAnswerOn}
-use Rattle.separation_commands.specs.GraphCommand.{graph_command}
-use Rattle.separation_commands.specs.SeparateCommand.{separate_command}
-use Rattle.separation_commands.specs.RuleCommand.{rule_command}
-use Rattle.identify_command.specs.Command.{identify_command}
-use Rattle.evaluate_command.specs.Command.{evaluate_command}
-use Rattle.evaluate_command.specs.Ways.{Way, by_procedure, by_adjusting, by_condition}
-use Rattle.implications_command.specs.Command.{implications_command}
-use Rattle.survey_command.specs.Command.{survey_command}
-use Rattle.surrogate_command.specs.Command.{surrogate_command}
+use Rattle.replies.specs.Vocabulary.{CommandForm, IsAnswerOn}
+use Rattle.separation_commands.specs.Vocabulary.{graph_command, separate_command, rule_command}
+use Rattle.identify_command.specs.Vocabulary.{identify_command}
+use Rattle.evaluate_command.specs.Vocabulary.{evaluate_command, by_procedure, by_adjusting, by_condition}
+use Rattle.evaluate_command.specs.Ways.{Way}
+use Rattle.implications_command.specs.Vocabulary.{implications_command}
+use Rattle.survey_command.specs.Vocabulary.{survey_command}
+use Rattle.surrogate_command.specs.Vocabulary.{surrogate_command}
 
 -- any two texts that are so are one
 abbrev pub IsOneText : (Told → Type 0) → Type 0

@@ -1,9 +1,7 @@
 // The commands: each one's row and request stand in its crate.
 
 ghost use Rattle.std.specs.Prelude.{◌≡◌, map, option_map};
-ghost use Rattle.command_words.specs.Form.{row_named};
-ghost use Rattle.command_words.specs.Views.{row_of};
-ghost use Rattle.command_words.specs.Readable.{AreReadable};
+ghost use Rattle.command_words.specs.Vocabulary.{row_named, row_of, AreReadable};
 ghost use Rattle.causal_cli.specs.Commands.{all_commands, row_for, table};
 
 use command_words::forms::Entry;

@@ -1,9 +1,9 @@
 // The inputs that words may ask for.
 
 ghost use Rattle.std.specs.Prelude.{◌≡◌, IfOk, IsErrOf, Some, None, option_map};
-ghost use Rattle.command_words.specs.Views.{texts_of};
+ghost use Rattle.command_words.specs.Vocabulary.{texts_of};
 ghost use Rattle.command_run.specs.Commands as asked;
-ghost use Rattle.command_run.specs.Commands.{Asks};
+ghost use Rattle.command_run.specs.Vocabulary.{Asks};
 ghost use Rattle.causal_cli.specs.Commands.{commands, request_of};
 ghost use Rattle.causal_cli.specs.Inputs.{AreInputs, AreInputsOf};
 

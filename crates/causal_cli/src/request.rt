@@ -1,16 +1,11 @@
 // What words ask for, and what a request gives on its diagram.
 
 ghost use Rattle.std.specs.Prelude.{◌≡◌, List, None, IfOk, IsErrOf, map, option_map};
-ghost use Rattle.command_words.specs.Form.{Use, row_named};
-ghost use Rattle.command_words.specs.Views.{row_of};
-ghost use Rattle.command_words.specs.Gives.{HoldsCall};
-ghost use Rattle.command_words.specs.Readable.{AreReadable};
+ghost use Rattle.command_words.specs.Vocabulary.{Use, row_named, row_of, HoldsCall, AreReadable};
 ghost use Rattle.diagram.specs.declared.diagram.Diagram.{Diagram as Drawn};
-ghost use Rattle.replies.specs.Told.{told_of};
-ghost use Rattle.command_run.specs.Lines.{words_line};
+ghost use Rattle.replies.specs.Vocabulary.{told_of};
+ghost use Rattle.command_run.specs.Vocabulary.{words_line, command_of, file_of, IsRequest, AsksNothing, DiagramAnswer, GivesOnWords, GivesOn};
 ghost use Rattle.command_run.specs.Commands as asked;
-ghost use Rattle.command_run.specs.Commands.{command_of, file_of, IsRequest, AsksNothing};
-ghost use Rattle.command_run.specs.Answers.{DiagramAnswer, GivesOnWords, GivesOn};
 ghost use Rattle.causal_cli.specs.Commands.{commands, table, row_for, request_of, left_of};
 
 use crate::commands::{Command, command_named, rows};

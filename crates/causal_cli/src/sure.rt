@@ -1,10 +1,10 @@
 //! The run over an input and an output that never fail.
 
 ghost use Rattle.std.specs.Prelude.{◌≡◌, ◌≢◌, false, None};
-ghost use Rattle.command_words.specs.Views.{texts_of};
-ghost use Rattle.causal_io.specs.SureShelf.{held_surely};
-ghost use Rattle.command_run.specs.Complete.{Complete, IsExact};
-ghost use Rattle.command_run.specs.Run.{Ended, run_on, stream_of};
+ghost use Rattle.command_words.specs.Vocabulary.{texts_of};
+ghost use Rattle.causal_io.specs.Vocabulary.{held_surely};
+ghost use Rattle.command_run.specs.Complete.{Complete};
+ghost use Rattle.command_run.specs.Vocabulary.{IsExact, Ended, run_on, stream_of};
 ghost use Rattle.causal_cli.specs.Calls.{call_on};
 ghost use Rattle.causal_cli.specs.Commands.{commands};
 ghost use Rattle.causal_cli.specs.Drawn.{RightAsDrawn};

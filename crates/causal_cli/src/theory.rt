@@ -1,6 +1,6 @@
 //! The laws that words ask for one thing at most, and that the text of an answer is fixed.
 
-ghost use Rattle.command_run.specs.Complete.{WordsAskOnce};
+ghost use Rattle.command_run.specs.Vocabulary.{WordsAskOnce};
 ghost use Rattle.causal_cli.specs.Commands.{commands};
 ghost use Rattle.causal_cli.specs.Texts.{TextsAreOne};
 

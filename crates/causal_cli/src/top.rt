@@ -1,10 +1,9 @@
 //! The run of all commands, with the headline.
 
 ghost use Rattle.std.specs.Prelude.{◌≡◌, List, ℕ, Option, option_map};
-ghost use Rattle.command_words.specs.Views.{texts_of};
-ghost use Rattle.command_run.specs.Run.{Stream, Ended, run_on, run_with, stream_of, reads_of, ReadsAsAsked};
+ghost use Rattle.command_words.specs.Vocabulary.{texts_of};
+ghost use Rattle.command_run.specs.Vocabulary.{Stream, Ended, run_on, run_with, stream_of, reads_of, ReadsAsAsked, RepliesWith, IsInFormat, IsTextOf, Stays};
 ghost use Rattle.command_run.specs.Complete.{Complete};
-ghost use Rattle.command_run.specs.Ends.{RepliesWith, IsInFormat, IsTextOf, Stays};
 ghost use Rattle.causal_cli.specs.Calls.{call_on};
 ghost use Rattle.causal_cli.specs.Commands.{commands};
 ghost use Rattle.causal_cli.specs.Headline.{Headline};

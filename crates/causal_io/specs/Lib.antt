@@ -7,3 +7,4 @@ pub mod MemorySink
 pub mod SureShelf
 pub mod Words
 pub mod Laws
+pub mod Vocabulary

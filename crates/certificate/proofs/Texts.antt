@@ -4,13 +4,13 @@ use Rattle.std.specs.Result.{result_ok}
 use Rattle.std.specs.Str.{IsUtf8, is_utf8}
 use Rattle.std.proofs.lemmas.Str.{IsUtf8-from_is_utf8, is_utf8-from_IsUtf8}
 use Rattle.prob_expr.specs.Tree.{Tree}
-use Rattle.expr_text.specs.Text.{IsAt}
+use Rattle.expr_text.specs.Vocabulary.{IsAt}
 use Rattle.serde_json.specs.Data.{Data}
 use Rattle.serde_json.specs.Events.{members_len}
 use Rattle.serde_json.specs.View.{items_view, members_view}
 use Rattle.serde_json.specs.declared.value.Value.{Value}
 use Rattle.serde_json.proofs.Views.{Entry, members_len-members_view}
-use Rattle.step_json.specs.Reading.{is_end}
+use Rattle.step_json.specs.Vocabulary.{is_end}
 use Rattle.step_json.proofs.Ends.{end_is as no_item_left}
 use Rattle.serde_json.specs.Read.{read}
 use Rattle.certificate.specs.Reading.{json_of}

@@ -1,7 +1,7 @@
 -- What is wrong with a certificate, in words.
 use Rattle.std.specs.Prelude.{ℕ, List, [], ◌++◌, codes}
 use Rattle.std.specs.Fmt.{decimal}
-use Rattle.answer_text.specs.Printing.{printed}
+use Rattle.answer_text.specs.Vocabulary.{printed}
 use Rattle.certificate.specs.declared.fault.Key.{Key}
 use Rattle.certificate.specs.declared.fault.Key.TheVariants as key
 use Rattle.certificate.specs.declared.fault.CertFault.{CertFault}

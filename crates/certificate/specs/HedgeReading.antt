@@ -1,9 +1,9 @@
 -- Reading the choice and the links of a hedge, item by item, with the first fault.
 use Rattle.std.specs.Prelude.{ℕ, ◌+◌, ◌==◌, nat_lt, List, [], ◌∷◌, ◌++◌, length, get_or, set, replicate, Result, Ok, Err, if◌then◌else◌}
 use Rattle.serde_json.specs.Data.{Data, Items, no_items, item}
-use Rattle.step_json.specs.Reading.{◌>>=◌, list_by, vertex_in, is_end}
 use Rattle.step_json.specs.declared.fault.ValueFault.{ValueFault}
 use Rattle.step_json.specs.declared.fault.ValueFault.TheVariants.{Form}
+use Rattle.step_json.specs.Vocabulary.{◌>>=◌, list_by, vertex_in, is_end}
 
 -- the first item by f, and then the others
 abbrev pub first_by : {A B : Type 0} → (Data → Result A ValueFault) → (A → Items → Result B ValueFault) → Items → Result B ValueFault

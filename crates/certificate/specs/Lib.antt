@@ -3,3 +3,4 @@ pub mod FaultTexts
 pub mod HedgeReading
 pub mod Plain
 pub mod Reading
+pub mod Vocabulary

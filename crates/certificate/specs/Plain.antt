@@ -1,10 +1,8 @@
 -- Certificates as plain trees.
 use Rattle.std.specs.Prelude.{ℕ, List, take}
 use Rattle.std.specs.List.{zip}
-use Rattle.prob_expr.specs.Tree.{PlainTarget, PlainFormula}
-use Rattle.prob_expr.specs.View.{target_view, formula_view}
-use Rattle.do_derivation.specs.Plans.{PlainDerivation}
-use Rattle.do_derivation.specs.View.{derivation_view}
+use Rattle.prob_expr.specs.Vocabulary.{PlainTarget, PlainFormula, target_view, formula_view}
+use Rattle.do_derivation.specs.Vocabulary.{PlainDerivation, derivation_view}
 use Rattle.hedge.specs.declared.joined_sets.lists.Links.{Links}
 use Rattle.hedge.specs.declared.hedge.Hedge.{Hedge}
 use Rattle.certificate.specs.declared.values.Certificate.{Certificate}

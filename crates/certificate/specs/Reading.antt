@@ -3,19 +3,19 @@ use Rattle.std.specs.Prelude.{ℕ, ◌^◌, ◌==◌, Bool, false, ◌&&◌, ◌
 use Rattle.std.specs.Prelude.{Ok, Err, if◌then◌else◌, codes}
 use Rattle.std.specs.Result.{result_ok}
 use Rattle.std.specs.Str.{bytes_eq, is_utf8}
-use Rattle.prob_expr.specs.Tree.{Tree, PlainTarget, PlainFormula}
-use Rattle.prob_expr.specs.Check.{check_tree, cap}
-use Rattle.mixed_graph.specs.Masks.{union}
-use Rattle.do_derivation.specs.Plans.{PlainLemma, PlainDerivation}
-use Rattle.expr_text.specs.Read.{expr_of}
+use Rattle.prob_expr.specs.Tree.{Tree}
+use Rattle.prob_expr.specs.Vocabulary.{PlainTarget, PlainFormula, check_tree, cap}
+use Rattle.mixed_graph.specs.Vocabulary.{union}
+use Rattle.do_derivation.specs.Vocabulary.{PlainLemma, PlainDerivation}
+use Rattle.expr_text.specs.Vocabulary.{expr_of}
 use Rattle.serde_json.specs.Data.{Data, Items, no_items, item, Members}
 use Rattle.serde_json.specs.Events.{members_len}
 use Rattle.serde_json.specs.Find.{get, as_str, as_number, as_u64, as_object}
 use Rattle.serde_json.specs.Read.{read}
 use Rattle.step_json.specs.Reading as value
-use Rattle.step_json.specs.Reading.{or_form, list_by, each, set_in, filled_set_in, step_in, is_end}
 use Rattle.step_json.specs.declared.fault.ValueFault.{ValueFault}
 use Rattle.step_json.specs.declared.fault.ValueFault.TheVariants.{Form}
+use Rattle.step_json.specs.Vocabulary.{or_form, list_by, each, set_in, filled_set_in, step_in, is_end}
 use Rattle.certificate.specs.declared.fault.Key.{Key}
 use Rattle.certificate.specs.declared.fault.Key.TheVariants as keys
 use Rattle.certificate.specs.declared.fault.CertFault.{CertFault}

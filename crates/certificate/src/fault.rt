@@ -1,7 +1,7 @@
 //! Why a text isn't read as a certificate.
 
 ghost use Rattle.std.specs.Prelude.{◌≡◌, ◌++◌, codes, IfOk, OnOk};
-ghost use Rattle.answer_text.specs.Lines.{line_of};
+ghost use Rattle.answer_text.specs.Vocabulary.{line_of};
 ghost use Rattle.certificate.specs.Faults.{fault_at};
 ghost use Rattle.certificate.specs.FaultTexts.{key_text, cert_fault_text, cert_size_text};
 

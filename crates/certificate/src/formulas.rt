@@ -2,10 +2,10 @@
 
 ghost use Rattle.std.specs.Prelude.{◌≡◌, ◌≤◌, ◌^◌, [], map, length, is_ok, Option, None, Some};
 ghost use Rattle.serde_json.specs.View.{view as data_view, items_view};
-ghost use Rattle.prob_expr.specs.Check.{check_tree, cap};
+ghost use Rattle.prob_expr.specs.Vocabulary.{check_tree, cap};
 ghost use Rattle.prob_expr.specs.View.{view};
-ghost use Rattle.do_derivation.specs.View.{lemma_view};
-ghost use Rattle.step_json.specs.Reading.{Gives, each};
+ghost use Rattle.do_derivation.specs.Vocabulary.{lemma_view};
+ghost use Rattle.step_json.specs.Vocabulary.{Gives, each};
 ghost use Rattle.certificate.specs.Reading.{expr_in, sound, main_in, def_in, more_defs, defs_in, lemma_of, lemma_items, lemma_in, lemmas_in};
 
 use crate::sizes::is_end;

@@ -2,7 +2,7 @@
 
 ghost use Rattle.std.specs.Prelude.{◌≡◌, ◌<◌, ◌+◌, ◌++◌, ◌∷◌, [], length, set, replicate, IfOk};
 ghost use Rattle.serde_json.specs.View.{view as data_view, items_view};
-ghost use Rattle.step_json.specs.Reading.{Gives, list_by, vertex_in};
+ghost use Rattle.step_json.specs.Vocabulary.{Gives, list_by, vertex_in};
 ghost use Rattle.certificate.specs.Plain.{links_view};
 ghost use Rattle.certificate.specs.HedgeReading.{first_by, alone, unchosen_in, with_choice, more_choices, choice_in, start_of, link_of, more_links, links_in};
 

@@ -3,9 +3,10 @@
 ghost use Rattle.std.specs.Prelude.{◌≡◌, ◌==◌, codes, map, option_and_then};
 ghost use Rattle.serde_json.specs.View.{view as data_view};
 ghost use Rattle.serde_json.specs.Find.{get};
-ghost use Rattle.prob_expr.specs.View.{view, formula_view, target_view};
-ghost use Rattle.do_derivation.specs.View.{derivation_view, step_view, lemma_view};
-ghost use Rattle.step_json.specs.Reading.{set_in, filled_set_in, step_in};
+ghost use Rattle.prob_expr.specs.View.{view};
+ghost use Rattle.prob_expr.specs.Vocabulary.{formula_view, target_view};
+ghost use Rattle.do_derivation.specs.Vocabulary.{derivation_view, step_view, lemma_view};
+ghost use Rattle.step_json.specs.Vocabulary.{set_in, filled_set_in, step_in};
 ghost use Rattle.certificate.specs.Faults.{Gives, at_key};
 ghost use Rattle.certificate.specs.declared.fault.Key.TheVariants as keys;
 ghost use Rattle.certificate.specs.Plain.{hedge_view, links_view};

@@ -3,7 +3,7 @@
 ghost use Rattle.std.specs.Prelude.{◌≡◌};
 ghost use Rattle.serde_json.specs.View.{view as data_view, items_view};
 ghost use Rattle.serde_json.specs.Find.{as_object};
-ghost use Rattle.step_json.specs.Reading.{is_end};
+ghost use Rattle.step_json.specs.Vocabulary.{is_end};
 ghost use Rattle.certificate.specs.Reading.{member_count};
 
 use serde_json::Value;

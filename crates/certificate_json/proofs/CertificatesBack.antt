@@ -2,33 +2,25 @@
 use Rattle.std.proofs.Common.{◌≡◌, ◌≤◌, ◌<◌, ◌==◌, ℕ, Bool, true, false, cond, not, ◌&&◌, ◌||◌, List, [], ◌∷◌, length, codes, Some, None, Result, Ok}
 use Rattle.std.proofs.Common.{Err, is_ok, refl, sym, ap, subst, ◌∙◌, arith, eqb-true, if◌then◌else◌}
 use Rattle.std.specs.Prelude.{All}
-use Rattle.mixed_graph.specs.Bits.{has}
-use Rattle.mixed_graph.specs.Names.{AreNames}
-use Rattle.mixed_graph.specs.Masks.{union, is_empty, is_below, is_apart}
-use Rattle.prob_expr.specs.TermSets.{are_term_sets}
-use Rattle.prob_expr.specs.Tree.{Tree, PlainTarget, PlainFormula}
-use Rattle.prob_expr.specs.Check.{check_tree, fault_of, fault_in_defs, fault_in}
+use Rattle.mixed_graph.specs.Vocabulary.{has, AreNames, union, is_empty, is_below, is_apart}
+use Rattle.prob_expr.specs.Vocabulary.{are_term_sets, PlainTarget, PlainFormula, check_tree, fault_of, fault_in_defs, fault_in}
+use Rattle.prob_expr.specs.Tree.{Tree}
 use Rattle.expr_text.proofs.Checked.{neither}
 use Rattle.mixed_graph.proofs.MaskLaws.{apart_from, apart_has, has_join, has_none}
-use Rattle.do_derivation.specs.Plans.{PlainLemma, PlainDerivation}
-use Rattle.expr_text.specs.Write.{text_of}
+use Rattle.do_derivation.specs.Vocabulary.{PlainLemma, PlainDerivation}
+use Rattle.expr_text.specs.Vocabulary.{text_of}
 use Rattle.expr_text.proofs.Within.{and_true}
 use Rattle.serde_json.specs.Data.{Data, string, number, unsigned, array, object, no_members, member}
 use Rattle.serde_json.specs.Find.{get, as_object}
-use Rattle.step_json.specs.Reading.{each, set_in, filled_set_in, step_in}
-use Rattle.certificate_json.proofs.Values.{set_value, step_value}
 use Rattle.step_json.specs.declared.fault.ValueFault.{ValueFault}
+use Rattle.step_json.specs.Vocabulary.{each, set_in, filled_set_in, step_in}
+use Rattle.certificate_json.proofs.Values.{set_value, step_value}
 use Rattle.certificate_json.proofs.SetsBack.{set_reads_back}
 use Rattle.certificate_json.proofs.StepsBack.{step_reads_back}
 use Rattle.certificate.specs.declared.fault.Key.{Key}
-use Rattle.certificate.specs.declared.fault.Key.TheVariants as keys
 use Rattle.certificate.specs.declared.fault.CertFault.TheVariants.{Member, Version}
-use Rattle.certificate.specs.Faults.{◌>>=◌, at_key, or_fault}
-use Rattle.certificate.specs.Plain.{PlainHedge, PlainCertificate, formula, hedge}
-use Rattle.certificate.specs.HedgeReading.{choice_in, links_in}
-use Rattle.certificate.specs.Reading.{member_by, main_in, more_defs, defs_in, lemma_in, lemmas_in, version_in, given_in, target_in, whole, formula_in}
-use Rattle.certificate.specs.Reading.{derivation_in, member_count, key_count, formula_certificate_in, hedge_in, hedge_certificate_in, answer_in}
-use Rattle.certificate.specs.Reading.{is_version, value_certificate}
+use Rattle.certificate.specs.Vocabulary.{◌>>=◌, at_key, or_fault, PlainHedge, PlainCertificate, formula, hedge, choice_in, links_in, member_by, main_in, more_defs, defs_in, lemma_in, lemmas_in, version_in, given_in, target_in, whole, formula_in, derivation_in, member_count, key_count, formula_certificate_in, hedge_in, hedge_certificate_in, answer_in, is_version, value_certificate}
+use Rattle.certificate.specs.declared.fault.Key.TheVariants as keys
 use Rattle.certificate_json.specs.Kept.{IsRepresentable, IsStartBlank}
 use Rattle.certificate_json.specs.Writable.{IsTargetWithin, IsHedgeWithin, IsWritable, IsShallow}
 use Rattle.certificate_json.specs.Certificates.{choices_from, version_of}

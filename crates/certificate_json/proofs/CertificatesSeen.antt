@@ -4,15 +4,15 @@ use Rattle.std.proofs.lemmas.Bool.{and_parts}
 use Rattle.json.specs.Json.{Json}
 use Rattle.json.specs.Json as json
 use Rattle.json.proofs.Printed.Utf8.{IsUtf8-are_ascii}
-use Rattle.mixed_graph.specs.Masks.{is_empty}
-use Rattle.mixed_graph.specs.Names.{AreNames}
-use Rattle.prob_expr.specs.Tree.{Tree, PlainTarget}
-use Rattle.do_derivation.specs.Plans.{PlainLemma}
-use Rattle.expr_text.specs.Write.{text_of}
+use Rattle.mixed_graph.specs.Vocabulary.{is_empty, AreNames}
+use Rattle.prob_expr.specs.Tree.{Tree}
+use Rattle.prob_expr.specs.Vocabulary.{PlainTarget}
+use Rattle.do_derivation.specs.Vocabulary.{PlainLemma}
+use Rattle.expr_text.specs.Vocabulary.{text_of}
 use Rattle.serde_json.specs.Data.{Data, string, number, unsigned, no_items, item, no_members, member}
 use Rattle.certificate_json.specs.StepSizes.{is_short, nesting}
-use Rattle.certificate.specs.Plain.{PlainHedge, PlainCertificate, formula, hedge}
-use Rattle.answer_json.specs.Values.{set_json, vertices_json, pair_json}
+use Rattle.certificate.specs.Vocabulary.{PlainHedge, PlainCertificate, formula, hedge}
+use Rattle.answer_json.specs.Vocabulary.{set_json, vertices_json, pair_json}
 use Rattle.certificate_json.specs.Kept.{are_steps_short, IsRepresentable}
 use Rattle.certificate_json.specs.Writable.{AreStepsShallow, IsShallow}
 use Rattle.certificate_json.specs.Steps.{step_json}

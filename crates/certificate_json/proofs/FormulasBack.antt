@@ -2,27 +2,25 @@
 use Rattle.std.proofs.Common.{◌≡◌, ◌≤◌, ◌<◌, ◌+◌, ◌^◌, ℕ, Bool, true, false, cond, not, ltb, ◌&&◌, List, [], ◌∷◌, ◌++◌, length, Option, Some, None}
 use Rattle.std.proofs.Common.{Result, Ok, Err, is_ok, refl, sym, ap, ◌∙◌, append_assoc, append-nil, length-append, arith, ltb-true, lt-ltb}
 use Rattle.std.specs.Result.{result_ok}
-use Rattle.mixed_graph.specs.Names.{AreNames}
-use Rattle.mixed_graph.specs.Masks.{is_empty, is_below, is_apart}
-use Rattle.prob_expr.specs.Tree.{Tree, prob, sum, product, quotient, named, Trees, no_trees, tree, PlainFormula}
-use Rattle.prob_expr.specs.Check.{◌>>=◌, next_node, are_two, check_tree, check_trees, fault_of, fault_in_defs, fault_in, cap}
+use Rattle.mixed_graph.specs.Vocabulary.{AreNames, is_empty, is_below, is_apart}
+use Rattle.prob_expr.specs.Tree.{Tree, prob, sum, product, quotient, named, tree}
 use Rattle.prob_expr.specs.declared.checking.ExprFault.{ExprFault}
 use Rattle.prob_expr.specs.declared.checking.ExprFault.TheVariants.{Forward}
-use Rattle.do_derivation.specs.Plans.{PlainLemma}
-use Rattle.do_derivation.specs.Accepts.{are_sets, sets_of}
-use Rattle.expr_text.specs.Write.{text_of, nesting, nesting_all}
+use Rattle.prob_expr.specs.Vocabulary.{Trees, no_trees, PlainFormula, ◌>>=◌, next_node, are_two, check_tree, check_trees, fault_of, fault_in_defs, fault_in, cap}
+use Rattle.do_derivation.specs.Vocabulary.{PlainLemma, are_sets, sets_of}
+use Rattle.expr_text.specs.Vocabulary.{text_of, nesting, nesting_all}
 use Rattle.expr_text.proofs.Checked.{neither, sound_from, numbered_from}
 use Rattle.expr_text.proofs.TextsBack.{reads_back}
 use Rattle.expr_text.proofs.Within.{and_true}
 use Rattle.serde_json.specs.Data.{string, item, no_items}
 use Rattle.step_json.specs.Reading as value
-use Rattle.step_json.specs.Reading.{or_form, list_by, each, set_in, filled, filled_set_in, step_in}
+use Rattle.step_json.specs.declared.fault.ValueFault.TheVariants.{Form}
+use Rattle.step_json.specs.Vocabulary.{or_form, list_by, each, set_in, filled, filled_set_in, step_in}
 use Rattle.certificate_json.proofs.Values.{set_value, step_value}
 use Rattle.certificate_json.specs.StepSizes as step
-use Rattle.step_json.specs.declared.fault.ValueFault.TheVariants.{Form}
 use Rattle.certificate_json.proofs.SetsBack.{set_reads_back}
 use Rattle.certificate_json.proofs.StepsBack.{step_reads_back}
-use Rattle.certificate.specs.Reading.{expr_in, sound, main_in, def_in, more_defs, lemma_of, lemma_in}
+use Rattle.certificate.specs.Vocabulary.{expr_in, sound, main_in, def_in, more_defs, lemma_of, lemma_in}
 use Rattle.certificate_json.specs.Writable.{are_steps_within, AreStepsShallow}
 use Rattle.certificate_json.specs.Kept.{are_steps_short}
 use Rattle.certificate_json.proofs.Values.{expr_items, lemma_value, lemma_items}

@@ -3,13 +3,13 @@ use Rattle.std.proofs.Common.{◌≡◌, ◌<◌, ◌≤◌, ◌+◌, ◌==◌, 
 use Rattle.std.proofs.Common.{refl, sym, ap, ◌∙◌, append_assoc, append-nil, length-append, arith, lt-ltb, eqb-true}
 use Rattle.std.specs.Prelude.{All}
 use Rattle.std.proofs.lemmas.Bool.{false≢true}
-use Rattle.mixed_graph.specs.Names.{AreNames, name_of}
+use Rattle.mixed_graph.specs.Vocabulary.{AreNames, name_of}
 use Rattle.serde_json.specs.Data.{array, string, no_items, item}
-use Rattle.step_json.specs.Reading.{◌>>=◌, list_by, vertex_in}
-use Rattle.certificate_json.proofs.Values.{names_value}
 use Rattle.step_json.specs.declared.fault.ValueFault.TheVariants.{Form}
+use Rattle.step_json.specs.Vocabulary.{◌>>=◌, list_by, vertex_in}
+use Rattle.certificate_json.proofs.Values.{names_value}
 use Rattle.certificate_json.proofs.NamesBack.{vertex_back}
-use Rattle.certificate.specs.HedgeReading.{first_by, alone, unchosen, with_choice, more_choices, choice_in, link_of, more_links, links_in}
+use Rattle.certificate.specs.Vocabulary.{first_by, alone, unchosen, with_choice, more_choices, choice_in, link_of, more_links, links_in}
 use Rattle.certificate_json.specs.Certificates.{choices_from}
 use Rattle.certificate_json.proofs.Values.{pair_items, link_items}
 use Rattle.certificate_json.proofs.Pairs.{IsWithin}

@@ -6,9 +6,10 @@ use Rattle.std.proofs.lemmas.List.{at_drop_more, at_drop_all}
 use Rattle.json.specs.Json.{Json}
 use Rattle.mixed_graph.specs.declared.lists.Order.{Order}
 use Rattle.hedge.specs.declared.joined_sets.lists.Links.{Links}
-use Rattle.do_derivation.specs.View.{listed}
-use Rattle.certificate.specs.Plain.{links_view}
-use Rattle.answer_json.specs.Progress.{Progress, with_value, with_values}
+use Rattle.do_derivation.specs.Vocabulary.{listed}
+use Rattle.certificate.specs.Vocabulary.{links_view}
+use Rattle.answer_json.specs.Progress.{Progress}
+use Rattle.answer_json.specs.Vocabulary.{with_value, with_values}
 use Rattle.certificate_json.specs.Kept.{IsStartBlank}
 
 -- what is left to write completes the whole, and what is left to test tells of the whole

@@ -2,7 +2,8 @@
 use Rattle.std.proofs.Common.{◌≡◌, ℕ, List, [], ◌∷◌, ◌++◌, Result, IfOk, sym, ap, subst, ◌∙◌, append_assoc, append-nil}
 use Rattle.std.specs.Global.{Vec}
 use Rattle.json.specs.Json.{Json}
-use Rattle.answer_json.specs.Progress.{Progress, nothing, members, with_value, with_members, ended_object, object_of, value_of, json_line}
+use Rattle.answer_json.specs.Progress.{Progress}
+use Rattle.answer_json.specs.Vocabulary.{nothing, members, with_value, with_members, ended_object, object_of, value_of, json_line}
 
 -- these members behind those that are done
 members_written : (ms done : List (List ℕ × Json)) (p : Progress) → with_members ms (members p done) ≡ members p (done ++ ms)

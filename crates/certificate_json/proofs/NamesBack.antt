@@ -5,9 +5,9 @@ use Rattle.std.proofs.lemmas.Bool.{false_from_ne_true}
 use Rattle.std.proofs.lemmas.List.Folds.{list_any_at}
 use Rattle.std.proofs.lemmas.List.Sums.{position_or_len_is}
 use Rattle.std.proofs.lemmas.Slice.Eq.{bytes_eq-Decides}
-use Rattle.mixed_graph.specs.Names.{AreNames, is_named, index_of, name_of}
-use Rattle.step_json.specs.Reading.{vertex_of}
+use Rattle.mixed_graph.specs.Vocabulary.{AreNames, is_named, index_of, name_of}
 use Rattle.step_json.specs.declared.fault.ValueFault.TheVariants.{Name}
+use Rattle.step_json.specs.Vocabulary.{vertex_of}
 
 same : (names : List (List ℕ)) (v : ℕ) → bytes_eq (name_of names v) (name_of names v) ≡ true
 same names v = (bytes_eq-Decides (name_of names v) (name_of names v)).1 refl

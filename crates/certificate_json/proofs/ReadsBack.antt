@@ -1,18 +1,16 @@
 -- What is written is read again.
 use Rattle.std.proofs.Common.{◌≡◌, ℕ, List, [], ◌∷◌, ◌++◌, length, Option, Some, None, option_map, option_and_then, Result, Ok, Err, IfOk, refl, sym, ap, ◌∙◌}
 use Rattle.json.specs.Json.{Json}
-use Rattle.mixed_graph.specs.Names.{AreNames}
+use Rattle.mixed_graph.specs.Vocabulary.{AreNames}
 use Rattle.serde_json.specs.Data.{Data, object, Members, no_members, put}
 use Rattle.serde_json.specs.Find.{get, get_member}
 use Rattle.serde_json.specs.Read.{of_json, of_members}
 use Rattle.serde_json.proofs.Views.{get_member-put}
 use Rattle.step_json.specs.Reading as value
-use Rattle.step_json.specs.Reading.{or_form, set_in, step_in}
+use Rattle.step_json.specs.Vocabulary.{or_form, set_in, step_in}
 use Rattle.certificate.specs.declared.fault.CertFault.TheVariants.{NotJson}
-use Rattle.certificate.specs.Plain.{PlainCertificate}
-use Rattle.certificate.specs.Faults.{◌>>=◌, or_fault}
-use Rattle.certificate.specs.Reading.{value_certificate, certificate_in}
-use Rattle.answer_json.specs.Progress.{members_of}
+use Rattle.certificate.specs.Vocabulary.{PlainCertificate, ◌>>=◌, or_fault, value_certificate, certificate_in}
+use Rattle.answer_json.specs.Vocabulary.{members_of}
 use Rattle.certificate_json.specs.Certificates.{certificate_json, certificate_text}
 use Rattle.certificate_json.specs.Kept.{IsRepresentable}
 use Rattle.certificate_json.specs.Writable.{IsWritable, IsShallow}

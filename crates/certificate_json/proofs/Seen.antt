@@ -16,10 +16,9 @@ use Rattle.json.proofs.Printed.Utf8.{IsUtf8-are_ascii, IsUtf8-quoted, IsUtf8-key
 use Rattle.serde_json.specs.Data.{Data, string, number, unsigned, array, object, Items, no_items, item, Members, no_members, put}
 use Rattle.serde_json.specs.Read.{of_json, of_items, of_members, max_depth}
 use Rattle.serde_json.proofs.Numbers.{number_of-decimal}
-use Rattle.certificate.specs.Reading.{json_of}
+use Rattle.certificate.specs.Vocabulary.{json_of}
 use Rattle.certificate.proofs.Texts.{some_text}
-use Rattle.answer_json.specs.Progress.{items_of, members_of, array_of, object_of}
-use Rattle.answer_json.specs.Values.{text_json}
+use Rattle.answer_json.specs.Vocabulary.{items_of, members_of, array_of, object_of, text_json}
 use Rattle.certificate_json.proofs.Utf8.{number_utf8}
 
 -- ---- texts

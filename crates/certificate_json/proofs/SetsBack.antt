@@ -7,16 +7,14 @@ use Rattle.std.proofs.lemmas.List.{map-append}
 use Rattle.std.proofs.lemmas.Nat.{or_disjoint, mod-pow-add, pow_pos}
 use Rattle.std.proofs.lemmas.Nat.Bits.{and_pow, bit_at-lt, bit_at_above}
 use Rattle.std.proofs.Math.Nat.{mod-eq_of_lt, pow-le-pow_right}
-use Rattle.mixed_graph.specs.Bits.{has, members_below}
-use Rattle.mixed_graph.specs.Names.{AreNames, name_of}
+use Rattle.mixed_graph.specs.Vocabulary.{has, members_below, AreNames, name_of, union, one, is_below, is_apart}
 use Rattle.mixed_graph.proofs.Masks.{has-zero, has-or, has-and}
 use Rattle.mixed_graph.proofs.Members.{length-members-le}
-use Rattle.mixed_graph.specs.Masks.{union, one, is_below, is_apart}
 use Rattle.serde_json.specs.Data.{string, Items, no_items, item}
 use Rattle.certificate_json.proofs.Values.{strings, set_value}
-use Rattle.step_json.specs.Reading.{◌>>=◌, vertex_of, with_member, more_of_set, set_in}
 use Rattle.step_json.specs.declared.fault.ValueFault.{ValueFault}
 use Rattle.step_json.specs.declared.fault.ValueFault.TheVariants.{Form}
+use Rattle.step_json.specs.Vocabulary.{◌>>=◌, vertex_of, with_member, more_of_set, set_in}
 use Rattle.certificate_json.proofs.NamesBack.{vertex_back}
 
 -- ---- the members below k, as a mask

@@ -2,26 +2,22 @@
 use Rattle.std.proofs.Common.{◌≡◌, ℕ, zero, suc, ◌+◌, ◌^◌, ◌≤◌, Bool, true, false, cond, ◌&&◌, bit_and, eqb, ltb, leb, List, [], ◌∷◌, ◌++◌, length}
 use Rattle.std.proofs.Common.{map, Some, Ok, Err, codes, refl, sym, ap, ap₂, ◌∙◌, append_assoc, append-nil, length-append, arith, ltb-true, leb-true}
 use Rattle.std.proofs.Common.{lt-ltb}
-use Rattle.mixed_graph.specs.Bits.{has}
-use Rattle.mixed_graph.specs.Names.{AreNames, name_of}
+use Rattle.mixed_graph.specs.Vocabulary.{has, AreNames, name_of, is_below}
 use Rattle.mixed_graph.proofs.Masks.{has-zero, has-and, zero_from_empty}
-use Rattle.mixed_graph.specs.Masks.{is_below}
 use Rattle.mixed_graph.specs.Masks as masks
-use Rattle.do_derivation.specs.Plans.{Move, Plan, Plans, no_plans, plan, plans_of}
-use Rattle.do_derivation.specs.Words.{set_word, bare_word, set_move_of, bare_move_of}
+use Rattle.do_derivation.specs.Plans.{Move, Plan, Plans, plan}
 use Rattle.do_derivation.specs.declared.moves.SetMove.{SetMove}
 use Rattle.do_derivation.specs.declared.moves.BareMove.{BareMove}
+use Rattle.do_derivation.specs.Vocabulary.{no_plans, plans_of, set_word, bare_word, set_move_of, bare_move_of}
 use Rattle.do_derivation.proofs.WordsBack.{set_word_read, bare_word_read, bare_word_unread}
 use Rattle.serde_json.specs.Data.{array, number, unsigned, Items, no_items, item}
 use Rattle.certificate_json.proofs.Values.{strings, numbers, groups, names_value, set_value, said, move_value, step_value, step_values}
-use Rattle.step_json.specs.Reading.{◌>>=◌, or_form, vertex_of, more_vertices, vertices_in, number_in, each, numbers_in, groups_in, last, argument}
-use Rattle.step_json.specs.Reading.{arguments, step_within, step_in}
-use Rattle.step_json.specs.Words.{other_word_of, or_bare, or_set, word_of}
+use Rattle.step_json.specs.declared.words.Word.{Word}
+use Rattle.step_json.specs.declared.fault.ValueFault.TheVariants.{Form}
+use Rattle.step_json.specs.Vocabulary.{◌>>=◌, or_form, vertex_of, more_vertices, vertices_in, number_in, each, numbers_in, groups_in, last, argument, arguments, step_within, step_in, other_word_of, or_bare, or_set, word_of}
 use Rattle.certificate_json.specs.StepSizes.{are_below, groups_below, is_move_within, is_within, are_within, is_move_short, is_short, are_short, nesting}
 use Rattle.certificate_json.specs.StepSizes.{nesting_each}
-use Rattle.step_json.specs.declared.words.Word.{Word}
 use Rattle.step_json.specs.declared.words.Word.TheVariants as words
-use Rattle.step_json.specs.declared.fault.ValueFault.TheVariants.{Form}
 use Rattle.step_json.proofs.Depths.{step_suc}
 use Rattle.certificate_json.proofs.NamesBack.{vertex_back}
 use Rattle.certificate_json.proofs.SetsBack.{set_reads_back}

@@ -5,17 +5,16 @@ use Rattle.std.proofs.lemmas.Bool.{and_parts}
 use Rattle.json.specs.Json.{Json}
 use Rattle.json.specs.Json as json
 use Rattle.json.proofs.Printed.Utf8.{IsUtf8-are_ascii}
-use Rattle.mixed_graph.specs.Bits.{has, members_below}
-use Rattle.mixed_graph.specs.Names.{AreNames, name_of}
-use Rattle.do_derivation.specs.Plans.{Move, Plan, Plans, no_plans, plan}
-use Rattle.do_derivation.specs.Words.{set_word, bare_word}
+use Rattle.mixed_graph.specs.Vocabulary.{has, members_below, AreNames, name_of}
+use Rattle.do_derivation.specs.Plans.{Move, Plan, Plans, plan}
 use Rattle.do_derivation.specs.declared.moves.SetMove.{SetMove}
 use Rattle.do_derivation.specs.declared.moves.BareMove.{BareMove}
+use Rattle.do_derivation.specs.Vocabulary.{no_plans, set_word, bare_word}
 use Rattle.do_derivation.specs.declared.moves.SetMove.TheVariants as set_move
 use Rattle.do_derivation.specs.declared.moves.BareMove.TheVariants as bare_move
 use Rattle.serde_json.specs.Data.{Items, string, number, unsigned, array, no_items, item}
 use Rattle.certificate_json.specs.StepSizes.{are_below, groups_below, is_move_short, is_short, are_short, nesting, nesting_each}
-use Rattle.answer_json.specs.Values.{vertex_json, vertices_json, set_json}
+use Rattle.answer_json.specs.Vocabulary.{vertex_json, vertices_json, set_json}
 use Rattle.certificate_json.specs.Steps.{numbers_json, said_json, move_json, step_json, steps_json}
 use Rattle.certificate_json.proofs.Seen.{IsSeen, AreSeen, deeper, all_deeper, string_seen, text_seen, number_seen, none_seen, one_more, array_seen}
 use Rattle.certificate_json.proofs.Utf8.{name_utf8}

@@ -7,14 +7,13 @@ use Rattle.std.proofs.lemmas.Bool.{cases_lt}
 use Rattle.std.proofs.lemmas.List.{get_or_past}
 use Rattle.std.proofs.lemmas.Str.{IsUtf8-nil, IsUtf8-from_ascii, IsUtf8-from_is_utf8, IsUtf8-append}
 use Rattle.std.proofs.lemmas.Str.Ascii.{IsAscii-cons, IsAscii-nil}
-use Rattle.mixed_graph.specs.Bits.{has, members_below}
-use Rattle.mixed_graph.specs.Names.{AreNames, name_of}
-use Rattle.answer_text.specs.Printing.{is_plain, printed}
+use Rattle.mixed_graph.specs.Vocabulary.{has, members_below, AreNames, name_of}
 use Rattle.answer_text.specs.declared.signs.Notation.TheVariants.{Plain}
-use Rattle.answer_text.specs.Texts.{names_in, set_text, conditions_in, term_text}
-use Rattle.prob_expr.specs.Tree.{Tree, prob, sum, product, quotient, named, Trees, no_trees, tree}
+use Rattle.answer_text.specs.Vocabulary.{is_plain, printed, names_in, set_text, conditions_in, term_text}
+use Rattle.prob_expr.specs.Tree.{Tree, prob, sum, product, quotient, named, tree}
+use Rattle.prob_expr.specs.Vocabulary.{Trees, no_trees}
 use Rattle.expr_text.specs.declared.writing.Place.TheVariants.{First, Later}
-use Rattle.expr_text.specs.Write.{parenthesized, wrapped, text_of, factors_in}
+use Rattle.expr_text.specs.Vocabulary.{parenthesized, wrapped, text_of, factors_in}
 
 behind : (b : ℕ) (bs : List ℕ) → b < 128 → IsUtf8 bs → IsUtf8 (b ∷ bs)
 behind b bs lt h = IsUtf8-append (b ∷ []) bs (IsUtf8-from_ascii (b ∷ []) (IsAscii-cons b [] lt IsAscii-nil)) h

@@ -1,14 +1,13 @@
 -- What a reader of JSON sees of sets, steps and certificates.
 use Rattle.std.specs.Prelude.{ℕ, List, [], ◌∷◌, codes, map, if◌then◌else◌}
-use Rattle.mixed_graph.specs.Bits.{has, members_below}
-use Rattle.mixed_graph.specs.Masks.{is_empty}
-use Rattle.mixed_graph.specs.Names.{name_of}
-use Rattle.prob_expr.specs.Tree.{Tree, PlainTarget}
-use Rattle.do_derivation.specs.Plans.{Move, Plan, Plans, no_plans, plan, PlainLemma, PlainDerivation}
-use Rattle.do_derivation.specs.Words.{set_word, bare_word}
-use Rattle.expr_text.specs.Write.{text_of}
+use Rattle.mixed_graph.specs.Vocabulary.{has, members_below, is_empty, name_of}
+use Rattle.prob_expr.specs.Tree.{Tree}
+use Rattle.prob_expr.specs.Vocabulary.{PlainTarget}
+use Rattle.do_derivation.specs.Plans.{Move, Plan, Plans, plan}
+use Rattle.do_derivation.specs.Vocabulary.{no_plans, PlainLemma, PlainDerivation, set_word, bare_word}
+use Rattle.expr_text.specs.Vocabulary.{text_of}
 use Rattle.serde_json.specs.Data.{Data, number, string, array, object, unsigned, Items, no_items, item, Members, no_members, member}
-use Rattle.certificate.specs.Plain.{PlainHedge, PlainCertificate, formula, hedge}
+use Rattle.certificate.specs.Vocabulary.{PlainHedge, PlainCertificate, formula, hedge}
 use Rattle.certificate_json.specs.Certificates.{choices_from, version_of}
 
 -- texts as items

@@ -3,13 +3,13 @@ use Rattle.std.specs.Prelude.{ℕ, ◌+◌, ◌==◌, List, [], ◌∷◌, ◌++
 use Rattle.json.specs.Json.{Json, string, number}
 use Rattle.json.specs.Print.{print}
 use Rattle.json.specs.Tree.{json_tokens}
-use Rattle.mixed_graph.specs.Masks.{is_empty}
-use Rattle.prob_expr.specs.Tree.{Tree, PlainTarget, PlainFormula}
-use Rattle.do_derivation.specs.Plans.{PlainLemma, PlainDerivation}
-use Rattle.expr_text.specs.Write.{text_of}
-use Rattle.certificate.specs.Plain.{PlainHedge, PlainCertificate, formula, hedge}
-use Rattle.answer_json.specs.Progress.{array_of, object_of, json_line}
-use Rattle.answer_json.specs.Values.{text_json, set_json, vertices_json, pair_json, pairs_json}
+use Rattle.mixed_graph.specs.Vocabulary.{is_empty}
+use Rattle.prob_expr.specs.Tree.{Tree}
+use Rattle.prob_expr.specs.Vocabulary.{PlainTarget, PlainFormula}
+use Rattle.do_derivation.specs.Vocabulary.{PlainLemma, PlainDerivation}
+use Rattle.expr_text.specs.Vocabulary.{text_of}
+use Rattle.certificate.specs.Vocabulary.{PlainHedge, PlainCertificate, formula, hedge}
+use Rattle.answer_json.specs.Vocabulary.{array_of, object_of, json_line, text_json, set_json, vertices_json, pair_json, pairs_json}
 use Rattle.certificate_json.specs.Steps.{step_json}
 
 -- the text of an expression

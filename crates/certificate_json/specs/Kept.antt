@@ -1,8 +1,8 @@
 -- What the types of the code keep of each certificate.
 use Rattle.std.specs.Prelude.{◌≡◌, ℕ, ◌≤◌, Bool, true, ◌&&◌, List, [], ◌∷◌, length}
-use Rattle.do_derivation.specs.Plans.{PlainLemma, PlainDerivation}
+use Rattle.do_derivation.specs.Vocabulary.{PlainLemma, PlainDerivation}
 use Rattle.certificate_json.specs.StepSizes as step
-use Rattle.certificate.specs.Plain.{PlainHedge, PlainCertificate, formula, hedge}
+use Rattle.certificate.specs.Vocabulary.{PlainHedge, PlainCertificate, formula, hedge}
 
 -- the numbers of each lemma's step have 32 bits, and its orders 64 vertices at most
 abbrev pub are_steps_short : List PlainLemma → Bool

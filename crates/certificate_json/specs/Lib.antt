@@ -4,3 +4,4 @@ pub mod Certificates
 pub mod Writable
 pub mod Kept
 pub mod ReadsBack
+pub mod Vocabulary

@@ -1,23 +1,19 @@
 -- What is written for sets, steps and certificates is read again: alone as a text, and as a value inside another.
 use Rattle.std.specs.Prelude.{◌≡◌, ℕ, ◌≤◌, true, List, [], ◌∷◌, ◌++◌, length, Some, option_map, Result, Ok}
 use Rattle.json.specs.Json.{Json}
-use Rattle.mixed_graph.specs.Names.{AreNames}
-use Rattle.mixed_graph.specs.Masks.{is_below, is_apart}
+use Rattle.mixed_graph.specs.Vocabulary.{AreNames, is_below, is_apart}
 use Rattle.do_derivation.specs.Plans.{Plan}
 use Rattle.serde_json.specs.Data.{Data}
 use Rattle.serde_json.specs.Find.{get}
 use Rattle.serde_json.specs.Read.{of_json}
 use Rattle.step_json.specs.Reading as value
-use Rattle.step_json.specs.Reading.{or_form, set_in, step_in}
-use Rattle.certificate_json.specs.StepSizes.{is_within, is_short, nesting}
 use Rattle.step_json.specs.declared.fault.ValueFault.{ValueFault}
+use Rattle.step_json.specs.Vocabulary.{or_form, set_in, step_in}
+use Rattle.certificate_json.specs.StepSizes.{is_within, is_short, nesting}
 use Rattle.certificate.specs.declared.fault.CertFault.{CertFault}
 use Rattle.certificate.specs.declared.fault.CertFault.TheVariants.{NotJson}
-use Rattle.certificate.specs.Faults.{◌>>=◌, or_fault}
-use Rattle.certificate.specs.Plain.{PlainCertificate}
-use Rattle.certificate.specs.Reading.{value_certificate, certificate_in}
-use Rattle.answer_json.specs.Progress.{object_of}
-use Rattle.answer_json.specs.Values.{set_json}
+use Rattle.certificate.specs.Vocabulary.{◌>>=◌, or_fault, PlainCertificate, value_certificate, certificate_in}
+use Rattle.answer_json.specs.Vocabulary.{object_of, set_json}
 use Rattle.certificate_json.specs.Steps.{step_json}
 use Rattle.certificate_json.specs.Certificates.{certificate_json, certificate_text}
 use Rattle.certificate_json.specs.Kept.{IsRepresentable}

@@ -1,7 +1,8 @@
 -- How large the vertices, numbers and lists of a step are, and how deep it nests.
 use Rattle.std.specs.Prelude.{ℕ, suc, ◌^◌, max, Bool, true, ◌&&◌, ltb, leb, List, [], ◌∷◌, length}
-use Rattle.mixed_graph.specs.Masks.{is_below}
-use Rattle.do_derivation.specs.Plans.{Move, Plan, Plans, no_plans, plan}
+use Rattle.mixed_graph.specs.Vocabulary.{is_below}
+use Rattle.do_derivation.specs.Plans.{Move, Plan, Plans, plan}
+use Rattle.do_derivation.specs.Vocabulary.{no_plans}
 
 -- each number is below n
 abbrev pub are_below : ℕ → List ℕ → Bool

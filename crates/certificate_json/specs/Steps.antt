@@ -1,10 +1,9 @@
 -- A step as a list: a word and its arguments.
 use Rattle.std.specs.Prelude.{ℕ, List, [], ◌∷◌, codes, decimal, map}
 use Rattle.json.specs.Json.{Json, string, number}
-use Rattle.do_derivation.specs.Plans.{Move, Plan, Plans, no_plans, plan}
-use Rattle.do_derivation.specs.Words.{set_word, bare_word}
-use Rattle.answer_json.specs.Progress.{array_of}
-use Rattle.answer_json.specs.Values.{set_json, vertices_json}
+use Rattle.do_derivation.specs.Plans.{Move, Plan, Plans, plan}
+use Rattle.do_derivation.specs.Vocabulary.{no_plans, set_word, bare_word}
+use Rattle.answer_json.specs.Vocabulary.{array_of, set_json, vertices_json}
 
 -- numbers
 abbrev pub numbers_json : List ℕ → Json

@@ -1,14 +1,11 @@
 -- Which certificates are written, and which of those are read again.
 use Rattle.std.specs.Prelude.{◌≡◌, ℕ, ◌<◌, ◌≤◌, ◌^◌, Bool, true, ◌&&◌, List, [], ◌∷◌, length, slice_index, All, None}
-use Rattle.mixed_graph.specs.Masks.{is_below}
-use Rattle.prob_expr.specs.Terms.{is_term}
-use Rattle.prob_expr.specs.Tree.{PlainTarget, PlainFormula}
-use Rattle.prob_expr.specs.Check.{fault_in}
-use Rattle.do_derivation.specs.Plans.{PlainLemma, PlainDerivation}
-use Rattle.do_derivation.specs.Accepts.{are_sets, sets_of}
+use Rattle.mixed_graph.specs.Vocabulary.{is_below}
+use Rattle.prob_expr.specs.Vocabulary.{is_term, PlainTarget, PlainFormula, fault_in}
+use Rattle.do_derivation.specs.Vocabulary.{PlainLemma, PlainDerivation, are_sets, sets_of}
 use Rattle.expr_text.specs.Write as expr
 use Rattle.certificate_json.specs.StepSizes as step
-use Rattle.certificate.specs.Plain.{PlainHedge, PlainCertificate, formula, hedge}
+use Rattle.certificate.specs.Vocabulary.{PlainHedge, PlainCertificate, formula, hedge}
 
 -- the sets of a target are below n and don't meet, and y isn't empty
 abbrev pub IsTargetWithin : ℕ → PlainTarget → Type 0

@@ -1,12 +1,11 @@
 //! A whole certificate.
 
 ghost use Rattle.std.specs.Prelude.{◌≡◌, length, Ok, IfOk, OnOk};
-ghost use Rattle.mixed_graph.specs.Names.{AreNames};
-ghost use Rattle.prob_expr.specs.View.{formula_view, target_view};
-ghost use Rattle.do_derivation.specs.View.{derivation_view};
-ghost use Rattle.certificate.specs.Plain.{certificate_view, hedge_view, formula as formula_case, hedge as hedge_case};
-ghost use Rattle.certificate.specs.Reading.{certificate_in};
-ghost use Rattle.answer_json.specs.Progress.{with_value, with_members};
+ghost use Rattle.mixed_graph.specs.Vocabulary.{AreNames};
+ghost use Rattle.prob_expr.specs.Vocabulary.{formula_view, target_view};
+ghost use Rattle.do_derivation.specs.Vocabulary.{derivation_view};
+ghost use Rattle.certificate.specs.Vocabulary.{certificate_view, hedge_view, formula as formula_case, hedge as hedge_case, certificate_in};
+ghost use Rattle.answer_json.specs.Vocabulary.{with_value, with_members};
 ghost use Rattle.certificate_json.specs.Kept.{IsRepresentable};
 ghost use Rattle.certificate_json.specs.Writable.{IsWritable, IsShallow};
 ghost use Rattle.certificate_json.specs.Certificates.{version_of, given_members, target_members, certificate_members, certificate_json, certificate_text, certificate_line};

@@ -1,10 +1,11 @@
 //! The members of a formula's certificate.
 
 ghost use Rattle.std.specs.Prelude.{◌≡◌, true, codes, map, OnOk};
-ghost use Rattle.prob_expr.specs.View.{view, formula_view};
-ghost use Rattle.do_derivation.specs.View.{lemma_view, step_view, derivation_view};
+ghost use Rattle.prob_expr.specs.View.{view};
+ghost use Rattle.prob_expr.specs.Vocabulary.{formula_view};
+ghost use Rattle.do_derivation.specs.Vocabulary.{lemma_view, step_view, derivation_view};
 ghost use Rattle.certificate_json.specs.StepSizes.{is_short};
-ghost use Rattle.answer_json.specs.Progress.{with_value, with_values, with_member, with_members, array_of};
+ghost use Rattle.answer_json.specs.Vocabulary.{with_value, with_values, with_member, with_members, array_of};
 ghost use Rattle.certificate_json.specs.Kept.{are_steps_short, IsShort};
 ghost use Rattle.certificate_json.specs.Certificates.{expr_json, lemma_json, formula_members, derivation_members};
 

@@ -2,9 +2,8 @@
 
 ghost use Rattle.std.specs.Prelude.{◌≡◌, ◌++◌, ◌∷◌, [], length, map, IfOk, OnOk};
 ghost use Rattle.std.specs.List.{zip};
-ghost use Rattle.certificate.specs.Plain.{links_view, hedge_view};
-ghost use Rattle.answer_json.specs.Progress.{with_value, with_values, with_members, array_of};
-ghost use Rattle.answer_json.specs.Values.{vertices_json, pair_json, pairs_json};
+ghost use Rattle.certificate.specs.Vocabulary.{links_view, hedge_view};
+ghost use Rattle.answer_json.specs.Vocabulary.{with_value, with_values, with_members, array_of, vertices_json, pair_json, pairs_json};
 ghost use Rattle.certificate_json.specs.Kept.{IsKept};
 ghost use Rattle.certificate_json.specs.Certificates.{choices_from, link_values, hedge_members};
 

@@ -3,9 +3,9 @@
 ghost use Rattle.std.specs.Prelude.{◌≡◌, ◌^◌, ◌∷◌, [], true, ltb, leb, length, decimal, map, OnOk};
 ghost use Rattle.json.specs.Json.{string, number};
 ghost use Rattle.do_derivation.specs.Plans.{Move as PlainMove, Plan};
-ghost use Rattle.do_derivation.specs.View.{move_view, step_view, steps_view, listed, numbers_of};
+ghost use Rattle.do_derivation.specs.Vocabulary.{move_view, step_view, steps_view, listed, numbers_of};
 ghost use Rattle.certificate_json.specs.StepSizes.{are_below, groups_below, is_move_short, is_short, are_short};
-ghost use Rattle.answer_json.specs.Progress.{with_value, with_values, items};
+ghost use Rattle.answer_json.specs.Vocabulary.{with_value, with_values, items};
 ghost use Rattle.certificate_json.specs.Steps.{numbers_json, move_json, step_json, steps_json};
 
 use answer_json::Object;

@@ -1,18 +1,14 @@
 -- What is decided of what was read, and that a fault of the reading is one of the certificate.
 use Rattle.std.proofs.Common.{◌≡◌, ◌≤◌, ℕ, Bool, false, not, List, [], ◌∷◌, length, Result, Ok, Err, IfOk, sym, ap, subst, ◌∙◌, true≢false, arith}
 use Rattle.std.specs.Prelude.{OnOk, ◌==◌}
-use Rattle.mixed_graph.specs.Graphs.{MixedGraph}
 use Rattle.mixed_graph.specs.declared.sets.VSet.{VSet}
-use Rattle.prob_expr.specs.Listed.{masks_of}
-use Rattle.prob_expr.specs.Tree.{PlainFormula, PlainTarget}
-use Rattle.do_derivation.specs.Accepts.{AcceptsNot}
-use Rattle.do_derivation.specs.Answers.{UnlessNoMemory}
-use Rattle.do_derivation.specs.Plans.{PlainDerivation}
+use Rattle.mixed_graph.specs.Vocabulary.{MixedGraph}
+use Rattle.prob_expr.specs.Vocabulary.{masks_of, PlainFormula, PlainTarget}
 use Rattle.do_derivation.specs.declared.faults.CheckFault.{CheckFault}
+use Rattle.do_derivation.specs.Vocabulary.{AcceptsNot, UnlessNoMemory, PlainDerivation}
 use Rattle.do_derivation.specs.declared.faults.CheckFault.TheVariants.{NoMemory}
-use Rattle.certificate.specs.Faults.{Fails}
-use Rattle.certificate.specs.Reading.{certificate_in}
 use Rattle.certificate.specs.declared.fault.CertFault.{CertFault}
+use Rattle.certificate.specs.Vocabulary.{Fails, certificate_in}
 use Rattle.certificate.specs.declared.fault.CertFault.TheVariants as certificates
 use Rattle.check_command.specs.CertificateFaults.{is_memory}
 use Rattle.check_command.specs.Right.{are_some, DecidesFormula, IsFaulty}

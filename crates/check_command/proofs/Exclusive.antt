@@ -1,30 +1,25 @@
 -- Right answers of a certificate end alike, and a text that has one isn't refused; lists with a name at fault name no experiments.
 use Rattle.std.proofs.Common.{◌≡◌, ◌⊎◌, ℕ, true, List, Result, Ok, Err, inl, inr, refl, sym, ◌∙◌, subst, arith}
-use Rattle.mixed_graph.specs.Graphs.{MixedGraph}
-use Rattle.mixed_graph.specs.Shown.{graph_of}
-use Rattle.prob_expr.specs.Terms.{is_listed}
-use Rattle.prob_expr.specs.Tree.{PlainFormula, PlainTarget}
-use Rattle.do_derivation.specs.Accepts.{Accepts, AcceptsNot}
-use Rattle.do_derivation.specs.Plans.{PlainDerivation}
+use Rattle.mixed_graph.specs.Vocabulary.{MixedGraph, graph_of}
+use Rattle.prob_expr.specs.Vocabulary.{is_listed, PlainFormula, PlainTarget}
+use Rattle.do_derivation.specs.Accepts.{Accepts}
 use Rattle.do_derivation.specs.declared.faults.CheckFault.{CheckFault}
+use Rattle.do_derivation.specs.Vocabulary.{AcceptsNot, PlainDerivation}
 use Rattle.do_derivation.proofs.Exact.{accepts_either}
-use Rattle.hedge.specs.Entries.{HasEntries}
-use Rattle.hedge.specs.Hedges.{IsHedge}
 use Rattle.hedge.specs.declared.hedge.Hedge.{Hedge}
-use Rattle.counter_models.specs.Experiments.{IsHarmlessTo}
-use Rattle.certificate.specs.Plain.{PlainCertificate, hedge_view}
-use Rattle.certificate.specs.Plain as plain
+use Rattle.hedge.specs.Vocabulary.{HasEntries, IsHedge}
+use Rattle.counter_models.specs.Vocabulary.{IsHarmlessTo}
 use Rattle.certificate.specs.declared.fault.CertFault.{CertFault}
+use Rattle.certificate.specs.Vocabulary.{PlainCertificate, hedge_view}
+use Rattle.certificate.specs.Plain as plain
 use Rattle.targets.specs.declared.fault.TargetFault.{TargetFault}
 use Rattle.diagram.specs.declared.diagram.Diagram.{Diagram}
 use Rattle.diagram.proofs.OneDiagram.{AreSameDiagrams, same_drawing}
 use Rattle.replies.specs.declared.outcome.Outcome.TheVariants.{Yes, No}
-use Rattle.experiment_lists.specs.Sets.{experiments_fault, AreExperimentSets}
-use Rattle.experiment_lists.specs.Words.{Lists}
+use Rattle.experiment_lists.specs.Vocabulary.{experiments_fault, AreExperimentSets, Lists}
 use Rattle.experiment_lists.proofs.NoFault.{no_experiments_fault}
 use Rattle.experiment_lists.proofs.OneSet.{one_by_one}
-use Rattle.told.specs.Refusals.{target_refusal}
-use Rattle.told.specs.Telling.{outcome_in}
+use Rattle.told.specs.Vocabulary.{target_refusal, outcome_in}
 use Rattle.check_command.specs.CertificateFaults.{certificate_refusal}
 use Rattle.check_command.specs.Right.{AreExperimentsOn, IsForFirst, HoldsCertificate, IsForText, of_formula, of_hedge, IsCertificateFault, IsForCertificate}
 use Rattle.check_command.specs.Telling.{outcome_of, check_telling}

@@ -5,13 +5,12 @@ use Rattle.std.specs.List.{list_all}
 use Rattle.std.proofs.lemmas.Bool.{and_parts, both_ways, eq-eqb, or_cases, or_left, or_right, false_from_ne_true}
 use Rattle.std.proofs.lemmas.Nat.{and_le_r}
 use Rattle.std.proofs.Math.Pow.{pow_mono}
-use Rattle.mixed_graph.specs.Bits.{has}
-use Rattle.mixed_graph.specs.Masks.{common, is_apart, is_below}
+use Rattle.mixed_graph.specs.Vocabulary.{has, common, is_apart, is_below}
 use Rattle.mixed_graph.proofs.Masks.{has-zero, has-and, some_in_meet}
 use Rattle.mixed_graph.proofs.MaskLaws.{apart_from, apart_has}
-use Rattle.prob_expr.specs.Terms.{is_listed}
+use Rattle.prob_expr.specs.Vocabulary.{is_listed}
 use Rattle.hedge.specs.declared.hedge.Hedge.{Hedge}
-use Rattle.counter_models.specs.Experiments.{IsHarmlessTo}
+use Rattle.counter_models.specs.Vocabulary.{IsHarmlessTo}
 use Rattle.check_command.specs.Replies.{is_harmless}
 
 flipped : (b : Bool) → not b ≡ true → b ≡ false

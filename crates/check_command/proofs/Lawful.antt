@@ -2,10 +2,10 @@
 use Rattle.std.proofs.Common.{◌≡◌, List, sym, ◌∙◌}
 use Rattle.std.specs.Prelude.{codes}
 use Rattle.std.proofs.lemmas.Option.{same_Some}
-use Rattle.mixed_graph.specs.Shown.{graph_of}
-use Rattle.command_words.specs.Form.{Use, value_of}
+use Rattle.mixed_graph.specs.Vocabulary.{graph_of}
+use Rattle.command_words.specs.Vocabulary.{Use, value_of}
 use Rattle.experiment_lists.proofs.OneWord.{one_optional}
-use Rattle.replies.specs.Outcomes.{IsAnswered}
+use Rattle.replies.specs.Vocabulary.{IsAnswered}
 use Rattle.replies.proofs.Commands.{IsLawful}
 use Rattle.told.proofs.ToldOnBoth.{lawful_told_on_both}
 use Rattle.check_command.specs.CertificateFaults.{certificate_refusal}

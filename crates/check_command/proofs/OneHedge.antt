@@ -7,18 +7,15 @@ use Rattle.std.proofs.lemmas.Bool.{cases_lt}
 use Rattle.std.proofs.lemmas.Grind.{same_number_lists}
 use Rattle.std.proofs.lemmas.List.{length-take-le, get_or-take}
 use Rattle.std.proofs.lemmas.Slice.Zip.{firsts-zip, seconds-zip}
-use Rattle.mixed_graph.specs.Bits.{has}
-use Rattle.mixed_graph.specs.Graphs.{MixedGraph}
 use Rattle.mixed_graph.specs.declared.sets.VSet.{VSet}
-use Rattle.hedge.specs.Entries.{HasEntries}
+use Rattle.mixed_graph.specs.Vocabulary.{has, MixedGraph}
 use Rattle.hedge.specs.declared.joined_sets.lists.Links.{Links}
-use Rattle.hedge.specs.declared.joined_sets.lists.Choice.{Choice}
-use Rattle.hedge.specs.Faults.{IsFirstHedgeFault, IsWrongLink}
-use Rattle.hedge.specs.Hedges.{IsHedge}
 use Rattle.hedge.specs.declared.hedge.Hedge.{Hedge}
 use Rattle.hedge.specs.declared.hedge.HedgeFault.{HedgeFault}
+use Rattle.hedge.specs.Vocabulary.{HasEntries, IsFirstHedgeFault, IsWrongLink, IsHedge}
+use Rattle.hedge.specs.declared.joined_sets.lists.Choice.{Choice}
 use Rattle.hedge.specs.declared.hedge.HedgeFault.TheVariants as wrong
-use Rattle.certificate.specs.Plain.{PlainHedge, links_view, hedge_view}
+use Rattle.certificate.specs.Vocabulary.{PlainHedge, links_view, hedge_view}
 
 -- ---- links, choices and hedges by their entries
 

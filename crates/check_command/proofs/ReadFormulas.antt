@@ -2,26 +2,22 @@
 use Rattle.std.proofs.Common.{◌≡◌, ℕ, ◌+◌, Bool, true, false, not, ◌&&◌, List, [], ◌∷◌, ◌++◌, length, Option, Some, None, Result, Ok, Err}
 use Rattle.std.proofs.Common.{if◌then◌else◌, is_ok, refl, ap, subst, codes, arith}
 use Rattle.std.specs.Prelude.{◌==◌}
-use Rattle.prob_expr.specs.Check.{check_tree, cap, fault_of, or_else, fault_in_defs}
-use Rattle.mixed_graph.specs.Masks.{is_below, is_empty}
-use Rattle.prob_expr.specs.Tree.{Tree, PlainFormula, PlainTarget}
 use Rattle.prob_expr.specs.declared.checking.ExprFault.{ExprFault}
-use Rattle.do_derivation.specs.Accepts.{are_sets, sets_of}
-use Rattle.do_derivation.specs.Plans.{Plan, PlainLemma, PlainDerivation}
+use Rattle.prob_expr.specs.Vocabulary.{check_tree, cap, fault_of, or_else, fault_in_defs, PlainFormula, PlainTarget}
+use Rattle.mixed_graph.specs.Vocabulary.{is_below, is_empty}
+use Rattle.prob_expr.specs.Tree.{Tree}
+use Rattle.do_derivation.specs.Vocabulary.{are_sets, sets_of, PlainLemma, PlainDerivation}
+use Rattle.do_derivation.specs.Plans.{Plan}
 use Rattle.expr_text.proofs.Within.{and_true}
 use Rattle.serde_json.specs.Data.{Data, Items, no_items, item}
 use Rattle.serde_json.specs.Find.{as_object}
-use Rattle.step_json.specs.Reading.{each, filled_set_in, step_in, is_end}
 use Rattle.step_json.specs.declared.fault.ValueFault.{ValueFault}
 use Rattle.step_json.specs.declared.fault.ValueFault.TheVariants.{Form}
+use Rattle.step_json.specs.Vocabulary.{each, filled_set_in, step_in, is_end}
 use Rattle.certificate.specs.declared.fault.Key.TheVariants as keys
 use Rattle.certificate.specs.declared.fault.CertFault.{CertFault}
 use Rattle.certificate.specs.declared.fault.CertFault.TheVariants.{NotJson, Member, Version}
-use Rattle.certificate.specs.Faults.{◌>>=◌, or_fault}
-use Rattle.certificate.specs.Plain.{PlainHedge, PlainCertificate, formula, hedge}
-use Rattle.certificate.specs.Reading.{member_by, expr_in, sound, main_in, def_in, more_defs, defs_in, lemma_of, lemma_items, lemma_in, lemmas_in}
-use Rattle.certificate.specs.Reading.{target_in, whole, formula_in, derivation_in, hedge_in, member_count, key_count, formula_certificate_in}
-use Rattle.certificate.specs.Reading.{hedge_certificate_in, is_answer, version_in, answer_in, is_version, value_certificate, json_of, certificate_in}
+use Rattle.certificate.specs.Vocabulary.{◌>>=◌, or_fault, PlainHedge, PlainCertificate, formula, hedge, member_by, expr_in, sound, main_in, def_in, more_defs, defs_in, lemma_of, lemma_items, lemma_in, lemmas_in, target_in, whole, formula_in, derivation_in, hedge_in, member_count, key_count, formula_certificate_in, hedge_certificate_in, is_answer, version_in, answer_in, is_version, value_certificate, json_of, certificate_in}
 use Rattle.check_command.specs.Replies.{IsSoundTarget, IsSoundFormula, IsSoundDerivation}
 use Rattle.check_command.proofs.ReadTargets.{ok_is, then_ok, value_ok, bind_ok, list_ok, member_ok, both, set_below, filled_new, target_sound}
 

@@ -4,25 +4,20 @@ use Rattle.std.proofs.Common.{inl, inr, refl, sym, ap, subst, ◌∙◌, codes, 
 use Rattle.std.specs.Prelude.{nat_lt, eqb, ◌==◌}
 use Rattle.std.specs.List.{list_any, position_or_len}
 use Rattle.std.specs.Str.{bytes_eq}
-use Rattle.mixed_graph.specs.Bits.{has}
-use Rattle.mixed_graph.specs.Names.{is_named, index_of}
-use Rattle.mixed_graph.specs.Masks.{union, one, is_empty, is_below, is_apart}
-use Rattle.prob_expr.specs.TermSets.{are_term_sets}
-use Rattle.prob_expr.specs.Terms.{is_term}
-use Rattle.prob_expr.specs.Tree.{PlainTarget}
+use Rattle.mixed_graph.specs.Vocabulary.{has, is_named, index_of, union, one, is_empty, is_below, is_apart}
+use Rattle.prob_expr.specs.Vocabulary.{are_term_sets, is_term, PlainTarget}
 use Rattle.mixed_graph.proofs.MaskLaws.{has_join, has_one, has_none, below_from, apart_from}
 use Rattle.serde_json.specs.Data.{Data, Items, no_items, item}
 use Rattle.serde_json.specs.Find.{get, as_str, as_array}
 use Rattle.step_json.specs.Reading as value
-use Rattle.step_json.specs.Reading.{or_form, list_by, vertex_of, vertex_in, with_member, more_of_set, set_in, filled, filled_set_in}
 use Rattle.step_json.specs.declared.fault.ValueFault.{ValueFault}
 use Rattle.step_json.specs.declared.fault.ValueFault.TheVariants.{Form, Name}
+use Rattle.step_json.specs.Vocabulary.{or_form, list_by, vertex_of, vertex_in, with_member, more_of_set, set_in, filled, filled_set_in}
 use Rattle.certificate.specs.declared.fault.Key.{Key}
-use Rattle.certificate.specs.declared.fault.Key.TheVariants as keys
 use Rattle.certificate.specs.declared.fault.CertFault.{CertFault}
 use Rattle.certificate.specs.declared.fault.CertFault.TheVariants.{Member}
-use Rattle.certificate.specs.Faults.{◌>>=◌, at_key, or_fault}
-use Rattle.certificate.specs.Reading.{member_by, given_in, target_in}
+use Rattle.certificate.specs.Vocabulary.{◌>>=◌, at_key, or_fault, member_by, given_in, target_in}
+use Rattle.certificate.specs.declared.fault.Key.TheVariants as keys
 use Rattle.check_command.specs.Replies.{IsSoundTarget}
 
 pub ok_is : {A E : Type 0} (x y : A) → ◌≡◌ {A = Result A E} (Ok x) (Ok y) → x ≡ y

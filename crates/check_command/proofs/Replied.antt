@@ -1,11 +1,11 @@
 -- The reply tells the answer, or what is wrong with the certificate.
 use Rattle.std.proofs.Common.{◌≡◌, ℕ, false, List, Result, Ok, Err, IfOk, IfErr}
 use Rattle.std.specs.Prelude.{OnOk}
-use Rattle.mixed_graph.specs.Graphs.{MixedGraph}
+use Rattle.mixed_graph.specs.Vocabulary.{MixedGraph}
 use Rattle.replies.specs.declared.outcome.Reply.{Reply}
-use Rattle.replies.specs.Told.{told_of}
+use Rattle.replies.specs.Vocabulary.{told_of}
 use Rattle.told.specs.declared.form.Form.{Form}
-use Rattle.told.specs.Telling.{Tells, outcome_in, told_in, is_wanting}
+use Rattle.told.specs.Vocabulary.{Tells, outcome_in, told_in, is_wanting}
 use Rattle.check_command.specs.CertificateFaults.{is_memory, certificate_refusal}
 use Rattle.check_command.specs.Right.{IsForText, IsCertificateFault, IsForCertificate}
 use Rattle.check_command.specs.Telling.{check_telling}

@@ -1,18 +1,15 @@
 -- What the checks ask of a target that was read, and what a fault that isn't want of memory says.
 use Rattle.std.proofs.Common.{◌≡◌, ℕ, Bool, true, false, ◌&&◌, Result, Err, refl, sym, ◌∙◌}
-use Rattle.mixed_graph.specs.Bits.{has}
-use Rattle.mixed_graph.specs.Sets.{Within, Apart}
-use Rattle.mixed_graph.specs.Masks.{is_below, is_apart}
-use Rattle.prob_expr.specs.TermSets.{are_term_sets}
-use Rattle.prob_expr.specs.Tree.{PlainTarget}
+use Rattle.mixed_graph.specs.Vocabulary.{has, Within, Apart, is_below, is_apart}
+use Rattle.prob_expr.specs.Vocabulary.{are_term_sets, PlainTarget}
 use Rattle.mixed_graph.proofs.MaskLaws.{apart_has}
 use Rattle.expr_text.proofs.Within.{and_true, first_within}
-use Rattle.do_derivation.specs.Answers.{UnlessNoMemory}
 use Rattle.do_derivation.specs.declared.faults.CheckFault.{CheckFault}
+use Rattle.do_derivation.specs.Vocabulary.{UnlessNoMemory}
 use Rattle.do_derivation.specs.declared.faults.CheckFault.TheVariants as checks
-use Rattle.certificate.specs.Faults.{Fails}
 use Rattle.certificate.specs.declared.fault.CertFault.{CertFault}
 use Rattle.certificate.specs.declared.fault.CertFault.TheVariants.{NotJson, Member, Version, TooDeep, Name, NoMemory}
+use Rattle.certificate.specs.Vocabulary.{Fails}
 use Rattle.check_command.specs.Replies.{IsSoundTarget}
 
 pub y_within : (n : ℕ) (t : PlainTarget) → IsSoundTarget n t → Within n (has t.y)

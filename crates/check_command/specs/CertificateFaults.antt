@@ -1,9 +1,10 @@
 -- What is told of what is wrong with a certificate.
 use Rattle.std.specs.Prelude.{Bool, true, false, []}
 use Rattle.certificate.specs.declared.fault.CertFault.TheVariants as certificates
-use Rattle.replies.specs.Told.{Told, refusal_of}
+use Rattle.replies.specs.Told.{Told}
 use Rattle.replies.specs.declared.outcome.Outcome.TheVariants.{Second}
-use Rattle.told.specs.Telling.{Refusal}
+use Rattle.replies.specs.Vocabulary.{refusal_of}
+use Rattle.told.specs.Vocabulary.{Refusal}
 use Rattle.check_command.specs.Refusals.{cert_size_told, cert_fault_told}
 use Rattle.check_command.specs.declared.fault.CertificateFault.{CertificateFault}
 use Rattle.check_command.specs.declared.fault.CertificateFault.TheVariants.{TooLong, Faulty, NoMemory}

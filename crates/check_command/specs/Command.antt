@@ -1,14 +1,12 @@
 -- The command `check`.
 use Rattle.std.specs.Prelude.{ℕ, List, Some}
-use Rattle.command_words.specs.Form.{Text}
-use Rattle.mixed_graph.specs.Shown.{graph_of}
+use Rattle.command_words.specs.Vocabulary.{Text}
+use Rattle.mixed_graph.specs.Vocabulary.{graph_of}
 use Rattle.diagram.specs.declared.diagram.Diagram.{Diagram}
 use Rattle.replies.specs.declared.format.Format.{Format}
-use Rattle.replies.specs.Command.{CommandForm, Remainder}
-use Rattle.told.specs.Forms.{plain_form}
-use Rattle.told.specs.Telling.{Tells}
-use Rattle.told.specs.TwoInputs.{told_on_two_inputs}
-use Rattle.experiment_lists.specs.Words.{Lists}
+use Rattle.replies.specs.Vocabulary.{CommandForm, Remainder}
+use Rattle.told.specs.Vocabulary.{plain_form, Tells, told_on_two_inputs}
+use Rattle.experiment_lists.specs.Vocabulary.{Lists}
 use Rattle.check_command.specs.CertificateFaults.{certificate_refusal}
 use Rattle.check_command.specs.Requests.{Request, IsRequest}
 use Rattle.check_command.specs.Right.{AreExperimentsOn, IsForFirst, IsForCertificate}

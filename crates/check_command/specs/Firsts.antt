@@ -1,11 +1,10 @@
 -- What the lists of experiments give on a diagram.
-use Rattle.prob_expr.specs.Listed.{masks_of}
+use Rattle.prob_expr.specs.Vocabulary.{masks_of}
 use Rattle.diagram.specs.declared.diagram.Diagram.{Diagram}
-use Rattle.replies.specs.Told.{told_of}
+use Rattle.replies.specs.Vocabulary.{told_of}
 use Rattle.told.specs.declared.form.Form.{Form}
-use Rattle.told.specs.Refusals.{target_refusal}
-use Rattle.told.specs.Telling.{Tells}
-use Rattle.experiment_lists.specs.Words.{Lists}
+use Rattle.told.specs.Vocabulary.{target_refusal, Tells}
+use Rattle.experiment_lists.specs.Vocabulary.{Lists}
 use Rattle.check_command.specs.Right.{AreExperimentsOn, IsForFirst}
 use Rattle.check_command.specs.Telling.{check_telling}
 use Rattle.check_command.specs.declared.accepting.Acceptance.{Acceptance}

@@ -8,3 +8,4 @@ pub mod Right
 pub mod Replies
 pub mod Firsts
 pub mod Command
+pub mod Vocabulary

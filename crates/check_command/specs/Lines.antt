@@ -1,19 +1,20 @@
 -- The lines of a check.
 use Rattle.std.specs.Prelude.{ℕ, nat_lt, ◌==◌, Bool, true, false, List, [], ◌++◌, length, Option, Some, None, if◌then◌else◌, codes}
 use Rattle.std.specs.Fmt.{decimal}
-use Rattle.mixed_graph.specs.Names.{name_of}
-use Rattle.answer_text.specs.Printing.{printed}
-use Rattle.replies.specs.Lines.{open_text}
+use Rattle.mixed_graph.specs.Vocabulary.{name_of}
+use Rattle.answer_text.specs.Vocabulary.{printed}
+use Rattle.replies.specs.Vocabulary.{open_text}
 use Rattle.do_derivation.specs.declared.faults.StepFault.{StepFault}
 use Rattle.do_derivation.specs.declared.faults.StepFault.TheVariants.{NotATerm, Sets, Unblocked, BadOrder, Grouping, NoLemma, NoPlace, Shape}
 use Rattle.do_derivation.specs.declared.faults.StepPlace.{StepPlace}
 use Rattle.do_derivation.specs.declared.faults.CheckFault.{CheckFault}
-use Rattle.do_derivation.specs.declared.faults.CheckFault.TheVariants.{Step, EndDiffers, DoLeft, NoMemory}
+use Rattle.do_derivation.specs.declared.faults.CheckFault.TheVariants.{EndDiffers, DoLeft}
+use Rattle.do_derivation.specs.declared.faults.CheckFault.TheVariants.{Step, NoMemory}
 use Rattle.hedge.specs.declared.hedge.Hedge.{Hedge}
 use Rattle.hedge.specs.declared.hedge.HedgeFault.{HedgeFault}
 use Rattle.hedge.specs.declared.hedge.HedgeFault.TheVariants as hedges
-use Rattle.identify_text.specs.HedgeLines.{sets_line, heading_text}
-use Rattle.experiment_lists.specs.Lines.{unidentifiable_with_line}
+use Rattle.identify_text.specs.Vocabulary.{sets_line, heading_text}
+use Rattle.experiment_lists.specs.Vocabulary.{unidentifiable_with_line}
 
 -- what is accepted, and its text
 abbrev pub accepted_text : List ℕ → List ℕ

@@ -1,12 +1,11 @@
 -- The objects of accepted certificates.
 use Rattle.std.specs.Prelude.{ℕ, List, [], ◌∷◌, ◌++◌, codes}
 use Rattle.json.specs.Json.{Json, string}
-use Rattle.prob_expr.specs.Tree.{PlainFormula, PlainTarget, effect_on}
+use Rattle.prob_expr.specs.Vocabulary.{PlainFormula, PlainTarget, effect_on}
 use Rattle.hedge.specs.declared.hedge.Hedge.{Hedge}
-use Rattle.answer_json.specs.Progress.{object_of}
-use Rattle.answer_json.specs.Values.{set_json}
-use Rattle.hedge_json.specs.Hedges.{hedge_json}
-use Rattle.effect_answers.specs.Objects.{target_members, effect_json, formula_members}
+use Rattle.answer_json.specs.Vocabulary.{object_of, set_json}
+use Rattle.hedge_json.specs.Vocabulary.{hedge_json}
+use Rattle.effect_answers.specs.Vocabulary.{target_members, effect_json, formula_members}
 
 -- that a certificate is accepted, and what it is of
 abbrev pub accepted_members : (kind : List ℕ) → List (List ℕ × Json)

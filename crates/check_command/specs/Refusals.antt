@@ -1,10 +1,11 @@
 -- What is told of a certificate that isn't read.
-use Rattle.answer_text.specs.Lines.{line_of}
-use Rattle.answer_json.specs.Progress.{json_line}
-use Rattle.certificate.specs.FaultTexts.{cert_fault_text, cert_size_text}
+use Rattle.answer_text.specs.Vocabulary.{line_of}
+use Rattle.answer_json.specs.Vocabulary.{json_line}
 use Rattle.certificate.specs.declared.fault.CertFault.{CertFault}
-use Rattle.check_json.specs.CertificateFaults.{certificate_fault_json, certificate_size_json}
-use Rattle.replies.specs.Told.{Told, refusal_of}
+use Rattle.certificate.specs.Vocabulary.{cert_fault_text, cert_size_text}
+use Rattle.check_json.specs.Vocabulary.{certificate_fault_json, certificate_size_json}
+use Rattle.replies.specs.Told.{Told}
+use Rattle.replies.specs.Vocabulary.{refusal_of}
 
 -- it has more than 67,108,864 bytes
 abbrev pub cert_size_told : Told

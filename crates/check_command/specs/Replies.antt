@@ -1,11 +1,8 @@
 -- What the parts of a check ask.
 use Rattle.std.specs.Prelude.{ℕ, ◌≡◌, ◌||◌, Bool, true, not, None}
-use Rattle.mixed_graph.specs.Masks.{is_apart}
-use Rattle.prob_expr.specs.Check.{fault_in}
-use Rattle.prob_expr.specs.Terms.{is_term}
-use Rattle.prob_expr.specs.Tree.{PlainFormula, PlainTarget}
-use Rattle.do_derivation.specs.Accepts.{are_sets, sets_of}
-use Rattle.do_derivation.specs.Plans.{PlainDerivation}
+use Rattle.mixed_graph.specs.Vocabulary.{is_apart}
+use Rattle.prob_expr.specs.Vocabulary.{fault_in, is_term, PlainFormula, PlainTarget}
+use Rattle.do_derivation.specs.Vocabulary.{are_sets, sets_of, PlainDerivation}
 use Rattle.hedge.specs.declared.hedge.Hedge.{Hedge}
 
 -- the target of a certificate that was read: its sets are below n and don't meet, and y isn't empty

@@ -1,11 +1,10 @@
 -- What `check` is asked for.
 use Rattle.std.specs.Prelude.{◌≡◌, List, Some, [], ◌∷◌, codes}
-use Rattle.command_words.specs.Form.{Text, Row, Use, word_of, value_of, has_flag}
+use Rattle.command_words.specs.Vocabulary.{Text, Row, Use, word_of, value_of, has_flag}
 use Rattle.command_words.specs.Values as values
 use Rattle.replies.specs.declared.format.Format.{Format}
-use Rattle.replies.specs.Told.{format_of}
-use Rattle.experiment_lists.specs.Views.{lists_in}
-use Rattle.experiment_lists.specs.Words.{Lists, AreOptionalExperiments}
+use Rattle.replies.specs.Vocabulary.{format_of}
+use Rattle.experiment_lists.specs.Vocabulary.{lists_in, Lists, AreOptionalExperiments}
 use Rattle.check_command.specs.declared.request.Request.{Request as CodeRequest}
 
 -- `check FILE CERTIFICATE [--experiments E] [--json]`

@@ -1,31 +1,21 @@
 -- Which answers of `check` are right: whether a certificate shows what it says of an effect, in the observed graph of a diagram.
 use Rattle.std.specs.Prelude.{ℕ, ◌≡◌, ◌≢◌, ◌<◌, ◌≤◌, Bool, true, false, List, [], ◌∷◌, length, Some, None, Result, Ok, Err}
-use Rattle.mixed_graph.specs.Graphs.{MixedGraph}
-use Rattle.finite_models.specs.Data.{meaning}
-use Rattle.prob_expr.specs.Differences.{HasNoFormula, HasNoFormulaOver}
-use Rattle.prob_expr.specs.Experiments.{AgreeUnderAll}
-use Rattle.prob_expr.specs.Terms.{is_allowed, is_listed}
-use Rattle.prob_expr.specs.Tree.{PlainFormula, PlainTarget, effect_on}
-use Rattle.prob_expr.specs.Values.{EqualsEffect}
-use Rattle.do_derivation.specs.Accepts.{Accepts, AcceptsNot}
-use Rattle.do_derivation.specs.Plans.{PlainDerivation}
-use Rattle.hedge.specs.Entries.{HasEntries}
-use Rattle.hedge.specs.Faults.{IsFirstHedgeFault}
-use Rattle.hedge.specs.Hedges.{IsHedge}
-use Rattle.hedge.specs.Shapes.{FormHedge}
+use Rattle.mixed_graph.specs.Vocabulary.{MixedGraph}
+use Rattle.finite_models.specs.Vocabulary.{meaning}
+use Rattle.prob_expr.specs.Vocabulary.{HasNoFormula, HasNoFormulaOver, AgreeUnderAll, is_allowed, is_listed, PlainFormula, PlainTarget, effect_on, EqualsEffect}
+use Rattle.do_derivation.specs.Accepts.{Accepts}
+use Rattle.do_derivation.specs.Vocabulary.{AcceptsNot, PlainDerivation}
 use Rattle.hedge.specs.declared.hedge.Hedge.{Hedge}
-use Rattle.counter_models.specs.Events.{AreCounterModels}
-use Rattle.counter_models.specs.Experiments.{IsHarmlessTo}
+use Rattle.hedge.specs.Vocabulary.{HasEntries, IsFirstHedgeFault, IsHedge, FormHedge}
 use Rattle.counter_models.specs.declared.counter_pair.CounterPair.{CounterPair}
-use Rattle.certificate.specs.Plain.{PlainCertificate, formula, hedge, hedge_view}
-use Rattle.certificate.specs.Reading.{certificate_in}
+use Rattle.counter_models.specs.Vocabulary.{AreCounterModels, IsHarmlessTo}
 use Rattle.certificate.specs.declared.fault.CertFault.{CertFault}
+use Rattle.certificate.specs.Vocabulary.{PlainCertificate, formula, hedge, hedge_view, certificate_in}
 use Rattle.certificate.specs.declared.fault.CertFault.TheVariants as certificates
 use Rattle.targets.specs.declared.fault.TargetFault.{TargetFault}
 use Rattle.diagram.specs.declared.diagram.Diagram.{Diagram}
-use Rattle.experiment_lists.specs.Sets.{experiments_fault, AreExperimentSets, IsExperimentsFault}
-use Rattle.experiment_lists.specs.Words.{Lists}
-use Rattle.effect_answers.specs.FormulaTelling.{formula_certificate}
+use Rattle.experiment_lists.specs.Vocabulary.{experiments_fault, AreExperimentSets, IsExperimentsFault, Lists}
+use Rattle.effect_answers.specs.Vocabulary.{formula_certificate}
 use Rattle.check_command.specs.declared.answer.Answer.{Answer}
 use Rattle.check_command.specs.declared.answer.Answer.TheVariants.{AcceptedFormula, RefusedDerivation, AcceptedHedge, RefusedHedge, MetHedge}
 use Rattle.check_command.specs.declared.fault.CertificateFault.{CertificateFault}

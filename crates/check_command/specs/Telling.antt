@@ -1,10 +1,10 @@
 -- What is told of a certificate.
 use Rattle.std.specs.Prelude.{ℕ, List}
 use Rattle.json.specs.Json.{Json}
-use Rattle.prob_expr.specs.View.{target_view, formula_view}
+use Rattle.prob_expr.specs.Vocabulary.{target_view, formula_view}
 use Rattle.answer_text.specs.declared.signs.Notation.TheVariants.{Plain}
-use Rattle.identify_text.specs.Answers.{answer_in}
-use Rattle.check_json.specs.Refusals.{derivation_members, hedge_fault_members, met_members}
+use Rattle.identify_text.specs.Vocabulary.{answer_in}
+use Rattle.check_json.specs.Vocabulary.{derivation_members, hedge_fault_members, met_members}
 use Rattle.replies.specs.declared.outcome.Outcome.{Outcome}
 use Rattle.replies.specs.declared.outcome.Outcome.TheVariants.{Yes, No}
 use Rattle.told.specs.Telling.{Telling}

@@ -1,7 +1,7 @@
 //! The sets that the lists of experiments of a check name.
 
 ghost use Rattle.std.specs.Prelude.{IfOk};
-ghost use Rattle.experiment_lists.specs.Views.{lists_in};
+ghost use Rattle.experiment_lists.specs.Vocabulary.{lists_in};
 ghost use Rattle.check_command.specs.Firsts.{IsAcceptance};
 
 use diagram::Diagram;

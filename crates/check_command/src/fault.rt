@@ -1,7 +1,7 @@
 //! What is wrong with a certificate.
 
 ghost use Rattle.std.specs.Prelude.{◌≡◌, IfOk, OnOk};
-ghost use Rattle.replies.specs.Told.{told_of};
+ghost use Rattle.replies.specs.Vocabulary.{told_of};
 ghost use Rattle.check_command.specs.Refusals.{cert_fault_told};
 ghost use Rattle.check_command.specs.declared.fault.CertificateFault.TheVariants.{NoMemory};
 

@@ -1,10 +1,9 @@
 //! The answer for a formula with its derivation.
 
 ghost use Rattle.std.specs.Prelude.{◌≡◌, IfOk, OnOk, length};
-ghost use Rattle.mixed_graph.specs.Shown.{graph_of};
-ghost use Rattle.prob_expr.specs.Listed.{masks_of};
-ghost use Rattle.prob_expr.specs.View.{formula_view, target_view};
-ghost use Rattle.do_derivation.specs.View.{derivation_view};
+ghost use Rattle.mixed_graph.specs.Vocabulary.{graph_of};
+ghost use Rattle.prob_expr.specs.Vocabulary.{masks_of, formula_view, target_view};
+ghost use Rattle.do_derivation.specs.Vocabulary.{derivation_view};
 ghost use Rattle.check_command.specs.Replies.{IsSoundTarget, IsSoundFormula, IsSoundDerivation};
 ghost use Rattle.check_command.specs.Right.{DecidesFormula};
 

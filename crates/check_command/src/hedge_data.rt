@@ -2,11 +2,9 @@
 
 ghost use Rattle.std.specs.Prelude.{◌≡◌, true, length};
 ghost use Rattle.std.specs.List.{list_all};
-ghost use Rattle.mixed_graph.specs.Shown.{graph_of};
-ghost use Rattle.prob_expr.specs.Listed.{masks_of};
-ghost use Rattle.prob_expr.specs.View.{target_view};
-ghost use Rattle.hedge.specs.Entries.{HasEntries};
-ghost use Rattle.hedge.specs.Hedges.{IsHedge};
+ghost use Rattle.mixed_graph.specs.Vocabulary.{graph_of};
+ghost use Rattle.prob_expr.specs.Vocabulary.{masks_of, target_view};
+ghost use Rattle.hedge.specs.Vocabulary.{HasEntries, IsHedge};
 ghost use Rattle.check_command.specs.Replies.{IsSoundTarget, is_harmless};
 ghost use Rattle.check_command.specs.Right.{DecidesHedge};
 

@@ -1,9 +1,9 @@
 //! The lines of `check`: what is accepted, and the first fault.
 
 ghost use Rattle.std.specs.Prelude.{◌≡◌, ◌++◌, OnOk, IfOk};
-ghost use Rattle.prob_expr.specs.View.{formula_view, target_view};
+ghost use Rattle.prob_expr.specs.Vocabulary.{formula_view, target_view};
 ghost use Rattle.answer_text.specs.declared.signs.Notation.TheVariants.{Plain};
-ghost use Rattle.identify_text.specs.Answers.{answer_in};
+ghost use Rattle.identify_text.specs.Vocabulary.{answer_in};
 ghost use Rattle.check_command.specs.Lines.{accepted_text, place_text, fault_digit, path_line, step_text, end_place, derivation_text, name_or_dash, hedge_digit, at_vertex, hedge_text, heading};
 
 use answer_text::{Notation, push_vertex};

@@ -1,8 +1,8 @@
 //! The members of the objects of accepted certificates.
 
 ghost use Rattle.std.specs.Prelude.{◌≡◌, OnOk};
-ghost use Rattle.prob_expr.specs.View.{formula_view, target_view};
-ghost use Rattle.answer_json.specs.Progress.{with_members};
+ghost use Rattle.prob_expr.specs.Vocabulary.{formula_view, target_view};
+ghost use Rattle.answer_json.specs.Vocabulary.{with_members};
 ghost use Rattle.check_command.specs.Objects.{formula_answer, hedge_answer};
 
 use answer_json::Object;

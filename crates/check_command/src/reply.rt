@@ -1,13 +1,11 @@
 //! The answer of `check`.
 
 ghost use Rattle.std.specs.Prelude.{◌≡◌, ◌≤◌, ◌<◌, ℕ, false, List, IfOk, IfErr, length};
-ghost use Rattle.mixed_graph.specs.Graphs.{MixedGraph};
-ghost use Rattle.mixed_graph.specs.Shown.{graph_of};
-ghost use Rattle.prob_expr.specs.Listed.{masks_of};
-ghost use Rattle.replies.specs.Told.{told_of};
+ghost use Rattle.mixed_graph.specs.Vocabulary.{MixedGraph, graph_of};
+ghost use Rattle.prob_expr.specs.Vocabulary.{masks_of};
+ghost use Rattle.replies.specs.Vocabulary.{told_of};
 ghost use Rattle.told.specs.declared.form.Form.{Form as AskedForm};
-ghost use Rattle.told.specs.Forms.{plain_form};
-ghost use Rattle.told.specs.Telling.{Tells};
+ghost use Rattle.told.specs.Vocabulary.{plain_form, Tells};
 ghost use Rattle.check_command.specs.CertificateFaults.{is_memory, certificate_refusal};
 ghost use Rattle.check_command.specs.Right.{IsForText, IsCertificateFault, IsForCertificate};
 ghost use Rattle.check_command.specs.Telling.{check_telling};

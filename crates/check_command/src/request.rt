@@ -1,10 +1,8 @@
 //! What `check` is asked.
 
 ghost use Rattle.std.specs.Prelude.{◌≡◌, ℕ, List, true, IfOk, IsErrOf};
-ghost use Rattle.command_words.specs.Form.{Row, Use, is_among, value_names, value_of};
-ghost use Rattle.command_words.specs.Gives.{HoldsCall};
-ghost use Rattle.experiment_lists.specs.Views.{lists_in};
-ghost use Rattle.experiment_lists.specs.Words.{AreOptionalExperiments, Lists};
+ghost use Rattle.command_words.specs.Vocabulary.{Row, Use, is_among, value_names, value_of, HoldsCall};
+ghost use Rattle.experiment_lists.specs.Vocabulary.{lists_in, AreOptionalExperiments, Lists};
 
 use command_words::forms::Entry;
 use command_words::typed::{RequestFault, required_word, second_input};

@@ -2,12 +2,12 @@
 use Rattle.std.specs.Prelude.{ℕ, List, codes}
 use Rattle.std.specs.Fmt.{decimal}
 use Rattle.json.specs.Json.{Json, null}
-use Rattle.answer_json.specs.Faults.{bare_fault_json, text_fault_json}
-use Rattle.certificate.specs.FaultTexts.{key_text}
+use Rattle.answer_json.specs.Vocabulary.{bare_fault_json, text_fault_json}
 use Rattle.certificate.specs.declared.fault.Key.{Key}
 use Rattle.certificate.specs.declared.fault.Key.TheVariants.{Extra}
 use Rattle.certificate.specs.declared.fault.CertFault.{CertFault}
 use Rattle.certificate.specs.declared.fault.CertFault.TheVariants.{NotJson, Member, Version, TooDeep, Name, NoMemory}
+use Rattle.certificate.specs.Vocabulary.{key_text}
 
 -- the stage of these faults
 abbrev pub stage : List ℕ

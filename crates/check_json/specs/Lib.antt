@@ -1,2 +1,3 @@
 pub mod CertificateFaults
 pub mod Refusals
+pub mod Vocabulary

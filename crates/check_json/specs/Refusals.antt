@@ -4,11 +4,12 @@ use Rattle.json.specs.Json.{Json, null, string, number}
 use Rattle.do_derivation.specs.declared.faults.StepFault.{StepFault}
 use Rattle.do_derivation.specs.declared.faults.StepFault.TheVariants.{NotATerm, Sets, Unblocked, BadOrder, Grouping, NoLemma, NoPlace, Shape}
 use Rattle.do_derivation.specs.declared.faults.CheckFault.{CheckFault}
-use Rattle.do_derivation.specs.declared.faults.CheckFault.TheVariants.{Step, EndDiffers, DoLeft, NoMemory}
+use Rattle.do_derivation.specs.declared.faults.CheckFault.TheVariants.{EndDiffers, DoLeft}
+use Rattle.do_derivation.specs.declared.faults.CheckFault.TheVariants.{Step, NoMemory}
 use Rattle.hedge.specs.declared.hedge.HedgeFault.{HedgeFault}
 use Rattle.hedge.specs.declared.hedge.HedgeFault.TheVariants as hedges
-use Rattle.answer_json.specs.Progress.{Progress, with_key, with_members, object_of}
-use Rattle.answer_json.specs.Values.{vertex_json, path_json}
+use Rattle.answer_json.specs.Progress.{Progress}
+use Rattle.answer_json.specs.Vocabulary.{with_key, with_members, object_of, vertex_json, path_json}
 
 -- ---- derivations
 

@@ -2,9 +2,8 @@
 
 ghost use Rattle.std.specs.Prelude.{◌≡◌, IfOk, OnOk, decimal};
 ghost use Rattle.std.specs.Str.{IsUtf8};
-ghost use Rattle.answer_json.specs.Progress.{json_line};
-ghost use Rattle.answer_json.specs.Faults.{text_fault_json};
-ghost use Rattle.certificate.specs.FaultTexts.{key_text};
+ghost use Rattle.answer_json.specs.Vocabulary.{json_line, text_fault_json};
+ghost use Rattle.certificate.specs.Vocabulary.{key_text};
 ghost use Rattle.check_json.specs.CertificateFaults.{stage, key_message, certificate_fault_json, certificate_size_json};
 
 use answer_json::{bare_fault, text_fault};

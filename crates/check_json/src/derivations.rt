@@ -2,7 +2,7 @@
 
 ghost use Rattle.std.specs.Prelude.{◌≡◌, [], OnOk, None};
 ghost use Rattle.json.specs.Json.{null};
-ghost use Rattle.answer_json.specs.Progress.{with_value, with_members};
+ghost use Rattle.answer_json.specs.Vocabulary.{with_value, with_members};
 ghost use Rattle.check_json.specs.Refusals.{step_number, step_message, open_members, number_or_null, at_json, refused_members, end_place, end_message, do_message, derivation_members, begun_refusal};
 
 use answer_json::Object;

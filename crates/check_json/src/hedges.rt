@@ -1,7 +1,7 @@
 //! A hedge that is refused.
 
 ghost use Rattle.std.specs.Prelude.{◌≡◌, [], OnOk};
-ghost use Rattle.answer_json.specs.Progress.{with_value, with_members};
+ghost use Rattle.answer_json.specs.Vocabulary.{with_value, with_members};
 ghost use Rattle.check_json.specs.Refusals.{hedge_number, hedge_message, name_or_null, vertex_members, refused_hedge_members, hedge_fault_members, met_message, met_members};
 
 use answer_json::Object;

@@ -4,10 +4,9 @@ use Rattle.std.specs.Prelude.{suc, replicate}
 use Rattle.std.proofs.lemmas.List.{length-replicate}
 use Rattle.diagram.specs.declared.diagram.Diagram.{Diagram}
 use Rattle.replies.specs.declared.outcome.Outcome.{Outcome}
-use Rattle.replies.specs.Told.{Told, told_of}
 use Rattle.replies.specs.declared.outcome.Reply.{Reply}
-use Rattle.replies.specs.Outcomes.{IsAnswered}
-use Rattle.replies.specs.Command.{Remainder}
+use Rattle.replies.specs.Vocabulary.{told_of, IsAnswered, Remainder}
+use Rattle.replies.specs.Told.{Told}
 use Rattle.command_run.specs.Commands.{CommandSet, Request, of, second_of}
 use Rattle.command_run.specs.Laws.{AreLawful}
 use Rattle.command_run.specs.Answers.{WordsAnswer, DiagramAnswer, NeedsSecond, SecondAnswer, GivesSecond, IsAnsweredWith, IsLeft}

@@ -1,11 +1,11 @@
 -- From how a run ended to which status it has to have.
 use Rattle.std.proofs.Common.{◌≡◌, ℕ, true, ◌⊎◌, inl, inr, ap, ◌∙◌}
-use Rattle.causal_io.specs.Causes.{Rose}
-use Rattle.command_words.specs.Form.{Text}
+use Rattle.causal_io.specs.Vocabulary.{Rose}
+use Rattle.command_words.specs.Vocabulary.{Text}
 use Rattle.replies.specs.declared.outcome.Outcome.{Outcome}
-use Rattle.replies.specs.Told.{Told}
 use Rattle.replies.specs.declared.outcome.Outcome.TheVariants.{Yes, No, Words, Graph, Second, Evaluation, Read, Write, Memory}
-use Rattle.replies.specs.Outcomes.{code_of}
+use Rattle.replies.specs.Vocabulary.{code_of}
+use Rattle.replies.specs.Told.{Told}
 use Rattle.command_run.specs.Commands.{CommandSet, Request, Asks}
 use Rattle.command_run.specs.Laws.{AreLawful}
 use Rattle.command_run.specs.Run.{Run, Answers, by_words, by_file, by_both, Ends, ReadsName}

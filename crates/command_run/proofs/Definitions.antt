@@ -7,13 +7,12 @@ use Rattle.dag_reader.specs.Reads.{Reads}
 use Rattle.diagram.specs.declared.diagram.Diagram.{Diagram}
 use Rattle.replies.specs.declared.outcome.Reply.{Reply}
 use Rattle.replies.specs.declared.outcome.Outcome.{Outcome}
-use Rattle.replies.specs.Told.{Told, told_of}
 use Rattle.replies.specs.declared.outcome.Outcome.TheVariants.{Graph, Memory}
-use Rattle.replies.specs.Observed.{HoldsDiagram}
+use Rattle.replies.specs.Vocabulary.{told_of, HoldsDiagram, graph_told, size_told, faulty}
+use Rattle.replies.specs.Told.{Told}
 use Rattle.command_run.specs.Commands.{CommandSet, Request}
 use Rattle.command_run.specs.Answers.{DiagramAnswer, HoldsAnswer, Defined, RefusesAs, RefusesBytes}
 use Rattle.command_run.specs.Ends.{IsMade, IsTooLong, IsTooLongAs}
-use Rattle.replies.specs.Refusals.{graph_told, size_told, faulty}
 
 held : (s : CommandSet) (w : Request s) (bytes : List ℕ) (o : Outcome) (text : Told) → HoldsAnswer s w bytes o text → Defined s w bytes o text
 held s w bytes Graph text h = inr h

@@ -8,24 +8,20 @@ use Rattle.std.proofs.KnownBytes.{Appends-nil}
 use Rattle.std.proofs.lemmas.Bool.{false≢true}
 use Rattle.std.proofs.lemmas.Option.{none-some}
 use Rattle.std.specs.Global.{Vec}
-use Rattle.command_words.specs.Form.{Text}
-use Rattle.causal_io.specs.Causes.{Rose}
-use Rattle.causal_io.specs.Reading.{AnswersAll}
+use Rattle.command_words.specs.Vocabulary.{Text}
 use Rattle.causal_io.specs.declared.ReadError.{ReadError}
 use Rattle.causal_io.specs.declared.ReadError.TheVariants.{Fault, TooLong, NoMemory}
+use Rattle.causal_io.specs.Vocabulary.{Rose, AnswersAll}
 use Rattle.std.specs.Io.KnownBytes.{Appends}
 use Rattle.replies.specs.declared.outcome.Outcome.{Outcome}
 use Rattle.replies.specs.declared.format.Format.{Format}
-use Rattle.replies.specs.Told.{Told, told_of}
 use Rattle.replies.specs.declared.outcome.Outcome.TheVariants.{Yes, No, Words, Graph, Second, Evaluation, Read, Write, Memory}
-use Rattle.replies.specs.Outcomes.{IsAnswered}
 use Rattle.replies.specs.declared.outcome.Reply.{Reply}
+use Rattle.replies.specs.Vocabulary.{told_of, IsAnswered, Remainder, too_long, HoldsDiagram}
+use Rattle.replies.specs.Told.{Told}
 use Rattle.command_run.specs.Commands.{CommandSet, Request, Asks, HasFormat, file_of}
 use Rattle.command_run.specs.Laws.{AreLawful}
-use Rattle.replies.specs.Command.{Remainder}
-use Rattle.replies.specs.Refusals.{too_long}
 use Rattle.diagram.specs.declared.diagram.Diagram.{Diagram}
-use Rattle.replies.specs.Observed.{HoldsDiagram}
 use Rattle.command_run.specs.Answers.{WordsAnswer, DiagramAnswer, RefusesAs, RefusesBytes, Defined, Continues, DefinedWith, GivesSecond}
 use Rattle.command_run.specs.Answers.{IsAnsweredWith, IsLeft}
 use Rattle.command_run.specs.Run.{Stream, Run, Answers, Received, ReceivedLine, by_words, by_file, by_both, file as reads_file, second, Refused, Ends}

@@ -1,11 +1,11 @@
 -- Over an input and an output whose counts of failures are 0, no failed read and no failed write is answered.
 use Rattle.std.proofs.Common.{◌≡◌, ℕ, sym, ◌∙◌, arith}
-use Rattle.command_words.specs.Form.{Text}
-use Rattle.causal_io.specs.Causes.{Rose}
+use Rattle.command_words.specs.Vocabulary.{Text}
+use Rattle.causal_io.specs.Vocabulary.{Rose}
 use Rattle.replies.specs.declared.outcome.Outcome.{Outcome}
-use Rattle.replies.specs.Told.{Told}
 use Rattle.replies.specs.declared.outcome.Outcome.TheVariants.{Read, Write}
-use Rattle.replies.specs.Outcomes.{code_of}
+use Rattle.replies.specs.Vocabulary.{code_of}
+use Rattle.replies.specs.Told.{Told}
 use Rattle.command_run.specs.Run.{Stream, Run, Ended, Ends}
 use Rattle.command_run.specs.Commands.{CommandSet}
 

@@ -4,20 +4,19 @@ use Rattle.std.proofs.lemmas.Option.{same_Some}
 use Rattle.std.proofs.lemmas.Bool.{false≢true}
 use Rattle.std.specs.Prelude.{IfSome}
 use Rattle.std.specs.Option.{option_or}
-use Rattle.command_words.specs.Form.{Text}
+use Rattle.command_words.specs.Vocabulary.{Text}
 use Rattle.diagram.specs.declared.diagram.Diagram.{Diagram}
 use Rattle.diagram.proofs.OneDiagram.{AreSameDiagrams}
 use Rattle.replies.specs.declared.outcome.Outcome.{Outcome}
-use Rattle.replies.specs.Told.{Told}
 use Rattle.replies.specs.declared.outcome.Outcome.TheVariants.{Graph}
-use Rattle.replies.specs.Observed.{HoldsDiagram}
-use Rattle.replies.specs.OneOutcome.{OneOutcome, IsAnswerOn}
+use Rattle.replies.specs.Vocabulary.{HoldsDiagram, IsAnswerOn, IsGraphRefusal, too_long, faulty}
+use Rattle.replies.specs.Told.{Told}
+use Rattle.replies.specs.OneOutcome.{OneOutcome}
 use Rattle.dag_reader.proofs.OneReading.{reads_either}
 use Rattle.replies.proofs.OneGraph.{one_holding}
 use Rattle.command_run.specs.Commands.{CommandSet, Request, of, file_of, second_of, Asks, IsFixed}
 use Rattle.command_run.specs.Laws.{AreLawful}
 use Rattle.command_run.specs.Answers.{WordsAnswer, DiagramAnswer, NeedsSecond, SecondAnswer, HoldsAnswer, Defined}
-use Rattle.replies.specs.Refusals.{IsGraphRefusal, too_long, faulty}
 use Rattle.command_run.specs.Answers.{Continues, DefinedWith}
 use Rattle.command_run.specs.Run.{Run, AnswersFile, AnswersBoth, Answers, by_words, by_file, by_both, ReadsName}
 use Rattle.command_run.specs.Complete.{InputsAreKnown, IsFixedAnswer}

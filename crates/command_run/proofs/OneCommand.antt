@@ -1,6 +1,6 @@
 -- The row of a command is no other command's, so a call of a command asks for no request of another one.
 use Rattle.std.proofs.Common.{◌≡◌, List, sym, subst}
-use Rattle.command_words.specs.Form.{Use}
+use Rattle.command_words.specs.Vocabulary.{Use}
 use Rattle.command_run.specs.Commands.{CommandSet, Request, of, command_of, IsRequest, AsksNothing}
 use Rattle.command_run.specs.Laws.{AreLawful}
 

@@ -1,6 +1,6 @@
 -- Words are one call at most, and ask for one request at most.
 use Rattle.std.proofs.Common.{◌≡◌, List, sym, ap, subst, ◌∙◌}
-use Rattle.command_words.specs.Form.{Text, Use}
+use Rattle.command_words.specs.Vocabulary.{Text, Use}
 use Rattle.command_words.proofs.Exact.{one_call}
 use Rattle.replies.specs.declared.format.Format.{Format}
 use Rattle.command_run.specs.Commands.{CommandSet, table, Request, of, command_of, format_of, IsRequest, Asks, HasFormat}

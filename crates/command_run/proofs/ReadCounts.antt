@@ -4,12 +4,11 @@ use Rattle.std.specs.Option.{option_or}
 use Rattle.std.proofs.lemmas.Bool.{cases_Bool}
 use Rattle.std.proofs.lemmas.Slice.Eq.{bytes_eq-Decides}
 use Rattle.std.specs.Str.{bytes_eq}
-use Rattle.command_words.specs.Form.{Text}
-use Rattle.causal_io.specs.Reading.{IsReadOnce}
+use Rattle.command_words.specs.Vocabulary.{Text}
+use Rattle.causal_io.specs.Vocabulary.{IsReadOnce}
 use Rattle.command_run.specs.Commands.{CommandSet, Request, Asks, file_of, second_of}
-use Rattle.replies.specs.Command.{Remainder}
+use Rattle.replies.specs.Vocabulary.{Remainder, HoldsDiagram}
 use Rattle.diagram.specs.declared.diagram.Diagram.{Diagram}
-use Rattle.replies.specs.Observed.{HoldsDiagram}
 use Rattle.command_run.specs.Answers.{Continues, NeedsSecond, IsLeft}
 use Rattle.command_run.specs.Ends.{IsOfFile, ReadsSecond, ReadsBeside}
 use Rattle.command_run.proofs.Answered.{needs, names_left}

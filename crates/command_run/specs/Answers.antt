@@ -4,11 +4,8 @@ use Rattle.diagram.specs.declared.diagram.Diagram.{Diagram}
 use Rattle.replies.specs.declared.outcome.Outcome.{Outcome}
 use Rattle.replies.specs.declared.outcome.Outcome.TheVariants.{Graph, Memory}
 use Rattle.replies.specs.declared.outcome.Reply.{Reply}
-use Rattle.replies.specs.Told.{Told, told_of}
-use Rattle.replies.specs.Observed.{HoldsDiagram}
-use Rattle.replies.specs.Refusals.{IsGraphRefusal}
-use Rattle.replies.specs.Outcomes.{IsAnswered}
-use Rattle.replies.specs.Command.{Remainder}
+use Rattle.replies.specs.Vocabulary.{told_of, HoldsDiagram, IsGraphRefusal, IsAnswered, Remainder}
+use Rattle.replies.specs.Told.{Told}
 use Rattle.replies.specs.Command as forms
 use Rattle.command_run.specs.Commands.{CommandSet, Request, of, file_of}
 use Rattle.command_run.specs.declared.request.AfterWords.{AfterWords}

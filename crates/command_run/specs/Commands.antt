@@ -1,9 +1,8 @@
 -- The commands of a program: one list, and of each its row and what it is, which stands in its own crate; and when words ask for a request.
 use Rattle.std.specs.Prelude.{◌≡◌, List, Option, map}
-use Rattle.command_words.specs.Form.{Text, Row, Use, IsCall}
-use Rattle.command_words.specs.Asks.{AsksBy}
+use Rattle.command_words.specs.Vocabulary.{Text, Row, Use, IsCall, AsksBy}
 use Rattle.replies.specs.declared.format.Format.{Format}
-use Rattle.replies.specs.Command.{CommandForm}
+use Rattle.replies.specs.Vocabulary.{CommandForm}
 use Rattle.replies.specs.Command as forms
 
 -- The commands: all of them in the order of the table, and of each its row, and what it is asked for and what it answers; and the names that are told

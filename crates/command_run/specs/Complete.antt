@@ -1,10 +1,10 @@
 -- The other way round: which status a run has to have.
 use Rattle.std.specs.Prelude.{ℕ, ◌≡◌, ◌⊎◌, true, false, List, Some}
-use Rattle.causal_io.specs.Causes.{Rose}
-use Rattle.command_words.specs.Form.{Text}
+use Rattle.causal_io.specs.Vocabulary.{Rose}
+use Rattle.command_words.specs.Vocabulary.{Text}
 use Rattle.replies.specs.declared.outcome.Outcome.{Outcome}
+use Rattle.replies.specs.Vocabulary.{code_of, IsAnswered}
 use Rattle.replies.specs.Told.{Told}
-use Rattle.replies.specs.Outcomes.{code_of, IsAnswered}
 use Rattle.command_run.specs.Commands.{CommandSet, Request, Asks, AskOnce, IsFixed}
 use Rattle.command_run.specs.Run.{Run, Answers, by_words, by_file, by_both, ReadsName}
 

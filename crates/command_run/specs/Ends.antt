@@ -3,24 +3,20 @@ use Rattle.std.specs.Prelude.{ℕ, ◌≡◌, ◌≢◌, ◌≤◌, ◌<◌, Boo
 use Rattle.std.specs.Option.{option_or}
 use Rattle.std.specs.Global.{Vec}
 use Rattle.std.specs.Io.KnownBytes.{Appends}
-use Rattle.causal_io.specs.Causes.{Rose}
-use Rattle.causal_io.specs.Reading.{AnswersAll}
 use Rattle.causal_io.specs.declared.ReadError.{ReadError}
 use Rattle.causal_io.specs.declared.ReadError.TheVariants.{Fault, TooLong, NoMemory}
-use Rattle.command_words.specs.Form.{Text}
+use Rattle.causal_io.specs.Vocabulary.{Rose, AnswersAll}
+use Rattle.command_words.specs.Vocabulary.{Text}
 use Rattle.diagram.specs.declared.diagram.Diagram.{Diagram}
 use Rattle.replies.specs.declared.outcome.Outcome.{Outcome}
 use Rattle.replies.specs.declared.outcome.Outcome.TheVariants.{Words, Graph, Read, Write, Memory}
 use Rattle.replies.specs.declared.outcome.Reply.{Reply}
 use Rattle.replies.specs.declared.format.Format.{Format}
-use Rattle.replies.specs.Told.{Told, told_of}
-use Rattle.replies.specs.Refusals.{size_told}
-use Rattle.replies.specs.Observed.{HoldsDiagram}
-use Rattle.replies.specs.Outcomes.{IsAnswered}
+use Rattle.replies.specs.Vocabulary.{told_of, size_told, HoldsDiagram, IsAnswered, Remainder}
+use Rattle.replies.specs.Told.{Told}
 use Rattle.command_run.specs.Commands.{CommandSet, Request, Asks, HasFormat, second_of}
 use Rattle.command_run.specs.Lines.{words_line, read_line, write_line, memory_line}
 use Rattle.command_run.specs.Run.{Stream, Run, Answers, ReadsName, Reads, IsNotRead, IsReadAtMostOnce, Ends}
-use Rattle.replies.specs.Command.{Remainder}
 use Rattle.command_run.specs.Answers.{NeedsSecond, GivesSecond}
 use Rattle.command_run.specs.Shown.{shown}
 use Rattle.command_run.specs.declared.ready.Ready.{Ready}

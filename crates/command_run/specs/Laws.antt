@@ -1,7 +1,7 @@
 -- What holds of the commands of each program.
 use Rattle.std.specs.Prelude.{◌≡◌, true}
 use Rattle.std.specs.List.{list_all}
-use Rattle.command_words.specs.Form.{is_clear}
+use Rattle.command_words.specs.Vocabulary.{is_clear}
 use Rattle.replies.proofs.Commands.{IsLawful}
 use Rattle.command_run.specs.Commands.{CommandSet, table, AreApart}
 

@@ -6,3 +6,4 @@ pub mod Shown
 pub mod Run
 pub mod Complete
 pub mod Ends
+pub mod Vocabulary

@@ -1,7 +1,7 @@
 -- The lines of refusals that are no command's own.
 use Rattle.std.specs.Prelude.{ℕ, List, ◌∷◌, ◌++◌, codes}
 use Rattle.std.specs.List.{flat_map}
-use Rattle.answer_text.specs.Lines.{line_of}
+use Rattle.answer_text.specs.Vocabulary.{line_of}
 use Rattle.command_run.specs.Commands.{CommandSet}
 
 -- words that set no task, with the names of the commands

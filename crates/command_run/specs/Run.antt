@@ -2,15 +2,14 @@
 use Rattle.std.specs.Prelude.{ℕ, ◌≡◌, ◌≤◌, Bool, false, List, [], length, take, Option, Some, None, IfSome}
 use Rattle.std.specs.Option.{option_or}
 use Rattle.std.specs.Io.KnownBytes.{Appends}
-use Rattle.causal_io.specs.Causes.{Rose}
-use Rattle.causal_io.specs.Reading.{IsReadOnce}
-use Rattle.command_words.specs.Form.{Text}
+use Rattle.causal_io.specs.Vocabulary.{Rose, IsReadOnce}
+use Rattle.command_words.specs.Vocabulary.{Text}
 use Rattle.replies.specs.declared.outcome.Outcome.{Outcome}
 use Rattle.replies.specs.declared.outcome.Outcome.TheVariants.{Yes, No, Words, Graph, Second, Evaluation, Read, Write, Memory}
 use Rattle.replies.specs.declared.format.Format.{Format}
+use Rattle.replies.specs.Vocabulary.{code_of, IsAnswered}
 use Rattle.replies.specs.declared.format.Format.TheVariants as formats
 use Rattle.replies.specs.Told.{Told}
-use Rattle.replies.specs.Outcomes.{code_of, IsAnswered}
 use Rattle.command_run.specs.Commands.{CommandSet, Request, Asks, HasFormat, file_of, second_of}
 use Rattle.command_run.specs.Lines.{words_line, read_line, write_line, memory_line}
 use Rattle.command_run.specs.Answers.{WordsAnswer, Defined, Continues, DefinedWith}

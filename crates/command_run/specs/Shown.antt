@@ -1,9 +1,9 @@
 -- What `out` receives of what is told.
 use Rattle.std.specs.Prelude.{ℕ, List, []}
 use Rattle.replies.specs.declared.format.Format.{Format}
-use Rattle.replies.specs.declared.format.Format.TheVariants as formats
 use Rattle.replies.specs.declared.outcome.Outcome.{Outcome}
 use Rattle.replies.specs.declared.outcome.Outcome.TheVariants.{Yes, No, Graph, Second, Evaluation}
+use Rattle.replies.specs.declared.format.Format.TheVariants as formats
 use Rattle.replies.specs.Told.{Told}
 
 -- the object of a refusal, where JSON is asked for

@@ -1,7 +1,7 @@
 //! What is written of a reply: the line for `err`, and what `out` is shown.
 
 ghost use Rattle.std.specs.Prelude.{◌≡◌};
-ghost use Rattle.replies.specs.Told.{told_of};
+ghost use Rattle.replies.specs.Vocabulary.{told_of};
 ghost use Rattle.command_run.specs.Ends.{text_of, shown_of};
 ghost use Rattle.command_run.specs.Shown.{object_in};
 

@@ -1,7 +1,7 @@
 // The diagram that a file holds, and the reply on what was read of a second input.
 
 ghost use Rattle.std.specs.Prelude.{◌≤◌, ◌<◌, ℕ, List, ◌≡◌, IfOk, IfErr, length};
-ghost use Rattle.replies.specs.Observed.{HoldsDiagram};
+ghost use Rattle.replies.specs.Vocabulary.{HoldsDiagram};
 ghost use Rattle.command_run.specs.Answers.{GivesSecond, RefusesBytes};
 ghost use Rattle.command_run.specs.Ends.{GivesOnRead, IsMade};
 

@@ -1,12 +1,9 @@
 // What a program says of its commands.
 
 ghost use Rattle.std.specs.Prelude.{◌≡◌, ◌<◌, ◌≤◌, ℕ, List, None, length, map, option_map, IfOk, IsErrOf};
-ghost use Rattle.command_words.specs.Form.{Use, row_named};
-ghost use Rattle.command_words.specs.Views.{row_of};
-ghost use Rattle.command_words.specs.Gives.{HoldsCall};
-ghost use Rattle.command_words.specs.Readable.{AreReadable};
+ghost use Rattle.command_words.specs.Vocabulary.{Use, row_named, row_of, HoldsCall, AreReadable};
 ghost use Rattle.diagram.specs.declared.diagram.Diagram.{Diagram as Drawn};
-ghost use Rattle.replies.specs.Command.{Remainder};
+ghost use Rattle.replies.specs.Vocabulary.{Remainder};
 ghost use Rattle.command_run.specs.Commands.{CommandSet, table, command_of, file_of, format_of, IsRequest, AsksNothing};
 ghost use Rattle.command_run.specs.Commands as asked;
 ghost use Rattle.command_run.specs.Lines.{words_line};

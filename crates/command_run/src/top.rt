@@ -1,8 +1,7 @@
 //! The run of any commands: words are read, inputs are read, and the answer is written.
 
 ghost use Rattle.std.specs.Prelude.{◌≡◌, ◌≤◌, ℕ, List, [], Option, Some, IfOk, IfErr, IfSome, is_some, option_map};
-ghost use Rattle.command_words.specs.Form.{Text};
-ghost use Rattle.command_words.specs.Views.{texts_of};
+ghost use Rattle.command_words.specs.Vocabulary.{Text, texts_of};
 ghost use Rattle.command_run.specs.Run.{Stream, Ended, Received, run_on, run_with, stream_of, reads_of, ReadsAsAsked};
 ghost use Rattle.command_run.specs.Complete.{Complete};
 ghost use Rattle.command_run.specs.Commands.{Asks, file_of};

@@ -1,9 +1,7 @@
 // What words ask for.
 
 ghost use Rattle.std.specs.Prelude.{List, ◌≡◌, Some, None, IfOk, IsErrOf};
-ghost use Rattle.command_words.specs.Form.{Row, Use, row_named};
-ghost use Rattle.command_words.specs.Views.{row_of, texts_of};
-ghost use Rattle.command_words.specs.Gives.{HoldsCall};
+ghost use Rattle.command_words.specs.Vocabulary.{Row, Use, row_named, row_of, texts_of, HoldsCall};
 ghost use Rattle.command_run.specs.Commands.{table, command_of, IsRequest, Asks};
 ghost use Rattle.command_run.specs.Commands as asked;
 ghost use Rattle.command_run.specs.Laws.{AreLawful};

@@ -10,3 +10,4 @@ pub mod Gives
 pub mod Readable
 pub mod Values
 pub mod Asks
+pub mod Vocabulary

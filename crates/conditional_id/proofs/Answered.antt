@@ -10,28 +10,23 @@ use Rattle.conditional_id.specs.TurnLaws.{ConditionalIsDerived, ConditionalIsRig
 use Rattle.conditional_id.specs.TurnLaws.{IsRightGiven, IsShallowGiven, JointExcludesFormula, JointHasHedge, OneConditional, OneConditionalDerivation}
 use Rattle.conditional_id.specs.TurnLaws.{OneTurned, TurnedIsSame, TurnedIsTarget}
 use Rattle.do_derivation.proofs.Accepted.{accepted_is_effect, step_keeps_value}
-use Rattle.do_derivation.specs.Accepts.{Accepts, sets_of}
-use Rattle.do_derivation.specs.Plans.{Plan, PlainDerivation, no_plans}
-use Rattle.do_derivation.specs.Steps.{Makes, MakesAll}
-use Rattle.fractions.specs.Fractions.{over}
+use Rattle.do_derivation.specs.Accepts.{Accepts}
+use Rattle.do_derivation.specs.Vocabulary.{sets_of, PlainDerivation, no_plans, Makes, MakesAll}
+use Rattle.do_derivation.specs.Plans.{Plan}
+use Rattle.fractions.specs.Vocabulary.{over}
 use Rattle.identification_theory.proofs.Bools.{clash, or_e, or_l, or_r}
 use Rattle.identification_theory.proofs.Formulas.{formula_is_accepted}
 use Rattle.identification_theory.proofs.Nesting.{step_more}
-use Rattle.identification_theory.specs.Derivations.{IsDerived}
-use Rattle.identification_theory.specs.Laws.{IsAcceptedFor}
-use Rattle.identification_theory.specs.Procedure.{IsIdentified, IsTarget, IsUnidentified}
+use Rattle.identification_theory.specs.Vocabulary.{IsDerived, IsAcceptedFor, IsIdentified, IsTarget, IsUnidentified, are_defs_within, is_tree_within, FormulaNamesOnly}
 use Rattle.identification_theory.proofs.Answered.{derivation_is_accepted, derived_is_identified, formula_is_shallow, never_both, one_derivation}
 use Rattle.identification_theory.proofs.Answered.{one_formula, stop_is_hedge}
 use Rattle.identification_theory.proofs.Depth.{flat_more}
 use Rattle.identification_theory.proofs.Faults.{no_fault}
 use Rattle.identification_theory.proofs.Formed.{IsFormedFormula}
-use Rattle.identification_theory.specs.AnswerDepth.{are_defs_within, is_tree_within}
-use Rattle.identification_theory.specs.Names.{FormulaNamesOnly}
 use Rattle.mixed_graph.proofs.Masks.{has-or, has-zero}
-use Rattle.mixed_graph.specs.Bits.{has}
-use Rattle.mixed_graph.specs.Graphs.{IsAncestor, IsMixedGraph, MixedGraph}
-use Rattle.mixed_graph.specs.Masks.{union}
-use Rattle.prob_expr.specs.Tree.{PlainFormula, PlainTarget, prob}
+use Rattle.mixed_graph.specs.Vocabulary.{has, IsAncestor, IsMixedGraph, MixedGraph, union}
+use Rattle.prob_expr.specs.Tree.{prob}
+use Rattle.prob_expr.specs.Vocabulary.{PlainFormula, PlainTarget}
 
 -- ---- the formula and its derivation
 divided_from : (g : MixedGraph) (t : PlainTarget) (f : PlainFormula) (d : PlainDerivation) → IsDividedBySteps g t f d → IsDivided g t f

@@ -2,11 +2,11 @@
 use Rattle.std.proofs.Common.{ℕ, zero, suc, ◌≡◌, Bool, true, false, cond, not, refl, sym, subst, ◌∙◌, ◌||◌, ◌&&◌, inl, inr, List, [], arith, eqb-true}
 use Rattle.conditional_id.proofs.TurningLaw.{targeted, given_term, pair_of, turned_made, turned_target}
 use Rattle.conditional_id.specs.Conditionals.{AreTurned, IsConditionalTarget, divided, divided_derivation, divided_steps, steps_of, summed_steps}
-use Rattle.do_derivation.specs.Accepts.{Accepts, Define, sets_of}
-use Rattle.do_derivation.specs.Plans.{Move, Plan, Plans, PlainDerivation, plan}
-use Rattle.do_derivation.specs.Steps.{Makes, MakesAll}
-use Rattle.do_derivation.specs.Table.{Row}
+use Rattle.do_derivation.specs.Accepts.{Accepts}
 use Rattle.do_derivation.specs.declared.faults.StepFault.TheVariants.{Sets}
+use Rattle.do_derivation.specs.Vocabulary.{Define, sets_of, PlainDerivation, Makes, MakesAll}
+use Rattle.do_derivation.specs.Plans.{Move, Plan, Plans, plan}
+use Rattle.do_derivation.specs.Table.{Row}
 use Rattle.do_derivation.specs.declared.moves.BareMove.TheVariants as bare_move
 use Rattle.identification_theory.proofs.Bodies.{widen_made}
 use Rattle.identification_theory.proofs.Bools.{and_l, and_r, both_true, clash, not_i}
@@ -14,20 +14,14 @@ use Rattle.identification_theory.proofs.Nesting.{step_more, steps_more}
 use Rattle.identification_theory.proofs.Orders.{order_of}
 use Rattle.identification_theory.proofs.Places.{made_if}
 use Rattle.identification_theory.proofs.Sets.{below, not_empty}
-use Rattle.identification_theory.specs.Depth.{are_plans_within, is_plan_within}
-use Rattle.identification_theory.specs.Derivations.{single}
-use Rattle.identification_theory.specs.Procedure.{IsIdentified, IsIdentifiedBy, IsTarget}
+use Rattle.identification_theory.specs.Vocabulary.{are_plans_within, is_plan_within, single, IsIdentified, IsIdentifiedBy, IsTarget, is_tree_within, AreAll, FormulaNamesOnly}
 use Rattle.identification_theory.proofs.Depth.{flat_more}
 use Rattle.identification_theory.proofs.Formed.{IsFormedFormula, composed_formed}
 use Rattle.identification_theory.proofs.Names.{composed_names}
-use Rattle.identification_theory.specs.AnswerDepth.{is_tree_within}
-use Rattle.identification_theory.specs.Names.{AreAll, FormulaNamesOnly}
 use Rattle.mixed_graph.proofs.Masks.{has-or, has-zero, same_from_has}
-use Rattle.mixed_graph.specs.Bits.{has}
-use Rattle.mixed_graph.specs.Graphs.{IsMixedGraph, MixedGraph}
-use Rattle.mixed_graph.specs.Masks.{is_empty, union}
-use Rattle.prob_expr.specs.Terms.{all_under, is_do_free, is_under}
-use Rattle.prob_expr.specs.Tree.{PlainFormula, PlainTarget, Tree, prob, quotient, sum}
+use Rattle.mixed_graph.specs.Vocabulary.{has, IsMixedGraph, MixedGraph, is_empty, union}
+use Rattle.prob_expr.specs.Vocabulary.{all_under, is_do_free, is_under, PlainFormula, PlainTarget}
+use Rattle.prob_expr.specs.Tree.{Tree, prob, quotient, sum}
 
 -- a set joined with the empty set is that set
 pub join-zero : (a : ℕ) → union a 0 ≡ a

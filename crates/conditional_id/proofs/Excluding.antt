@@ -1,19 +1,15 @@
 -- A formula for the target makes the effects of leaf pairs equal.
 use Rattle.std.proofs.Common.{ℕ, ◌+◌, ◌*◌, ◌≡◌, ◌<◌, Bool, true, false, cond, eqb, not, refl, sym, ap, ap₂, ◌∙◌, ◌&&◌, ◌||◌, subst, arith, eqb-true}
 use mathlib.Core.Path.{fun_ext}
-use Rattle.mixed_graph.specs.Bits.{has}
-use Rattle.mixed_graph.specs.Masks.{minus, one}
+use Rattle.mixed_graph.specs.Vocabulary.{has, minus, one, MixedGraph, IsMixedGraph}
 use Rattle.mixed_graph.proofs.MaskLaws.{has_minus, has_one}
-use Rattle.mixed_graph.specs.Graphs.{MixedGraph, IsMixedGraph}
-use Rattle.finite_models.specs.Agreement.{AgreeObserved}
-use Rattle.finite_models.specs.Sums.{set_at, sum_over}
-use Rattle.finite_models.specs.Models.{FiniteModel, Fits, IsAssignment, IsPositiveModel, weight_of, total}
+use Rattle.finite_models.specs.Vocabulary.{AgreeObserved, set_at, sum_over, FiniteModel, Fits, IsAssignment, IsPositiveModel, weight_of, total, ServesTwo}
 use Rattle.finite_models.proofs.Bools.{not_both}
 use Rattle.finite_models.proofs.SumLaws.{eqb-refl, over-mul-right, over-add}
 use Rattle.finite_models.proofs.Tested.{stable}
 use Rattle.counter_models.proofs.Counting.{over-congr_box}
 use Rattle.conditional_id.specs.Conditionals.{IsConditionalTarget, IsTurning}
-use Rattle.walk_models.specs.Laws.{event, IsBelowSomewhere}
+use Rattle.walk_models.specs.Vocabulary.{event, IsBelowSomewhere}
 use Rattle.prob_expr.proofs.Boxes.{assignment_set}
 use Rattle.conditional_id.specs.HedgeLaws.{with_mechanism, IsLeafPair, IsFixed, LeafPairsExclude}
 use Rattle.conditional_id.specs.Masked.{swap, masked, code, AreAlike, IsUnread}
@@ -25,7 +21,6 @@ use Rattle.conditional_id.proofs.Odds.{odds_fix_weights}
 use Rattle.conditional_id.proofs.Opened.{rule_graph, dependent, fits_more, not_read}
 use Rattle.conditional_id.proofs.Served.{masked_two, mechanism_two}
 use Rattle.conditional_id.proofs.Summed.{weight_reads, sum_weight, over-set, odds_from}
-use Rattle.finite_models.specs.Served.{ServesTwo}
 
 swap_first : (a b k : ℕ) → k ≡ a → swap a b k ≡ b
 swap_first a b k e = rw (e, eqb-refl a) refl

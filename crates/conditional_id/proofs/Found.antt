@@ -1,20 +1,17 @@
 -- What is found, from what identification answers for the joint effect.
 use Rattle.std.proofs.Common.{true, false, not, ℕ, ◌^◌, ◌≡◌, ◌≢◌, ◌<◌, ◌≤◌, ◌↔◌, refl, sym, subst, ◌∙◌, ap, inl, inr, List, [], length, IsTrue, arith}
 use Rattle.std.proofs.lemmas.Bool.{cases_eq}
-use Rattle.mixed_graph.specs.Bits.{has}
-use Rattle.mixed_graph.specs.Graphs.{MixedGraph}
+use Rattle.mixed_graph.specs.Vocabulary.{has, MixedGraph, union}
 use Rattle.mixed_graph.proofs.Masks.{has-zero, positive_from_has, some_member}
-use Rattle.do_rules.specs.Rules.{AreThreeSets}
-use Rattle.mixed_graph.specs.Masks.{union}
-use Rattle.prob_expr.specs.Tree.{PlainFormula, PlainTarget, effect_on}
-use Rattle.do_derivation.specs.Plans.{PlainDerivation}
+use Rattle.do_rules.specs.Vocabulary.{AreThreeSets}
+use Rattle.prob_expr.specs.Vocabulary.{PlainFormula, PlainTarget, effect_on, formula_view}
+use Rattle.do_derivation.specs.Vocabulary.{PlainDerivation}
 use Rattle.identification_theory.proofs.Bools.{clash}
-use Rattle.identification_theory.specs.Derivations.{IsDerived}
-use Rattle.hedge.specs.Hedges.{IsHedge}
+use Rattle.identification_theory.specs.Vocabulary.{IsDerived}
 use Rattle.hedge.specs.declared.hedge.Hedge.{Hedge}
-use Rattle.prob_expr.specs.View.{formula_view}
-use Rattle.identify.specs.Answers.{is_hedge, IsRight}
+use Rattle.hedge.specs.Vocabulary.{IsHedge}
 use Rattle.identify.specs.declared.answer.Answer.{Answer}
+use Rattle.identify.specs.Vocabulary.{is_hedge, IsRight}
 use Rattle.identify.specs.declared.answer.Answer.TheVariants as answers
 use Rattle.conditional_id.proofs.Answered.{one_turned}
 use Rattle.conditional_id.proofs.DividingLaw.{divided_defs, join-zero}

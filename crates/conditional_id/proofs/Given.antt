@@ -1,24 +1,21 @@
 -- A hedge for what is left excludes a formula for the target.
 use Rattle.std.proofs.Common.{ℕ, ◌*◌, ◌≤◌, ap, inl, inr, List, IsTrue, ◌∙◌}
-use Rattle.mixed_graph.specs.Bits.{has}
-use Rattle.mixed_graph.specs.Graphs.{MixedGraph, IsMixedGraph}
+use Rattle.mixed_graph.specs.Vocabulary.{has, MixedGraph, IsMixedGraph}
 use Rattle.mixed_graph.proofs.Masks.{has-zero}
-use Rattle.finite_models.specs.Models.{total}
+use Rattle.finite_models.specs.Vocabulary.{total}
 use Rattle.finite_models.proofs.Bools.{not_both}
 use Rattle.fractions.proofs.FractionLaws.{equal_sym, equal_trans}
-use Rattle.hedge.specs.Hedges.{IsHedge}
 use Rattle.hedge.specs.declared.hedge.Hedge.{Hedge}
-use Rattle.counter_models.specs.ParityPairs.{first_model, second_mechanism}
+use Rattle.hedge.specs.Vocabulary.{IsHedge}
+use Rattle.counter_models.specs.Vocabulary.{first_model, second_mechanism, data_of}
 use Rattle.counter_models.proofs.Witness.{effects}
-use Rattle.prob_expr.specs.Tree.{PlainTarget}
-use Rattle.prob_expr.specs.Values.{effect}
+use Rattle.prob_expr.specs.Vocabulary.{PlainTarget, effect}
 use Rattle.prob_expr.proofs.Allowed.{in_second}
 use Rattle.prob_expr.proofs.Observed.{formula_fixes_effect}
 use Rattle.conditional_id.specs.Conditionals.{IsConditionalTarget, IsTurned, IsTurning, AreTurned}
 use Rattle.conditional_id.specs.Conditionals.AreTurned.{still, move}
 use Rattle.conditional_id.proofs.Answered.{turned_is_same}
 use Rattle.conditional_id.proofs.TurningLaw.{moved_target}
-use Rattle.counter_models.specs.Theory.{data_of}
 use Rattle.counter_models.proofs.Bridge.{whole}
 use Rattle.counter_models.proofs.HedgePair.{pair, is_pair}
 use Rattle.conditional_id.specs.HedgeLaws.{IsFixed, HedgesExcludeGiven, HedgesExcludeTurned, HedgesExcludeFormula}

@@ -5,12 +5,11 @@ use Rattle.std.specs.List.{range_with_len}
 use Rattle.std.proofs.lemmas.List.{get_or_past}
 use Rattle.std.proofs.lemmas.List.FromFn.{get_or-map-range_with_len, length-map-range_with_len}
 use Rattle.std.proofs.lemmas.Bool.{and_from, and_parts, or_cases, cases_lt}
-use Rattle.mixed_graph.specs.Bits.{has}
-use Rattle.mixed_graph.specs.Graphs.{MixedGraph}
-use Rattle.hedge.specs.Hedges.{IsHedge, IsChildInside, IsRightChoice, AreRightLinks, Reaches}
+use Rattle.mixed_graph.specs.Vocabulary.{has, MixedGraph}
 use Rattle.hedge.specs.declared.hedge.Hedge.{Hedge}
+use Rattle.hedge.specs.Vocabulary.{IsHedge, IsChildInside, IsRightChoice, AreRightLinks, Reaches}
 use Rattle.counter_models.proofs.Terms.{set_of, has-set}
-use Rattle.finite_models.specs.Packed.{mask_of}
+use Rattle.finite_models.specs.Vocabulary.{mask_of}
 
 module _ (g : MixedGraph) (few : g.vertices ≤ 64) (x z : ℕ) (h : Hedge) (hedge : IsHedge g x z h) where
   -- a root, or a member of small in z

@@ -3,18 +3,20 @@ use Rattle.std.proofs.Common.{ℕ, ◌≡◌, true, false, refl, sym, ap, ap₂,
 use Rattle.std.specs.Global.{Box, Vec}
 use Rattle.conditional_id.specs.Conditionals.{divided, divided_steps, steps_of, summed_steps}
 use Rattle.do_derivation.proofs.StepViews.{step-Make}
-use Rattle.do_derivation.specs.Plans.{Move, Plan, no_plans, plan}
-use Rattle.do_derivation.specs.View.{step_view, steps_view}
-use Rattle.do_derivation.specs.declared.steps.Step.{At, Make, Step, Then}
+use Rattle.do_derivation.specs.Plans.{Move, Plan, plan}
+use Rattle.do_derivation.specs.declared.steps.Step.{At, Make, Then}
 use Rattle.do_derivation.specs.declared.moves.Move.TheVariants.{WithSet, Bare}
+use Rattle.do_derivation.specs.Vocabulary.{no_plans, step_view, steps_view}
+use Rattle.do_derivation.specs.declared.steps.Step.{Step}
 use Rattle.do_derivation.specs.declared.moves.SetMove.TheVariants as set_move
 use Rattle.do_derivation.specs.declared.moves.BareMove.TheVariants as bare_move
 use Rattle.identify.proofs.Steps.{onto_append, onto_more, onto_nothing, step-At, step-Then}
-use Rattle.identify.specs.Lists.{onto}
-use Rattle.identification_theory.specs.Derivations.{single}
+use Rattle.identify.specs.Vocabulary.{onto}
+use Rattle.identification_theory.specs.Vocabulary.{single}
 use Rattle.mixed_graph.specs.declared.sets.VSet.{VSet}
-use Rattle.mixed_graph.specs.Masks.{is_empty}
-use Rattle.prob_expr.specs.Tree.{PlainFormula, quotient, sum}
+use Rattle.mixed_graph.specs.Vocabulary.{is_empty}
+use Rattle.prob_expr.specs.Tree.{quotient, sum}
+use Rattle.prob_expr.specs.Vocabulary.{PlainFormula}
 
 -- ---- the formula
 pub divided_whole : (y z : ℕ) (f : PlainFormula) → is_empty z ≡ true → f ≡ divided y z f

@@ -2,9 +2,8 @@
 use Rattle.std.proofs.Common.{ℕ, ◌+◌, ◌-◌, ◌*◌, ◌/◌, ◌%◌, ◌≡◌, ◌≢◌, ◌<◌, ◌≤◌, Bool, true, false, cond, eqb, ltb, refl, sym, ap, ap₂, ◌∙◌, ◌&&◌, subst}
 use Rattle.std.proofs.Common.{IsTrue, arith, lt-ltb, le-ltb, ltb-true, eqb-true}
 use Rattle.std.proofs.Math.Nat.{mod-lt, div-eq_of_lt}
-use Rattle.mixed_graph.specs.Graphs.{MixedGraph}
-use Rattle.finite_models.specs.Sums.{sum_below}
-use Rattle.finite_models.specs.Models.{FiniteModel, Fits, IsAssignment, IsWorld}
+use Rattle.mixed_graph.specs.Vocabulary.{MixedGraph}
+use Rattle.finite_models.specs.Vocabulary.{sum_below, FiniteModel, Fits, IsAssignment, IsWorld}
 use Rattle.conditional_id.specs.Masked.{swap, masked_value, code_at, masked}
 
 pub swap_below : (e : Bool) (a b x k : ℕ) → a < k → b < k → x < k → masked_value e a b x < k

@@ -4,10 +4,8 @@ use Rattle.std.proofs.Common.{subst, arith, lt-ltb, le-ltb, eqb-true, eq-eqb}
 use Rattle.std.proofs.Math.Nat.{mod-lt, mod-eq_of_lt, mod-add-div'}
 use Rattle.std.proofs.lemmas.Bool.{and_from}
 use mathlib.Core.Path.{fun_ext}
-use Rattle.mixed_graph.specs.Graphs.{MixedGraph, IsMixedGraph}
-use Rattle.finite_models.specs.Sums.{set_at, sum_over}
-use Rattle.finite_models.specs.Models.{FiniteModel, Fits, IsAssignment, IsWorld, IsPositiveModel, solution, rounds, agree, intervene, world_weight}
-use Rattle.finite_models.specs.Models.{event_weight, weight_of, total}
+use Rattle.mixed_graph.specs.Vocabulary.{MixedGraph, IsMixedGraph}
+use Rattle.finite_models.specs.Vocabulary.{set_at, sum_over, FiniteModel, Fits, IsAssignment, IsWorld, IsPositiveModel, solution, rounds, agree, intervene, world_weight, event_weight, weight_of, total}
 use Rattle.finite_models.proofs.Agreeing.{agree-congr}
 use Rattle.finite_models.proofs.Bools.{same_truth, and_first, and_second, not_both}
 use Rattle.finite_models.proofs.Following.{follows_of, intervene_alike}

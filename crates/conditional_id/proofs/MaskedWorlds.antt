@@ -5,9 +5,8 @@ use Rattle.std.proofs.Math.Nat.{mod-eq_of_lt}
 use Rattle.std.proofs.lemmas.Nat.{div-mul-add, mod-mul-add}
 use Rattle.std.proofs.lemmas.Bool.{and_from}
 use mathlib.Core.Path.{fun_ext}
-use Rattle.mixed_graph.specs.Graphs.{MixedGraph, IsMixedGraph}
-use Rattle.finite_models.specs.Sums.{set_at}
-use Rattle.finite_models.specs.Models.{FiniteModel, Fits, IsAssignment, IsWorld, IsSolution, solution, agree, intervene, world_weight}
+use Rattle.mixed_graph.specs.Vocabulary.{MixedGraph, IsMixedGraph}
+use Rattle.finite_models.specs.Vocabulary.{set_at, FiniteModel, Fits, IsAssignment, IsWorld, IsSolution, solution, agree, intervene, world_weight}
 use Rattle.finite_models.proofs.Agreeing.{agree-congr}
 use Rattle.finite_models.proofs.Bools.{same_truth, and_first, and_second, not_both}
 use Rattle.finite_models.proofs.Following.{follows_of, follows_intervene}

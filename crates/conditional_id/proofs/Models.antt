@@ -1,23 +1,19 @@
 -- Two models that differ on the target.
 use Rattle.std.proofs.Common.{ℕ, zero, suc, ◌*◌, ◌≡◌, ◌<◌, ◌≤◌, Bool, true, false, eqb, not, refl, sym, ap, ◌&&◌, ◌||◌, subst, IsTrue, arith, eqb-true, eq-eqb}
-use Rattle.mixed_graph.specs.Bits.{has}
-use Rattle.mixed_graph.specs.Masks.{minus, one}
-use Rattle.mixed_graph.specs.Graphs.{MixedGraph, IsMixedGraph}
-use Rattle.finite_models.specs.Sums.{set_at, sum_below, sum_over}
-use Rattle.finite_models.specs.Models.{FiniteModel, IsAssignment, weight_of, total}
+use Rattle.mixed_graph.specs.Vocabulary.{has, minus, one, MixedGraph, IsMixedGraph}
+use Rattle.finite_models.specs.Vocabulary.{set_at, sum_below, sum_over, FiniteModel, IsAssignment, weight_of, total}
 use Rattle.finite_models.proofs.Bools.{and_first, and_second, not_both}
 use Rattle.finite_models.proofs.Indicators.{number}
 use Rattle.counter_models.proofs.Ends.{Found, find_below, over-find}
 use Rattle.counter_models.proofs.Witness.{effects}
-use Rattle.counter_models.specs.ParityPairs.{first_model, second_mechanism}
-use Rattle.hedge.specs.Hedges.{IsHedge}
+use Rattle.counter_models.specs.Vocabulary.{first_model, second_mechanism, data_of}
 use Rattle.hedge.specs.declared.hedge.Hedge.{Hedge}
+use Rattle.hedge.specs.Vocabulary.{IsHedge}
 use Rattle.conditional_id.specs.Conditionals.{IsConditionalTarget}
-use Rattle.counter_models.specs.Theory.{data_of}
 use Rattle.counter_models.proofs.Bridge.{whole}
 use Rattle.counter_models.proofs.HedgePair.{pair, is_pair}
 use Rattle.conditional_id.specs.HedgeLaws.{with_mechanism, IsLeafPair, HaveOpenWalks, AreModelsOf, HedgesGiveModels}
-use Rattle.walk_models.specs.Laws.{event, IsBelowSomewhere}
+use Rattle.walk_models.specs.Vocabulary.{event, IsBelowSomewhere}
 use Rattle.conditional_id.specs.Masked.{masked, code}
 use Rattle.conditional_id.proofs.Excluding.{fits₁, fits₂, two₁, two₂, pos₁, pos₂, agree, at_point, from_model}
 use Rattle.conditional_id.proofs.Grown.{grown, grown_hedge, grown_roots}

@@ -10,24 +10,21 @@ use Rattle.conditional_id.specs.Conditionals.AreTurned.{move, still}
 use Rattle.conditional_id.specs.Conditionals.{AreTurned, IsConditionalTarget, IsTurning, turned_steps}
 use Rattle.do_derivation.proofs.StepViews.{step-Make}
 use Rattle.do_derivation.specs.Plans.{Move, Plan, Plans, plan}
-use Rattle.do_derivation.specs.declared.steps.Step.{Make, Step}
+use Rattle.do_derivation.specs.declared.steps.Step.{Step}
+use Rattle.do_derivation.specs.declared.steps.Step.{Make}
 use Rattle.do_derivation.specs.declared.moves.Move.TheVariants.{WithSet}
 use Rattle.do_derivation.specs.declared.moves.SetMove.TheVariants as set_move
-use Rattle.do_rules.specs.Rules.{AreFourSets, AreThreeSets, IsBlockedFor, IsOpenFor}
 use Rattle.do_rules.specs.declared.rules.Rule.TheVariants.{Two}
-use Rattle.do_rules.specs.Cuts.{cut_into, cut_out}
+use Rattle.do_rules.specs.Vocabulary.{AreFourSets, AreThreeSets, IsBlockedFor, IsOpenFor, cut_into, cut_out}
 use Rattle.do_rules.proofs.Failing.{open_walk}
 use Rattle.identify.proofs.Steps.{onto_more}
-use Rattle.identify.specs.Lists.{onto}
+use Rattle.identify.specs.Vocabulary.{onto}
 use Rattle.identification_theory.proofs.Bools.{and_l, clash, not_e, and_r}
 use Rattle.identification_theory.proofs.Sets.{has-minus, one-is, one-self, smaller}
 use Rattle.m_separation.specs.declared.paths.OpenPath.{OpenPath}
-use Rattle.m_separation.specs.Paths.{IsOpenPath}
-use Rattle.m_separation.specs.Walks.{IsSeparated}
-use Rattle.mixed_graph.specs.Bits.{has}
-use Rattle.mixed_graph.specs.Graphs.{MixedGraph}
+use Rattle.m_separation.specs.Vocabulary.{IsOpenPath, IsSeparated}
 use Rattle.mixed_graph.specs.declared.sets.VSet.{VSet}
-use Rattle.mixed_graph.specs.Masks.{union, minus, one}
+use Rattle.mixed_graph.specs.Vocabulary.{has, MixedGraph, union, minus, one}
 
 -- ---- the sets of a rule
 not_true : (p : Bool) → (p ≡ true → ⊥) → p ≡ false

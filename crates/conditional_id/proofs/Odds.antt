@@ -2,9 +2,8 @@
 use Rattle.std.proofs.Common.{ℕ, zero, suc, ◌*◌, ◌≡◌, ◌<◌, ◌≤◌, Bool, true, false, cond, eqb, refl, sym, ap, ap₂, ◌∙◌, ◌&&◌, subst, arith, eqb-true}
 use Rattle.std.proofs.Math.Nat.{eq_of_mul-eq-mul_left}
 use mathlib.Core.Path.{fun_ext}
-use Rattle.mixed_graph.specs.Graphs.{MixedGraph, IsMixedGraph}
-use Rattle.finite_models.specs.Sums.{set_at, sum_over, all_below}
-use Rattle.finite_models.specs.Models.{FiniteModel, Fits, IsAssignment, event_weight, weight_of, solution, intervene, world_weight}
+use Rattle.mixed_graph.specs.Vocabulary.{MixedGraph, IsMixedGraph}
+use Rattle.finite_models.specs.Vocabulary.{set_at, sum_over, all_below, FiniteModel, Fits, IsAssignment, event_weight, weight_of, solution, intervene, world_weight}
 use Rattle.finite_models.proofs.Following.{follows_of, follows_intervene, intervene_alike}
 use Rattle.finite_models.proofs.Indicators.{number, cond_gives, cond_from, all_below_each, all_below_from}
 use Rattle.finite_models.proofs.Positive.{positive_weight}

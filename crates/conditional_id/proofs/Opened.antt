@@ -1,15 +1,14 @@
 -- An observation that doesn't turn and y are dependent in a model in which nothing reads that observation.
 use Rattle.std.proofs.Common.{ℕ, ◌≡◌, Bool, true, not, refl, ap, ◌∙◌, ◌&&◌, ◌||◌}
 use Rattle.std.proofs.lemmas.Bool.{not-true}
-use Rattle.mixed_graph.specs.Graphs.{MixedGraph, IsMixedGraph}
-use Rattle.finite_models.specs.Sums.{set_at}
-use Rattle.finite_models.specs.Models.{FiniteModel, Fits}
+use Rattle.mixed_graph.specs.Vocabulary.{MixedGraph, IsMixedGraph}
+use Rattle.finite_models.specs.Vocabulary.{set_at, FiniteModel, Fits}
 use Rattle.finite_models.proofs.Bools.{and_second, not_both}
 use Rattle.finite_models.proofs.SumLaws.{set_at-other}
-use Rattle.do_rules.specs.Cuts.{cut_into, cut_out}
+use Rattle.do_rules.specs.Vocabulary.{cut_into, cut_out}
 use Rattle.do_rules.proofs.Fewer.{HasFewer, fewer_into, fewer_out, graph_into, graph_out}
-use Rattle.m_separation.specs.Walks.{HasOpenWalk}
-use Rattle.walk_models.specs.Laws.{event, IsBelowSomewhere}
+use Rattle.m_separation.specs.Vocabulary.{HasOpenWalk}
+use Rattle.walk_models.specs.Vocabulary.{event, IsBelowSomewhere}
 use Rattle.walk_models.proofs.Told.{seen_ends_tell}
 use Rattle.do_rules.proofs.Failing.{headless_into}
 use Rattle.do_rules.proofs.RuleWalks.{walk_to, joined_more, fewer_twice}

@@ -1,7 +1,7 @@
 -- Sums over the worlds of two models together.
 use Rattle.std.proofs.Common.{ℕ, zero, suc, ◌+◌, ◌*◌, ◌≡◌, ◌<◌, ◌≤◌, Bool, true, false, cond, eqb, refl, sym, ap, ap₂, ◌∙◌, arith, eqb-true, ne_eqb}
 use mathlib.Core.Path.{fun_ext}
-use Rattle.finite_models.specs.Sums.{sum_below, sum_over, set_at}
+use Rattle.finite_models.specs.Vocabulary.{sum_below, sum_over, set_at}
 use Rattle.finite_models.proofs.SumLaws.{sum_below-congr, sum_below-mul, over-mul-right, set_at-other, over-sizes}
 
 -- G reads the coordinates below c alone

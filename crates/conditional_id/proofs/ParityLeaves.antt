@@ -1,25 +1,20 @@
 -- The two models of a hedge are a leaf pair for its target, where all members of small in the target are roots.
 use Rattle.std.proofs.Common.{ℕ, zero, suc, ◌/◌, ◌%◌, ◌≡◌, ◌<◌, Bool, true, false, cond, eqb, not, refl, sym, ap, ap₂, ◌∙◌, ◌&&◌, subst, arith, eqb-true}
 use Rattle.std.proofs.lemmas.Bool.{and_from, false_from_ne_true}
-use Rattle.mixed_graph.specs.Graphs.{MixedGraph, IsMixedGraph}
-use Rattle.finite_models.specs.Sums.{set_at}
-use Rattle.finite_models.specs.Models.{FiniteModel, IsAssignment, solution, intervene}
+use Rattle.mixed_graph.specs.Vocabulary.{MixedGraph, IsMixedGraph}
+use Rattle.finite_models.specs.Vocabulary.{set_at, FiniteModel, IsAssignment, solution, intervene, differ}
 use Rattle.finite_models.proofs.Bools.{and_first, and_second, not_both}
 use Rattle.finite_models.proofs.Following.{follows_of, follows_intervene}
 use Rattle.finite_models.proofs.Indicators.{number}
 use Rattle.finite_models.proofs.Ranks.{with_rank}
 use Rattle.finite_models.proofs.Solutions.{IsRanked, solution_is}
-use Rattle.counter_models.specs.Parities.{bit, chosen}
-use Rattle.counter_models.specs.Hedges.{ParityHedge, IsWholeHedge, outsider}
-use Rattle.counter_models.specs.ParityPairs.{value, hedge_bit, carried_bit, world_bit, at_first, at_second, chooses, first_bit, second_bit, carries}
-use Rattle.counter_models.specs.ParityPairs.{top_bit, first_mechanism, second_mechanism, first_model, size_of}
+use Rattle.counter_models.specs.Vocabulary.{bit, chosen, ParityHedge, IsWholeHedge, outsider, value, hedge_bit, carried_bit, world_bit, at_first, at_second, chooses, first_bit, second_bit, carries, top_bit, first_mechanism, second_mechanism, first_model, size_of}
 use Rattle.counter_models.proofs.Counter.{hedge_of}
 use Rattle.counter_models.proofs.ParityLaws.{odd-congr}
 use Rattle.counter_models.proofs.Truths.{not_true}
 use Rattle.counter_models.proofs.Witness.{fit_one, fit_two, positive_one, positive_two, agree_observed}
 use Rattle.conditional_id.proofs.Served.{parity_two}
 use Rattle.conditional_id.specs.HedgeLaws.{with_mechanism, IsLeafPair}
-use Rattle.finite_models.specs.Parities.{differ}
 
 -- the bit of a value that other vertices read
 abbrev pub read_bit : ParityHedge → ℕ → ℕ → Bool

@@ -1,25 +1,20 @@
 -- What is found for an effect under a condition is right.
 use Rattle.std.proofs.Common.{ℕ, ◌≡◌, ◌≤◌, ◌↔◌, Bool, true, false, refl, sym, ap, subst, ◌∙◌, inl, inr, List, length, IsTrue}
 use Rattle.std.specs.Prelude.{Result, IfOk}
-use Rattle.mixed_graph.specs.Bits.{has}
-use Rattle.mixed_graph.specs.Graphs.{MixedGraph, IsMixedGraph}
 use Rattle.mixed_graph.specs.declared.sets.VSet.{VSet}
+use Rattle.mixed_graph.specs.Vocabulary.{has, MixedGraph, IsMixedGraph, union}
 use Rattle.mixed_graph.proofs.Masks.{has-zero}
-use Rattle.mixed_graph.specs.Masks.{union}
-use Rattle.finite_models.specs.Data.{meaning}
-use Rattle.prob_expr.specs.Differences.{DifferOnTarget, HasNoFormula}
-use Rattle.prob_expr.specs.Tree.{PlainFormula, PlainTarget, effect_on}
-use Rattle.prob_expr.specs.View.{formula_view}
+use Rattle.finite_models.specs.Vocabulary.{meaning}
+use Rattle.prob_expr.specs.Vocabulary.{DifferOnTarget, HasNoFormula, PlainFormula, PlainTarget, effect_on, formula_view}
 use Rattle.prob_expr.proofs.Excluded.{difference_excludes_formula}
-use Rattle.do_derivation.specs.Plans.{PlainDerivation}
-use Rattle.do_derivation.specs.View.{derivation_view}
+use Rattle.do_derivation.specs.Vocabulary.{PlainDerivation, derivation_view}
 use Rattle.identification_theory.proofs.Bools.{clash}
-use Rattle.identification_theory.specs.Derivations.{IsDerived}
+use Rattle.identification_theory.specs.Vocabulary.{IsDerived}
 use Rattle.hedge.specs.declared.hedge.Hedge.{Hedge}
-use Rattle.counter_models.specs.Events.{AreCounterModels}
-use Rattle.counter_models.proofs.Excluded.{differ_on}
 use Rattle.counter_models.specs.declared.counter_pair.CounterPair.{CounterPair}
-use Rattle.identify.specs.Answers.{IsRightHedge}
+use Rattle.counter_models.specs.Vocabulary.{AreCounterModels}
+use Rattle.counter_models.proofs.Excluded.{differ_on}
+use Rattle.identify.specs.Vocabulary.{IsRightHedge}
 use Rattle.identify.proofs.RightAnswers.{if_ok}
 use Rattle.conditional_id.proofs.Answered.{conditional_is_right, turned_is_same, turned_is_target}
 use Rattle.conditional_id.proofs.DividingLaw.{join-zero}

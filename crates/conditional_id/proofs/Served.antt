@@ -1,18 +1,16 @@
 -- Each cause of the models serves one vertex, or two.
 use Rattle.std.proofs.Common.{ℕ, suc, ◌+◌, ◌-◌, ◌≡◌, ◌<◌, ◌≤◌, Bool, true, false, cond, eqb, ltb, refl, sym, ap, ◌∙◌, ◌&&◌, ◌||◌, ◌⊎◌, inl, inr}
 use Rattle.std.proofs.Common.{length, List, [], ◌∷◌, arith, ltb-true, ltb-false, eqb-true, ne_eqb}
-use Rattle.mixed_graph.specs.Graphs.{MixedGraph, IsMixedGraph}
-use Rattle.finite_models.specs.Models.{FiniteModel}
+use Rattle.mixed_graph.specs.Vocabulary.{MixedGraph, IsMixedGraph}
+use Rattle.finite_models.specs.Vocabulary.{FiniteModel, ServesTwo}
 use Rattle.finite_models.proofs.Bools.{and_first, and_second, same_truth}
 use Rattle.finite_models.proofs.SumLaws.{eqb-refl}
-use Rattle.counter_models.specs.Hedges.{ParityHedge, IsWholeHedge, links_of}
-use Rattle.counter_models.specs.Links.{Link, is_end}
-use Rattle.counter_models.specs.ParityPairs.{first_model, serves_of}
+use Rattle.counter_models.specs.Hedges.{links_of}
+use Rattle.counter_models.specs.Vocabulary.{ParityHedge, IsWholeHedge, Link, is_end, first_model, serves_of}
 use Rattle.counter_models.proofs.CounterFits.{or_split}
 use Rattle.counter_models.proofs.Witness.{fit_one}
 use Rattle.conditional_id.specs.HedgeLaws.{with_mechanism}
 use Rattle.conditional_id.specs.Masked.{masked}
-use Rattle.finite_models.specs.Served.{ServesTwo}
 
 twice : (e : Bool) → e ≡ (e || e)
 twice true = refl

@@ -2,19 +2,14 @@
 use Rattle.std.proofs.Common.{ℕ, ◌*◌, ◌≡◌, ◌≤◌, Bool, true, refl, sym, ap, ap₂, ◌∙◌, ◌||◌, inl, inr, List, [], ◌∷◌, arith}
 use mathlib.Core.Path.{fun_ext}
 use Rattle.std.proofs.lemmas.Bool.{or_left}
-use Rattle.mixed_graph.specs.Bits.{has}
-use Rattle.mixed_graph.specs.Graphs.{MixedGraph, IsMixedGraph}
-use Rattle.mixed_graph.specs.Masks.{union, one}
+use Rattle.mixed_graph.specs.Vocabulary.{has, MixedGraph, IsMixedGraph, union, one}
 use Rattle.mixed_graph.proofs.Masks.{has-zero, has-or}
-use Rattle.fractions.specs.Fractions.{mul, IsEqual}
+use Rattle.fractions.specs.Vocabulary.{mul, IsEqual}
 use Rattle.fractions.proofs.FractionLaws.{equal_sym, equal_trans, mul_equal}
-use Rattle.finite_models.specs.Agreement.{AgreeObserved}
-use Rattle.finite_models.specs.Models.{FiniteModel, Fits, IsAssignment, IsPositiveModel, weight_of}
+use Rattle.finite_models.specs.Vocabulary.{AgreeObserved, FiniteModel, Fits, IsAssignment, IsPositiveModel, weight_of}
 use Rattle.finite_models.proofs.Following.{follows_of}
 use Rattle.finite_models.proofs.Positive.{positive_weight}
-use Rattle.prob_expr.specs.Tree.{PlainTarget}
-use Rattle.prob_expr.specs.Values.{effect}
-use Rattle.prob_expr.specs.Differences.{DifferOnTarget}
+use Rattle.prob_expr.specs.Vocabulary.{PlainTarget, effect, DifferOnTarget}
 use Rattle.prob_expr.proofs.Allowed.{in_second}
 use Rattle.prob_expr.proofs.Excluded.{without_none}
 use Rattle.prob_expr.proofs.Observed.{formula_fixes_effect}

@@ -2,12 +2,13 @@
 use Rattle.std.proofs.Common.{◌≡◌, refl, sym, subst, ap, ◌∙◌}
 use Rattle.std.specs.Global.{Vec}
 use Rattle.do_derivation.specs.Plans.{Plan}
-use Rattle.do_derivation.specs.View.{node_view, step_view}
-use Rattle.do_derivation.specs.declared.steps.Step.{Step, Then, roll-Step}
+use Rattle.do_derivation.specs.declared.steps.Step.{Then, roll-Step}
 use Rattle.do_derivation.specs.declared.steps.Step.TheFolds.{fold_out-Step, map-Step}
 use Rattle.do_derivation.specs.declared.steps.Step.TheOpen.{Step-F}
 use Rattle.do_derivation.specs.declared.steps.Step.TheViews.{out-Step, roll-out-Step, rolls-Then}
-use Rattle.identification_theory.specs.Derivations.{single}
+use Rattle.do_derivation.specs.Vocabulary.{node_view, step_view}
+use Rattle.do_derivation.specs.declared.steps.Step.{Step}
+use Rattle.identification_theory.specs.Vocabulary.{single}
 use Rattle.conditional_id.specs.Conditionals.{steps_of}
 
 pub alone_from : (s : Step) → ((l : Vec Step) → s ≡ Then l → ⊥) → steps_of (step_view s) ≡ single (step_view s)

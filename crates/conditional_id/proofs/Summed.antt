@@ -2,9 +2,8 @@
 use Rattle.std.proofs.Common.{ℕ, zero, suc, ◌+◌, ◌-◌, ◌*◌, ◌≡◌, ◌<◌, ◌≤◌, Bool, true, false, cond, eqb, refl, ap, ap₂, ◌∙◌, ◌&&◌, ◌||◌, arith}
 use Rattle.std.proofs.Math.Nat.{eq_of_mul-eq-mul_left}
 use mathlib.Core.Path.{fun_ext}
-use Rattle.mixed_graph.specs.Graphs.{MixedGraph, IsMixedGraph}
-use Rattle.finite_models.specs.Sums.{sum_over, set_at}
-use Rattle.finite_models.specs.Models.{FiniteModel, Fits, IsAssignment, intervene, event_weight, weight_of, agree, solution, world_weight}
+use Rattle.mixed_graph.specs.Vocabulary.{MixedGraph, IsMixedGraph}
+use Rattle.finite_models.specs.Vocabulary.{sum_over, set_at, FiniteModel, Fits, IsAssignment, intervene, event_weight, weight_of, agree, solution, world_weight}
 use Rattle.finite_models.proofs.Bools.{not_both}
 use Rattle.finite_models.proofs.Factors.{marginal}
 use Rattle.finite_models.proofs.Following.{follows_of, follows_intervene, intervene_alike}

@@ -1,15 +1,13 @@
 -- Two models that differ on what a target turns into differ on the target.
 use Rattle.std.proofs.Common.{ℕ, ◌≡◌, ◌≤◌, ap, subst, inl, inr, List, ◌∙◌}
-use Rattle.mixed_graph.specs.Bits.{has}
-use Rattle.mixed_graph.specs.Graphs.{MixedGraph, IsMixedGraph}
+use Rattle.mixed_graph.specs.Vocabulary.{has, MixedGraph, IsMixedGraph}
 use Rattle.mixed_graph.proofs.Masks.{has-zero}
 use Rattle.finite_models.proofs.Bools.{not_both}
-use Rattle.fractions.specs.Fractions.{IsEqual}
+use Rattle.fractions.specs.Vocabulary.{IsEqual}
 use Rattle.fractions.proofs.FractionLaws.{equal_sym, equal_trans}
-use Rattle.hedge.specs.Hedges.{IsHedge}
 use Rattle.hedge.specs.declared.hedge.Hedge.{Hedge}
-use Rattle.prob_expr.specs.Tree.{PlainTarget}
-use Rattle.prob_expr.specs.Values.{effect}
+use Rattle.hedge.specs.Vocabulary.{IsHedge}
+use Rattle.prob_expr.specs.Vocabulary.{PlainTarget, effect}
 use Rattle.prob_expr.proofs.Allowed.{in_second}
 use Rattle.conditional_id.specs.Conditionals.{IsConditionalTarget, IsTurned, AreEqualEffects}
 use Rattle.conditional_id.specs.HedgeLaws.{AreModelsOf, HaveOpenWalks, HedgesGiveModelsTurned}

@@ -3,21 +3,18 @@ use Rattle.std.proofs.Common.{ℕ, suc, ◌≡◌, ◌<◌, Bool, true, false, n
 use Rattle.conditional_id.specs.Conditionals.AreTurned.{still, move}
 use Rattle.conditional_id.specs.Conditionals.{IsConditionalTarget, AreTurned, IsTurned, turned_steps}
 use Rattle.do_derivation.specs.Plans.{Plans}
-use Rattle.do_derivation.specs.Steps.{MakesAll}
-use Rattle.do_derivation.specs.Table.{Row, is_part}
 use Rattle.do_derivation.specs.declared.faults.StepFault.TheVariants.{Sets}
+use Rattle.do_derivation.specs.Vocabulary.{MakesAll, is_part}
+use Rattle.do_derivation.specs.Table.{Row}
 use Rattle.do_rules.specs.declared.rules.Rule.TheVariants.{Two}
 use Rattle.identification_theory.proofs.Bools.{and_l, and_r, both_true, clash, not_e, not_i, or_e, or_l}
 use Rattle.identification_theory.proofs.Places.{made_if, part}
 use Rattle.identification_theory.proofs.Sets.{apart, below, has-minus, not_empty, one-is, one-self}
-use Rattle.identification_theory.specs.Depth.{are_plans_within}
-use Rattle.identification_theory.specs.Procedure.{IsTarget}
+use Rattle.identification_theory.specs.Vocabulary.{are_plans_within, IsTarget}
 use Rattle.mixed_graph.proofs.Masks.{has-or, has-zero}
-use Rattle.mixed_graph.specs.Bits.{has}
-use Rattle.mixed_graph.specs.Graphs.{MixedGraph}
-use Rattle.mixed_graph.specs.Masks.{is_empty, union, minus, one}
-use Rattle.prob_expr.specs.Terms.{is_term}
-use Rattle.prob_expr.specs.Tree.{PlainTarget, Tree, prob}
+use Rattle.mixed_graph.specs.Vocabulary.{has, MixedGraph, is_empty, union, minus, one}
+use Rattle.prob_expr.specs.Vocabulary.{is_term, PlainTarget}
+use Rattle.prob_expr.specs.Tree.{Tree, prob}
 
 -- the target P(y | do(x), z)
 abbrev pub targeted : (x y z : ℕ) → PlainTarget

@@ -1,23 +1,16 @@
 -- Right answers to the question for P(y | do(x), given) (Shpitser and Pearl 2006).
 use Rattle.std.specs.Prelude.{ℕ, ◌≡◌, ◌≤◌, ◌↔◌, Bool, true, false, List, length, IsTrue}
-use Rattle.mixed_graph.specs.Graphs.{MixedGraph}
 use Rattle.mixed_graph.specs.declared.sets.VSet.{VSet}
-use Rattle.mixed_graph.specs.Masks.{union}
-use Rattle.finite_models.specs.Data.{meaning}
-use Rattle.prob_expr.specs.Differences.{DifferOnTarget, HasNoFormula}
-use Rattle.prob_expr.specs.Terms.{is_do_free}
-use Rattle.prob_expr.specs.Tree.{PlainFormula, PlainTarget, effect_on}
-use Rattle.prob_expr.specs.Values.{EqualsEffect}
-use Rattle.prob_expr.specs.View.{formula_view}
-use Rattle.do_derivation.specs.Plans.{PlainDerivation}
-use Rattle.do_derivation.specs.View.{derivation_view}
-use Rattle.identification_theory.specs.Procedure.{IsUnidentified}
-use Rattle.hedge.specs.Hedges.{IsHedge}
+use Rattle.mixed_graph.specs.Vocabulary.{MixedGraph, union}
+use Rattle.finite_models.specs.Vocabulary.{meaning}
+use Rattle.prob_expr.specs.Vocabulary.{DifferOnTarget, HasNoFormula, is_do_free, PlainFormula, PlainTarget, effect_on, EqualsEffect, formula_view}
+use Rattle.do_derivation.specs.Vocabulary.{PlainDerivation, derivation_view}
+use Rattle.identification_theory.specs.Vocabulary.{IsUnidentified}
 use Rattle.hedge.specs.declared.hedge.Hedge.{Hedge}
-use Rattle.counter_models.specs.Pairs.{IsPairOf}
+use Rattle.hedge.specs.Vocabulary.{IsHedge}
 use Rattle.counter_models.specs.declared.counter_pair.CounterPair.{CounterPair}
-use Rattle.identify.specs.Answers.{IsRightHedge}
-use Rattle.identify.specs.Hedged.{IsHedgeOf}
+use Rattle.counter_models.specs.Vocabulary.{IsPairOf}
+use Rattle.identify.specs.Vocabulary.{IsRightHedge, IsHedgeOf}
 use Rattle.conditional_id.specs.Conditionals.{IsConditionalTarget, IsTurned, IsConditionalBySteps, AreEqualEffects}
 use Rattle.conditional_id.specs.TurnLaws.{IsRightGiven}
 use Rattle.conditional_id.specs.Settled.{IsSettled}

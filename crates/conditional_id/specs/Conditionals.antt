@@ -1,20 +1,18 @@
 -- Effects under a condition, P(y | do(x), given) (Shpitser and Pearl 2006): observations turn into interventions as long as rule 2 lets them; then
 -- the joint effect of the rest is identified, and divided.
 use Rattle.std.specs.Prelude.{ℕ, ◌≡◌, ◌≢◌, ◌<◌, ◌⊎◌, List, [], ◌∷◌, IsTrue, if◌then◌else◌}
-use Rattle.mixed_graph.specs.Bits.{has}
-use Rattle.mixed_graph.specs.Graphs.{MixedGraph}
-use Rattle.finite_models.specs.Models.{FiniteModel, Fits, IsAssignment, IsPositiveModel}
-use Rattle.fractions.specs.Fractions.{IsEqual}
-use Rattle.do_rules.specs.Rules.{AreThreeSets, IsBlockedFor}
+use Rattle.mixed_graph.specs.Vocabulary.{has, MixedGraph, union, minus, one, is_empty}
+use Rattle.finite_models.specs.Vocabulary.{FiniteModel, Fits, IsAssignment, IsPositiveModel}
+use Rattle.fractions.specs.Vocabulary.{IsEqual}
 use Rattle.do_rules.specs.declared.rules.Rule.{Rule}
-use Rattle.mixed_graph.specs.Masks.{union, minus, one, is_empty}
-use Rattle.prob_expr.specs.Tree.{prob, sum, quotient, PlainFormula, PlainTarget}
-use Rattle.prob_expr.specs.Values.{effect}
-use Rattle.do_derivation.specs.Plans.{Move, Plan, Plans, no_plans, plan, PlainDerivation}
+use Rattle.do_rules.specs.Vocabulary.{AreThreeSets, IsBlockedFor}
+use Rattle.prob_expr.specs.Tree.{prob, sum, quotient}
+use Rattle.prob_expr.specs.Vocabulary.{PlainFormula, PlainTarget, effect}
+use Rattle.do_derivation.specs.Plans.{Move, Plan, Plans, plan}
+use Rattle.do_derivation.specs.Vocabulary.{no_plans, PlainDerivation}
 use Rattle.do_derivation.specs.declared.moves.SetMove.TheVariants as set_move
 use Rattle.do_derivation.specs.declared.moves.BareMove.TheVariants as bare_move
-use Rattle.identification_theory.specs.Derivations.{single, IsDerived}
-use Rattle.identification_theory.specs.Procedure.{IsIdentified}
+use Rattle.identification_theory.specs.Vocabulary.{single, IsDerived, IsIdentified}
 
 -- the three sets of a target lie within the graph and are disjoint, and y isn't empty
 pub record IsConditionalTarget (g : MixedGraph) (t : PlainTarget) : Type 0 where

@@ -1,22 +1,15 @@
 -- Where observations are left whose own effect has a hedge, the effect under a condition has no formula.
 use Rattle.std.specs.Prelude.{◌||◌, ℕ, ◌≡◌, ◌*◌, ◌<◌, ◌≤◌, Bool, true, IsTrue, List}
-use Rattle.mixed_graph.specs.Bits.{has}
-use Rattle.mixed_graph.specs.Masks.{minus, one}
-use Rattle.do_rules.specs.Cuts.{cut_into, cut_out}
-use Rattle.m_separation.specs.Walks.{HasOpenWalk}
-use Rattle.mixed_graph.specs.Graphs.{MixedGraph, IsMixedGraph}
-use Rattle.finite_models.specs.Sums.{set_at}
-use Rattle.finite_models.specs.Models.{FiniteModel, Fits, IsAssignment, IsPositiveModel, weight_of, solution, intervene}
-use Rattle.finite_models.specs.Agreement.{AgreeObserved}
-use Rattle.fractions.specs.Fractions.{IsEqual}
-use Rattle.hedge.specs.Hedges.{IsHedge}
+use Rattle.mixed_graph.specs.Vocabulary.{has, minus, one, MixedGraph, IsMixedGraph}
+use Rattle.do_rules.specs.Vocabulary.{cut_into, cut_out}
+use Rattle.m_separation.specs.Vocabulary.{HasOpenWalk}
+use Rattle.finite_models.specs.Vocabulary.{set_at, FiniteModel, Fits, IsAssignment, IsPositiveModel, weight_of, solution, intervene, AgreeObserved, ServesTwo}
+use Rattle.fractions.specs.Vocabulary.{IsEqual}
 use Rattle.hedge.specs.declared.hedge.Hedge.{Hedge}
-use Rattle.prob_expr.specs.Tree.{PlainTarget}
-use Rattle.prob_expr.specs.Differences.{DifferOn, HasNoFormula}
-use Rattle.prob_expr.specs.Values.{effect}
+use Rattle.hedge.specs.Vocabulary.{IsHedge}
+use Rattle.prob_expr.specs.Vocabulary.{PlainTarget, DifferOn, HasNoFormula, effect}
 use Rattle.conditional_id.specs.Conditionals.{IsConditionalTarget, IsTurning, IsTurned}
 use Rattle.conditional_id.specs.Masked.{AreAlike}
-use Rattle.finite_models.specs.Served.{ServesTwo}
 
 -- the model with other mechanisms
 abbrev pub with_mechanism : FiniteModel → (ℕ → (ℕ → ℕ) → (ℕ → ℕ) → ℕ) → FiniteModel

@@ -5,3 +5,4 @@ pub mod TurnLaws
 pub mod Settled
 pub mod Masked
 pub mod HedgeLaws
+pub mod Vocabulary

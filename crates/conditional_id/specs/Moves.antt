@@ -1,9 +1,8 @@
 -- The observations that turn into interventions, one after the other.
 use Rattle.std.specs.Prelude.{ℕ, ◌≡◌, ◌<◌, List, IsTrue}
-use Rattle.mixed_graph.specs.Bits.{has}
-use Rattle.mixed_graph.specs.Graphs.{MixedGraph}
+use Rattle.mixed_graph.specs.Vocabulary.{has, MixedGraph}
 use Rattle.do_derivation.specs.Plans.{Plans}
-use Rattle.identify.specs.Lists.{onto}
+use Rattle.identify.specs.Vocabulary.{onto}
 use Rattle.conditional_id.specs.Conditionals.{IsTurning, AreTurned, turned_steps}
 use Rattle.conditional_id.specs.HedgeLaws.{HaveOpenWalks}
 use Rattle.conditional_id.specs.declared.answer.Turned.{Turned}

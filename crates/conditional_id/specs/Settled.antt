@@ -1,13 +1,8 @@
 -- When the two models of the joint effect settle that P(y | do(x), given) has no formula either.
 use Rattle.std.specs.Prelude.{ℕ, ◌≡◌, ◌⊎◌, true, List}
-use Rattle.mixed_graph.specs.Graphs.{MixedGraph, IsMixedGraph}
-use Rattle.mixed_graph.specs.Masks.{union}
-use Rattle.finite_models.specs.Agreement.{AgreeObserved}
-use Rattle.finite_models.specs.Models.{FiniteModel, Fits, IsPositiveModel}
-use Rattle.prob_expr.specs.Differences.{DifferOnTarget}
-use Rattle.prob_expr.specs.Terms.{is_do_free}
-use Rattle.prob_expr.specs.Tree.{PlainFormula, PlainTarget}
-use Rattle.prob_expr.specs.Values.{EqualsEffect}
+use Rattle.mixed_graph.specs.Vocabulary.{MixedGraph, IsMixedGraph, union}
+use Rattle.finite_models.specs.Vocabulary.{AgreeObserved, FiniteModel, Fits, IsPositiveModel}
+use Rattle.prob_expr.specs.Vocabulary.{DifferOnTarget, is_do_free, PlainFormula, PlainTarget, EqualsEffect}
 use Rattle.conditional_id.specs.Conditionals.{IsConditionalTarget, IsTurned}
 
 -- P(left | do(doing)) equals a formula without interventions

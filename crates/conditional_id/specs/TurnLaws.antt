@@ -1,20 +1,11 @@
 -- What is proved of effects under a condition.
 use Rattle.std.specs.Prelude.{ℕ, ◌≡◌, true, List, [], None, IsTrue}
-use Rattle.mixed_graph.specs.Bits.{has}
-use Rattle.mixed_graph.specs.Graphs.{MixedGraph, IsMixedGraph, IsAncestor}
-use Rattle.hedge.specs.Shapes.{AreSetsOfHedge}
-use Rattle.prob_expr.specs.Check.{fault_in}
-use Rattle.mixed_graph.specs.Masks.{union}
-use Rattle.prob_expr.specs.Terms.{is_do_free}
-use Rattle.prob_expr.specs.Tree.{PlainFormula, PlainTarget}
-use Rattle.prob_expr.specs.Values.{EqualsEffect}
+use Rattle.mixed_graph.specs.Vocabulary.{has, MixedGraph, IsMixedGraph, IsAncestor, union}
+use Rattle.hedge.specs.Vocabulary.{AreSetsOfHedge}
+use Rattle.prob_expr.specs.Vocabulary.{fault_in, is_do_free, PlainFormula, PlainTarget, EqualsEffect}
 use Rattle.do_derivation.specs.Accepts.{Accepts}
-use Rattle.do_derivation.specs.Plans.{PlainDerivation}
-use Rattle.identification_theory.specs.Depth.{is_plan_within, are_lemmas_within}
-use Rattle.identification_theory.specs.Procedure.{IsUnidentified}
-use Rattle.identification_theory.specs.AnswerDepth.{is_tree_within, are_defs_within}
-use Rattle.identification_theory.specs.AnswerLaws.{AreRoots}
-use Rattle.identification_theory.specs.Names.{FormulaNamesOnly}
+use Rattle.do_derivation.specs.Vocabulary.{PlainDerivation}
+use Rattle.identification_theory.specs.Vocabulary.{is_plan_within, are_lemmas_within, IsUnidentified, is_tree_within, are_defs_within, AreRoots, FormulaNamesOnly}
 use Rattle.conditional_id.specs.Conditionals.{IsConditionalTarget, AreTurned, IsTurned, divided, divided_derivation, IsConditional}
 use Rattle.conditional_id.specs.Conditionals.{IsConditionalBySteps, AreEqualEffects}
 

@@ -1,11 +1,11 @@
 //! The formula of the joint effect, divided by its sum over y, with its derivation.
 
 ghost use Rattle.std.specs.Prelude.{◌≡◌, IfOk, OnOk};
-ghost use Rattle.prob_expr.specs.View.{formula_view};
+ghost use Rattle.prob_expr.specs.Vocabulary.{formula_view};
 ghost use Rattle.do_derivation.specs.Plans.{Plan, Plans, plan};
-ghost use Rattle.do_derivation.specs.View.{step_view, steps_view};
+ghost use Rattle.do_derivation.specs.Vocabulary.{step_view, steps_view};
 ghost use Rattle.conditional_id.specs.Conditionals.{divided, divided_steps, steps_of, summed_steps};
-ghost use Rattle.identify.specs.Lists.{onto};
+ghost use Rattle.identify.specs.Vocabulary.{onto};
 
 use do_derivation::{BareMove, Move, SetMove, Step, copy_step};
 use mixed_graph::VSet;

@@ -1,28 +1,18 @@
 //! Identification of an effect under a condition.
 
 ghost use Rattle.std.specs.Prelude.{◌≡◌, ◌≢◌, ℕ, ◌<◌, ◌≤◌, ◌↔◌, List, [], true, false, not, length, IsTrue, IfOk, None};
-ghost use Rattle.mixed_graph.specs.Bits.{has};
-ghost use Rattle.mixed_graph.specs.Graphs.{IsAncestor};
-ghost use Rattle.mixed_graph.specs.Sets.{Within, Apart};
-ghost use Rattle.mixed_graph.specs.Shown.{graph_of};
-ghost use Rattle.do_rules.specs.Rules.{AreThreeSets};
-ghost use Rattle.prob_expr.specs.Check.{fault_in};
-ghost use Rattle.mixed_graph.specs.Masks.{union};
-ghost use Rattle.prob_expr.specs.Differences.{HasNoFormula};
-ghost use Rattle.prob_expr.specs.Terms.{is_do_free};
-ghost use Rattle.prob_expr.specs.Tree.{prob, effect_on};
-ghost use Rattle.prob_expr.specs.Values.{EqualsEffect};
-ghost use Rattle.prob_expr.specs.View.{formula_view, target_view};
+ghost use Rattle.mixed_graph.specs.Vocabulary.{has, IsAncestor, Within, Apart, graph_of, union};
+ghost use Rattle.do_rules.specs.Vocabulary.{AreThreeSets};
+ghost use Rattle.prob_expr.specs.Vocabulary.{fault_in, HasNoFormula, is_do_free, effect_on, EqualsEffect, formula_view, target_view};
+ghost use Rattle.prob_expr.specs.Tree.{prob};
 ghost use Rattle.do_derivation.specs.Accepts.{Accepts};
-ghost use Rattle.do_derivation.specs.Plans.{Plan, Plans, no_plans};
-ghost use Rattle.do_derivation.specs.View.{derivation_view};
-ghost use Rattle.identification_theory.specs.Derivations.{IsDerived};
-ghost use Rattle.identification_theory.specs.Names.{FormulaNamesOnly};
-ghost use Rattle.hedge.specs.Hedges.{IsHedge};
+ghost use Rattle.do_derivation.specs.Plans.{Plan, Plans};
+ghost use Rattle.do_derivation.specs.Vocabulary.{no_plans, derivation_view};
+ghost use Rattle.identification_theory.specs.Vocabulary.{IsDerived, FormulaNamesOnly};
 ghost use Rattle.hedge.specs.declared.hedge.Hedge.{Hedge};
-ghost use Rattle.counter_models.specs.Events.{AreCounterModels};
-ghost use Rattle.identify.specs.Answers.{is_hedge};
-ghost use Rattle.identify.specs.Lists.{onto};
+ghost use Rattle.hedge.specs.Vocabulary.{IsHedge};
+ghost use Rattle.counter_models.specs.Vocabulary.{AreCounterModels};
+ghost use Rattle.identify.specs.Vocabulary.{is_hedge, onto};
 ghost use Rattle.conditional_id.specs.Conditionals.{divided, divided_derivation, turned_steps, IsConditionalTarget, IsConditional, IsConditionalBySteps};
 ghost use Rattle.conditional_id.specs.TurnLaws.{IsShallowGiven};
 ghost use Rattle.conditional_id.specs.Settled.{IsSettled};

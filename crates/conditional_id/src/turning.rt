@@ -1,9 +1,8 @@
 //! The observations that turn into interventions.
 
 ghost use Rattle.std.specs.Prelude.{◌≡◌, ℕ, ◌<◌, ◌↔◌, false, IsTrue, IfOk, MatchOption};
-ghost use Rattle.mixed_graph.specs.Bits.{has};
-ghost use Rattle.mixed_graph.specs.Shown.{graph_of};
-ghost use Rattle.do_rules.specs.Rules.{AreThreeSets};
+ghost use Rattle.mixed_graph.specs.Vocabulary.{has, graph_of};
+ghost use Rattle.do_rules.specs.Vocabulary.{AreThreeSets};
 ghost use Rattle.conditional_id.specs.Conditionals.{IsTurning};
 ghost use Rattle.conditional_id.specs.HedgeLaws.{HasOpenWalkTo, HaveOpenWalks};
 ghost use Rattle.conditional_id.specs.Moves.{IsLowestTurning, AreMoved};

@@ -1,9 +1,8 @@
 -- Bytes of counts are the text of one table, as far as its sums go.
 use Rattle.std.proofs.Common.{◌≡◌, ℕ, List, Option, sym, ap, ◌∙◌}
 use mathlib.Core.Path.{fun_ext}
-use Rattle.count_rows.specs.Records.{Field, records_of, rows_of}
-use Rattle.count_rows.specs.Rows.{Table, counted, rows_in}
-use Rattle.count_table.specs.Reading.{IsTableOf, layout_in}
+use Rattle.count_rows.specs.Vocabulary.{Field, records_of, rows_of, Table, counted, rows_in}
+use Rattle.count_table.specs.Vocabulary.{IsTableOf, layout_in}
 
 -- both tables have the same vertices, levels and sums
 pub record AreAlike (t u : Table) : Type 0 where

@@ -1,8 +1,8 @@
 -- Texts with commas between them.
 use Rattle.std.proofs.Common.{◌≡◌, ℕ, zero, suc, ◌<◌, Bool, true, false, cond, List, [], ◌∷◌, ◌++◌, map, refl, sym, ap, ◌∙◌, append_assoc, arith}
 use Rattle.std.proofs.lemmas.List.{append-nil, map-append}
-use Rattle.mixed_graph.specs.Bits.{has, members_below}
-use Rattle.answer_text.specs.Texts.{comma_before}
+use Rattle.mixed_graph.specs.Vocabulary.{has, members_below}
+use Rattle.answer_text.specs.Vocabulary.{comma_before}
 use Rattle.count_answers.specs.Lines.{with_commas}
 
 -- the first text, the comma behind it where more follow, and these

@@ -1,10 +1,10 @@
 -- The levels of a cell, as they are printed.
 use Rattle.std.specs.Prelude.{ℕ, ◌≡◌, Bool, true, false, not, ◌||◌, ◌==◌, if◌then◌else◌, List, [], ◌∷◌, ◌++◌, map, codes, slice_index_or}
 use Rattle.std.specs.List.{flat_map, list_all}
-use Rattle.mixed_graph.specs.Names.{name_of}
-use Rattle.answer_text.specs.Printing.{printed}
-use Rattle.count_rows.specs.Rows.{Table}
-use Rattle.count_table.specs.Tables.{levels_in}
+use Rattle.mixed_graph.specs.Vocabulary.{name_of}
+use Rattle.answer_text.specs.Vocabulary.{printed}
+use Rattle.count_rows.specs.Vocabulary.{Table}
+use Rattle.count_table.specs.Vocabulary.{levels_in}
 
 -- the bytes of a vertex's level with that number; none where it has no such level
 abbrev pub level_text : Table → ℕ → ℕ → List ℕ

@@ -2,9 +2,9 @@
 
 ghost use Rattle.std.specs.Prelude.{ℕ, ◌≡◌, ◌++◌, not, length, slice_index, OnOk};
 ghost use Rattle.std.specs.List.{flat_map, list_all};
-ghost use Rattle.mixed_graph.specs.Bits.{has, members_below};
-ghost use Rattle.count_eval.specs.Programs.{cell_of};
-ghost use Rattle.answer_text.specs.Texts.{comma_before};
+ghost use Rattle.mixed_graph.specs.Vocabulary.{has, members_below};
+ghost use Rattle.count_eval.specs.Vocabulary.{cell_of};
+ghost use Rattle.answer_text.specs.Vocabulary.{comma_before};
 ghost use Rattle.count_answers.specs.Lines.{level_text, is_break, escaped, printed_level, assignment, assignments};
 
 use answer_text::push_vertex;

@@ -1,8 +1,8 @@
 //! Where a case's counts come from.
 
 ghost use Rattle.std.specs.Prelude.{◌≡◌, IsTrue};
-ghost use Rattle.mixed_graph.specs.Bits.{has};
-ghost use Rattle.count_table.specs.Tables.{HasLevels};
+ghost use Rattle.mixed_graph.specs.Vocabulary.{has};
+ghost use Rattle.count_table.specs.Vocabulary.{HasLevels};
 
 use case_rows::{list, text};
 use count_table::{CountFault, Counts, read_counts};

@@ -1,8 +1,8 @@
 //! Sums of counts by tables of sums, and the places of cells.
 
 ghost use Rattle.std.specs.Prelude.{◌≡◌, IfSome};
-ghost use Rattle.mixed_graph.specs.Bits.{has};
-ghost use Rattle.count_table.specs.Tables.{HasLevels};
+ghost use Rattle.mixed_graph.specs.Vocabulary.{has};
+ghost use Rattle.count_table.specs.Vocabulary.{HasLevels};
 
 use crate::sources::{has_levels, set_of};
 use case_rows::{Printed, list, number};

@@ -2,11 +2,11 @@
 use Rattle.std.proofs.Common.{ℕ, suc, ◌+◌, ◌≡◌, Bool, true, false, ltb, not, Option, Some, None, Result, Ok, Err, if◌then◌else◌, List, [], ◌∷◌}
 use Rattle.std.proofs.Common.{length, refl, subst, arith}
 use Rattle.std.proofs.lemmas.Bool.{ltb-true}
-use Rattle.mixed_graph.specs.Masks.{is_empty, is_below}
-use Rattle.prob_expr.specs.Tree.{Tree, prob, sum, product, quotient, named, Trees, no_trees, tree, PlainFormula}
-use Rattle.prob_expr.specs.Check.{check_tree, check_trees, fault_of, or_else, fault_in_defs, fault_in, are_two, next_node, cap, ◌>>=◌}
+use Rattle.mixed_graph.specs.Vocabulary.{is_empty, is_below}
+use Rattle.prob_expr.specs.Tree.{Tree, prob, sum, product, quotient, named, tree}
 use Rattle.prob_expr.specs.declared.checking.ExprFault.{ExprFault}
 use Rattle.prob_expr.specs.declared.checking.ExprFault.TheVariants.{Forward}
+use Rattle.prob_expr.specs.Vocabulary.{Trees, no_trees, PlainFormula, check_tree, check_trees, fault_of, or_else, fault_in_defs, fault_in, are_two, next_node, cap, ◌>>=◌}
 use Rattle.count_eval.specs.Programs.{IsBelow, AreBelow, AreOrdered}
 
 if_ok : {A : Type 0} (p : Bool) (e : ExprFault) (x : Result A ExprFault) (v : A) → (if p then Err e else x) ≡ Ok v → x ≡ Ok v

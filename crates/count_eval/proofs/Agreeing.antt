@@ -4,18 +4,16 @@ use Rattle.std.proofs.Common.{arith, Option, Some, None, Result, Ok, Err, List, 
 use Rattle.std.proofs.Math.Seq.{take-length}
 use Rattle.std.proofs.lemmas.Bool.{and_parts, cases_lt, or_left, or_right}
 use Rattle.std.proofs.lemmas.List.{get_or_append_left, get_or_past, get_or_push, length_push}
-use Rattle.finite_models.specs.Sums.{set_at}
+use Rattle.finite_models.specs.Vocabulary.{set_at}
 use Rattle.finite_models.proofs.Bools.{either}
-use Rattle.mixed_graph.specs.Bits.{has}
-use Rattle.mixed_graph.specs.Masks.{union}
-use Rattle.prob_expr.specs.Tree.{Tree, prob, sum, product, quotient, named, Trees, no_trees, tree}
-use Rattle.prob_expr.specs.Free.{free_in, free_in_any, free_in_defs}
-use Rattle.prob_expr.specs.Values.{Weights}
-use Rattle.prob_expr.specs.Check.{cap, next_node}
+use Rattle.mixed_graph.specs.Vocabulary.{has, union}
+use Rattle.prob_expr.specs.Tree.{Tree, prob, sum, product, quotient, named, tree}
+use Rattle.prob_expr.specs.Vocabulary.{Trees, no_trees, free_in, free_in_any, free_in_defs, Weights, cap, next_node}
 use Rattle.mixed_graph.proofs.MaskLaws.{has_join, has_minus}
 use Rattle.quantity.specs.declared.fault.QuantityFault.{QuantityFault}
 use Rattle.quantity.specs.declared.fault.QuantityFault.TheVariants.{ZeroBelow}
-use Rattle.quantity.specs.Kinds.{Pair, Kind}
+use Rattle.quantity.specs.Vocabulary.{Kind}
+use Rattle.quantity.specs.Kinds.{Pair}
 use Rattle.count_eval.specs.Stops.{Stop, stop, after, placed}
 use Rattle.count_eval.specs.Steps.{joined, one_more, each_level, each_cell, whole}
 use Rattle.count_eval.specs.Rules.{Rule, is_zero, or_zero}

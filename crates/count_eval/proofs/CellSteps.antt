@@ -2,12 +2,11 @@
 use Rattle.std.proofs.Common.{ℕ, zero, suc, ◌+◌, ◌-◌, ◌≡◌, ◌<◌, ◌≤◌, Bool, true, false, cond, ◌||◌, eqb, eq-eqb, refl, sym, ap, ap₂, ◌∙◌, subst, arith}
 use Rattle.std.proofs.Common.{Option, None, Result, Ok, Err, List, length, get_or, set, replicate, get_or-set_same, get_or-set_other, eqb-true}
 use mathlib.Core.Path.{fun_ext}
-use Rattle.finite_models.specs.Sums.{set_at}
-use Rattle.mixed_graph.specs.Bits.{has}
+use Rattle.finite_models.specs.Vocabulary.{set_at}
 use Rattle.mixed_graph.specs.declared.sets.VSet.{VSet}
-use Rattle.prob_expr.specs.Tree.{Tree, sum, product, quotient, Trees, no_trees, tree}
-use Rattle.prob_expr.specs.Values.{Weights}
-use Rattle.prob_expr.specs.Check.{next_node}
+use Rattle.mixed_graph.specs.Vocabulary.{has}
+use Rattle.prob_expr.specs.Tree.{Tree, sum, product, quotient, tree}
+use Rattle.prob_expr.specs.Vocabulary.{Trees, no_trees, Weights, next_node}
 use Rattle.quantity.specs.Kinds.{Pair}
 use Rattle.count_eval.specs.Rules.{Rule, is_zero, or_zero}
 use Rattle.count_eval.specs.declared.eval.Summing.{Summing}

@@ -4,14 +4,14 @@ use Rattle.std.proofs.Common.{ap, ap₂, subst, ◌∙◌, arith}
 use mathlib.Core.Path.{fun_ext}
 use Rattle.std.proofs.lemmas.Bool.{and_from, or_right}
 use Rattle.std.proofs.lemmas.List.Sums.{sum_by-cons}
-use Rattle.mixed_graph.specs.Bits.{has}
+use Rattle.mixed_graph.specs.Vocabulary.{has, union}
 use Rattle.finite_models.proofs.Bools.{and_first, and_second}
 use Rattle.quantity.specs.declared.fault.QuantityFault.TheVariants.{ZeroBelow}
-use Rattle.quantity.specs.Kinds.{Pair, Kind}
-use Rattle.mixed_graph.specs.Masks.{union}
+use Rattle.quantity.specs.Vocabulary.{Kind}
+use Rattle.quantity.specs.Kinds.{Pair}
 use Rattle.mixed_graph.proofs.MaskLaws.{has_join}
-use Rattle.count_rows.specs.Rows.{Row, agrees, counted}
-use Rattle.count_table.specs.Cells.{total}
+use Rattle.count_rows.specs.Vocabulary.{Row, agrees, counted}
+use Rattle.count_table.specs.Vocabulary.{total}
 use Rattle.count_eval.specs.Stops.{Stop, stop}
 
 asked : (p q e : Bool) → (q ≡ true → p ≡ true) → (not p || e) ≡ true → (not q || e) ≡ true

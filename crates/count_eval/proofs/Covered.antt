@@ -2,16 +2,15 @@
 use Rattle.std.proofs.Common.{ℕ, zero, suc, ◌+◌, ◌*◌, ◌≡◌, ◌≢◌, ◌≤◌, Bool, true, false, cond, not, ◌&&◌, ◌||◌, eqb, refl, sym, ap, ap₂, ◌∙◌, subst}
 use Rattle.std.proofs.Common.{arith, eqb-true, ne_eqb, mul-pos, Option, Some, None, Result, Ok, Err, List, [], ◌∷◌}
 use Rattle.std.proofs.lemmas.Bool.{and_from, and_left, and_right, or_left, or_right}
-use Rattle.finite_models.specs.Sums.{set_at, all_below}
-use Rattle.mixed_graph.specs.Bits.{has}
-use Rattle.prob_expr.specs.Tree.{Tree, prob, sum, product, quotient, named, Trees, no_trees, tree, PlainFormula}
-use Rattle.fractions.specs.Fractions.{Fraction, over, add, mul, div, add_below}
-use Rattle.prob_expr.specs.Values.{add_over, Weights, value, product_value, values_from, value_of}
-use Rattle.prob_expr.specs.Check.{cap, next_node}
+use Rattle.finite_models.specs.Vocabulary.{set_at, all_below}
+use Rattle.mixed_graph.specs.Vocabulary.{has}
+use Rattle.prob_expr.specs.Tree.{Tree, prob, sum, product, quotient, named, tree}
+use Rattle.prob_expr.specs.Vocabulary.{Trees, no_trees, PlainFormula, add_over, Weights, value, product_value, values_from, value_of, cap, next_node}
+use Rattle.fractions.specs.Vocabulary.{Fraction, over, add, mul, div, add_below}
 use Rattle.quantity.specs.declared.fault.QuantityFault.{QuantityFault}
 use Rattle.quantity.specs.declared.fault.QuantityFault.TheVariants.{ZeroBelow, TooWide, TooFine}
-use Rattle.quantity.specs.Kinds.{Pair, Kind}
-use Rattle.quantity.specs.Lawful.{IsLawful}
+use Rattle.quantity.specs.Vocabulary.{Kind, IsLawful}
+use Rattle.quantity.specs.Kinds.{Pair}
 use Rattle.count_eval.specs.Stops.{Stop, stop, after, placed}
 use Rattle.count_eval.specs.Rules.{rule, plain, is_zero, is_zero_below, or_zero}
 use Rattle.count_eval.specs.Steps.{joined, one_more, each_level, each_cell, whole}

@@ -3,18 +3,13 @@ use Rattle.std.proofs.Common.{ℕ, zero, suc, ◌*◌, ◌≡◌, ◌<◌, ◌�
 use Rattle.std.proofs.Common.{ne_eqb, mul-pos, List, [], ◌∷◌}
 use mathlib.Core.Path.{fun_ext}
 use Rattle.std.proofs.lemmas.Bool.{and_from}
-use Rattle.mixed_graph.specs.Graphs.{MixedGraph, IsMixedGraph}
-use Rattle.finite_models.specs.Sums.{set_at, all_below}
-use Rattle.finite_models.specs.Models.{FiniteModel, Fits, IsAssignment, IsPositiveModel, weight_of, total}
-use Rattle.mixed_graph.specs.Bits.{has}
-use Rattle.mixed_graph.specs.Masks.{is_empty}
-use Rattle.prob_expr.specs.Tree.{Tree, prob, sum, product, quotient, named, Trees, no_trees, tree, PlainFormula}
-use Rattle.prob_expr.specs.Terms.{is_under, are_under, all_under, is_listed, is_do_free}
-use Rattle.fractions.specs.Fractions.{Fraction, over, IsEqual, add, mul, div}
-use Rattle.prob_expr.specs.Values.{add_over, Weights, weights_of, value, product_value, values_from, value_of}
+use Rattle.mixed_graph.specs.Vocabulary.{MixedGraph, IsMixedGraph, has, is_empty}
+use Rattle.finite_models.specs.Vocabulary.{set_at, all_below, FiniteModel, Fits, IsAssignment, IsPositiveModel, weight_of, total}
+use Rattle.prob_expr.specs.Tree.{Tree, prob, sum, product, quotient, named, tree}
+use Rattle.prob_expr.specs.Vocabulary.{Trees, no_trees, PlainFormula, is_under, are_under, all_under, is_listed, is_do_free, add_over, Weights, weights_of, value, product_value, values_from, value_of}
+use Rattle.fractions.specs.Vocabulary.{Fraction, over, IsEqual, add, mul, div, IsPositive}
 use Rattle.finite_models.proofs.Bools.{and_first, and_second, either}
 use Rattle.mixed_graph.proofs.MaskLaws.{empty_has}
-use Rattle.fractions.specs.Fractions.{IsPositive}
 use Rattle.fractions.proofs.FractionLaws.{mul_positive, div_positive}
 use Rattle.prob_expr.proofs.Boxes.{assignment_set, add_over_positive}
 use Rattle.finite_models.proofs.Positive.{positive_weight}

@@ -2,15 +2,14 @@
 use Rattle.std.proofs.Common.{ℕ, zero, suc, ◌+◌, ◌*◌, ◌≡◌, ◌<◌, ◌≤◌, Bool, true, cond, eqb, ne_eqb, refl, sym, ap, ap₂, ◌∙◌, subst, arith, List, []}
 use Rattle.std.proofs.Common.{◌∷◌, map, take, length, get_or, Some, Result, Ok}
 use Rattle.std.proofs.lemmas.List.{get_or_default, length-map}
-use Rattle.prob_expr.specs.Tree.{Tree, prob, sum, product, quotient, named, Trees, no_trees, tree}
-use Rattle.prob_expr.specs.Values.{Weights}
-use Rattle.prob_expr.specs.View.{view}
+use Rattle.prob_expr.specs.Tree.{Tree, prob, sum, product, quotient, named, tree}
 use Rattle.prob_expr.specs.declared.expr.Expr.{Expr}
+use Rattle.prob_expr.specs.Vocabulary.{Trees, no_trees, Weights, cap}
+use Rattle.prob_expr.specs.View.{view}
 use Rattle.quantity.specs.Kinds.{Pair}
 use Rattle.count_eval.specs.Rules.{Rule}
 use Rattle.count_eval.specs.Stops.{Stop}
 use Rattle.count_eval.specs.Evaluated.{evaluated, evaluated_from}
-use Rattle.prob_expr.specs.Check.{cap}
 use Rattle.count_eval.specs.Laws.{IsUsed, AllUsed}
 use Rattle.count_eval.specs.Programs.{IsBelow, AreOrdered, known}
 

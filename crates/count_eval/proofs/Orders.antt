@@ -1,6 +1,6 @@
 -- Sums over boxes, the lowest vertex outermost or the highest: over any commutative operation they are the same.
 use Rattle.std.proofs.Common.{ℕ, zero, suc, ◌+◌, ◌≡◌, ◌<◌, Bool, true, false, cond, refl, sym, ap, ap₂, ◌∙◌, arith}
-use Rattle.finite_models.specs.Sums.{set_at}
+use Rattle.finite_models.specs.Vocabulary.{set_at}
 use Rattle.finite_models.proofs.SumLaws.{set_at-swap}
 
 module _ {A : Type 0} (op : A → A → A) (e : A) where

@@ -5,7 +5,7 @@ use Rattle.std.specs.Prelude.{MatchResult}
 use Rattle.std.specs.List.{list_any}
 use Rattle.std.proofs.lemmas.Bool.{leb-true}
 use Rattle.std.proofs.lemmas.List.Sums.{sum_by-cons, sum_by-append}
-use Rattle.count_table.specs.Sums.{Margins, cells_under, cells_in, sets_with}
+use Rattle.count_table.specs.Vocabulary.{Margins, cells_under, cells_in, sets_with}
 
 -- with sums over one more set there are still at most so many cells
 room_with : (m : Margins) (n most : ℕ) → cells_in m ≤ most → sum_by (cells_under m.table) (sets_with m n most) ≤ most

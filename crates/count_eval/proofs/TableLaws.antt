@@ -8,26 +8,23 @@ use Rattle.std.specs.List.{filter}
 use Rattle.std.proofs.lemmas.Bool.{lt-ltb, ltb-true, ltb-false}
 use Rattle.std.proofs.lemmas.List.{get_or_append_left, get_or-map, length-map}
 use Rattle.std.proofs.lemmas.List.Elements.{All-filter, All-cons}
-use Rattle.mixed_graph.specs.Bits.{has}
 use Rattle.mixed_graph.specs.declared.sets.VSet.{VSet}
+use Rattle.mixed_graph.specs.Vocabulary.{has}
 use Rattle.prob_expr.specs.Tree.{Tree}
 use Rattle.prob_expr.specs.View.{view}
 use Rattle.prob_expr.specs.declared.expr.Expr.{Expr}
-use Rattle.prob_expr.specs.Free.{free_in, free_in_defs}
-use Rattle.prob_expr.specs.Values.{Weights}
+use Rattle.prob_expr.specs.Vocabulary.{free_in, free_in_defs, Weights, cap}
 use Rattle.quantity.specs.Kinds.{Pair}
 use Rattle.count_eval.specs.Rules.{Rule}
-use Rattle.count_rows.specs.Rows.{Row, Table, agrees, counted}
-use Rattle.count_table.specs.Cells.{IsCell}
-use Rattle.count_table.specs.Tables.{AreCounts, HasLevels}
-use Rattle.prob_expr.specs.Check.{cap}
+use Rattle.count_rows.specs.Vocabulary.{Row, Table, agrees, counted}
+use Rattle.count_table.specs.Vocabulary.{IsCell, AreCounts, HasLevels, axes_of, cell_at, place_at, HasCell}
 use Rattle.count_eval.specs.Stops.{Stop}
 use Rattle.count_eval.specs.Evaluated.{evaluated}
 use Rattle.count_eval.proofs.Measures.{known_at}
 use Rattle.count_eval.specs.Programs.{weights_in, is_used, known}
 use Rattle.count_eval.specs.Laws.{AllUsed}
 use Rattle.count_eval.proofs.Used.{among, with_levels}
-use Rattle.count_table.specs.Axes.{Axes, axes_of, cell_at, place_at, HasCell}
+use Rattle.count_table.specs.Axes.{Axes}
 use Rattle.count_table.proofs.Choosing.{size_in, sizes-pos}
 use Rattle.count_table.proofs.Lists.{same-map}
 use Rattle.count_table.proofs.Placing.{same_place}

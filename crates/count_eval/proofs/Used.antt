@@ -4,10 +4,9 @@ use Rattle.std.proofs.Common.{sym, ap, ◌∙◌, subst, arith}
 use Rattle.std.specs.Prelude.{All, nat_lt}
 use Rattle.std.proofs.lemmas.Bool.{lt-ltb}
 use Rattle.std.proofs.lemmas.List.Elements.{All-head, All-tail}
-use Rattle.mixed_graph.specs.Bits.{has, members_below}
-use Rattle.count_rows.specs.Records.{Field}
-use Rattle.count_rows.specs.Rows.{Table}
-use Rattle.count_table.specs.Tables.{AreCounts, levels_in}
+use Rattle.mixed_graph.specs.Vocabulary.{has, members_below}
+use Rattle.count_rows.specs.Vocabulary.{Field, Table}
+use Rattle.count_table.specs.Vocabulary.{AreCounts, levels_in}
 use Rattle.count_eval.specs.Programs.{is_used}
 
 -- the number is in the list

@@ -3,21 +3,18 @@ use Rattle.std.proofs.Common.{ℕ, ◌≡◌, ◌<◌, ◌≤◌, ◌^◌, Bool,
 use Rattle.std.specs.Prelude.{None, Result, Ok, Err}
 use Rattle.std.proofs.lemmas.Bool.{cases_lt, and_from}
 use Rattle.finite_models.proofs.Bools.{and_first, and_second}
-use Rattle.mixed_graph.specs.Bits.{has, members_below}
+use Rattle.mixed_graph.specs.Vocabulary.{has, members_below, is_inside, is_below}
 use Rattle.mixed_graph.proofs.Masks.{has-above}
-use Rattle.mixed_graph.specs.Masks.{is_inside, is_below}
 use Rattle.mixed_graph.proofs.MaskLaws.{inside_has, inside_from, below_has, below_from}
-use Rattle.prob_expr.specs.Terms.{is_do_free}
-use Rattle.prob_expr.specs.Tree.{Tree, prob, sum, product, quotient, named, Trees, no_trees, tree, PlainFormula}
-use Rattle.prob_expr.specs.Check.{fault_in, fault_of}
 use Rattle.prob_expr.specs.declared.checking.ExprFault.{ExprFault}
+use Rattle.prob_expr.specs.Vocabulary.{is_do_free, Trees, no_trees, PlainFormula, fault_in, fault_of, uses_only, use_only, defs_use_only, formula_uses_only}
+use Rattle.prob_expr.specs.Tree.{Tree, prob, sum, product, quotient, named, tree}
 use Rattle.std.specs.Result.{is_err}
-use Rattle.count_rows.specs.Rows.{Table}
-use Rattle.count_table.specs.Tables.{AreCounts}
+use Rattle.count_rows.specs.Vocabulary.{Table}
+use Rattle.count_table.specs.Vocabulary.{AreCounts}
 use Rattle.count_eval.specs.Answers.{IsEvaluable}
 use Rattle.count_eval.specs.Laws.{IsUsed, AreUsed, AllUsed}
 use Rattle.count_eval.specs.Programs.{is_used}
-use Rattle.prob_expr.specs.Uses.{uses_only, use_only, defs_use_only, formula_uses_only}
 use Rattle.count_eval.proofs.Used.{used_is, used_in_range}
 
 -- the members of a mask are those with the property

@@ -3,8 +3,10 @@ use Rattle.std.proofs.Common.{ℕ, ◌≡◌, Vec, Box, rules}
 use Rattle.std.specs.declared.alloc.Global.{Global}
 use Rattle.mixed_graph.specs.declared.sets.VSet.{VSet}
 use Rattle.prob_expr.specs.Tree.{prob, sum, product, quotient, named}
-use Rattle.prob_expr.specs.View.{view, views}
-use Rattle.prob_expr.specs.declared.expr.Expr.{Expr, Prob, Sum, Product, Quotient, Named, the_lemmas}
+use Rattle.prob_expr.specs.View.{view}
+use Rattle.prob_expr.specs.declared.expr.Expr.{Expr, the_lemmas}
+use Rattle.prob_expr.specs.Vocabulary.{views}
+use Rattle.prob_expr.specs.declared.expr.Expr.{Prob, Sum, Product, Quotient, Named}
 
 pub view-Prob : (a b c : VSet) → view (Prob a b c) ≡ prob a.bits b.bits c.bits
 view-Prob a b c = search (rules, the_lemmas)

@@ -3,18 +3,17 @@ use Rattle.std.proofs.Common.{ℕ, ◌≡◌, ◌≢◌, ◌≤◌, Bool, true, 
 use Rattle.std.proofs.Math.Seq.{take-length}
 use Rattle.std.proofs.lemmas.Bool.{false≢true}
 use mathlib.Core.Path.{fun_ext}
-use Rattle.fractions.specs.Fractions.{Fraction}
-use Rattle.mixed_graph.specs.Bits.{has, members_below}
-use Rattle.prob_expr.specs.Tree.{PlainFormula, Tree}
-use Rattle.prob_expr.specs.View.{view, formula_view}
+use Rattle.fractions.specs.Vocabulary.{Fraction}
+use Rattle.mixed_graph.specs.Vocabulary.{has, members_below}
+use Rattle.prob_expr.specs.Tree.{Tree}
 use Rattle.prob_expr.specs.declared.expr.Expr.{Expr}
 use Rattle.prob_expr.specs.declared.expr.Formula.{Formula}
-use Rattle.prob_expr.specs.Values.{Weights, weights_of, value_of}
-use Rattle.quantity.specs.Kinds.{Pair, Kind}
-use Rattle.quantity.specs.Lawful.{IsLawful}
-use Rattle.count_rows.specs.Rows.{Table}
-use Rattle.count_table.specs.Cells.{total}
-use Rattle.count_table.specs.Tables.{AreCounts, HasLevels}
+use Rattle.prob_expr.specs.Vocabulary.{PlainFormula, formula_view, Weights, weights_of, value_of}
+use Rattle.prob_expr.specs.View.{view}
+use Rattle.quantity.specs.Kinds.{Pair}
+use Rattle.quantity.specs.Vocabulary.{Kind, IsLawful}
+use Rattle.count_rows.specs.Vocabulary.{Table}
+use Rattle.count_table.specs.Vocabulary.{total, AreCounts, HasLevels}
 use Rattle.count_eval.specs.declared.failure.EvalFault.{EvalFault}
 use Rattle.count_eval.specs.declared.failure.EvalFault.TheVariants.{NoSupport, TooWide, TooFine, NoMemory}
 use Rattle.count_eval.specs.Stops.{Stop}

@@ -2,7 +2,7 @@
 use Rattle.std.proofs.Common.{ℕ, ◌+◌, ◌≡◌, ◌≢◌, ◌<◌, ◌≤◌, ◌∙◌, Bool, true, false, cond, List, length, get_or, set, get_or-set_other, get_or-set_same}
 use Rattle.std.proofs.Common.{below_more, sym, ap, arith}
 use Rattle.std.proofs.Math.ListN.{length-set}
-use Rattle.mixed_graph.specs.Bits.{has}
+use Rattle.mixed_graph.specs.Vocabulary.{has}
 
 pub record IsWithin (mask : ℕ) (cell within : List ℕ) (v : ℕ) : Type 0 where
   pub long : length within ≡ 64

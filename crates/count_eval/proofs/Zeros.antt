@@ -1,21 +1,17 @@
 -- The two rules for products: the second keeps the values of the first, and gives the same where each weight is positive.
 use Rattle.std.proofs.Common.{ℕ, zero, suc, ◌+◌, ◌≡◌, ◌<◌, ◌≤◌, Bool, true, false, cond, ◌||◌, eqb, refl, sym, ap, ap₂, ◌∙◌, subst, arith, Option}
 use Rattle.std.proofs.Common.{Some, None, Result, Ok, Err, List, [], ◌∷◌}
-use Rattle.mixed_graph.specs.Graphs.{MixedGraph, IsMixedGraph}
-use Rattle.mixed_graph.specs.Bits.{has}
-use Rattle.finite_models.specs.Sums.{set_at}
-use Rattle.finite_models.specs.Models.{FiniteModel, Fits, IsAssignment, IsPositiveModel}
+use Rattle.mixed_graph.specs.Vocabulary.{MixedGraph, IsMixedGraph, has}
+use Rattle.finite_models.specs.Vocabulary.{set_at, FiniteModel, Fits, IsAssignment, IsPositiveModel}
 use Rattle.finite_models.proofs.Bools.{and_first, and_second}
-use Rattle.fractions.specs.Fractions.{Fraction, over}
-use Rattle.prob_expr.specs.Check.{cap, next_node}
-use Rattle.prob_expr.specs.Terms.{is_under, are_under, all_under, is_do_free}
-use Rattle.prob_expr.specs.Tree.{Tree, prob, sum, product, quotient, named, Trees, no_trees, tree, PlainFormula}
-use Rattle.prob_expr.specs.Values.{Weights, value, values_from}
+use Rattle.fractions.specs.Vocabulary.{Fraction, over}
+use Rattle.prob_expr.specs.Vocabulary.{cap, next_node, is_under, are_under, all_under, is_do_free, Trees, no_trees, PlainFormula, Weights, value, values_from}
+use Rattle.prob_expr.specs.Tree.{Tree, prob, sum, product, quotient, named, tree}
 use Rattle.prob_expr.proofs.Boxes.{assignment_set}
 use Rattle.quantity.specs.declared.fault.QuantityFault.{QuantityFault}
 use Rattle.quantity.specs.declared.fault.QuantityFault.TheVariants.{ZeroBelow, TooWide, TooFine}
-use Rattle.quantity.specs.Kinds.{Pair, Kind}
-use Rattle.quantity.specs.Lawful.{IsLawful}
+use Rattle.quantity.specs.Vocabulary.{Kind, IsLawful}
+use Rattle.quantity.specs.Kinds.{Pair}
 use Rattle.count_eval.specs.Stops.{Stop, after, placed}
 use Rattle.count_eval.specs.Rules.{rule, plain, is_zero, is_zero_below, or_zero}
 use Rattle.count_eval.specs.Steps.{joined, one_more, each_level, each_cell, whole}

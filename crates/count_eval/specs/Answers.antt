@@ -1,17 +1,14 @@
 -- What an evaluation answers: the value, or the fault of the first node that has none.
 use Rattle.std.specs.Prelude.{ℕ, ◌≡◌, ◌≤◌, ◌<◌, Bool, true, None, List, Result, Ok, Err, slice_index, if◌then◌else◌}
-use Rattle.finite_models.specs.Models.{FiniteModel, IsPositiveModel, IsAssignment, Fits}
-use Rattle.mixed_graph.specs.Graphs.{MixedGraph, IsMixedGraph}
-use Rattle.fractions.specs.Fractions.{Fraction}
-use Rattle.prob_expr.specs.Check.{fault_in}
-use Rattle.prob_expr.specs.Terms.{is_do_free}
-use Rattle.prob_expr.specs.Tree.{PlainFormula}
-use Rattle.prob_expr.specs.Values.{weights_of, value_of}
+use Rattle.finite_models.specs.Vocabulary.{FiniteModel, IsPositiveModel, IsAssignment, Fits}
+use Rattle.mixed_graph.specs.Vocabulary.{MixedGraph, IsMixedGraph}
+use Rattle.fractions.specs.Vocabulary.{Fraction}
 use Rattle.prob_expr.specs.declared.expr.Place.{Place}
+use Rattle.prob_expr.specs.Vocabulary.{fault_in, is_do_free, PlainFormula, weights_of, value_of}
 use Rattle.quantity.specs.declared.fault.QuantityFault.TheVariants as quantity
 use Rattle.quantity.specs.Kinds.{Pair}
-use Rattle.count_rows.specs.Rows.{Table}
-use Rattle.count_table.specs.Cells.{total}
+use Rattle.count_rows.specs.Vocabulary.{Table}
+use Rattle.count_table.specs.Vocabulary.{total}
 use Rattle.count_eval.specs.declared.failure.EvalFault.{EvalFault}
 use Rattle.count_eval.specs.declared.failure.EvalFault.TheVariants.{NoSupport, TooWide, TooFine, NoMemory}
 use Rattle.count_eval.specs.Laws.{IsUsed, AllUsed, IsMatched, is_supported}

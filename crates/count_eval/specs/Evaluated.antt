@@ -1,9 +1,8 @@
 -- The value of a formula by a rule in a kind of quantity, or the first node that has none.
 use Rattle.std.specs.Prelude.{ℕ, suc, Bool, false, ◌||◌, if◌then◌else◌, ◌==◌, List, [], ◌∷◌, Option, Some, None, Result, Ok, Err}
-use Rattle.mixed_graph.specs.Bits.{has}
-use Rattle.prob_expr.specs.Tree.{Tree, prob, sum, product, quotient, named, Trees, no_trees, tree, PlainFormula}
-use Rattle.prob_expr.specs.Check.{cap, next_node}
-use Rattle.prob_expr.specs.Values.{Weights}
+use Rattle.mixed_graph.specs.Vocabulary.{has}
+use Rattle.prob_expr.specs.Tree.{Tree, prob, sum, product, quotient, named, tree}
+use Rattle.prob_expr.specs.Vocabulary.{Trees, no_trees, PlainFormula, cap, next_node, Weights}
 use Rattle.quantity.specs.declared.fault.QuantityFault.TheVariants.{ZeroBelow}
 use Rattle.quantity.specs.Kinds.{Pair}
 use Rattle.count_eval.specs.Stops.{Stop, stop, after, placed}

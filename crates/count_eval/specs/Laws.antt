@@ -1,16 +1,13 @@
 -- What values in a kind of quantity have to do with true values, over counts and in models.
 use Rattle.std.specs.Prelude.{ℕ, ◌≡◌, Bool, true, false, List, [], ◌∷◌, Result, Ok, Err}
-use Rattle.finite_models.specs.Models.{FiniteModel, IsPositiveModel, IsAssignment, Fits, total}
-use Rattle.mixed_graph.specs.Graphs.{MixedGraph, IsMixedGraph}
-use Rattle.mixed_graph.specs.Bits.{has}
-use Rattle.prob_expr.specs.Tree.{Tree, prob, sum, product, quotient, named, Trees, no_trees, tree, PlainFormula}
-use Rattle.prob_expr.specs.Terms.{is_do_free}
-use Rattle.fractions.specs.Fractions.{Fraction, over, IsEqual}
-use Rattle.prob_expr.specs.Tree.{PlainTarget}
-use Rattle.prob_expr.specs.Values.{effect, EqualsEffect, Weights, weights_of, values_from, value_of}
-use Rattle.prob_expr.specs.Proportional.{AreProportional}
+use Rattle.finite_models.specs.Vocabulary.{FiniteModel, IsPositiveModel, IsAssignment, Fits, total}
+use Rattle.mixed_graph.specs.Vocabulary.{MixedGraph, IsMixedGraph, has}
+use Rattle.prob_expr.specs.Tree.{Tree, prob, sum, product, quotient, named, tree}
+use Rattle.prob_expr.specs.Vocabulary.{Trees, no_trees, PlainFormula, is_do_free, PlainTarget, effect, EqualsEffect, Weights, weights_of, values_from, value_of, AreProportional}
+use Rattle.fractions.specs.Vocabulary.{Fraction, over, IsEqual}
 use Rattle.quantity.specs.declared.fault.QuantityFault.TheVariants.{ZeroBelow}
-use Rattle.quantity.specs.Kinds.{Pair, Kind}
+use Rattle.quantity.specs.Vocabulary.{Kind}
+use Rattle.quantity.specs.Kinds.{Pair}
 use Rattle.count_eval.specs.Rules.{rule, plain}
 use Rattle.count_eval.specs.Stops.{Stop}
 use Rattle.count_eval.specs.Supported.{has_value, supported_from}

@@ -1,7 +1,7 @@
 -- A level of each vertex that is used.
 use Rattle.std.specs.Prelude.{ℕ, ◌<◌, IsTrue, List, length, slice_index}
-use Rattle.count_rows.specs.Rows.{Table}
-use Rattle.count_table.specs.Tables.{levels_in}
+use Rattle.count_rows.specs.Vocabulary.{Table}
+use Rattle.count_table.specs.Vocabulary.{levels_in}
 use Rattle.count_eval.specs.Programs.{is_used}
 
 -- where the vertex is used, the cell has one of its levels

@@ -12,3 +12,4 @@ pub mod Spots
 pub mod Preparations
 pub mod Tables
 pub mod Values
+pub mod Vocabulary

@@ -1,10 +1,9 @@
 -- What a prepared formula is, whatever tables it has.
 use Rattle.std.specs.Prelude.{ℕ, Bool, List, refl}
 use Rattle.std.specs.Coded.{Coded, code_by, coded×, coded_ℕ, coded_bool, coded_list}
-use Rattle.prob_expr.specs.Tree.{Tree, PlainFormula}
-use Rattle.count_rows.specs.Records.{Field}
-use Rattle.count_rows.specs.Rows.{Row, Table}
-use Rattle.prob_expr.specs.TreeCodes.{coded_tree}
+use Rattle.prob_expr.specs.Tree.{Tree}
+use Rattle.prob_expr.specs.Vocabulary.{PlainFormula, coded_tree}
+use Rattle.count_rows.specs.Vocabulary.{Field, Row, Table}
 
 -- a formula on so many vertices, over a table of counts; and whether a product with a factor 0 is 0 also where other factors have no value
 pub record Preparation : Type 0 where

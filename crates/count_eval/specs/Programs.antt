@@ -1,11 +1,11 @@
 -- What the evaluator's functions are asked for, and what they give.
 use Rattle.std.specs.Prelude.{ℕ, suc, ◌<◌, Bool, nat_lt, List, [], ◌∷◌, take, length, ◌≡◌, Option, Some, None, Result, Ok, Err, slice_index}
-use Rattle.prob_expr.specs.Tree.{Tree, prob, sum, product, quotient, named, Trees, no_trees, tree}
-use Rattle.prob_expr.specs.Values.{Weights}
+use Rattle.prob_expr.specs.Tree.{Tree, prob, sum, product, quotient, named, tree}
+use Rattle.prob_expr.specs.Vocabulary.{Trees, no_trees, Weights}
 use Rattle.quantity.specs.Kinds.{Pair}
 use Rattle.count_eval.specs.Rules.{Rule}
-use Rattle.count_rows.specs.Rows.{Table, counted}
-use Rattle.count_table.specs.Tables.{levels_in}
+use Rattle.count_rows.specs.Vocabulary.{Table, counted}
+use Rattle.count_table.specs.Vocabulary.{levels_in}
 use Rattle.count_eval.specs.declared.failure.Failure.{Failure}
 use Rattle.count_eval.specs.Stops.{Stop}
 use Rattle.count_eval.specs.Evaluated.{evaluated_from}

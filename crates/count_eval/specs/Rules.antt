@@ -2,7 +2,8 @@
 use Rattle.std.specs.Prelude.{Bool, true, false, Result, Ok, Err, ◌&&◌, if◌then◌else◌}
 use Rattle.quantity.specs.declared.fault.QuantityFault.{QuantityFault}
 use Rattle.quantity.specs.declared.fault.QuantityFault.TheVariants.{ZeroBelow}
-use Rattle.quantity.specs.Kinds.{Pair, Kind}
+use Rattle.quantity.specs.Vocabulary.{Kind}
+use Rattle.quantity.specs.Kinds.{Pair}
 use Rattle.count_eval.specs.Stops.{Stop}
 
 -- the kind of quantity; and whether a product with a factor 0 is 0 whatever its other factors are, also where these have no value

@@ -1,14 +1,14 @@
 -- What the evaluator is asked for at a spot, and what it gives there; words for its walk, inside this crate.
 use Rattle.std.specs.Prelude.{ℕ, ◌-◌, ◌≤◌, Bool, List, length, Option, Some, None, Result}
-use Rattle.mixed_graph.specs.Bits.{has}
-use Rattle.prob_expr.specs.Tree.{Tree, Trees}
-use Rattle.prob_expr.specs.Values.{Weights}
-use Rattle.prob_expr.specs.Check.{next_node}
+use Rattle.mixed_graph.specs.Vocabulary.{has}
+use Rattle.prob_expr.specs.Tree.{Tree}
+use Rattle.prob_expr.specs.Vocabulary.{Trees, Weights, next_node}
 use Rattle.quantity.specs.declared.fault.QuantityFault.{QuantityFault}
-use Rattle.quantity.specs.Kinds.{Pair, Kind}
+use Rattle.quantity.specs.Vocabulary.{Kind}
+use Rattle.quantity.specs.Kinds.{Pair}
 use Rattle.count_eval.specs.Rules.{Rule}
-use Rattle.count_rows.specs.Rows.{Table}
-use Rattle.count_table.specs.Tables.{AreCounts}
+use Rattle.count_rows.specs.Vocabulary.{Table}
+use Rattle.count_table.specs.Vocabulary.{AreCounts}
 use Rattle.count_eval.specs.declared.eval.Summing.{Summing}
 use Rattle.count_eval.specs.declared.joining.Joint.{Joint}
 use Rattle.count_eval.specs.declared.joining.Joint.TheVariants.{Adding, Multiplying}

@@ -1,6 +1,6 @@
 -- Running through levels, with what there is so far.
 use Rattle.std.specs.Prelude.{ℕ, zero, suc, Bool, if◌then◌else◌, Option, Some, None, Result, Ok}
-use Rattle.finite_models.specs.Sums.{set_at}
+use Rattle.finite_models.specs.Vocabulary.{set_at}
 use Rattle.quantity.specs.declared.fault.QuantityFault.{QuantityFault}
 use Rattle.quantity.specs.Kinds.{Pair}
 use Rattle.count_eval.specs.Stops.{Stop, after, placed}

@@ -1,10 +1,10 @@
 -- Whether a value has no denominator 0.
 use Rattle.std.specs.Prelude.{ℕ, zero, suc, Bool, true, not, ◌&&◌, if◌then◌else◌, ◌==◌, List, [], ◌∷◌}
-use Rattle.finite_models.specs.Sums.{set_at, all_below}
-use Rattle.mixed_graph.specs.Bits.{has}
-use Rattle.prob_expr.specs.Tree.{Tree, prob, sum, product, quotient, named, Trees, no_trees, tree}
-use Rattle.fractions.specs.Fractions.{Fraction}
-use Rattle.prob_expr.specs.Values.{Weights, value}
+use Rattle.finite_models.specs.Vocabulary.{set_at, all_below}
+use Rattle.mixed_graph.specs.Vocabulary.{has}
+use Rattle.prob_expr.specs.Tree.{Tree, prob, sum, product, quotient, named, tree}
+use Rattle.prob_expr.specs.Vocabulary.{Trees, no_trees, Weights, value}
+use Rattle.fractions.specs.Vocabulary.{Fraction}
 
 -- P holds at all points that differ from b at most in the coordinates i below n with U i, such a coordinate ranging below s i
 abbrev pub all_over : (ℕ → Bool) → (ℕ → ℕ) → ℕ → ((ℕ → ℕ) → Bool) → (ℕ → ℕ) → Bool

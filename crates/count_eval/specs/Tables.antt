@@ -1,17 +1,15 @@
 -- Tables of the values of definitions.
 use Rattle.std.specs.Prelude.{ℕ, ◌≡◌, ◌<◌, ◌≤◌, ◌+◌, ◌^◌, List, [], length, get_or, sum_by, Option, Some, None, Ok}
-use Rattle.mixed_graph.specs.Bits.{has, members_below}
-use Rattle.prob_expr.specs.Tree.{Tree, PlainFormula}
-use Rattle.prob_expr.specs.Free.{free_in_defs}
+use Rattle.mixed_graph.specs.Vocabulary.{has, members_below}
+use Rattle.prob_expr.specs.Tree.{Tree}
+use Rattle.prob_expr.specs.Vocabulary.{PlainFormula, free_in_defs}
 use Rattle.quantity.specs.Kinds.{Pair}
 use Rattle.count_eval.specs.Rules.{Rule}
-use Rattle.count_rows.specs.Rows.{Table}
-use Rattle.count_table.specs.Cells.{IsCell}
-use Rattle.count_table.specs.Tables.{AreCounts}
+use Rattle.count_rows.specs.Vocabulary.{Table}
+use Rattle.count_table.specs.Vocabulary.{IsCell, AreCounts, axes_of, cell_at, place_at, cells_over, Margins, cells_in}
 use Rattle.count_eval.specs.Answers.{IsEvaluable}
 use Rattle.count_eval.specs.Programs.{weights_in, known}
-use Rattle.count_table.specs.Axes.{Axes, axes_of, cell_at, place_at, cells_over}
-use Rattle.count_table.specs.Sums.{Margins, cells_in}
+use Rattle.count_table.specs.Axes.{Axes}
 use Rattle.count_eval.specs.declared.tables.table.DefinitionTable.{DefinitionTable}
 
 -- The table of definition k is over its free variables, and an entry at a cell of these is the definition's value at each assignment

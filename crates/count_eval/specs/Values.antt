@@ -1,7 +1,7 @@
 -- What `value` answers, which takes memory.
 use Rattle.std.specs.Prelude.{◌≡◌, ◌⊎◌, Result, Err}
 use Rattle.quantity.specs.Kinds.{Pair}
-use Rattle.count_rows.specs.Rows.{Table}
+use Rattle.count_rows.specs.Vocabulary.{Table}
 use Rattle.count_eval.specs.declared.failure.EvalFault.{EvalFault}
 use Rattle.count_eval.specs.declared.failure.EvalFault.TheVariants.{NoMemory}
 use Rattle.count_eval.specs.Answers.{Answers}

@@ -1,9 +1,9 @@
 -- The value of a formula by the rule that a product with a factor 0 is 0 whatever its other factors are: also where these have no value.
 use Rattle.std.specs.Prelude.{ℕ, suc, Bool, true, false, not, ◌&&◌, ◌||◌, if◌then◌else◌, ◌==◌, List, [], ◌∷◌}
-use Rattle.mixed_graph.specs.Bits.{has}
-use Rattle.prob_expr.specs.Tree.{Tree, prob, sum, product, quotient, named, Trees, no_trees, tree, PlainFormula}
-use Rattle.fractions.specs.Fractions.{Fraction, over, mul, div}
-use Rattle.prob_expr.specs.Values.{Weights, term_value, add_over}
+use Rattle.mixed_graph.specs.Vocabulary.{has}
+use Rattle.prob_expr.specs.Tree.{Tree, prob, sum, product, quotient, named, tree}
+use Rattle.prob_expr.specs.Vocabulary.{Trees, no_trees, PlainFormula, Weights, term_value, add_over}
+use Rattle.fractions.specs.Vocabulary.{Fraction, over, mul, div}
 use Rattle.count_eval.specs.Supported.{all_over}
 
 -- Definition k has the value `q k`, where it has one by `h k`.

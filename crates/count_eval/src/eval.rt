@@ -1,10 +1,11 @@
 //! The evaluation of a formula at a cell, node by node.
 
 ghost use Rattle.std.specs.Prelude.{ℕ, ◌≡◌, ◌≤◌, map, length, true};
-ghost use Rattle.mixed_graph.specs.Bits.{has};
+ghost use Rattle.mixed_graph.specs.Vocabulary.{has};
 ghost use Rattle.prob_expr.specs.Tree.{product};
-ghost use Rattle.prob_expr.specs.View.{view, views};
-ghost use Rattle.count_table.specs.Tables.{AreCounts, HasLevels};
+ghost use Rattle.prob_expr.specs.View.{view};
+ghost use Rattle.prob_expr.specs.Vocabulary.{views};
+ghost use Rattle.count_table.specs.Vocabulary.{AreCounts, HasLevels};
 ghost use Rattle.count_eval.specs.Evaluated.{term_outcome};
 ghost use Rattle.count_eval.specs.Laws.{IsUsed, AreUsed};
 ghost use Rattle.count_eval.specs.Programs.{weights_in, is_used, cell_of, seen, seen_so_far, seen_more, IsBelow, AreBelow};

@@ -1,8 +1,8 @@
 //! Whether a formula can be evaluated over a table.
 
 ghost use Rattle.std.specs.Bool.{OnTrue, OnFalse};
-ghost use Rattle.prob_expr.specs.View.{formula_view};
-ghost use Rattle.count_table.specs.Tables.{HasLevels};
+ghost use Rattle.prob_expr.specs.Vocabulary.{formula_view};
+ghost use Rattle.count_table.specs.Vocabulary.{HasLevels};
 ghost use Rattle.count_eval.specs.Answers.{IsEvaluable};
 ghost use Rattle.count_eval.specs.Programs.{is_used};
 ghost use Rattle.count_eval.specs.Levels.{HasLevel};

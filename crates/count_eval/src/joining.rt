@@ -1,7 +1,7 @@
 //! How a node joins the values of its parts.
 
 ghost use Rattle.std.specs.Prelude.{◌≡◌, ◌||◌};
-ghost use Rattle.quantity.specs.Kinds.{gives};
+ghost use Rattle.quantity.specs.Vocabulary.{gives};
 ghost use Rattle.count_eval.specs.Rules.{rule, is_zero, is_zero_below, or_zero};
 ghost use Rattle.count_eval.specs.Steps.{joined, one_more, whole as whole_of};
 ghost use Rattle.count_eval.specs.Stops.{after, placed};

@@ -1,10 +1,10 @@
 //! Where an evaluation looks up levels, sums of counts and values of definitions.
 
 ghost use Rattle.std.specs.Prelude.{ℕ, ◌≡◌, length, IfSome};
-ghost use Rattle.mixed_graph.specs.Bits.{has};
+ghost use Rattle.mixed_graph.specs.Vocabulary.{has};
 ghost use Rattle.quantity.specs.Kinds.{Pair};
-ghost use Rattle.count_rows.specs.Rows.{Table, counted};
-ghost use Rattle.count_table.specs.Tables.{levels_in, HasLevels};
+ghost use Rattle.count_rows.specs.Vocabulary.{Table, counted};
+ghost use Rattle.count_table.specs.Vocabulary.{levels_in, HasLevels};
 ghost use Rattle.count_eval.specs.Programs.{is_used, cell_of};
 
 use count_table::{Counts, marginal};

@@ -1,8 +1,8 @@
 //! The numbers of nodes, in preorder.
 
 ghost use Rattle.std.specs.Prelude.{◌≡◌};
-ghost use Rattle.prob_expr.specs.View.{view, views};
-ghost use Rattle.prob_expr.specs.Check.{next_node as node_next};
+ghost use Rattle.prob_expr.specs.View.{view};
+ghost use Rattle.prob_expr.specs.Vocabulary.{views, next_node as node_next};
 ghost use Rattle.count_eval.specs.Evaluated.{node_behind as behind_of, node_behind_all as behind_all};
 
 use prob_expr::Expr;

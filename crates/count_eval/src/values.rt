@@ -1,9 +1,9 @@
 //! The value of a formula at a cell, by any lookup.
 
 ghost use Rattle.std.specs.Prelude.{ℕ, ◌≡◌, ◌≢◌, ◌<◌, ◌≤◌, length, IfOk, IfErr, false, slice_index, if◌then◌else◌};
-ghost use Rattle.mixed_graph.specs.Bits.{has, members_below};
-ghost use Rattle.prob_expr.specs.View.{formula_view};
-ghost use Rattle.count_table.specs.Tables.{AreCounts, HasLevels};
+ghost use Rattle.mixed_graph.specs.Vocabulary.{has, members_below};
+ghost use Rattle.prob_expr.specs.Vocabulary.{formula_view};
+ghost use Rattle.count_table.specs.Vocabulary.{AreCounts, HasLevels};
 ghost use Rattle.count_eval.specs.Evaluated.{formula_value};
 ghost use Rattle.count_eval.specs.Rules.{rule};
 ghost use Rattle.count_eval.specs.Programs.{weights_in, is_used, cell_of, stop_of, AreValues};

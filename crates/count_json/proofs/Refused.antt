@@ -1,13 +1,11 @@
 -- Refused counts have one line and one object, and none that hold a table are refused.
 use Rattle.std.proofs.Common.{◌≡◌, ℕ, List, Option, sym, ap, ◌∙◌, arith}
 use Rattle.std.proofs.lemmas.Option.{none-some, same_Some}
-use Rattle.answer_text.specs.Lines.{line_of}
-use Rattle.count_rows.specs.FaultTexts.{count_fault_text}
+use Rattle.answer_text.specs.Vocabulary.{line_of}
 use Rattle.count_rows.specs.declared.fault.CountFault.{CountFault}
-use Rattle.count_rows.specs.Records.{Field}
-use Rattle.count_rows.specs.Rows.{Table}
-use Rattle.count_answers.specs.Reads.{HoldsCounts}
-use Rattle.answer_json.specs.Progress.{json_line}
+use Rattle.count_rows.specs.Vocabulary.{count_fault_text, Field, Table}
+use Rattle.count_answers.specs.Vocabulary.{HoldsCounts}
+use Rattle.answer_json.specs.Vocabulary.{json_line}
 use Rattle.count_json.specs.CountFaults.{count_fault_json}
 use Rattle.count_json.specs.Refusals.{AreRefusedCounts, too_long, faulty}
 

@@ -2,19 +2,17 @@
 use Rattle.std.proofs.Common.{◌≡◌, ℕ, zero, suc, ◌<◌, Bool, true, false, cond, List, [], ◌∷◌, ◌++◌, map, codes, decimal, refl, sym, ap, ◌∙◌, arith}
 use Rattle.std.proofs.lemmas.List.{map-append}
 use Rattle.json.specs.Json.{Json, number}
-use Rattle.mixed_graph.specs.Bits.{members_below}
+use Rattle.mixed_graph.specs.Vocabulary.{members_below}
 use Rattle.prob_expr.specs.declared.expr.Place.{Place}
 use Rattle.quantity.specs.declared.fault.QuantityFault.{QuantityFault}
 use Rattle.quantity.specs.declared.fault.QuantityFault.TheVariants.{ZeroBelow}
 use Rattle.quantity.specs.declared.fault.QuantityFault.TheVariants as quantity
-use Rattle.count_rows.specs.Rows.{Table}
-use Rattle.count_eval.specs.Answers.{IsPlaceOf, IsCellOf, IsEvaluationFault}
-use Rattle.count_eval.specs.Programs.{is_used, cell_of}
-use Rattle.count_eval.specs.Stops.{Stop}
+use Rattle.count_rows.specs.Vocabulary.{Table}
 use Rattle.count_eval.specs.declared.failure.EvalFault.{EvalFault}
 use Rattle.count_eval.specs.declared.failure.EvalFault.TheVariants.{NoSupport, TooWide, TooFine, NoMemory}
-use Rattle.answer_json.specs.Progress.{array_of}
-use Rattle.answer_json.specs.Faults.{fault_json}
+use Rattle.count_eval.specs.Vocabulary.{IsPlaceOf, IsCellOf, IsEvaluationFault, is_used, cell_of}
+use Rattle.count_eval.specs.Stops.{Stop}
+use Rattle.answer_json.specs.Vocabulary.{array_of, fault_json}
 use Rattle.count_json.specs.Cells.{level_json, cell_json}
 use Rattle.count_json.specs.Stops.{stage, why_message, definition_json, evaluation_json, evaluation_fault_json, stop_json}
 

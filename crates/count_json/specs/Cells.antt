@@ -1,10 +1,9 @@
 -- The levels of a cell as a value.
 use Rattle.std.specs.Prelude.{ℕ, List, [], ◌∷◌, map}
 use Rattle.json.specs.Json.{Json}
-use Rattle.count_rows.specs.Rows.{Table}
-use Rattle.count_answers.specs.Lines.{level_text}
-use Rattle.answer_json.specs.Progress.{array_of}
-use Rattle.answer_json.specs.Values.{text_json, vertex_json}
+use Rattle.count_rows.specs.Vocabulary.{Table}
+use Rattle.count_answers.specs.Vocabulary.{level_text}
+use Rattle.answer_json.specs.Vocabulary.{array_of, text_json, vertex_json}
 
 -- a vertex with its level of that number
 abbrev pub level_json : List (List ℕ) → Table → (v k : ℕ) → Json

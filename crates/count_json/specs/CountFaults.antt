@@ -1,7 +1,7 @@
 -- The objects of the faults of counts.
 use Rattle.std.specs.Prelude.{ℕ, List, [], codes}
 use Rattle.json.specs.Json.{Json, null}
-use Rattle.answer_json.specs.Faults.{bare_fault_json, text_fault_json, number_fault_json}
+use Rattle.answer_json.specs.Vocabulary.{bare_fault_json, text_fault_json, number_fault_json}
 use Rattle.count_rows.specs.declared.fault.CountFault.{CountFault}
 use Rattle.count_rows.specs.declared.fault.CountFault.TheVariants.{NotCsv, NoColumn, TwoColumns, Count, TooLarge, SumTooLarge, NoRows, NoMemory}
 

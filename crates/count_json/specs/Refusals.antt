@@ -1,12 +1,11 @@
 -- Bytes that are refused as counts.
 use Rattle.std.specs.Prelude.{ℕ, ◌≡◌, ◌≢◌, ◌<◌, ◌≤◌, List, length, Option, Some}
-use Rattle.answer_text.specs.Lines.{line_of}
-use Rattle.count_rows.specs.FaultTexts.{count_fault_text, count_size_text}
+use Rattle.answer_text.specs.Vocabulary.{line_of}
 use Rattle.count_rows.specs.declared.fault.CountFault.{CountFault}
 use Rattle.count_rows.specs.declared.fault.CountFault.TheVariants.{NoMemory}
-use Rattle.count_rows.specs.Records.{Field}
-use Rattle.count_table.specs.Reading.{text_fault}
-use Rattle.answer_json.specs.Progress.{json_line}
+use Rattle.count_rows.specs.Vocabulary.{count_fault_text, count_size_text, Field}
+use Rattle.count_table.specs.Vocabulary.{text_fault}
+use Rattle.answer_json.specs.Vocabulary.{json_line}
 use Rattle.count_json.specs.CountFaults.{count_fault_json, count_size_json}
 
 -- the bytes are no counts of the used vertices, and the line and the object say why: they are too many, or their text has a fault

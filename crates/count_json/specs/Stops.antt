@@ -3,14 +3,14 @@ use Rattle.std.specs.Prelude.{ℕ, List, [], ◌∷◌, Option, Some, None, code
 use Rattle.json.specs.Json.{Json, null, number}
 use Rattle.quantity.specs.declared.fault.QuantityFault.{QuantityFault}
 use Rattle.quantity.specs.declared.fault.QuantityFault.TheVariants.{ZeroBelow, TooWide, TooFine}
-use Rattle.count_rows.specs.Rows.{Table}
+use Rattle.count_rows.specs.Vocabulary.{Table}
 use Rattle.count_eval.specs.Stops.{Stop}
-use Rattle.count_eval.specs.Programs.{cell_of}
 use Rattle.count_eval.specs.declared.failure.EvalFault.{EvalFault}
 use Rattle.count_eval.specs.declared.failure.EvalFault.TheVariants.{NoSupport, NoMemory}
+use Rattle.count_eval.specs.Vocabulary.{cell_of}
 use Rattle.count_eval.specs.declared.failure.EvalFault.TheVariants as fault
-use Rattle.answer_json.specs.Progress.{Progress, with_members}
-use Rattle.answer_json.specs.Faults.{fault_json, fault_begun}
+use Rattle.answer_json.specs.Progress.{Progress}
+use Rattle.answer_json.specs.Vocabulary.{with_members, fault_json, fault_begun}
 use Rattle.count_json.specs.Cells.{cell_json}
 
 -- the stage of these faults

@@ -1,10 +1,10 @@
 //! The levels of a cell.
 
 ghost use Rattle.std.specs.Prelude.{◌≡◌, map, OnOk};
-ghost use Rattle.mixed_graph.specs.Bits.{has, members_below};
-ghost use Rattle.count_eval.specs.Programs.{cell_of};
-ghost use Rattle.count_answers.specs.Lines.{level_text};
-ghost use Rattle.answer_json.specs.Progress.{with_value, with_values};
+ghost use Rattle.mixed_graph.specs.Vocabulary.{has, members_below};
+ghost use Rattle.count_eval.specs.Vocabulary.{cell_of};
+ghost use Rattle.count_answers.specs.Vocabulary.{level_text};
+ghost use Rattle.answer_json.specs.Vocabulary.{with_value, with_values};
 ghost use Rattle.count_json.specs.Cells.{level_json, cell_json};
 
 use answer_json::Object;

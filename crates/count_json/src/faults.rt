@@ -2,7 +2,7 @@
 
 ghost use Rattle.std.specs.Prelude.{◌≡◌, IfOk, OnOk};
 ghost use Rattle.std.specs.Str.{IsUtf8};
-ghost use Rattle.answer_json.specs.Progress.{json_line};
+ghost use Rattle.answer_json.specs.Vocabulary.{json_line};
 ghost use Rattle.count_json.specs.CountFaults.{count_message, count_fault_json, count_size_json};
 
 use answer_json::{bare_fault, number_fault, text_fault};

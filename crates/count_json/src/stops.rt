@@ -3,9 +3,8 @@
 ghost use Rattle.std.specs.Prelude.{◌≡◌, IfOk, OnOk, codes};
 ghost use Rattle.std.specs.Str.{IsUtf8};
 ghost use Rattle.quantity.specs.declared.fault.QuantityFault.TheVariants.{ZeroBelow};
-ghost use Rattle.count_eval.specs.Programs.{cell_of};
-ghost use Rattle.answer_json.specs.Progress.{with_value, with_member, json_line};
-ghost use Rattle.answer_json.specs.Faults.{fault_begun};
+ghost use Rattle.count_eval.specs.Vocabulary.{cell_of};
+ghost use Rattle.answer_json.specs.Vocabulary.{with_value, with_member, json_line, fault_begun};
 ghost use Rattle.count_json.specs.Cells.{cell_json};
 ghost use Rattle.count_json.specs.Stops.{stage, why_number, why_message, definition_json, evaluation_json, wide_json, fine_json, evaluation_fault_json, begun_stop};
 

@@ -11,7 +11,7 @@ use Rattle.std.proofs.lemmas.List.Folds.{list_any-append, list_any_at}
 use Rattle.std.proofs.lemmas.List.Quantifiers.{all_pairs_push}
 use Rattle.std.proofs.lemmas.Slice.Eq.{bytes_eq-Decides}
 use Rattle.std.specs.Global.{Vec}
-use Rattle.mixed_graph.specs.Names.{index_of, is_named, with_name, texts}
+use Rattle.mixed_graph.specs.Vocabulary.{index_of, is_named, with_name, texts}
 use Rattle.count_rows.specs.Levels.{AreLevels}
 use Rattle.count_rows.specs.Records.{Record, field_in, levels_at}
 

@@ -5,7 +5,7 @@ use Rattle.std.specs.Prelude.{IfOk, IfErr, MatchResult, map, slice_get}
 use Rattle.std.specs.Option.{option_to_list}
 use Rattle.std.proofs.Common.{get_or}
 use Rattle.std.proofs.lemmas.Option.{get_or_from_slice_get}
-use Rattle.mixed_graph.specs.Names.{name_of}
+use Rattle.mixed_graph.specs.Vocabulary.{name_of}
 use Rattle.std.proofs.lemmas.Bool.{ne_eqb, eq-eqb}
 use Rattle.std.proofs.lemmas.List.{append_assoc, append-nil}
 use Rattle.count_rows.specs.declared.fault.CountFault.{CountFault}

@@ -8,7 +8,7 @@ use Rattle.std.proofs.lemmas.Bool.{cases_eq, eq-eqb, le-leb, lt-leb}
 use Rattle.std.proofs.lemmas.List.{map-append, take_more, get_or-set_same, get_or-set_other, append_assoc, append-nil, length-map}
 use Rattle.std.proofs.lemmas.List.Sums.{sum_by_push}
 use Rattle.std.proofs.Math.Nat.{one-le-mul, le-mul_of_pos_right, mul_assoc}
-use Rattle.mixed_graph.specs.Names.{index_of, is_named, with_name}
+use Rattle.mixed_graph.specs.Vocabulary.{index_of, is_named, with_name}
 use Rattle.count_rows.specs.declared.fault.CountFault.TheVariants.{Count, TooLarge, SumTooLarge}
 use Rattle.count_rows.specs.declared.tally.Tally.{Tally}
 use Rattle.count_rows.specs.Tally.{HoldsRecords}

@@ -1,7 +1,7 @@
 -- What is wrong with a text of counts, in words.
 use Rattle.std.specs.Prelude.{ℕ, List, [], ◌++◌, codes}
 use Rattle.std.specs.Fmt.{decimal}
-use Rattle.answer_text.specs.Printing.{printed}
+use Rattle.answer_text.specs.Vocabulary.{printed}
 use Rattle.count_rows.specs.declared.fault.CountFault.{CountFault}
 use Rattle.count_rows.specs.declared.fault.CountFault.TheVariants.{NotCsv, NoColumn, TwoColumns, Count, TooLarge, SumTooLarge, NoRows, NoMemory}
 

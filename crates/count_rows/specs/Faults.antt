@@ -2,8 +2,7 @@
 use Rattle.std.specs.Prelude.{ℕ, ◌+◌, ◌^◌, List, [], ◌∷◌, ◌++◌, length, map, count_by, ◌==◌, nat_le, ◌≡◌, ◌≢◌, not, if◌then◌else◌, is_none, Option, Some, None}
 use Rattle.std.specs.Option.{option_to_list}
 use Rattle.std.specs.Str.{bytes_eq}
-use Rattle.mixed_graph.specs.Bits.{has, members_below}
-use Rattle.mixed_graph.specs.Names.{name_of}
+use Rattle.mixed_graph.specs.Vocabulary.{has, members_below, name_of}
 use Rattle.count_rows.specs.declared.fault.CountFault.{CountFault}
 use Rattle.count_rows.specs.declared.fault.CountFault.TheVariants.{NotCsv, NoColumn, TwoColumns, Count, TooLarge, SumTooLarge, NoRows, NoMemory}
 use Rattle.count_rows.specs.Numbers.{most_counted}

@@ -8,3 +8,4 @@ pub mod Reader
 pub mod Quoted
 pub mod Tally
 pub mod FaultTexts
+pub mod Vocabulary

@@ -1,7 +1,7 @@
 -- The records of a text, and their columns.
 use Rattle.std.specs.Prelude.{ℕ, ◌*◌, List, [], ◌∷◌, length, map, fold, sum_by, slice_index_or, Option, Some, None, unwrap_or, option_map}
 use Rattle.csv.specs.Reading.{default_config, strip_bom, records}
-use Rattle.mixed_graph.specs.Names.{index_of, with_name}
+use Rattle.mixed_graph.specs.Vocabulary.{index_of, with_name}
 use Rattle.count_rows.specs.Numbers.{count_in}
 
 -- the bytes of a field

@@ -1,6 +1,6 @@
 -- The rows of a table of counts, and the sum of the counts of those that agree with an assignment.
 use Rattle.std.specs.Prelude.{ℕ, zero, suc, List, [], ◌∷◌, ◌++◌, Bool, true, ◌&&◌, ◌||◌, ◌==◌, not, if◌then◌else◌, map, sum_by, unwrap_or}
-use Rattle.mixed_graph.specs.Names.{index_of}
+use Rattle.mixed_graph.specs.Vocabulary.{index_of}
 use Rattle.count_rows.specs.Records.{Field, Record, Layout, field_in, levels_at, count_of}
 
 -- a row: the number of its level of each used vertex, in index order, and how often it was counted

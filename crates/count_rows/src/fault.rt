@@ -1,7 +1,7 @@
 //! Why a text gives no counts.
 
 ghost use Rattle.std.specs.Prelude.{◌≡◌, IfOk, OnOk};
-ghost use Rattle.answer_text.specs.Lines.{line_of};
+ghost use Rattle.answer_text.specs.Vocabulary.{line_of};
 ghost use Rattle.count_rows.specs.FaultTexts.{count_fault_text, count_size_text};
 
 use answer_text::names::{refusal_line, with_name, with_number};

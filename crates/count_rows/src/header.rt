@@ -3,7 +3,7 @@
 ghost use Rattle.std.specs.Prelude.{ℕ, ◌≡◌, ◌<◌, ◌≤◌, ◌+◌, None, Some, All, IfOk, IfErr, drop, length, map, option_map};
 ghost use Rattle.std.specs.List.{position_or_len};
 ghost use Rattle.std.specs.Str.{bytes_eq};
-ghost use Rattle.mixed_graph.specs.Names.{index_of, name_of};
+ghost use Rattle.mixed_graph.specs.Vocabulary.{index_of, name_of};
 ghost use Rattle.count_rows.specs.Faults.{name_fault, header_fault, IsExpectedFault};
 
 use crate::fault::CountFault;

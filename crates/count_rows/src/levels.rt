@@ -1,7 +1,7 @@
 //! The levels of a vertex.
 
 ghost use Rattle.std.specs.Prelude.{◌≡◌, ◌<◌, List, ℕ, [], true, length, is_some, OnOk, OnSome, IfOk, IfSome, slice_get};
-ghost use Rattle.mixed_graph.specs.Names.{with_name, index_of, is_named, texts};
+ghost use Rattle.mixed_graph.specs.Vocabulary.{with_name, index_of, is_named, texts};
 ghost use Rattle.count_rows.specs.Levels.{AreLevels};
 
 use indexmap::IndexSet;

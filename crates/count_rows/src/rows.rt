@@ -2,11 +2,9 @@
 
 ghost use Rattle.std.specs.Prelude.{ℕ, ◌≡◌, ◌<◌, ◌++◌, ◌∷◌, [], List, None, All, IfOk, IfErr, MatchResult, length, map, option_map};
 ghost use Rattle.std.specs.Option.{option_to_list};
-ghost use Rattle.mixed_graph.specs.Names.{name_of, index_of};
+ghost use Rattle.mixed_graph.specs.Vocabulary.{name_of, index_of, has, Within};
 ghost use Rattle.count_rows.specs.Records.{Record, records_of, header_of, rows_of, layout_of};
 ghost use Rattle.count_rows.specs.Faults.{name_fault, header_fault, rows_fault, empty_fault, or_else, records_fault, used_names, IsExpectedFault};
-ghost use Rattle.mixed_graph.specs.Bits.{has};
-ghost use Rattle.mixed_graph.specs.Sets.{Within};
 ghost use Rattle.count_rows.specs.Reader.{HasRead};
 ghost use Rattle.count_rows.specs.Tally.{layout_from, HoldsRecords};
 

@@ -1,7 +1,7 @@
 //! What the records so far give.
 
 ghost use Rattle.std.specs.Prelude.{ℕ, ◌≡◌, ◌<◌, ◌≤◌, ◌+◌, ◌^◌, ◌++◌, ◌∷◌, [], List, None, All, OnOk, IfOk, MatchResult, replicate, not, nat_le, length, slice_index, slice_index_or};
-ghost use Rattle.mixed_graph.specs.Names.{with_name, index_of};
+ghost use Rattle.mixed_graph.specs.Vocabulary.{with_name, index_of};
 ghost use Rattle.count_rows.specs.Records.{Record, field_in, count_of, cell_count};
 ghost use Rattle.count_rows.specs.Rows.{list_below};
 ghost use Rattle.count_rows.specs.Faults.{most_cells, row_fault, IsExpectedFault};

@@ -3,8 +3,7 @@ use Rattle.std.proofs.Common.{ℕ, ◌≡◌, ◌≢◌, ◌<◌, Bool, true, fa
 use Rattle.std.specs.List.{filter}
 use Rattle.std.proofs.lemmas.Bool.Decides.{eqb_tells}
 use Rattle.std.proofs.lemmas.List.Elements.{All-nil, All-cons, All-head, All-tail, All-weaker, filter_passes}
-use Rattle.count_rows.specs.Records.{Field}
-use Rattle.count_rows.specs.Rows.{Table}
+use Rattle.count_rows.specs.Vocabulary.{Field, Table}
 use Rattle.count_table.specs.Cells.{IsCell}
 use Rattle.count_table.specs.Tables.{levels_in, HasLevels}
 use Rattle.count_table.specs.Axes.{axes_of, HasCell}

@@ -4,7 +4,7 @@ use Rattle.std.specs.List.{flat_map, range_with_len}
 use Rattle.std.proofs.lemmas.List.{length-map, get_or-map, get_or_append_left, get_or-append_right}
 use Rattle.std.proofs.lemmas.List.Elements.{All-nil, All-cons, All-append, All-map}
 use Rattle.std.proofs.Math.Nat.{mul-le-mul_right}
-use Rattle.count_rows.specs.Records.{product}
+use Rattle.count_rows.specs.Vocabulary.{product}
 use Rattle.count_table.specs.Cells.{cells_of, place_of, IsCell}
 
 -- a place in mixed radix is within the table

@@ -7,9 +7,8 @@ use Rattle.std.proofs.lemmas.List.{get_or-map, get_or_default, length-map, map-a
 use Rattle.std.proofs.Math.Seq.{get_or-append_seam}
 use Rattle.std.proofs.lemmas.List.Kept.{AllPairs-filter}
 use Rattle.std.proofs.lemmas.List.Elements.{All-map, All-filter}
-use Rattle.mixed_graph.specs.Bits.{members_below}
-use Rattle.count_rows.specs.Records.{Field, product}
-use Rattle.count_rows.specs.Rows.{Table}
+use Rattle.mixed_graph.specs.Vocabulary.{members_below}
+use Rattle.count_rows.specs.Vocabulary.{Field, product, Table}
 use Rattle.mixed_graph.proofs.MemberLists.{members-nil, members-in, members-out}
 use Rattle.count_table.specs.Cells.{sizes_of}
 use Rattle.count_table.specs.Tables.{levels_in, AreCounts}

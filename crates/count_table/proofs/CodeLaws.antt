@@ -10,8 +10,7 @@ use Rattle.std.proofs.lemmas.Nat.{and_block, and_mask, and_le_l, pow_pos, pow-ad
 use Rattle.std.proofs.lemmas.List.Sums.{sum_by-cons}
 use Rattle.std.specs.Int.Bits.{and_zero_r}
 use Rattle.std.proofs.Math.Nat.{mul-le-mul_right, pow-le-pow_right}
-use Rattle.count_rows.specs.Records.{product}
-use Rattle.count_rows.specs.Rows.{agrees}
+use Rattle.count_rows.specs.Vocabulary.{product, agrees}
 use Rattle.count_table.specs.Cells.{cells_of, IsCell}
 use Rattle.count_table.specs.Codes.{bits_for, room, code_bits, code_of_cell, mask_under, code_under}
 use Rattle.count_table.proofs.CellLists.{below_product, fronted}

@@ -6,7 +6,7 @@ use Rattle.std.proofs.lemmas.Bool.{cases_eq, eq-eqb, ne_eqb}
 use Rattle.std.proofs.lemmas.List.Elements.{All-head, All-tail}
 use Rattle.std.proofs.lemmas.List.Sums.{sum_by-cons}
 use Rattle.count_table.specs.LaneSums.{sum_below}
-use Rattle.count_rows.specs.Rows.{Row, agrees, counted}
+use Rattle.count_rows.specs.Vocabulary.{Row, agrees, counted}
 
 -- whether u is one of these
 abbrev pub is_among : List ℕ → ℕ → Bool

@@ -4,8 +4,7 @@ use Rattle.std.proofs.Common.{arith, bit_and}
 use Rattle.std.specs.List.{AllPairs}
 use Rattle.std.proofs.lemmas.List.{get_or-map, length-map}
 use Rattle.std.proofs.lemmas.Bool.{eq-eqb, ne_eqb}
-use Rattle.count_rows.specs.Records.{Field}
-use Rattle.count_rows.specs.Rows.{Row, Table, agrees}
+use Rattle.count_rows.specs.Vocabulary.{Field, Row, Table, agrees}
 use Rattle.count_table.specs.Cells.{cells_of, sizes_of, IsCell}
 use Rattle.count_table.specs.Codes.{code_of_cell, mask_under, code_under}
 use Rattle.count_table.specs.Tables.{levels_in, AreCounts, HasLevels}

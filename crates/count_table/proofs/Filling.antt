@@ -7,7 +7,7 @@ use Rattle.std.proofs.lemmas.List.{get_or-set_same, get_or-set_other, get_or-rep
 use Rattle.std.proofs.lemmas.List.Elements.{All-head, All-tail}
 use Rattle.std.proofs.lemmas.List.Sums.{sum_by-cons}
 use Rattle.std.proofs.lemmas.Bool.{cases_eq, eq-eqb, ne_eqb}
-use Rattle.count_rows.specs.Rows.{Row}
+use Rattle.count_rows.specs.Vocabulary.{Row}
 use Rattle.count_table.specs.Cells.{place_of, IsCell, rows_from, count_at, total}
 use Rattle.count_table.proofs.TableSteps.{suffix}
 

@@ -6,8 +6,8 @@ use Rattle.std.proofs.lemmas.Bool.{cases_eq}
 use Rattle.std.proofs.lemmas.List.{get_or-map, get_or-drop, get_or_default, map-append}
 use Rattle.std.proofs.lemmas.List.Elements.{All-head, All-tail, filter-append}
 use Rattle.std.proofs.lemmas.Nat.{mul-le}
-use Rattle.mixed_graph.specs.Bits.{members_below}
-use Rattle.count_rows.specs.Records.{product}
+use Rattle.mixed_graph.specs.Vocabulary.{members_below}
+use Rattle.count_rows.specs.Vocabulary.{product}
 
 -- ---- lists that a function makes
 

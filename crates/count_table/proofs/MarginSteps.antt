@@ -6,7 +6,7 @@ use Rattle.std.proofs.lemmas.Bool.{eq-eqb, ne_eqb}
 use Rattle.std.proofs.lemmas.List.{map-append}
 use Rattle.std.proofs.lemmas.List.Elements.{All-nil, All-cons, All-head, All-tail, All-append}
 use Rattle.std.proofs.lemmas.List.Sums.{sum_by-cons, sum_by-append}
-use Rattle.count_rows.specs.Rows.{Table}
+use Rattle.count_rows.specs.Vocabulary.{Table}
 use Rattle.count_table.specs.Sums.{Margin, AreMargins, cells_under, cells_in, sets_with}
 
 -- whether one of these is over the set n

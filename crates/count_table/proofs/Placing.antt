@@ -6,7 +6,7 @@ use Rattle.std.proofs.lemmas.Bool.{cases_lt}
 use Rattle.std.proofs.lemmas.List.{get_or-set_same, get_or-set_other, get_or-map, get_or-replicate, get_or_past, length-map, length-replicate}
 use Rattle.std.proofs.lemmas.List.Elements.{All-weaker}
 use Rattle.std.proofs.lemmas.Nat.{mul-le}
-use Rattle.count_rows.specs.Records.{product}
+use Rattle.count_rows.specs.Vocabulary.{product}
 use Rattle.count_table.specs.Cells.{place_of, IsCell, cells_of}
 use Rattle.count_table.proofs.CellLists.{place_of-lt, cell_at_place}
 use Rattle.count_table.proofs.TableSteps.{suffix}

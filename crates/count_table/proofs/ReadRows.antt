@@ -1,7 +1,8 @@
 -- The rows that were read are rows of a table.
 use Rattle.std.proofs.Common.{ℕ, zero, suc, ◌+◌, ◌*◌, ◌^◌, ◌≡◌, ◌<◌, ◌≤◌, Bool, true, false, cond, ◌||◌, not, eqb, nat_le, List, [], ◌∷◌, ◌++◌}
 use Rattle.std.proofs.Common.{length, get_or, map, All, refl, sym, ap, subst, ◌∙◌, inl, inr, arith, sum, Option, Some, None, length-append}
-use Rattle.count_rows.specs.Numbers.{most_counted}
+use Rattle.count_rows.specs.declared.fault.CountFault.{CountFault}
+use Rattle.count_rows.specs.Vocabulary.{most_counted, Field, Record, Layout, header_of, rows_of, layout_of, field_in, levels_at, levels_of, count_of, sum_of, cell_count, Row, row_in, rows_in, or_else, header_fault, row_fault, rows_fault, empty_fault, records_fault, most_cells, AreLevels, HoldsRecords}
 use Rattle.std.specs.Prelude.{◌==◌, fold, is_none, unwrap_or}
 use Rattle.std.specs.List.{flat_map, AllPairs}
 use Rattle.std.specs.Str.{bytes_eq}
@@ -11,15 +12,8 @@ use Rattle.std.proofs.lemmas.List.Elements.{All-nil, All-cons, All-map, All-appe
 use Rattle.std.proofs.lemmas.List.Quantifiers.{all_pairs_push}
 use Rattle.std.proofs.lemmas.List.Sums.{sum-map}
 use Rattle.std.specs.Option.{option_to_list}
-use Rattle.mixed_graph.specs.Bits.{has, members_below}
-use Rattle.mixed_graph.specs.Names.{index_of, is_named, with_name}
-use Rattle.count_rows.specs.declared.fault.CountFault.{CountFault}
+use Rattle.mixed_graph.specs.Vocabulary.{has, members_below, index_of, is_named, with_name}
 use Rattle.count_rows.specs.declared.tally.Tally.{Tally}
-use Rattle.count_rows.specs.Records.{Field, Record, Layout, header_of, rows_of, layout_of, field_in, levels_at, levels_of, count_of, sum_of, cell_count}
-use Rattle.count_rows.specs.Rows.{Row, row_in, rows_in}
-use Rattle.count_rows.specs.Faults.{or_else, header_fault, row_fault, rows_fault, empty_fault, records_fault, most_cells}
-use Rattle.count_rows.specs.Levels.{AreLevels}
-use Rattle.count_rows.specs.Tally.{HoldsRecords}
 use Rattle.count_rows.proofs.LevelLists.{is_named-with_name, is_named-with_name_self}
 use Rattle.mixed_graph.proofs.MemberLists.{members-pos}
 use Rattle.count_table.specs.Cells.{IsCell, cells_of, sizes_of, rows_from, count_at}

@@ -6,8 +6,7 @@ use Rattle.std.proofs.lemmas.List.Sums.{sum_by-cons}
 use Rattle.std.proofs.lemmas.Bool.{cases_eq, eq-eqb, ne_eqb}
 use Rattle.std.proofs.Common.{inl, inr}
 use Rattle.count_table.specs.LaneSums.{sum_below, if_matched, matched_sum}
-use Rattle.count_rows.specs.Records.{product}
-use Rattle.count_rows.specs.Rows.{Row, agrees, counted}
+use Rattle.count_rows.specs.Vocabulary.{product, Row, agrees, counted}
 use Rattle.count_table.specs.Cells.{cells_of, place_of, IsCell, rows_with, total, count_at}
 use Rattle.count_table.proofs.CellLists.{place_of-lt, length-cells_of, cell_at_place}
 

@@ -6,8 +6,7 @@ use Rattle.std.proofs.lemmas.Bool.Decides.{eqb_tells}
 use Rattle.std.proofs.lemmas.Nat.{div_below}
 use Rattle.std.proofs.lemmas.List.Elements.{All-head, All-tail}
 use Rattle.std.proofs.lemmas.List.Sums.{sum_by-cons}
-use Rattle.count_rows.specs.Records.{product}
-use Rattle.count_rows.specs.Rows.{Row, agrees, counted}
+use Rattle.count_rows.specs.Vocabulary.{product, Row, agrees, counted}
 use Rattle.count_table.specs.Cells.{place_of, IsCell, cells_of}
 use Rattle.count_table.proofs.CellLists.{place_of-lt, cell_at_place}
 

@@ -9,9 +9,8 @@ use Rattle.std.proofs.lemmas.List.Elements.{All-filter, All-map, All-drop, filte
 use Rattle.std.proofs.lemmas.Nat.{mul-le}
 use Rattle.std.proofs.Math.Nat.{mul-div_cancel_left}
 use Rattle.count_table.specs.LaneSums.{axis_total}
-use Rattle.mixed_graph.specs.Bits.{members_below}
-use Rattle.count_rows.specs.Records.{product}
-use Rattle.count_rows.specs.Rows.{Row, Table}
+use Rattle.mixed_graph.specs.Vocabulary.{members_below}
+use Rattle.count_rows.specs.Vocabulary.{product, Row, Table}
 use Rattle.count_table.specs.Tables.{AreCounts}
 use Rattle.count_table.specs.Sums.{AreSums}
 use Rattle.count_table.proofs.TableSteps.{suffix}

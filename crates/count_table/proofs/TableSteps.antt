@@ -6,7 +6,7 @@ use Rattle.std.proofs.lemmas.List.{append-nil, get_or_read, take_all}
 use Rattle.std.proofs.lemmas.List.Elements.{All-head, All-tail, All-map, All-weaker, All-drop}
 use Rattle.std.proofs.lemmas.Grind.{flat_map-append}
 use Rattle.std.proofs.lemmas.Nat.{mul-le}
-use Rattle.count_rows.specs.Records.{Field, cell_count}
+use Rattle.count_rows.specs.Vocabulary.{Field, cell_count}
 use Rattle.count_table.specs.Cells.{cells_of, sizes_of, place_of, IsCell}
 use Rattle.count_table.specs.Codes.{room, code_of_cell, mask_under, code_under}
 use Rattle.std.proofs.lemmas.Bool.{eq-eqb, ne_eqb}

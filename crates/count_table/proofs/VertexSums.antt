@@ -7,8 +7,7 @@ use Rattle.std.proofs.lemmas.List.Elements.{All-nil, All-cons, All-append}
 use Rattle.std.proofs.lemmas.List.Sums.{sum-map}
 use Rattle.count_table.specs.LaneSums.{sum_below, axis_total}
 use Rattle.count_table.proofs.LaneLaws.{index_sum, sum_below-add}
-use Rattle.count_rows.specs.Records.{Field, product}
-use Rattle.count_rows.specs.Rows.{Row, Table, counted}
+use Rattle.count_rows.specs.Vocabulary.{Field, product, Row, Table, counted}
 use Rattle.count_table.specs.Cells.{place_of, IsCell, cells_of, sizes_of, total}
 use Rattle.count_table.specs.Tables.{AreCounts}
 use Rattle.count_table.proofs.CellLists.{place_of-lt, length-cells_of, cells_of-are}

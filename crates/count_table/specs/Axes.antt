@@ -1,8 +1,7 @@
 -- The cells of a set of vertices, and the place of each.
 use Rattle.std.specs.Prelude.{ℕ, ◌≡◌, ◌<◌, ◌≤◌, ◌^◌, List, All, Bool, map, length, slice_index}
 use Rattle.std.specs.List.{AllPairs, filter}
-use Rattle.count_rows.specs.Records.{product}
-use Rattle.count_rows.specs.Rows.{Table}
+use Rattle.count_rows.specs.Vocabulary.{product, Table}
 use Rattle.count_table.specs.Cells.{place_of, IsCell}
 use Rattle.count_table.specs.Tables.{levels_in}
 

@@ -1,8 +1,7 @@
 -- The cells of a dense table.
 use Rattle.std.specs.Prelude.{ℕ, ◌+◌, ◌*◌, ◌<◌, ◌==◌, List, [], ◌∷◌, map, length, take, drop, sum_by, if◌then◌else◌}
 use Rattle.std.specs.List.{flat_map, range_with_len}
-use Rattle.count_rows.specs.Records.{Field, product}
-use Rattle.count_rows.specs.Rows.{Row}
+use Rattle.count_rows.specs.Vocabulary.{Field, product, Row}
 
 -- all cells in order: each vertex with each number below its number of levels, that of the first vertex slowest
 unfoldable pub cells_of : List ℕ → List (List ℕ)

@@ -5,3 +5,4 @@ pub mod Reading
 pub mod LaneSums
 pub mod Axes
 pub mod Sums
+pub mod Vocabulary

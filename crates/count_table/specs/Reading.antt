@@ -1,10 +1,8 @@
 -- What a text of CSV gives.
 use Rattle.std.specs.Prelude.{ℕ, ◌≡◌, List, Bool, Option}
-use Rattle.mixed_graph.specs.Bits.{has, members_below}
+use Rattle.mixed_graph.specs.Vocabulary.{has, members_below}
 use Rattle.count_rows.specs.declared.fault.CountFault.{CountFault}
-use Rattle.count_rows.specs.Records.{Field, Record, Layout, records_of, header_of, rows_of, layout_of, levels_of}
-use Rattle.count_rows.specs.Rows.{Table, counted, rows_in}
-use Rattle.count_rows.specs.Faults.{records_fault, used_names}
+use Rattle.count_rows.specs.Vocabulary.{Field, Record, Layout, records_of, header_of, rows_of, layout_of, levels_of, Table, counted, rows_in, records_fault, used_names}
 
 -- the columns of the used vertices and of the counts in the header of these records
 abbrev pub layout_in : List Record → List Field → ℕ → Option Field → Layout

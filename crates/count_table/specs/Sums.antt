@@ -1,8 +1,8 @@
 -- Sums of a table's counts: one for each cell of a set, and that for several sets.
 use Rattle.std.specs.Prelude.{ℕ, ◌≡◌, ◌+◌, ◌==◌, ◌||◌, ◌++◌, ◌∷◌, [], List, All, Bool, not, nat_le, if◌then◌else◌, map, length, slice_index, sum_by}
 use Rattle.std.specs.List.{list_any}
-use Rattle.mixed_graph.specs.Bits.{has}
-use Rattle.count_rows.specs.Rows.{Table, counted}
+use Rattle.mixed_graph.specs.Vocabulary.{has}
+use Rattle.count_rows.specs.Vocabulary.{Table, counted}
 use Rattle.count_table.specs.Cells.{IsCell}
 use Rattle.count_table.specs.Axes.{Axes, axes_of, cell_at, place_at, cells_over}
 

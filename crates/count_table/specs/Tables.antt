@@ -1,10 +1,8 @@
 -- A table of counts: its levels, and one row for each cell.
 use Rattle.std.specs.Prelude.{ℕ, ◌≡◌, ◌<◌, ◌≤◌, ◌*◌, ◌^◌, ◌==◌, List, [], ◌∷◌, All, Bool, IsTrue, map, length, sum, slice_index, if◌then◌else◌}
 use Rattle.std.specs.List.{AllPairs}
-use Rattle.mixed_graph.specs.Bits.{has, members_below}
-use Rattle.count_rows.specs.Records.{Field, cell_count}
-use Rattle.count_rows.specs.Levels.{AreLevels}
-use Rattle.count_rows.specs.Rows.{Table}
+use Rattle.mixed_graph.specs.Vocabulary.{has, members_below}
+use Rattle.count_rows.specs.Vocabulary.{Field, cell_count, AreLevels, Table}
 use Rattle.count_table.specs.Cells.{cells_of, sizes_of, total, rows_with, rows_from, IsCell}
 use Rattle.count_table.specs.Codes.{code_of_cell}
 

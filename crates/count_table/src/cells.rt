@@ -1,8 +1,7 @@
 //! The cells of a table, and the count of each.
 
 ghost use Rattle.std.specs.Prelude.{ℕ, ◌≡◌, ◌<◌, ◌≤◌, ◌*◌, ◌^◌, All, IfOk, length, map, sum, slice_index};
-ghost use Rattle.count_rows.specs.Levels.{AreLevels};
-ghost use Rattle.count_rows.specs.Records.{cell_count};
+ghost use Rattle.count_rows.specs.Vocabulary.{AreLevels, cell_count};
 ghost use Rattle.count_table.specs.Cells.{sizes_of, place_of, IsCell, rows_from, count_at};
 
 use count_rows::Levels;

@@ -2,8 +2,8 @@
 
 ghost use Rattle.std.specs.Prelude.{ℕ, ◌≡◌, ◌<◌, ◌≤◌, ◌+◌, ◌-◌, ◌*◌, ◌^◌, All, IsTrue, IfOk, length, map, slice_index, if◌then◌else◌};
 ghost use Rattle.std.specs.List.{flat_map, range_with_len};
-ghost use Rattle.mixed_graph.specs.Bits.{has};
-ghost use Rattle.count_rows.specs.Records.{cell_count};
+ghost use Rattle.mixed_graph.specs.Vocabulary.{has};
+ghost use Rattle.count_rows.specs.Vocabulary.{cell_count};
 ghost use Rattle.count_table.specs.Cells.{sizes_of, cells_of};
 ghost use Rattle.count_table.specs.Codes.{room, code_of_cell, mask_under, code_under};
 

@@ -1,8 +1,8 @@
 //! A table of counts, and the sums over it.
 
 ghost use Rattle.std.specs.Prelude.{ℕ, ◌≡◌, ◌<◌, ◌≤◌, ◌^◌, ◌==◌, Bool, [], Some, All, IsTrue, IfOk, MatchOption, bit_and, length, map, slice_get, slice_index};
-ghost use Rattle.mixed_graph.specs.Bits.{has, members_below};
-ghost use Rattle.count_rows.specs.Rows.{agrees, counted};
+ghost use Rattle.mixed_graph.specs.Vocabulary.{has, members_below};
+ghost use Rattle.count_rows.specs.Vocabulary.{agrees, counted};
 ghost use Rattle.count_table.specs.Cells.{sizes_of, rows_from};
 ghost use Rattle.count_table.specs.Codes.{code_bits, code_of_cell, mask_under, code_under};
 ghost use Rattle.count_table.specs.Tables.{levels_in, AreCounts, AreRows, HasLevels};

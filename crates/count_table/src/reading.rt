@@ -1,10 +1,8 @@
 //! A table read from a text of CSV.
 
 ghost use Rattle.std.specs.Prelude.{ℕ, ◌≡◌, ◌<◌, ◌≤◌, ◌^◌, None, IfOk, IfErr, length, option_map};
-ghost use Rattle.mixed_graph.specs.Bits.{has};
-ghost use Rattle.mixed_graph.specs.Sets.{Within};
-ghost use Rattle.count_rows.specs.Records.{Record, Layout};
-ghost use Rattle.count_rows.specs.Faults.{IsExpectedFault};
+ghost use Rattle.mixed_graph.specs.Vocabulary.{has, Within};
+ghost use Rattle.count_rows.specs.Vocabulary.{Record, Layout, IsExpectedFault};
 ghost use Rattle.count_table.specs.Reading.{IsTableOf, text_fault};
 
 use crate::cells::counts_of;

@@ -1,8 +1,7 @@
 -- Models that are the same where it counts have the same weights.
 use Rattle.std.proofs.Common.{ℕ, zero, suc, ◌≡◌, ◌<◌, Bool, true, false, cond, eqb, refl, ap, ap₂, ◌∙◌, ◌&&◌, arith}
-use Rattle.mixed_graph.specs.Graphs.{MixedGraph, IsMixedGraph}
-use Rattle.finite_models.specs.Sums.{product_below, sum_over, all_below}
-use Rattle.finite_models.specs.Models.{FiniteModel, IsAssignment, IsWorld, rounds, solution, intervene, agree, world_weight, sum_worlds, weight_of, total}
+use Rattle.mixed_graph.specs.Vocabulary.{MixedGraph, IsMixedGraph}
+use Rattle.finite_models.specs.Vocabulary.{product_below, sum_over, all_below, FiniteModel, IsAssignment, IsWorld, rounds, solution, intervene, agree, world_weight, sum_worlds, weight_of, total}
 use Rattle.finite_models.proofs.Following.{Follows, follows_intervene}
 use Rattle.finite_models.proofs.SumLaws.{product_below-congr, over-congr_within, over-sizes}
 

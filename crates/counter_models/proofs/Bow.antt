@@ -1,7 +1,7 @@
 -- The bow graph X -> Y, X <-> Y: its hedge meets the conditions, and the weights of its two models are computed from the definitions.
 use Rattle.std.proofs.Common.{ℕ, zero, suc, ◌≡◌, ◌<◌, ◌≤◌, Bool, true, false, cond, eqb, not, refl, sym, ◌&&◌, ◌||◌, List, [], ◌∷◌, map, arith, eqb-true}
-use Rattle.mixed_graph.specs.Graphs.{MixedGraph}
-use Rattle.finite_models.specs.Models.{FiniteModel, weight_of, total}
+use Rattle.mixed_graph.specs.Vocabulary.{MixedGraph}
+use Rattle.finite_models.specs.Vocabulary.{FiniteModel, weight_of, total}
 use Rattle.counter_models.specs.Hedges.{ParityHedge, IsParityHedge, IsTree, IsNumbered, IsWholeHedge, links_of, privates}
 use Rattle.counter_models.specs.ParityPairs.{first_model, second_model, event_even}
 

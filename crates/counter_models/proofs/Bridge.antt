@@ -2,12 +2,10 @@
 use Rattle.std.proofs.Common.{ℕ, zero, suc, ◌+◌, ◌-◌, ◌≡◌, ◌≢◌, ◌<◌, ◌≤◌, Bool, true, false, cond, ltb, not, ◌&&◌, ◌⊎◌, inl, inr, refl, sym, ap, ap₂}
 use Rattle.std.proofs.Common.{◌∙◌, List, slice_index, get_or, arith, lt-ltb, le-ltb}
 use Rattle.std.proofs.lemmas.Bool.{cases_lt, and_from, and_parts}
-use Rattle.mixed_graph.specs.Bits.{has, members_below}
-use Rattle.mixed_graph.specs.Sets.{Apart}
-use Rattle.mixed_graph.specs.Graphs.{MixedGraph, IsMixedGraph}
-use Rattle.hedge.specs.Hedges.{size_of, IsPlaced, IsChildInside, IsHedge}
+use Rattle.mixed_graph.specs.Vocabulary.{has, members_below, Apart, MixedGraph, IsMixedGraph}
 use Rattle.hedge.specs.declared.hedge.Hedge.{Hedge}
-use Rattle.finite_models.specs.Parities.{differ}
+use Rattle.hedge.specs.Vocabulary.{size_of, IsPlaced, IsChildInside, IsHedge}
+use Rattle.finite_models.specs.Vocabulary.{differ}
 use Rattle.counter_models.specs.Links.{is_entry}
 use Rattle.counter_models.specs.Hedges.{ParityHedge, IsParityHedge, IsTree, IsNumbered, IsWholeHedge, AreOuter, links_of, privates}
 use Rattle.counter_models.proofs.Counter.{odd_none}

@@ -5,15 +5,14 @@ use Rattle.std.specs.List.{range_with_len}
 use Rattle.std.proofs.lemmas.Bool.{cases_lt, and_parts, and_from, or_left, or_right, or_cases}
 use Rattle.std.proofs.lemmas.List.{get_or_past}
 use Rattle.std.proofs.lemmas.List.FromFn.{get_or-map-range_with_len, length-map-range_with_len}
-use Rattle.mixed_graph.specs.Bits.{has}
-use Rattle.mixed_graph.specs.Graphs.{MixedGraph, IsMixedGraph, induced}
+use Rattle.mixed_graph.specs.Vocabulary.{has, MixedGraph, IsMixedGraph, induced}
 use Rattle.finite_models.proofs.Factors.{any_below, any_below_from, any_below_gives}
-use Rattle.hedge.specs.Hedges.{Reaches}
+use Rattle.hedge.specs.Vocabulary.{Reaches}
 use Rattle.counter_models.specs.Kept.{free, CarriesTo, IsCarrier, AreCarriers}
 use Rattle.counter_models.specs.Kept.IsCarrier.{root, next}
 use Rattle.counter_models.proofs.Choosing.{same_child, reaches, kept_low}
 use Rattle.counter_models.proofs.Distances.{leads_within, by_route, leads_further, nearer, child_within, child_is}
-use Rattle.finite_models.specs.Packed.{mask_of}
+use Rattle.finite_models.specs.Vocabulary.{mask_of}
 use Rattle.finite_models.proofs.Packed.{has-mask}
 
 clash : (b : Bool) → b ≡ true → b ≡ false → ⊥

@@ -1,13 +1,11 @@
 -- The causes of the data, by their numbers.
 use Rattle.std.proofs.Common.{ℕ, suc, ◌+◌, ◌-◌, ◌≡◌, ◌≢◌, ◌<◌, ◌≤◌, true, ◌==◌, ◌⊎◌, inl, inr, sym, ◌∙◌, List, [], ◌∷◌, length, slice_index, arith}
 use Rattle.std.proofs.lemmas.Bool.{cases_lt}
-use Rattle.mixed_graph.specs.Bits.{has}
-use Rattle.mixed_graph.specs.Graphs.{MixedGraph, IsMixedGraph}
-use Rattle.finite_models.specs.Data.{weights_of, children_of}
-use Rattle.finite_models.specs.Sound.{IsSoundCause}
+use Rattle.mixed_graph.specs.Vocabulary.{has, MixedGraph, IsMixedGraph}
+use Rattle.finite_models.specs.Vocabulary.{weights_of, children_of, IsSoundCause}
 use Rattle.finite_models.specs.declared.model.Cause.{Cause}
-use Rattle.hedge.specs.Hedges.{size_of, IsHedge}
 use Rattle.hedge.specs.declared.hedge.Hedge.{Hedge}
+use Rattle.hedge.specs.Vocabulary.{size_of, IsHedge}
 use Rattle.counter_models.proofs.CounterFits.{or_split, or_first}
 use Rattle.counter_models.specs.Pairs.{small_cause, kept_cause, IsCauseAt, AreCauses}
 use Rattle.counter_models.proofs.Counted.{find}

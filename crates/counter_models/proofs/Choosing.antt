@@ -2,11 +2,8 @@
 use Rattle.std.proofs.Common.{ℕ, ◌≡◌, ◌<◌, ◌≤◌, Bool, true, false, cond, not, ◌&&◌, nat_lt, refl, sym, ap, ◌∙◌, ◌⊎◌, inl, inr, List, [], ◌∷◌}
 use Rattle.std.proofs.Common.{slice_index, IsTrue, arith}
 use Rattle.std.proofs.lemmas.Bool.{and_parts}
-use Rattle.mixed_graph.specs.Bits.{has}
-use Rattle.mixed_graph.specs.Graphs.{MixedGraph, IsMixedGraph, IsDirectedPath, IsAncestor, induced}
-use Rattle.hedge.specs.Linked.{IsSetOf}
-use Rattle.hedge.specs.Nearest.{Leads, IsChoiceOf}
-use Rattle.hedge.specs.Hedges.{Reaches, outside}
+use Rattle.mixed_graph.specs.Vocabulary.{has, MixedGraph, IsMixedGraph, IsDirectedPath, IsAncestor, induced}
+use Rattle.hedge.specs.Vocabulary.{IsSetOf, Leads, IsChoiceOf, Reaches, outside}
 use Rattle.counter_models.specs.Kept.{free, CarriesTo, IsCarrier, AreCarriers, IsChosenFrom}
 use Rattle.counter_models.specs.Kept.IsCarrier.{root, next}
 use Rattle.counter_models.specs.Kept.IsChosenFrom.{at, by}

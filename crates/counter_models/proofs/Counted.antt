@@ -2,9 +2,9 @@
 use Rattle.std.proofs.Common.{ℕ, zero, suc, ◌≡◌, ◌<◌, ◌≤◌, Bool, true, false, cond, eqb, ◌&&◌, ◌⊎◌, inl, inr, refl, sym, ap, ◌∙◌, List, [], ◌∷◌, ◌++◌}
 use Rattle.std.proofs.Common.{get_or, length, arith, eqb-true, eq-eqb}
 use Rattle.std.proofs.lemmas.Bool.{cases_lt}
-use Rattle.mixed_graph.specs.Bits.{has, members_below}
+use Rattle.mixed_graph.specs.Vocabulary.{has, members_below}
 use Rattle.mixed_graph.proofs.Members.{one_if, length-members-suc, length-members-zero}
-use Rattle.finite_models.specs.Parities.{odd_below}
+use Rattle.finite_models.specs.Vocabulary.{odd_below}
 use Rattle.counter_models.proofs.ParityLaws.{odd-congr, odd-one}
 use Rattle.counter_models.specs.Pairs.{before}
 use Rattle.counter_models.proofs.Lists.{before-less, members-suc}

@@ -1,9 +1,8 @@
 -- The two counter-models of a hedge, and the parity of the event under the intervention.
 use Rattle.std.proofs.Common.{ℕ, zero, suc, ◌*◌, ◌/◌, ◌%◌, ◌≡◌, ◌<◌, Bool, true, false, cond, eqb, refl, sym, ◌∙◌, ◌&&◌, arith, eqb-true}
 use Rattle.std.proofs.lemmas.Bool.{false_from_ne_true}
-use Rattle.finite_models.specs.Sums.{product_below}
+use Rattle.finite_models.specs.Vocabulary.{product_below, odd_below}
 use Rattle.finite_models.proofs.Bools.{and_first, and_second}
-use Rattle.finite_models.specs.Parities.{odd_below}
 use Rattle.counter_models.specs.Parities.{bit}
 use Rattle.counter_models.specs.ParityPairs.{value}
 use Rattle.counter_models.proofs.ParityLaws.{odd-congr, odd-false, odd-one, incidences}

@@ -2,16 +2,14 @@
 use Rattle.std.proofs.Common.{ℕ, zero, suc, ◌+◌, ◌*◌, ◌/◌, ◌%◌, ◌≡◌, ◌<◌, ◌≤◌, Bool, true, false, cond, eqb, ltb, not, refl, sym, ap, ap₂, ◌∙◌, ◌&&◌}
 use Rattle.std.proofs.Common.{List, [], ◌∷◌, length, arith, eq-eqb, lt-ltb, le-ltb, ltb-true}
 use Rattle.std.proofs.lemmas.Bool.{and_from}
-use Rattle.mixed_graph.specs.Graphs.{MixedGraph}
-use Rattle.finite_models.specs.Sums.{product_below}
-use Rattle.finite_models.specs.Models.{FiniteModel, IsAssignment, world_weight, event_weight}
+use Rattle.mixed_graph.specs.Vocabulary.{MixedGraph}
+use Rattle.finite_models.specs.Vocabulary.{product_below, FiniteModel, IsAssignment, world_weight, event_weight, differ}
 use Rattle.finite_models.proofs.Following.{Follows}
 use Rattle.finite_models.proofs.Indicators.{number, number-all, all_below_from}
 use Rattle.finite_models.proofs.Solutions.{IsRanked}
 use Rattle.finite_models.proofs.Factors.{checks, weight_by_checks}
 use Rattle.finite_models.proofs.Bools.{not_both}
 use Rattle.finite_models.proofs.SumLaws.{over-base, over-term}
-use Rattle.finite_models.specs.Parities.{differ}
 use Rattle.counter_models.specs.Parities.{bit, chosen}
 use Rattle.counter_models.specs.Links.{Link, at_vertex}
 use Rattle.counter_models.specs.Hedges.{ParityHedge, IsParityHedge, links_of, outsider, IsTree, IsNumbered}

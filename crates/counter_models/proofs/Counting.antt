@@ -1,10 +1,9 @@
 -- Counting parities of independent bits, and a change of bits under a sum.
 use Rattle.std.proofs.Common.{ℕ, zero, suc, ◌+◌, ◌-◌, ◌*◌, ◌≡◌, ◌<◌, Bool, true, false, cond, eqb, not, refl, sym, ap, ap₂, ◌∙◌, ◌&&◌, arith, eqb-true}
 use mathlib.Core.Path.{fun_ext}
-use Rattle.finite_models.specs.Sums.{sum_below, product_below, sum_over, set_at}
+use Rattle.finite_models.specs.Vocabulary.{sum_below, product_below, sum_over, set_at, differ, odd_below}
 use Rattle.finite_models.proofs.SumLaws.{along, along-congr, over-base, over-congr_within, over-mul, sum_below-congr, set_at-same, set_at-other}
 use Rattle.finite_models.proofs.Indicators.{number}
-use Rattle.finite_models.specs.Parities.{differ, odd_below}
 use Rattle.counter_models.specs.Parities.{bit}
 use Rattle.counter_models.proofs.ParityLaws.{differ-assoc}
 

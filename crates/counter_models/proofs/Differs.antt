@@ -1,9 +1,8 @@
 -- The two counter-models differ on the effect.
 use Rattle.std.proofs.Common.{ℕ, zero, suc, ◌*◌, ◌^◌, ◌/◌, ◌≡◌, ◌<◌, ◌≤◌, Bool, true, false, cond, not, refl, sym, ap, ◌∙◌, ◌&&◌, arith}
 use native.Mathlib.Nat.{pow-suc}
-use Rattle.mixed_graph.specs.Graphs.{MixedGraph, IsMixedGraph}
-use Rattle.finite_models.specs.Sums.{sum_over}
-use Rattle.finite_models.specs.Models.{FiniteModel, IsAssignment, solution, intervene, world_weight, event_weight, weight_of, agree}
+use Rattle.mixed_graph.specs.Vocabulary.{MixedGraph, IsMixedGraph}
+use Rattle.finite_models.specs.Vocabulary.{sum_over, FiniteModel, IsAssignment, solution, intervene, world_weight, event_weight, weight_of, agree}
 use Rattle.finite_models.proofs.Following.{Follows, follows_intervene, intervene_alike}
 use Rattle.finite_models.proofs.Indicators.{number, matches, agree-matches, over-matches}
 use Rattle.finite_models.proofs.Bools.{and_second, not_both}

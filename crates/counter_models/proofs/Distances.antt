@@ -2,9 +2,9 @@
 use Rattle.std.proofs.Common.{ℕ, zero, suc, ◌+◌, ◌*◌, ◌/◌, ◌%◌, ◌≡◌, ◌<◌, ◌≤◌, ◌⊎◌, Bool, true, false, cond, ltb, ◌&&◌, ◌||◌, inl, inr, refl, ap, ◌∙◌}
 use Rattle.std.proofs.Common.{List, [], ◌∷◌, length, IsTrue, arith, lt-ltb, le-ltb}
 use Rattle.std.proofs.lemmas.Bool.{cases_Bool, cases_lt, and_parts, and_from, or_left, or_right, or_cases}
-use Rattle.mixed_graph.specs.Graphs.{MixedGraph, IsDirectedPath}
+use Rattle.mixed_graph.specs.Vocabulary.{MixedGraph, IsDirectedPath}
 use Rattle.finite_models.proofs.Factors.{any_below, any_below_from, any_below_gives}
-use Rattle.hedge.specs.Nearest.{IsDistance, IsNearestChild}
+use Rattle.hedge.specs.Vocabulary.{IsDistance, IsNearestChild}
 
 clash : (b : Bool) → b ≡ true → b ≡ false → ⊥
 clash b e f = absurd (grind (arith, e, f))

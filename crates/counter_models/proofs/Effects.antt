@@ -3,16 +3,14 @@ use Rattle.std.proofs.Common.{ℕ, zero, suc, ◌+◌, ◌*◌, ◌^◌, ◌/◌
 use Rattle.std.proofs.Common.{◌&&◌, length, arith, lt-ltb, ltb-true, ltb-false}
 use Rattle.std.proofs.lemmas.Bool.{false_from_ne_true}
 use native.Mathlib.Nat.{pow-zero, pow-suc}
-use Rattle.mixed_graph.specs.Graphs.{MixedGraph, IsMixedGraph}
-use Rattle.finite_models.specs.Sums.{product_below}
-use Rattle.finite_models.specs.Models.{FiniteModel, IsAssignment, solution, intervene, world_weight}
+use Rattle.mixed_graph.specs.Vocabulary.{MixedGraph, IsMixedGraph}
+use Rattle.finite_models.specs.Vocabulary.{product_below, FiniteModel, IsAssignment, solution, intervene, world_weight, differ, odd_below}
 use Rattle.finite_models.proofs.Following.{Follows, follows_intervene}
 use Rattle.finite_models.proofs.Indicators.{number}
 use Rattle.finite_models.proofs.SumLaws.{over-congr}
 use Rattle.finite_models.proofs.Solutions.{IsRanked, solution_is}
 use Rattle.finite_models.proofs.Bools.{not_both}
 use Rattle.finite_models.proofs.Tested.{Test, tested, stable}
-use Rattle.finite_models.specs.Parities.{differ, odd_below}
 use Rattle.counter_models.specs.Parities.{bit, chosen}
 use Rattle.counter_models.specs.Hedges.{ParityHedge, IsParityHedge, links_of, privates}
 use Rattle.counter_models.specs.ParityPairs.{value, hedge_bit, carried_bit, world_bit, at_second, chooses, first_bit, second_bit, carries, top_bit}

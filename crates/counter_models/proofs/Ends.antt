@@ -1,7 +1,7 @@
 -- The stated probability of the event in the second model, and a point of a box at which a sum has a term.
 use Rattle.std.proofs.Common.{ℕ, zero, suc, ◌+◌, ◌*◌, ◌^◌, ◌≡◌, ◌<◌, ◌≤◌, Bool, true, false, eqb, ltb, refl, sym, ap, ap₂, ◌∙◌, arith, eqb-true, lt-ltb, le-ltb}
 use native.Mathlib.Nat.{pow-zero, pow-suc}
-use Rattle.finite_models.specs.Sums.{sum_below, product_below, sum_over, set_at}
+use Rattle.finite_models.specs.Vocabulary.{sum_below, product_below, sum_over, set_at}
 use Rattle.finite_models.proofs.SumLaws.{along, set_at-same, set_at-other}
 use Rattle.counter_models.specs.Hedges.{ParityHedge, links_of}
 use Rattle.counter_models.specs.ParityPairs.{cause_weight}

@@ -1,11 +1,10 @@
 -- The links of a hedge as lists.
 use Rattle.std.proofs.Common.{ℕ, zero, suc, ◌+◌, ◌≡◌, ◌<◌, ◌≤◌, Bool, true, eqb, ◌||◌, ◌⊎◌, inl, inr, refl, sym, ap, ◌∙◌, length, slice_index, arith}
 use Rattle.std.proofs.lemmas.Bool.{cases_lt}
-use Rattle.mixed_graph.specs.Bits.{has}
-use Rattle.mixed_graph.specs.Graphs.{MixedGraph}
+use Rattle.mixed_graph.specs.Vocabulary.{has, MixedGraph}
 use Rattle.finite_models.proofs.SumLaws.{eqb-refl}
-use Rattle.hedge.specs.Hedges.{size_of, IsPlaced, IsHedge}
 use Rattle.hedge.specs.declared.hedge.Hedge.{Hedge}
+use Rattle.hedge.specs.Vocabulary.{size_of, IsPlaced, IsHedge}
 use Rattle.counter_models.specs.Links.{is_entry, IsNoEntry, EndsDiffer, AreOrdered, AreBelow, AreInside, AreRooted, LinksAreEdges}
 use Rattle.counter_models.specs.Theory.{links_from}
 use Rattle.counter_models.proofs.CounterFits.{or_first, or_second}

@@ -1,9 +1,9 @@
 -- The parity of the event in a world, in both models.
 use Rattle.std.proofs.Common.{ℕ, zero, suc, ◌+◌, ◌%◌, ◌≡◌, ◌<◌, ◌≤◌, Bool, true, false, not, refl, ap, ap₂, ◌∙◌, ◌&&◌, List, [], ◌∷◌, length, arith}
 use Rattle.std.proofs.lemmas.Bool.{and_from, false_from_ne_true}
-use Rattle.mixed_graph.specs.Graphs.{MixedGraph}
+use Rattle.mixed_graph.specs.Vocabulary.{MixedGraph}
 use Rattle.finite_models.proofs.Bools.{and_first, and_second, not_both}
-use Rattle.finite_models.specs.Parities.{differ, odd_below}
+use Rattle.finite_models.specs.Vocabulary.{differ, odd_below}
 use Rattle.counter_models.specs.Parities.{bit, chosen}
 use Rattle.counter_models.specs.Links.{Link, at_vertex, AreInside}
 use Rattle.counter_models.specs.Hedges.{ParityHedge, IsParityHedge}

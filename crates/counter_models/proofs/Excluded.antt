@@ -1,8 +1,8 @@
 -- Two models that show an effect not to be identifiable exclude each formula for it.
 use Rattle.std.proofs.Common.{ℕ}
-use Rattle.mixed_graph.specs.Graphs.{MixedGraph, IsMixedGraph}
-use Rattle.finite_models.specs.Data.{meaning}
-use Rattle.prob_expr.specs.Differences.{DifferOnTarget, HasNoFormula}
+use Rattle.mixed_graph.specs.Vocabulary.{MixedGraph, IsMixedGraph}
+use Rattle.finite_models.specs.Vocabulary.{meaning}
+use Rattle.prob_expr.specs.Vocabulary.{DifferOnTarget, HasNoFormula}
 use Rattle.prob_expr.proofs.Excluded.{unequal_weights, difference_excludes_formula}
 use Rattle.counter_models.specs.Events.{AreCounterModels}
 use Rattle.counter_models.specs.declared.counter_pair.CounterPair.{CounterPair}

@@ -1,21 +1,16 @@
 -- The two models of a hedge agree on observations and differ on the effect.
 use Rattle.std.proofs.Common.{ℕ, ◌+◌, ◌-◌, ◌*◌, ◌%◌, ◌^◌, ◌/◌, ◌==◌, ◌≡◌, ◌<◌, ◌≤◌, Bool, true, false, cond, not, ◌&&◌, inl, inr, refl, sym, ap, ap₂}
 use Rattle.std.proofs.Common.{◌∙◌, slice_index, arith}
-use Rattle.mixed_graph.specs.Bits.{has}
-use Rattle.mixed_graph.specs.Sets.{Apart}
-use Rattle.mixed_graph.specs.Graphs.{MixedGraph, IsMixedGraph}
-use Rattle.finite_models.specs.Models.{FiniteModel, Fits, IsAssignment, IsWorld, solution, intervene, world_weight, weight_of, total}
-use Rattle.finite_models.specs.Data.{meaning}
+use Rattle.mixed_graph.specs.Vocabulary.{has, Apart, MixedGraph, IsMixedGraph}
 use Rattle.finite_models.specs.declared.model.Model.{Model}
+use Rattle.finite_models.specs.Vocabulary.{FiniteModel, Fits, IsAssignment, IsWorld, solution, intervene, world_weight, weight_of, total, meaning, AgreeObserved, AgreeUnder, ServesTwo}
 use Rattle.finite_models.proofs.Following.{follows_of}
 use Rattle.finite_models.proofs.Indicators.{number}
-use Rattle.hedge.specs.Hedges.{IsHedge}
 use Rattle.hedge.specs.declared.hedge.Hedge.{Hedge}
+use Rattle.hedge.specs.Vocabulary.{IsHedge}
 use Rattle.counter_models.specs.Parities.{bit}
 use Rattle.counter_models.specs.Hedges.{ParityHedge, IsWholeHedge, links_of, noise_of}
 use Rattle.counter_models.specs.ParityPairs.{first_model, second_model, event_odd, event_even, size_of}
-use Rattle.finite_models.specs.Agreement.{AgreeObserved, AgreeUnder}
-use Rattle.finite_models.specs.Served.{ServesTwo}
 use Rattle.counter_models.specs.ParityLaws.{DifferAt}
 use Rattle.counter_models.proofs.ParityLaws.{odd-congr}
 use Rattle.counter_models.proofs.Witness.{fit_one, fit_two, positive_one, positive_two, agree_under, half, more, effects, effects_each}

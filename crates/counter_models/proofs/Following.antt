@@ -1,8 +1,7 @@
 -- What a choice leads to, as a search.
 use Rattle.std.proofs.Common.{ℕ, ◌≡◌, ◌<◌, true, false, ◌&&◌, ◌==◌, nat_lt, List, [], ◌∷◌, slice_index, IsTrue, arith}
 use Rattle.std.proofs.lemmas.Bool.{and_parts}
-use Rattle.mixed_graph.specs.Bits.{has}
-use Rattle.mixed_graph.specs.Graphs.{MixedGraph, IsDirectedPath}
+use Rattle.mixed_graph.specs.Vocabulary.{has, MixedGraph, IsDirectedPath}
 use Rattle.mixed_graph.proofs.Searches.{Searching}
 use Rattle.counter_models.specs.Kept.{IsChosenFrom}
 use Rattle.counter_models.specs.Kept.IsChosenFrom.{at, by}

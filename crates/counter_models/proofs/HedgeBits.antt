@@ -3,7 +3,7 @@ use Rattle.std.proofs.Common.{ℕ, suc, ◌+◌, ◌≡◌, ◌<◌, ◌≤◌, 
 use Rattle.std.proofs.Common.{length, arith, ne_eqb, eqb-true}
 use Rattle.finite_models.proofs.Bools.{and_first, not_both}
 use Rattle.finite_models.proofs.SumLaws.{eqb-refl}
-use Rattle.finite_models.specs.Parities.{differ, odd_below}
+use Rattle.finite_models.specs.Vocabulary.{differ, odd_below}
 use Rattle.counter_models.specs.Links.{Link, at_vertex, is_entry, AreBelow, AreInside, AreRooted}
 use Rattle.counter_models.proofs.ParityLaws.{differ-false, odd-congr, odd-false, odd-differ, odd-and, odd-one, fibres, and-differ, and-assoc, and-comm}
 

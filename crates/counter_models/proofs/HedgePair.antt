@@ -5,16 +5,16 @@ use Rattle.std.specs.List.{range_with_len}
 use Rattle.std.proofs.lemmas.Bool.{and_parts}
 use Rattle.std.proofs.lemmas.List.{get_or-map, get_or_append_left, get_or-append-add, length-map}
 use Rattle.std.proofs.lemmas.List.FromFn.{get_or-map-range_with_len, length-map-range_with_len}
-use Rattle.mixed_graph.specs.Bits.{has, members_below}
-use Rattle.mixed_graph.specs.Graphs.{MixedGraph, IsMixedGraph}
+use Rattle.mixed_graph.specs.Vocabulary.{has, members_below, MixedGraph, IsMixedGraph}
 use Rattle.mixed_graph.proofs.Members.{length-members-le}
 use Rattle.finite_models.specs.declared.model.Cause.{Cause}
 use Rattle.finite_models.specs.declared.model.Model.{Model}
 use Rattle.finite_models.specs.declared.model.Part.{Part}
 use Rattle.finite_models.specs.declared.model.Mechanism.{Mechanism}
 use Rattle.finite_models.specs.declared.model.Mechanism.TheVariants.{Parity}
-use Rattle.hedge.specs.Hedges.{size_of, IsHedge}
+use Rattle.finite_models.specs.Vocabulary.{mask_of}
 use Rattle.hedge.specs.declared.hedge.Hedge.{Hedge}
+use Rattle.hedge.specs.Vocabulary.{size_of, IsHedge}
 use Rattle.hedge.specs.declared.joined_sets.lists.Choice.{Choice}
 use Rattle.counter_models.specs.Kept.{AreCarriers}
 use Rattle.counter_models.specs.Pairs.{links_of, is_linked, before, HasLowLinks, small_cause, kept_cause, IsCauseAt, AreCauses, link_causes, IsHedgePart}
@@ -24,7 +24,6 @@ use Rattle.counter_models.proofs.Carried.{kept_mask, carry_list, carry_low, are_
 use Rattle.counter_models.proofs.Counted.{numbered}
 use Rattle.counter_models.proofs.Lists.{before-less, low_links}
 use Rattle.counter_models.proofs.Choosing.{kept_low}
-use Rattle.finite_models.specs.Packed.{mask_of}
 use Rattle.counter_models.proofs.Terms.{vec_of, set_of, has-set}
 
 -- a part where b says so

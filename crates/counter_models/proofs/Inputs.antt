@@ -2,12 +2,11 @@
 use Rattle.std.proofs.Common.{ℕ, zero, suc, ◌+◌, ◌≡◌, ◌<◌, ◌≤◌, Bool, true, false, cond, ◌⊎◌, inl, inr, Option, Some, None, refl, ap, ◌∙◌, [], ◌∷◌}
 use Rattle.std.proofs.Common.{◌++◌, length, get_or, arith}
 use Rattle.std.proofs.lemmas.Bool.{cases_lt}
-use Rattle.mixed_graph.specs.Bits.{members_below}
+use Rattle.mixed_graph.specs.Vocabulary.{members_below, MixedGraph}
 use Rattle.mixed_graph.proofs.Members.{one_if, length-members-suc, length-members-zero}
-use Rattle.finite_models.specs.Inputs.{HedgeMayRead, MayRead}
 use Rattle.finite_models.specs.declared.model.Model.{Model}
 use Rattle.finite_models.specs.declared.model.Part.{Part}
-use Rattle.mixed_graph.specs.Graphs.{MixedGraph}
+use Rattle.finite_models.specs.Vocabulary.{HedgeMayRead, MayRead}
 use Rattle.counter_models.specs.Pairs.{IsPartWhere}
 use Rattle.counter_models.proofs.Counted.{get-first, get-last}
 use Rattle.counter_models.proofs.Lists.{members-suc}

@@ -2,13 +2,12 @@
 use Rattle.std.proofs.Common.{ℕ, zero, suc, ◌+◌, ◌≡◌, ◌<◌, ◌≤◌, Bool, true, false, cond, ◌&&◌, ◌||◌, slice_index, nat_lt, ◌==◌, ◌⊎◌, inl, inr, refl}
 use Rattle.std.proofs.Common.{sym, ap, ◌∙◌, List, [], ◌∷◌, ◌++◌, map, get_or, length, length-append, arith}
 use Rattle.std.proofs.lemmas.Bool.{cases_lt}
-use Rattle.mixed_graph.specs.Bits.{has, members_below}
+use Rattle.mixed_graph.specs.Vocabulary.{has, members_below, MixedGraph}
 use Rattle.mixed_graph.proofs.Members.{one_if, length-members-suc, length-members-zero}
 use Rattle.finite_models.specs.declared.model.Cause.{Cause}
-use Rattle.finite_models.specs.Data.{weights_of, children_of}
-use Rattle.mixed_graph.specs.Graphs.{MixedGraph}
-use Rattle.hedge.specs.Hedges.{IsHedge}
+use Rattle.finite_models.specs.Vocabulary.{weights_of, children_of}
 use Rattle.hedge.specs.declared.hedge.Hedge.{Hedge}
+use Rattle.hedge.specs.Vocabulary.{IsHedge}
 use Rattle.counter_models.specs.Pairs.{HasLowLinks, IsCauseAt, before, is_linked}
 
 -- an old entry, and the new one

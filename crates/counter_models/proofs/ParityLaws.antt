@@ -1,6 +1,6 @@
 -- Laws of parities.
 use Rattle.std.proofs.Common.{ℕ, zero, suc, ◌≡◌, ◌<◌, ◌≤◌, Bool, true, false, eqb, refl, sym, ap, ◌∙◌, ◌&&◌, arith, ne_eqb, eqb-true}
-use Rattle.finite_models.specs.Parities.{differ, odd_below}
+use Rattle.finite_models.specs.Vocabulary.{differ, odd_below}
 
 -- exclusive or with false changes no bit
 pub differ-false : (a : Bool) → differ a false ≡ a

@@ -2,14 +2,12 @@
 use Rattle.std.proofs.Common.{ℕ, suc, ◌+◌, ◌-◌, ◌≡◌, ◌<◌, ◌≤◌, Bool, true, false, cond, ◌==◌, ◌&&◌, ◌⊎◌, inl, inr, refl, sym, ap, ◌∙◌, [], ◌∷◌, ◌++◌}
 use Rattle.std.proofs.Common.{length, length-append, slice_index, get_or, arith}
 use Rattle.std.proofs.lemmas.Bool.{cases_lt, and_parts, and_from}
-use Rattle.mixed_graph.specs.Bits.{has}
-use Rattle.mixed_graph.specs.Graphs.{MixedGraph}
-use Rattle.finite_models.specs.Data.{weights_of, has_hedge}
-use Rattle.finite_models.specs.Inputs.{IsBitCause, MayRead}
+use Rattle.mixed_graph.specs.Vocabulary.{has, MixedGraph}
 use Rattle.finite_models.specs.declared.model.Model.{Model}
 use Rattle.finite_models.specs.declared.model.Part.{Part}
-use Rattle.hedge.specs.Hedges.{IsHedge}
+use Rattle.finite_models.specs.Vocabulary.{weights_of, has_hedge, IsBitCause, MayRead}
 use Rattle.hedge.specs.declared.hedge.Hedge.{Hedge}
+use Rattle.hedge.specs.Vocabulary.{IsHedge}
 use Rattle.counter_models.specs.Pairs.{is_linked, link_causes, small_cause, AreCauses, IsHedgePart}
 use Rattle.counter_models.proofs.Counted.{get-first, get-last}
 use Rattle.counter_models.proofs.Inputs.{member_at}

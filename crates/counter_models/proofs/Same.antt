@@ -3,15 +3,14 @@ use Rattle.std.proofs.Common.{ℕ, zero, suc, ◌+◌, ◌-◌, ◌≡◌, ◌<�
 use Rattle.std.proofs.Common.{◌∷◌, length, slice_index, get_or, arith, lt-ltb, le-ltb}
 use Rattle.std.proofs.lemmas.Bool.{cases_lt}
 use Rattle.std.proofs.lemmas.List.{get_or-map}
-use Rattle.mixed_graph.specs.Bits.{has}
-use Rattle.mixed_graph.specs.Graphs.{MixedGraph, IsMixedGraph}
-use Rattle.finite_models.specs.Data.{meaning, weights_of, hedged, has_hedge, value_by}
+use Rattle.mixed_graph.specs.Vocabulary.{has, MixedGraph, IsMixedGraph}
 use Rattle.finite_models.specs.declared.model.Model.{Model}
 use Rattle.finite_models.specs.declared.model.Mechanism.{Mechanism}
 use Rattle.finite_models.specs.declared.model.Mechanism.TheVariants.{Table, Parity}
+use Rattle.finite_models.specs.Vocabulary.{meaning, weights_of, hedged, has_hedge, value_by}
 use Rattle.finite_models.proofs.DataFits.{value_at}
-use Rattle.hedge.specs.Hedges.{size_of, IsHedge}
 use Rattle.hedge.specs.declared.hedge.Hedge.{Hedge}
+use Rattle.hedge.specs.Vocabulary.{size_of, IsHedge}
 use Rattle.counter_models.specs.Hedges.{links_of}
 use Rattle.counter_models.specs.ParityPairs.{first_model, second_model, first_mechanism, second_mechanism, cause_weight}
 use Rattle.counter_models.specs.Pairs.{IsModelOf, IsMechanismOf, in_first, in_second}

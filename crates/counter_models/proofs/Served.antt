@@ -1,13 +1,11 @@
 -- Each cause of a hedge's models serves the two ends of a link, or one vertex.
 use Rattle.std.proofs.Common.{ℕ, suc, ◌-◌, ◌≡◌, ◌<◌, ◌≤◌, Bool, true, false, ◌==◌, ◌||◌, ◌⊎◌, inl, inr, refl, ◌∙◌, length, slice_index, arith}
 use Rattle.std.proofs.lemmas.Bool.{cases_lt}
-use Rattle.mixed_graph.specs.Bits.{has}
-use Rattle.mixed_graph.specs.Graphs.{MixedGraph, IsMixedGraph}
-use Rattle.finite_models.specs.Data.{meaning, children_of}
-use Rattle.finite_models.specs.Served.{ServesTwo}
+use Rattle.mixed_graph.specs.Vocabulary.{has, MixedGraph, IsMixedGraph}
 use Rattle.finite_models.specs.declared.model.Model.{Model}
-use Rattle.hedge.specs.Hedges.{IsHedge}
+use Rattle.finite_models.specs.Vocabulary.{meaning, children_of, ServesTwo}
 use Rattle.hedge.specs.declared.hedge.Hedge.{Hedge}
+use Rattle.hedge.specs.Vocabulary.{IsHedge}
 use Rattle.counter_models.specs.Pairs.{AreCauses}
 use Rattle.counter_models.proofs.CauseNumbers.{private_of}
 

@@ -1,7 +1,7 @@
 -- Bits on the pairs of a tree that meet a target at each vertex.
 use Rattle.std.proofs.Common.{ℕ, suc, ◌≡◌, ◌≤◌, Bool, true, false, cond, eqb, not, refl, sym, ap, ◌∙◌, ◌||◌, ◌&&◌, List, [], ◌∷◌, arith, ne_eqb, eqb-true}
 use Rattle.finite_models.proofs.SumLaws.{eqb-refl}
-use Rattle.finite_models.specs.Parities.{differ, odd_below}
+use Rattle.finite_models.specs.Vocabulary.{differ, odd_below}
 use Rattle.counter_models.specs.Links.{Link, at_vertex, is_entry, IsNoEntry, EndsDiffer, AreOrdered, AreBelow}
 use Rattle.counter_models.proofs.ParityLaws.{differ-comm, differ-false, differ-self, odd-congr, odd-differ, odd-one}
 

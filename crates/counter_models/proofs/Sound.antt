@@ -1,13 +1,11 @@
 -- The causes of both models have children and positive weights.
 use Rattle.std.proofs.Common.{ℕ, zero, suc, ◌+◌, ◌≡◌, ◌<◌, ◌≤◌, Bool, true, false, cond, eqb, ltb, refl, ◌&&◌, ◌||◌, ◌⊎◌, inl, inr, List, [], ◌∷◌}
 use Rattle.std.proofs.Common.{length, arith, eqb-true, ltb-true, ltb-false}
-use Rattle.mixed_graph.specs.Graphs.{MixedGraph}
-use Rattle.finite_models.specs.Sums.{sum_below}
-use Rattle.finite_models.specs.Models.{Fits}
+use Rattle.mixed_graph.specs.Vocabulary.{MixedGraph}
+use Rattle.finite_models.specs.Vocabulary.{sum_below, Fits, differ, odd_below}
 use Rattle.finite_models.proofs.Bools.{and_first}
 use Rattle.finite_models.proofs.Following.{Follows}
 use Rattle.finite_models.proofs.SumLaws.{eqb-refl}
-use Rattle.finite_models.specs.Parities.{differ, odd_below}
 use Rattle.counter_models.specs.Links.{Link, is_end, AreBelow}
 use Rattle.counter_models.specs.Hedges.{ParityHedge, IsWholeHedge, links_of}
 use Rattle.counter_models.specs.ParityPairs.{cause_weight, serves_of, counter_model}

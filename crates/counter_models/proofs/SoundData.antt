@@ -4,19 +4,15 @@ use Rattle.std.proofs.Common.{◌∷◌, length, slice_index, get_or, IsTrue, ar
 use Rattle.std.specs.Prelude.{IsSome}
 use Rattle.std.proofs.lemmas.Bool.{and_parts, and_from}
 use Rattle.std.proofs.lemmas.List.{get_or-map}
-use Rattle.mixed_graph.specs.Bits.{has}
-use Rattle.mixed_graph.specs.Graphs.{MixedGraph, IsMixedGraph}
-use Rattle.finite_models.specs.Data.{weights_of, carries, has_hedge, has_carried, meaning}
-use Rattle.finite_models.specs.Inputs.{IsBitCause, MayRead, CarriedMayRead, HasInputs, HasValues, parity_size}
-use Rattle.finite_models.specs.Faults.{IsSoundModel}
-use Rattle.finite_models.specs.Models.{Fits}
+use Rattle.mixed_graph.specs.Vocabulary.{has, MixedGraph, IsMixedGraph}
 use Rattle.finite_models.specs.declared.model.Model.{Model}
 use Rattle.finite_models.specs.declared.model.Part.{Part}
 use Rattle.finite_models.specs.declared.model.Mechanism.{Mechanism}
 use Rattle.finite_models.specs.declared.model.Mechanism.TheVariants.{Table, Parity}
+use Rattle.finite_models.specs.Vocabulary.{weights_of, carries, has_hedge, has_carried, meaning, IsBitCause, MayRead, CarriedMayRead, HasInputs, HasValues, parity_size, IsSoundModel, Fits}
 use Rattle.finite_models.proofs.DataFits.{data_fits}
-use Rattle.hedge.specs.Hedges.{IsHedge}
 use Rattle.hedge.specs.declared.hedge.Hedge.{Hedge}
+use Rattle.hedge.specs.Vocabulary.{IsHedge}
 use Rattle.counter_models.specs.Hedges.{links_of}
 use Rattle.counter_models.specs.Kept.{free, CarriesTo}
 use Rattle.counter_models.specs.Pairs.{kept_cause, IsModelOf, IsMechanismOf, IsPartWhere, IsHedgePart, IsCarriedPart}

@@ -2,11 +2,10 @@
 use Rattle.std.proofs.Common.{ℕ, zero, suc, ◌+◌, ◌%◌, ◌≡◌, ◌<◌, ◌≤◌, Bool, true, false, cond, eqb, ◌&&◌, refl, sym, ap, ◌∙◌, List, [], ◌∷◌, ◌++◌, map}
 use Rattle.std.proofs.Common.{sum, slice_index, arith}
 use Rattle.std.proofs.lemmas.List.Sums.{sum_by-cons}
-use Rattle.mixed_graph.specs.Bits.{members_below}
-use Rattle.finite_models.specs.Sums.{sum_below}
+use Rattle.mixed_graph.specs.Vocabulary.{members_below}
+use Rattle.finite_models.specs.Vocabulary.{sum_below, differ, odd_below}
 use Rattle.finite_models.proofs.Indicators.{number}
 use Rattle.hedge.specs.declared.hedge.Hedge.{Hedge}
-use Rattle.finite_models.specs.Parities.{differ, odd_below}
 use Rattle.counter_models.specs.Parities.{bit}
 use Rattle.counter_models.specs.Links.{at_vertex}
 use Rattle.counter_models.proofs.ParityLaws.{differ-assoc, differ-false}

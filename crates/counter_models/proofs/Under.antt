@@ -3,16 +3,14 @@ use Rattle.std.proofs.Common.{ℕ, zero, suc, ◌+◌, ◌*◌, ◌%◌, ◌≡�
 use Rattle.std.proofs.Common.{◌∙◌, ◌||◌, ◌&&◌, List, [], ◌∷◌, length, arith, ne_eqb, eqb-true, eq-eqb, lt-ltb, ltb-true, ltb-false}
 use Rattle.std.proofs.lemmas.Bool.{and_from, false_from_ne_true}
 use mathlib.Core.Path.{fun_ext}
-use Rattle.mixed_graph.specs.Graphs.{MixedGraph, IsMixedGraph}
-use Rattle.finite_models.specs.Sums.{sum_over, product_below, all_below}
-use Rattle.finite_models.specs.Models.{FiniteModel, IsAssignment, intervene, weight_of}
+use Rattle.mixed_graph.specs.Vocabulary.{MixedGraph, IsMixedGraph}
+use Rattle.finite_models.specs.Vocabulary.{sum_over, product_below, all_below, FiniteModel, IsAssignment, intervene, weight_of, differ, odd_below}
 use Rattle.finite_models.proofs.Following.{Follows, follows_intervene}
 use Rattle.finite_models.proofs.Indicators.{number, number-all, all_below_each, all_below_from}
 use Rattle.finite_models.proofs.Bools.{and_first, and_second, same_truth, not_both}
 use Rattle.finite_models.proofs.SumLaws.{over-congr, over-join, product_below-congr}
 use Rattle.finite_models.proofs.Solutions.{IsRanked}
 use Rattle.finite_models.proofs.Factors.{weight_by_checks}
-use Rattle.finite_models.specs.Parities.{differ, odd_below}
 use Rattle.counter_models.specs.Parities.{bit, chosen}
 use Rattle.counter_models.specs.Links.{Link, at_vertex, AreInside}
 use Rattle.counter_models.specs.Hedges.{ParityHedge, IsParityHedge, links_of, outsider, AreOuter, IsTree}

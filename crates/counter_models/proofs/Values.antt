@@ -1,18 +1,15 @@
 -- The mechanisms of the data are those of the theory, in range.
 use Rattle.std.proofs.Common.{ℕ, zero, suc, ◌+◌, ◌-◌, ◌*◌, ◌/◌, ◌%◌, ◌≡◌, ◌<◌, ◌≤◌, Bool, true, false, cond, eqb, not, ◌==◌, ◌&&◌, ◌||◌, inr, Option}
 use Rattle.std.proofs.Common.{Some, None, refl, sym, ap, ap₂, subst, ◌∙◌, List, [], ◌∷◌, map, sum, length, slice_index, arith, eqb-true, eq-eqb}
-use Rattle.mixed_graph.specs.Bits.{has}
-use Rattle.mixed_graph.specs.Graphs.{MixedGraph}
-use Rattle.finite_models.specs.Sums.{sum_below}
-use Rattle.finite_models.specs.Data.{has_hedge, hedged, hedge_bit, carried_bit, part_bit, parity_value}
+use Rattle.mixed_graph.specs.Vocabulary.{has, MixedGraph}
 use Rattle.finite_models.specs.declared.model.Part.{Part}
 use Rattle.finite_models.specs.declared.model.Mechanism.{Mechanism}
 use Rattle.finite_models.specs.declared.model.Mechanism.TheVariants.{Table, Parity}
+use Rattle.finite_models.specs.Vocabulary.{sum_below, has_hedge, hedged, hedge_bit, carried_bit, part_bit, parity_value, differ, odd_below}
 use Rattle.finite_models.proofs.Bools.{same_truth}
 use Rattle.finite_models.proofs.Indicators.{number}
-use Rattle.hedge.specs.Hedges.{size_of, IsHedge}
 use Rattle.hedge.specs.declared.hedge.Hedge.{Hedge}
-use Rattle.finite_models.specs.Parities.{differ, odd_below}
+use Rattle.hedge.specs.Vocabulary.{size_of, IsHedge}
 use Rattle.counter_models.specs.Parities.{bit, chosen}
 use Rattle.counter_models.specs.Links.{at_vertex}
 use Rattle.counter_models.specs.Hedges.{ParityHedge}

@@ -1,10 +1,8 @@
 -- The whole weight of both models.
 use Rattle.std.proofs.Common.{ℕ, ◌+◌, ◌*◌, ◌^◌, ◌≡◌, ◌≤◌, Bool, true, false, not, ap, ◌∙◌, ◌&&◌, arith}
-use Rattle.finite_models.specs.Sums.{product_below}
-use Rattle.finite_models.specs.Models.{total}
+use Rattle.finite_models.specs.Vocabulary.{product_below, total, differ, odd_below}
 use Rattle.finite_models.proofs.Indicators.{number}
 use Rattle.finite_models.proofs.SumLaws.{over-congr}
-use Rattle.finite_models.specs.Parities.{differ, odd_below}
 use Rattle.counter_models.specs.Parities.{bit}
 use Rattle.counter_models.specs.Hedges.{ParityHedge, links_of, noise_of}
 use Rattle.counter_models.specs.ParityPairs.{cause_weight, counter_model}

@@ -3,9 +3,8 @@ use Rattle.std.proofs.Common.{ℕ, zero, suc, ◌+◌, ◌-◌, ◌*◌, ◌/◌
 use Rattle.std.proofs.Common.{◌∙◌, arith, eqb-true, eq-eqb}
 use Rattle.std.proofs.Math.Nat.{mul-div_cancel}
 use native.Mathlib.Nat.{pow-zero, pow-suc}
-use Rattle.mixed_graph.specs.Graphs.{MixedGraph, IsMixedGraph}
-use Rattle.finite_models.specs.Sums.{sum_over}
-use Rattle.finite_models.specs.Models.{FiniteModel, IsAssignment, IsPositiveModel, event_weight, weight_of, total, Fits}
+use Rattle.mixed_graph.specs.Vocabulary.{MixedGraph, IsMixedGraph}
+use Rattle.finite_models.specs.Vocabulary.{sum_over, FiniteModel, IsAssignment, IsPositiveModel, event_weight, weight_of, total, Fits, AgreeObserved, AgreeUnder}
 use Rattle.finite_models.proofs.Following.{Follows}
 use Rattle.finite_models.proofs.Bools.{not_both}
 use Rattle.finite_models.proofs.Indicators.{number}
@@ -13,7 +12,6 @@ use Rattle.finite_models.proofs.Ranks.{with_rank}
 use Rattle.finite_models.proofs.SumLaws.{over-base, over-term}
 use Rattle.counter_models.specs.Hedges.{ParityHedge, IsWholeHedge, links_of, noise_of}
 use Rattle.counter_models.specs.ParityPairs.{first_model, second_model, first_mechanism, second_mechanism, serves_of, size_of, event_even}
-use Rattle.finite_models.specs.Agreement.{AgreeObserved, AgreeUnder}
 use Rattle.counter_models.specs.ParityExperiments.{IsHarmless}
 use Rattle.counter_models.specs.ParityLaws.{DifferAt, DifferAtEach}
 use Rattle.counter_models.proofs.Under.{LeavesAgreement, under_agrees}

@@ -1,18 +1,11 @@
 -- That two models show an effect not to be identifiable: they agree on observations, and differ under the intervention.
 use Rattle.std.specs.Prelude.{◌≡◌, ℕ, ◌+◌, ◌*◌, ◌%◌, ◌^◌, ◌==◌, ◌≤◌, if◌then◌else◌, slice_index}
-use Rattle.mixed_graph.specs.Bits.{has}
-use Rattle.mixed_graph.specs.Sets.{Apart}
-use Rattle.mixed_graph.specs.Graphs.{MixedGraph, IsMixedGraph}
-use Rattle.finite_models.specs.Sums.{sum_below}
-use Rattle.finite_models.specs.Models.{Fits, IsAssignment, IsPositiveModel, sum_worlds, world_weight, solution, intervene, total}
-use Rattle.finite_models.specs.Data.{meaning, carried_bit}
-use Rattle.finite_models.specs.Faults.{IsSoundModel}
+use Rattle.mixed_graph.specs.Vocabulary.{has, Apart, MixedGraph, IsMixedGraph}
 use Rattle.finite_models.specs.declared.model.Model.{Model}
-use Rattle.finite_models.specs.Agreement.{AgreeObserved}
-use Rattle.finite_models.specs.Served.{ServesTwo}
+use Rattle.finite_models.specs.Vocabulary.{sum_below, Fits, IsAssignment, IsPositiveModel, sum_worlds, world_weight, solution, intervene, total, meaning, carried_bit, IsSoundModel, AgreeObserved, ServesTwo}
 use Rattle.counter_models.specs.ParityLaws.{DifferAt, DifferAtEach}
-use Rattle.hedge.specs.Hedges.{IsHedge}
 use Rattle.hedge.specs.declared.hedge.Hedge.{Hedge}
+use Rattle.hedge.specs.Vocabulary.{IsHedge}
 use Rattle.counter_models.specs.Pairs.{IsPairOf}
 use Rattle.counter_models.specs.declared.counter_pair.CounterPair.{CounterPair}
 

@@ -1,12 +1,9 @@
 -- Which experiments don't tell the two models of a hedge apart.
 use Rattle.std.specs.Prelude.{ℕ, ◌≤◌, ◌⊎◌, IsTrue}
-use Rattle.mixed_graph.specs.Bits.{has}
-use Rattle.mixed_graph.specs.Sets.{Apart}
-use Rattle.mixed_graph.specs.Graphs.{MixedGraph, IsMixedGraph}
-use Rattle.finite_models.specs.Data.{meaning}
-use Rattle.finite_models.specs.Agreement.{AgreeUnder}
-use Rattle.hedge.specs.Hedges.{IsHedge}
+use Rattle.mixed_graph.specs.Vocabulary.{has, Apart, MixedGraph, IsMixedGraph}
+use Rattle.finite_models.specs.Vocabulary.{meaning, AgreeUnder}
 use Rattle.hedge.specs.declared.hedge.Hedge.{Hedge}
+use Rattle.hedge.specs.Vocabulary.{IsHedge}
 use Rattle.counter_models.specs.Pairs.{IsPairOf}
 use Rattle.counter_models.specs.declared.counter_pair.CounterPair.{CounterPair}
 

@@ -1,7 +1,7 @@
 -- The data of a hedge from which two models are made, and what it keeps (Shpitser and Pearl; Tian and Pearl).
 use Rattle.std.specs.Prelude.{ℕ, ◌+◌, ◌-◌, ◌≡◌, ◌≢◌, ◌<◌, ◌≤◌, Bool, true, false, ◌==◌, not, ◌&&◌, List, [], ◌∷◌, length}
-use Rattle.mixed_graph.specs.Graphs.{MixedGraph}
-use Rattle.finite_models.specs.Parities.{differ, odd_below}
+use Rattle.mixed_graph.specs.Vocabulary.{MixedGraph}
+use Rattle.finite_models.specs.Vocabulary.{differ, odd_below}
 use Rattle.counter_models.specs.Links.{Link, is_entry, EndsDiffer, AreOrdered, AreBelow, AreInside, AreRooted, LinksAreEdges}
 
 -- The sets big, small and roots of a hedge with the child that each member of big outside the roots chooses;

@@ -1,8 +1,7 @@
 -- The vertices that carry the roots' bits to y.
 use Rattle.std.specs.Prelude.{◌≡◌, ℕ, ◌<◌, ◌⊎◌, Bool, false, not, ◌&&◌, nat_lt, List, IsTrue, slice_index}
-use Rattle.mixed_graph.specs.Bits.{has}
-use Rattle.mixed_graph.specs.Graphs.{MixedGraph, induced}
-use Rattle.hedge.specs.Nearest.{IsNearestChild}
+use Rattle.mixed_graph.specs.Vocabulary.{has, MixedGraph, induced}
+use Rattle.hedge.specs.Vocabulary.{IsNearestChild}
 
 -- the vertices outside x
 abbrev pub free : MixedGraph → ℕ → ℕ → Bool

@@ -9,3 +9,4 @@ pub mod ParityLaws
 pub mod Links
 pub mod ParityPairs
 pub mod Parities
+pub mod Vocabulary

@@ -1,7 +1,7 @@
 -- Lists of links, each of which joins an entry to a partner.
 use Rattle.std.specs.Prelude.{ℕ, suc, ◌≡◌, ◌≢◌, ◌<◌, Bool, true, false, if◌then◌else◌, ◌==◌, ◌&&◌, ◌||◌, List, [], ◌∷◌}
-use Rattle.mixed_graph.specs.Graphs.{MixedGraph}
-use Rattle.finite_models.specs.Parities.{differ}
+use Rattle.mixed_graph.specs.Vocabulary.{MixedGraph}
+use Rattle.finite_models.specs.Vocabulary.{differ}
 
 -- a link joins an entry to a partner that was found before it
 pub record Link : Type 0 where

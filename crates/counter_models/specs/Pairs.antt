@@ -1,16 +1,15 @@
 -- The two models that a hedge gives, as data.
 use Rattle.std.specs.Prelude.{◌≡◌, ℕ, suc, ◌+◌, ◌-◌, ◌<◌, Bool, true, false, if◌then◌else◌, ◌==◌, ◌&&◌, ◌||◌, Option, Some, None, List, [], ◌∷◌, ◌++◌}
 use Rattle.std.specs.Prelude.{IsTrue, length, get_or, slice_index}
-use Rattle.mixed_graph.specs.Bits.{has, members_below}
-use Rattle.mixed_graph.specs.Graphs.{MixedGraph}
-use Rattle.finite_models.specs.Data.{weights_of, children_of}
-use Rattle.finite_models.specs.declared.model.Cause.{Cause}
+use Rattle.mixed_graph.specs.Vocabulary.{has, members_below, MixedGraph}
 use Rattle.finite_models.specs.declared.model.Model.{Model}
 use Rattle.finite_models.specs.declared.model.Part.{Part}
 use Rattle.finite_models.specs.declared.model.Mechanism.{Mechanism}
 use Rattle.finite_models.specs.declared.model.Mechanism.TheVariants.{Table, Parity}
-use Rattle.hedge.specs.Hedges.{size_of}
+use Rattle.finite_models.specs.Vocabulary.{weights_of, children_of}
+use Rattle.finite_models.specs.declared.model.Cause.{Cause}
 use Rattle.hedge.specs.declared.hedge.Hedge.{Hedge}
+use Rattle.hedge.specs.Vocabulary.{size_of}
 use Rattle.counter_models.specs.Kept.{AreCarriers}
 use Rattle.counter_models.specs.declared.counter_pair.CounterPair.{CounterPair}
 

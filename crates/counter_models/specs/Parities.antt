@@ -1,6 +1,6 @@
 -- Values as bits, and parities over the members of a set.
 use Rattle.std.specs.Prelude.{ℕ, Bool, ◌==◌, ◌&&◌}
-use Rattle.finite_models.specs.Parities.{odd_below}
+use Rattle.finite_models.specs.Vocabulary.{odd_below}
 
 -- value 1 is the bit true
 abbrev pub bit : ℕ → Bool

@@ -1,7 +1,7 @@
 -- When the two models of a hedge's data can't be told apart under an intervention either.
 use Rattle.std.specs.Prelude.{ℕ, ◌≡◌, ◌⊎◌, Bool, true, false}
-use Rattle.mixed_graph.specs.Graphs.{MixedGraph, IsMixedGraph}
-use Rattle.finite_models.specs.Agreement.{AgreeUnder}
+use Rattle.mixed_graph.specs.Vocabulary.{MixedGraph, IsMixedGraph}
+use Rattle.finite_models.specs.Vocabulary.{AgreeUnder}
 use Rattle.counter_models.specs.Hedges.{ParityHedge, IsWholeHedge}
 use Rattle.counter_models.specs.ParityPairs.{first_model, second_model}
 

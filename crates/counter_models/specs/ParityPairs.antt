@@ -1,8 +1,6 @@
 -- The two models that the data of a hedge gives, and the event that tells them apart.
 use Rattle.std.specs.Prelude.{ℕ, ◌+◌, ◌*◌, ◌/◌, ◌%◌, Bool, true, false, if◌then◌else◌, ◌==◌, ltb, not, ◌&&◌, ◌||◌, length}
-use Rattle.finite_models.specs.Sums.{sum_over}
-use Rattle.finite_models.specs.Models.{FiniteModel, solution, intervene, world_weight}
-use Rattle.finite_models.specs.Parities.{differ, odd_below}
+use Rattle.finite_models.specs.Vocabulary.{sum_over, FiniteModel, solution, intervene, world_weight, differ, odd_below}
 use Rattle.counter_models.specs.Parities.{bit, chosen}
 use Rattle.counter_models.specs.Links.{at_vertex, is_end}
 use Rattle.counter_models.specs.Hedges.{ParityHedge, links_of}

@@ -1,10 +1,8 @@
 -- A hedge as the theory of the two models takes it.
 use Rattle.std.specs.Prelude.{ℕ, zero, suc, ◌+◌, ◌-◌, ◌≤◌, List, [], ◌∷◌, slice_index}
-use Rattle.mixed_graph.specs.Bits.{has}
-use Rattle.mixed_graph.specs.Sets.{Apart}
-use Rattle.mixed_graph.specs.Graphs.{MixedGraph, IsMixedGraph}
-use Rattle.hedge.specs.Hedges.{size_of, IsHedge}
+use Rattle.mixed_graph.specs.Vocabulary.{has, Apart, MixedGraph, IsMixedGraph}
 use Rattle.hedge.specs.declared.hedge.Hedge.{Hedge}
+use Rattle.hedge.specs.Vocabulary.{size_of, IsHedge}
 use Rattle.counter_models.specs.Links.{Link}
 use Rattle.counter_models.specs.Hedges.{ParityHedge, IsWholeHedge}
 use Rattle.counter_models.specs.Kept.{AreCarriers}

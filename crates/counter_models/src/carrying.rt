@@ -1,11 +1,8 @@
 //! The vertices that carry the event's parity to y.
 
 ghost use Rattle.std.specs.Prelude.{◌≡◌, ℕ, ◌<◌, ◌&&◌, ◌==◌, cond, nat_lt, IsTrue, slice_index};
-ghost use Rattle.mixed_graph.specs.Bits.{has};
-ghost use Rattle.mixed_graph.specs.Sets.{Within};
-ghost use Rattle.mixed_graph.specs.Shown.{graph_of};
-ghost use Rattle.hedge.specs.Linked.{IsSetOf};
-ghost use Rattle.hedge.specs.Hedges.{Reaches};
+ghost use Rattle.mixed_graph.specs.Vocabulary.{has, Within, graph_of};
+ghost use Rattle.hedge.specs.Vocabulary.{IsSetOf, Reaches};
 ghost use Rattle.counter_models.specs.Kept.{AreCarriers, IsChosenFrom};
 
 use hedge::{Choice, child_choice};

@@ -1,10 +1,9 @@
 //! The hidden causes of both models.
 
 ghost use Rattle.std.specs.Prelude.{◌≡◌, ℕ, ◌+◌, ◌<◌, ◌==◌, [], ◌∷◌, IsTrue, IfOk, OnOk, length};
-ghost use Rattle.mixed_graph.specs.Bits.{has};
-ghost use Rattle.mixed_graph.specs.Sets.{Within};
-ghost use Rattle.hedge.specs.Hedges.{size_of};
-ghost use Rattle.finite_models.specs.Data.{weights_of, children_of};
+ghost use Rattle.mixed_graph.specs.Vocabulary.{has, Within};
+ghost use Rattle.hedge.specs.Vocabulary.{size_of};
+ghost use Rattle.finite_models.specs.Vocabulary.{weights_of, children_of};
 ghost use Rattle.counter_models.specs.Pairs.{links_of, is_linked, before, HasLowLinks, IsCauseAt, AreCauses};
 
 use finite_models::Cause;

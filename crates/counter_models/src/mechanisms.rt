@@ -1,7 +1,7 @@
 //! The mechanisms of both models.
 
 ghost use Rattle.std.specs.Prelude.{◌≡◌, ℕ, ◌<◌, ◌≤◌, IfOk, length, get_or, slice_index};
-ghost use Rattle.mixed_graph.specs.Bits.{has};
+ghost use Rattle.mixed_graph.specs.Vocabulary.{has};
 ghost use Rattle.finite_models.specs.declared.model.Mechanism.{Mechanism};
 ghost use Rattle.counter_models.specs.Pairs.{HasLowLinks, IsMechanismOf, size_at, in_first, in_second};
 

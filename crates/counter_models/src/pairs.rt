@@ -1,10 +1,8 @@
 //! The two models of a hedge.
 
 ghost use Rattle.std.specs.Prelude.{◌≡◌, ℕ, ◌<◌, IsTrue, IfOk};
-ghost use Rattle.mixed_graph.specs.Bits.{has};
-ghost use Rattle.mixed_graph.specs.Sets.{Within, Apart};
-ghost use Rattle.mixed_graph.specs.Shown.{graph_of};
-ghost use Rattle.hedge.specs.Hedges.{IsHedge};
+ghost use Rattle.mixed_graph.specs.Vocabulary.{has, Within, Apart, graph_of};
+ghost use Rattle.hedge.specs.Vocabulary.{IsHedge};
 ghost use Rattle.counter_models.specs.Pairs.{IsPairOf};
 
 use crate::carrying::carry_toward;

@@ -1,7 +1,7 @@
 //! What the mechanism of one vertex reads.
 
 ghost use Rattle.std.specs.Prelude.{◌≡◌, ℕ, suc, ◌<◌, ◌&&◌, ◌==◌, IsTrue, IfOk, slice_index};
-ghost use Rattle.mixed_graph.specs.Bits.{has};
+ghost use Rattle.mixed_graph.specs.Vocabulary.{has};
 ghost use Rattle.counter_models.specs.Pairs.{HasLowLinks, links_of, is_linked, before, small_cause, kept_cause, link_causes, IsHedgePart, IsCarriedPart};
 
 use crate::carrying::Carrying;

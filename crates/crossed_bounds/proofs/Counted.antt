@@ -2,21 +2,18 @@
 use Rattle.std.proofs.Common.{ℕ, ◌+◌, ◌-◌, ◌*◌, ◌≡◌, ◌<◌, ◌≤◌, Bool, true, false, cond, not, ◌&&◌, ◌||◌, refl, sym, ap, ap₂, ◌∙◌, subst, inl, inr, arith, eqb-true}
 use Rattle.std.proofs.Math.Dec.{leb}
 use Rattle.std.proofs.lemmas.Bool.{cases_lt, leb-true, leb-false, or_left, or_right}
-use Rattle.mixed_graph.specs.Graphs.{MixedGraph, IsMixedGraph}
-use Rattle.finite_models.specs.Sums.{sum_over}
-use Rattle.finite_models.specs.Models.{FiniteModel, Fits, IsAssignment, agree, weight_of, total}
+use Rattle.mixed_graph.specs.Vocabulary.{MixedGraph, IsMixedGraph}
+use Rattle.finite_models.specs.Vocabulary.{sum_over, FiniteModel, Fits, IsAssignment, agree, weight_of, total}
 use Rattle.finite_models.proofs.Bools.{not_both}
 use Rattle.finite_models.proofs.Following.{follows_of}
 use Rattle.finite_models.proofs.Ranks.{with_rank}
 use Rattle.finite_models.proofs.Solutions.{IsRanked, agree_gives, agree_from}
 use Rattle.finite_models.proofs.SumLaws.{over-congr, over-scale, set_at-other, eqb-refl}
-use Rattle.prob_expr.specs.Proportional.{AreProportional}
-use Rattle.prob_expr.specs.Values.{Weights, weights_of}
+use Rattle.prob_expr.specs.Vocabulary.{AreProportional, Weights, weights_of}
 use Rattle.prob_expr.proofs.Boxes.{assignment_set, IsStable, sum_over_equal}
 use Rattle.natural_bounds.specs.declared.ends.End.{End}
 use Rattle.natural_bounds.specs.declared.ends.End.TheVariants.{AtLeast, AtMost}
-use Rattle.natural_bounds.specs.Natural.{nothing}
-use Rattle.natural_bounds.specs.Bounds.{Asked, fixed, joint, level, IsAskedOf}
+use Rattle.natural_bounds.specs.Vocabulary.{nothing, Asked, fixed, joint, level, IsAskedOf}
 use Rattle.natural_bounds.proofs.Effects.{sum_over_sizes}
 use Rattle.natural_bounds.proofs.Orders.{times-le, positive-times, cancelled}
 use Rattle.natural_bounds.proofs.Strata.{Holds, some, here, counted}

@@ -1,20 +1,19 @@
 -- What is seen at a level of the instrument, by the outcomes under both values of the treatment.
 use Rattle.std.proofs.Common.{ℕ, zero, suc, ◌+◌, ◌*◌, ◌≡◌, ◌<◌, ◌≤◌, Bool, true, false, cond, not, ◌&&◌, ◌||◌, ◌∷◌, [], ◌++◌, refl, sym, ap, ap₂, ◌∙◌, subst, arith}
 use Rattle.std.proofs.lemmas.Bool.{and_from, cond-true, false_from_ne_true, not_from_false, not-true, or_left, or_right, or_from}
-use Rattle.mixed_graph.specs.Graphs.{MixedGraph, IsMixedGraph, IsDescendant}
+use Rattle.mixed_graph.specs.Vocabulary.{MixedGraph, IsMixedGraph, IsDescendant}
 use Rattle.mixed_graph.proofs.Paths.{path_push}
-use Rattle.m_separation.specs.Walks.{IsSeparated}
-use Rattle.do_rules.specs.Cuts.{cut_into}
-use Rattle.do_rules.specs.Rules.{AreFourSets}
+use Rattle.m_separation.specs.Vocabulary.{IsSeparated}
+use Rattle.do_rules.specs.Vocabulary.{cut_into, AreFourSets}
 use Rattle.do_rules.proofs.Altered.{ranked_into, follows_into}
 use Rattle.do_rules.proofs.TwoRules.{rule_1}
-use Rattle.finite_models.specs.Models.{FiniteModel, IsAssignment, IsWorld, IsSolution, solution, agree, event_weight, world_weight, intervene, weight_of}
+use Rattle.finite_models.specs.Vocabulary.{FiniteModel, IsAssignment, IsWorld, IsSolution, solution, agree, event_weight, world_weight, intervene, weight_of}
 use Rattle.finite_models.proofs.Bools.{and_first, and_second, either, not_both, same_truth}
 use Rattle.finite_models.proofs.Following.{Follows, follows_intervene, intervene_alike}
 use Rattle.finite_models.proofs.Positive.{over-mono}
 use Rattle.finite_models.proofs.Solutions.{IsRanked, solution_is, solution_within, unique, agree_gives, agree_from}
 use Rattle.finite_models.proofs.SumLaws.{over-congr_within, over-add}
-use Rattle.natural_bounds.specs.Natural.{nothing}
+use Rattle.natural_bounds.specs.Vocabulary.{nothing}
 use Rattle.crossed_bounds.specs.Crossed.{at_level}
 use Rattle.crossed_bounds.proofs.Pairs.{weight_where, in_both, independent_pairs}
 

@@ -2,12 +2,10 @@
 use Rattle.std.proofs.Common.{ℕ, zero, suc, ◌+◌, ◌*◌, ◌≡◌, ◌<◌, ◌≤◌, Bool, true, false, cond, not, ◌&&◌, ◌||◌, refl, sym, ap, ap₂, ◌∙◌, subst, arith}
 use Rattle.std.proofs.Math.Dec.{leb}
 use Rattle.std.proofs.lemmas.Bool.{and_from}
-use Rattle.mixed_graph.specs.Graphs.{MixedGraph, IsMixedGraph, IsDescendant}
-use Rattle.m_separation.specs.Walks.{IsSeparated}
-use Rattle.do_rules.specs.Cuts.{cut_into}
-use Rattle.do_rules.specs.Rules.{AreFourSets}
-use Rattle.finite_models.specs.Sums.{sum_below, sum_over, set_at}
-use Rattle.finite_models.specs.Models.{FiniteModel, IsAssignment, IsWorld, solution, agree, world_weight, intervene}
+use Rattle.mixed_graph.specs.Vocabulary.{MixedGraph, IsMixedGraph, IsDescendant}
+use Rattle.m_separation.specs.Vocabulary.{IsSeparated}
+use Rattle.do_rules.specs.Vocabulary.{cut_into, AreFourSets}
+use Rattle.finite_models.specs.Vocabulary.{sum_below, sum_over, set_at, FiniteModel, IsAssignment, IsWorld, solution, agree, world_weight, intervene}
 use Rattle.finite_models.proofs.Bools.{and_first, and_second, not_both}
 use Rattle.finite_models.proofs.Following.{Follows}
 use Rattle.do_rules.proofs.Altered.{follows_into}
@@ -16,7 +14,7 @@ use Rattle.finite_models.proofs.Solutions.{IsRanked, solution_within, agree_from
 use Rattle.finite_models.proofs.SumLaws.{along, over-congr, over-congr_within, over-swap, over-scale, over-add, set_at-other}
 use Rattle.prob_expr.proofs.Boxes.{assignment_set, IsStable}
 use Rattle.natural_bounds.specs.declared.ends.End.TheVariants.{AtLeast, AtMost}
-use Rattle.natural_bounds.specs.Natural.{nothing}
+use Rattle.natural_bounds.specs.Vocabulary.{nothing}
 use Rattle.natural_bounds.proofs.Orders.{times-le}
 use Rattle.crossed_bounds.specs.Crossed.{chosen}
 use Rattle.crossed_bounds.proofs.Pairs.{weight_where}

@@ -1,16 +1,14 @@
 -- A stratum's sharper bound in every model that has the weights.
 use Rattle.std.proofs.Common.{ℕ, zero, suc, ◌*◌, ◌≡◌, ◌≤◌, Bool, true, false, cond, eqb, ◌||◌, refl, sym, ap, ap₂, ◌∙◌, subst, inl, inr, arith}
 use Rattle.std.proofs.lemmas.Bool.{or_right}
-use Rattle.mixed_graph.specs.Graphs.{MixedGraph, IsMixedGraph}
-use Rattle.finite_models.specs.Models.{FiniteModel, Fits, IsAssignment, weight_of, probability, total}
+use Rattle.mixed_graph.specs.Vocabulary.{MixedGraph, IsMixedGraph}
+use Rattle.finite_models.specs.Vocabulary.{FiniteModel, Fits, IsAssignment, weight_of, probability, total}
 use Rattle.finite_models.proofs.Bools.{not_both}
-use Rattle.prob_expr.specs.Proportional.{AreProportional}
-use Rattle.prob_expr.specs.Values.{Weights, weights_of}
+use Rattle.prob_expr.specs.Vocabulary.{AreProportional, Weights, weights_of}
 use Rattle.natural_bounds.specs.declared.ends.End.{End}
 use Rattle.natural_bounds.specs.declared.ends.End.TheVariants.{AtLeast, AtMost}
-use Rattle.natural_bounds.specs.Natural.{nothing}
-use Rattle.natural_bounds.specs.Orders.{Bounds, trivial, tighter, tightest_over, IsIn}
-use Rattle.natural_bounds.specs.Bounds.{Asked, fixed, level, said, bound_at, stratum_bound, IsAskedOf}
+use Rattle.natural_bounds.specs.Vocabulary.{nothing, trivial, tighter, tightest_over, IsIn, Asked, fixed, level, said, bound_at, stratum_bound, IsAskedOf}
+use Rattle.natural_bounds.specs.Orders.{Bounds}
 use Rattle.natural_bounds.proofs.Effects.{positive_left}
 use Rattle.natural_bounds.proofs.Natural.{unmoved_weight, wider}
 use Rattle.natural_bounds.proofs.Orders.{positive-times, bounds_trans, trivial_bottom, tighter_one, tighter_first, tighter_second, tightest_bottom}

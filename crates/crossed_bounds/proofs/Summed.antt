@@ -2,27 +2,24 @@
 use Rattle.std.proofs.Common.{ℕ, ◌*◌, ◌≡◌, ◌<◌, ◌≤◌, Bool, true, false, ◌||◌, refl, sym, ap, ◌∙◌, subst, arith}
 use Rattle.std.proofs.lemmas.Bool.{or_left, or_right}
 use mathlib.Core.Path.{fun_ext}
-use Rattle.mixed_graph.specs.Graphs.{MixedGraph, IsMixedGraph}
-use Rattle.fractions.specs.Fractions.{Fraction, over, IsEqual, mul}
+use Rattle.mixed_graph.specs.Vocabulary.{MixedGraph, IsMixedGraph}
+use Rattle.fractions.specs.Vocabulary.{Fraction, over, IsEqual, mul}
 use Rattle.fractions.proofs.FractionLaws.{equal_refl}
-use Rattle.finite_models.specs.Sums.{sum_over}
-use Rattle.finite_models.specs.Models.{FiniteModel, Fits, IsAssignment, event_weight, intervene, weight_of, probability, total}
+use Rattle.finite_models.specs.Vocabulary.{sum_over, FiniteModel, Fits, IsAssignment, event_weight, intervene, weight_of, probability, total}
 use Rattle.finite_models.proofs.Bools.{not_both}
 use Rattle.finite_models.proofs.Factors.{marginal}
 use Rattle.finite_models.proofs.Following.{follows_of, intervene_alike}
 use Rattle.finite_models.proofs.Ranks.{with_rank}
 use Rattle.finite_models.proofs.SumLaws.{set_at-other}
-use Rattle.do_rules.specs.Cuts.{cut_into}
+use Rattle.do_rules.specs.Vocabulary.{cut_into}
 use Rattle.do_rules.proofs.Altered.{ranked_into, follows_into}
-use Rattle.prob_expr.specs.Proportional.{AreProportional}
-use Rattle.prob_expr.specs.Values.{Weights, weights_of, add_over}
+use Rattle.prob_expr.specs.Vocabulary.{AreProportional, Weights, weights_of, add_over}
 use Rattle.prob_expr.proofs.Boxes.{assignment_set, IsStable, add_over_whole, sum_over_equal}
 use Rattle.hidden_models.proofs.Depends.{weight_depends}
 use Rattle.natural_bounds.specs.declared.ends.End.{End}
 use Rattle.natural_bounds.specs.declared.ends.End.TheVariants.{AtLeast, AtMost}
-use Rattle.natural_bounds.specs.Natural.{nothing}
+use Rattle.natural_bounds.specs.Vocabulary.{nothing, Asked, fixed, share, stratum, condition, IsAskedOf}
 use Rattle.natural_bounds.specs.Orders.{Bounds}
-use Rattle.natural_bounds.specs.Bounds.{Asked, fixed, share, stratum, condition, IsAskedOf}
 use Rattle.natural_bounds.proofs.Effects.{sum_over_sizes, positive_left}
 use Rattle.natural_bounds.proofs.Natural.{unmoved_weight}
 use Rattle.natural_bounds.proofs.Orders.{positive-times, bounds_equal, add_over_bounds}

@@ -1,15 +1,14 @@
 -- Bounds of the effect of a treatment with two values, by two levels of an instrument (Balke and Pearl 1997; Pearl, Causality, section 8.2; Richardson and
 -- Robins 2014).
 use Rattle.std.specs.Prelude.{ℕ, ◌+◌, ◌-◌, ◌*◌, ◌≡◌, ◌<◌, ◌≤◌, Bool, ◌==◌, nat_le, if◌then◌else◌}
-use Rattle.mixed_graph.specs.Graphs.{MixedGraph, IsMixedGraph}
-use Rattle.fractions.specs.Fractions.{Fraction, over, mul}
-use Rattle.finite_models.specs.Sums.{sum_over}
-use Rattle.finite_models.specs.Models.{agree}
-use Rattle.prob_expr.specs.Values.{Weights, add_over}
+use Rattle.mixed_graph.specs.Vocabulary.{MixedGraph, IsMixedGraph}
+use Rattle.fractions.specs.Vocabulary.{Fraction, over, mul}
+use Rattle.finite_models.specs.Vocabulary.{sum_over, agree}
+use Rattle.prob_expr.specs.Vocabulary.{Weights, add_over}
 use Rattle.natural_bounds.specs.declared.ends.End.{End}
 use Rattle.natural_bounds.specs.declared.ends.End.TheVariants.{AtLeast, AtMost}
-use Rattle.natural_bounds.specs.Orders.{Bounds, trivial, tighter, tightest_over, IsIn}
-use Rattle.natural_bounds.specs.Bounds.{Asked, fixed, joint, level, stratum, share, condition, stratum_bound, BoundsEffect, HasNoModel, IsAskedOf, IsCellOf}
+use Rattle.natural_bounds.specs.Vocabulary.{trivial, tighter, tightest_over, IsIn, Asked, fixed, joint, level, stratum, share, condition, stratum_bound, BoundsEffect, HasNoModel, IsAskedOf, IsCellOf}
+use Rattle.natural_bounds.specs.Orders.{Bounds}
 
 -- x is one vertex, and has two values
 pub record IsTwoValued (n : Weights) (x : ℕ → Bool) : Type 0 where

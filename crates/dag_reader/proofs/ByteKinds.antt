@@ -1,7 +1,7 @@
 -- The table of kinds is held against the definitions at each of the 256 bytes, by computing.
 use Rattle.std.proofs.Common.{◌≡◌, ℕ, ◌<◌, Bool, true, nat_eq, nat_le, get_or, List, refl}
 use Rattle.std.proofs.lemmas.Bool.{agree_below, agree_below_at}
-use Rattle.answer_text.specs.Printing.{is_white, is_edge_byte, is_name_byte}
+use Rattle.answer_text.specs.Vocabulary.{is_white, is_edge_byte, is_name_byte}
 use Rattle.dag_reader.specs.Bytes.{begins_name}
 use Rattle.dag_reader.specs.declared.bytes.TheConstants.{KINDS}
 

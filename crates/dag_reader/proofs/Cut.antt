@@ -8,16 +8,14 @@ use Rattle.dag_reader.specs.declared.marks.Arrow.{Arrow}
 use Rattle.dag_reader.specs.declared.marks.Arrow.TheVariants.{Right, Both}
 use Rattle.dag_reader.specs.declared.marks.Role.{Role}
 use Rattle.dag_reader.specs.declared.marks.Role.TheVariants.{Exposure, Outcome, Adjusted, Latent}
-use Rattle.answer_text.specs.Printing.{is_white, is_name_byte}
+use Rattle.answer_text.specs.Vocabulary.{is_white, is_name_byte, is_plain, printed}
 use Rattle.dag_reader.specs.declared.tokens.Due.{Due}
 use Rattle.dag_reader.specs.declared.tokens.Due.TheVariants as dues
 use Rattle.dag_reader.specs.Tokens.{Tok, open_brace, close_brace, open_bracket, close_bracket, edge, name, end, first, token_of, due_behind, place_of}
-use Rattle.mixed_graph.specs.Names.{IsName}
-use Rattle.answer_text.specs.Printing.{is_plain, printed}
+use Rattle.mixed_graph.specs.Vocabulary.{IsName, name_of}
 use Rattle.dag_reader.specs.Reading.{AreFirst}
 use Rattle.dag_reader.specs.Spelled.{Spelled, kinds}
 use Rattle.dag_reader.specs.Syntax.{Word, single, bare, Attrs, attr_list, Statement, vertex, chain, Text, body_tokens, attrs_tokens, text_tokens, word_token}
-use Rattle.mixed_graph.specs.Names.{name_of}
 use Rattle.dag_reader.specs.Written.{Drawn, IsDrawn, role_text, vertex_lines, edge_lines, written}
 use Rattle.dag_reader.proofs.Printed.{first_here, printed_first, Stops}
 

@@ -4,11 +4,7 @@ use Rattle.std.proofs.Common.{None, inl, inr, refl, sym, ap, subst, ◌∙◌, a
 use Rattle.std.specs.Prelude.{cond, ◌==◌, ◌||◌, ◌&&◌, nat_lt, find, All}
 use Rattle.std.proofs.lemmas.Bool.{and_parts, eq-eqb, ne_eqb, lt-ltb, cases_eq, cases_lt, cases_Bool, cases_order}
 use Rattle.std.proofs.lemmas.List.{get_or_append_left, get_or_past, map-append}
-use Rattle.mixed_graph.specs.Bits.{has}
-use Rattle.mixed_graph.specs.Graphs.{MixedGraph, IsMixedGraph, IsDirectedPath, IsAcyclic}
-use Rattle.mixed_graph.specs.Pairs.{has_pair, IsCycle}
-use Rattle.mixed_graph.specs.Shown.{graph_of}
-use Rattle.mixed_graph.specs.Built.{IsGraphOf}
+use Rattle.mixed_graph.specs.Vocabulary.{has, MixedGraph, IsMixedGraph, IsDirectedPath, IsAcyclic, has_pair, IsCycle, graph_of, IsGraphOf}
 use Rattle.dag_reader.specs.declared.marks.Arrow.{Arrow}
 use Rattle.dag_reader.specs.declared.marks.Arrow.TheVariants.{Right, Both}
 use Rattle.dag_reader.specs.declared.marks.Role.{Role}

@@ -10,17 +10,15 @@ use Rattle.std.specs.Prelude.{All, AllPairs, ◌≢◌}
 use Rattle.std.proofs.lemmas.List.Elements.{All-head, All-tail}
 use Rattle.std.proofs.lemmas.List.{get_or_append_left}
 use Rattle.std.proofs.lemmas.Bool.{and_from, cases_Bool}
-use Rattle.mixed_graph.specs.Names.{AreNames}
+use Rattle.mixed_graph.specs.Vocabulary.{AreNames, index_of, name_of}
 use Rattle.dag_reader.specs.declared.marks.Arrow.{Arrow}
 use Rattle.dag_reader.specs.declared.marks.Arrow.TheVariants.{Right, Both}
 use Rattle.dag_reader.specs.declared.marks.Role.{Role}
 use Rattle.dag_reader.specs.declared.marks.Role.TheVariants.{Exposure, Outcome, Adjusted, Latent}
 use Rattle.dag_reader.specs.declared.marks.Remark.{Remark}
 use Rattle.dag_reader.specs.declared.marks.Remark.TheVariants.{Begins, Joined, Member}
-use Rattle.mixed_graph.specs.Names.{index_of}
 use Rattle.dag_reader.specs.Grammar.{Fault, Said, with_marks, with_vertex}
 use Rattle.dag_reader.specs.Syntax.{single, links_say, ◌>>=◌, allowed, vertex_says, attrs_say, statements_say, Statement, text_says}
-use Rattle.mixed_graph.specs.Names.{name_of}
 use Rattle.dag_reader.specs.Written.{Drawn, IsDrawn}
 use Rattle.dag_reader.proofs.DrawnMarks.{all_new, role_marks, vertex_marks, edge_marks, drawn_says}
 use Rattle.mixed_graph.proofs.NameLists.{position_or_len-none}

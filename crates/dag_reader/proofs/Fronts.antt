@@ -6,8 +6,8 @@ use Rattle.std.proofs.lemmas.Bool.Decides.{nat_tests}
 use Rattle.std.specs.Prelude.{cond, ◌==◌, ◌&&◌, ◌||◌, not}
 use Rattle.std.specs.List.{prefix_len, list_all}
 use Rattle.std.specs.Str.{is_utf8}
-use Rattle.mixed_graph.specs.Names.{IsName}
-use Rattle.answer_text.specs.Printing.{is_edge_byte, is_name_byte, begins_with_arrow}
+use Rattle.mixed_graph.specs.Vocabulary.{IsName}
+use Rattle.answer_text.specs.Vocabulary.{is_edge_byte, is_name_byte, begins_with_arrow}
 use Rattle.dag_reader.specs.Bytes.{begins_name}
 use Rattle.dag_reader.specs.declared.marks.Arrow.{Arrow}
 use Rattle.dag_reader.specs.declared.marks.Arrow.TheVariants.{Right, Left, Both}

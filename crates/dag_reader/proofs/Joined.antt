@@ -4,7 +4,7 @@ use Rattle.std.proofs.Common.{◌∙◌, arith, append-nil, nat_lt}
 use Rattle.std.specs.Prelude.{◌==◌, ◌||◌, ◌&&◌, cond}
 use Rattle.std.proofs.lemmas.Bool.{cases_eq, eq-eqb, ne_eqb, lt-ltb, le-ltb}
 use Rattle.std.proofs.lemmas.List.{get_or-set_same, get_or-set_other}
-use Rattle.mixed_graph.specs.Bits.{has, members_below}
+use Rattle.mixed_graph.specs.Vocabulary.{has, members_below}
 use Rattle.dag_reader.specs.Rows.{row_has}
 use Rattle.dag_reader.proofs.RowPairs.{members-zero, members-suc}
 

@@ -4,9 +4,9 @@ use Rattle.std.proofs.Common.{◌≡◌, ◌≤◌, ◌<◌, ◌-◌, take, drop
 use Rattle.std.proofs.Common.{length-append, sym, ap, ◌∙◌, subst}
 use Rattle.std.specs.Prelude.{nat_lt, cond, Result, Ok, Err, OnOk, OnErr}
 use Rattle.mixed_graph.specs.declared.names.AddFault.{AddFault}
+use Rattle.mixed_graph.specs.Vocabulary.{with_name, is_named}
 use Rattle.std.specs.List.{list_all}
 use Rattle.std.proofs.lemmas.Bool.{ltb-true, lt-ltb, and_parts, and_from}
-use Rattle.mixed_graph.specs.Names.{with_name, is_named}
 use Rattle.dag_reader.specs.declared.marks.Remark.{Remark}
 use Rattle.dag_reader.specs.declared.marks.Remark.TheVariants.{Begins, Joined, Member, HasRole}
 use Rattle.dag_reader.specs.MarkEnds.{is_inside}

@@ -7,7 +7,7 @@ use Rattle.std.proofs.lemmas.List.{get_or-take, length-take-le}
 use Rattle.std.proofs.lemmas.List.Elements.{All-from_get_or}
 use Rattle.std.proofs.lemmas.List.Sums.{prefix_len-le-length}
 use Rattle.std.proofs.Math.Nat.{pow-suc, pow-le-pow_right}
-use Rattle.mixed_graph.specs.NameKeys.{AreBytes, digits_on}
+use Rattle.mixed_graph.specs.Vocabulary.{AreBytes, digits_on}
 
 goes : (p : ℕ → Bool) (bytes : List ℕ) (i : ℕ) → i < length bytes → p (get_or bytes i 0) ≡ true → prefix_len p (drop i bytes)
     ≡ 1 + prefix_len p (drop (suc i) bytes)

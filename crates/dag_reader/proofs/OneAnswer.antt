@@ -3,9 +3,9 @@ use Rattle.std.proofs.Common.{◌≡◌, ◌<◌, ◌≤◌, ℕ, zero, suc, Boo
 use Rattle.std.proofs.Common.{sym, ap, subst, ◌∙◌, arith, one-add, length-drop}
 use Rattle.std.specs.Prelude.{cond, ◌==◌}
 use Rattle.std.specs.List.{prefix_len}
-use Rattle.answer_text.specs.Printing.{is_white, is_edge_byte, is_name_byte}
+use Rattle.answer_text.specs.Vocabulary.{is_white, is_edge_byte, is_name_byte}
 use Rattle.dag_reader.specs.Bytes.{is_run_byte}
-use Rattle.mixed_graph.specs.Names.{is_line_byte}
+use Rattle.mixed_graph.specs.Vocabulary.{is_line_byte}
 use Rattle.dag_reader.specs.declared.tokens.Due.{Due}
 use Rattle.dag_reader.specs.declared.tokens.Due.TheVariants as dues
 use Rattle.dag_reader.specs.Tokens.{Tok, end, value, first, place_of, due_behind, past_white, token_of, token_at, value_at, run_at, is_droppable, quoted_text}

@@ -1,8 +1,7 @@
 -- A text is read as one graph at most, and has no fault where it is read as one.
 use Rattle.std.proofs.Common.{◌≡◌, ℕ, List, refl, sym, subst, ◌∙◌}
 use Rattle.std.specs.Prelude.{Result, Ok, Err}
-use Rattle.mixed_graph.specs.Pairs.{has_pair}
-use Rattle.mixed_graph.specs.Shown.{graph_of}
+use Rattle.mixed_graph.specs.Vocabulary.{has_pair, graph_of}
 use Rattle.mixed_graph.proofs.Masks.{same_from_has}
 use Rattle.dag_reader.specs.declared.marks.Role.TheVariants.{Exposure, Outcome, Adjusted, Latent}
 use Rattle.dag_reader.specs.declared.graph.ReadGraph.{ReadGraph}

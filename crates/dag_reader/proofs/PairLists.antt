@@ -7,10 +7,7 @@ use Rattle.std.proofs.lemmas.Bool.{and_parts, and_from, ltb-true, lt-ltb, le-ltb
 use Rattle.std.proofs.lemmas.Bool.{or_parts, both_ways}
 use Rattle.std.proofs.lemmas.List.Folds.{list_any-append, list_all-append}
 use Rattle.std.proofs.lemmas.Grind.{flat_map-append}
-use Rattle.mixed_graph.specs.Bits.{members_below}
-use Rattle.mixed_graph.specs.Pairs.{has_pair, loop_in, first_loop, IsCycle}
-use Rattle.mixed_graph.specs.Graphs.{MixedGraph}
-use Rattle.mixed_graph.specs.Built.{IsGraphOf}
+use Rattle.mixed_graph.specs.Vocabulary.{members_below, has_pair, loop_in, first_loop, IsCycle, MixedGraph, IsGraphOf}
 use Rattle.dag_reader.specs.declared.marks.Arrow.{Arrow}
 use Rattle.dag_reader.specs.declared.marks.Arrow.TheVariants.{Right, Left, Both}
 use Rattle.dag_reader.specs.declared.marks.Role.{Role}

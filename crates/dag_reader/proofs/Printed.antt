@@ -4,12 +4,10 @@ use Rattle.std.proofs.lemmas.Bool.Decides.{nat_tests}
 use Rattle.std.specs.Prelude.{if◌then◌else◌, ◌==◌, ◌||◌, ◌&&◌, not, cond}
 use Rattle.std.specs.List.{prefix_len, list_all}
 use Rattle.std.proofs.Math.Seq.{take-append_seam, drop-append_seam}
-use Rattle.answer_text.specs.Printing.{is_white, is_edge_byte, is_sign, is_name_byte}
-use Rattle.mixed_graph.specs.Names.{is_line_byte}
+use Rattle.answer_text.specs.Vocabulary.{is_white, is_edge_byte, is_sign, is_name_byte, is_plain_byte, is_bare, begins_with_arrow, is_plain, printed}
+use Rattle.mixed_graph.specs.Vocabulary.{is_line_byte, IsName}
 use Rattle.dag_reader.specs.declared.tokens.Due.TheVariants as dues
 use Rattle.dag_reader.specs.Tokens.{Tok, name, name_token, first, token_of, token_at, run_at, quoted_name, quoted_text, sign_token}
-use Rattle.mixed_graph.specs.Names.{IsName}
-use Rattle.answer_text.specs.Printing.{is_plain_byte, is_bare, begins_with_arrow, is_plain, printed}
 
 or_false : (a b : Bool) → (a || b) ≡ false → (a ≡ false) × (b ≡ false)
 or_false true b h = cc h

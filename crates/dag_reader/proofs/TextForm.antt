@@ -8,10 +8,10 @@ use Rattle.std.proofs.lemmas.Str.{IsUtf8-nil, IsUtf8-drop, IsUtf8-take, IsUtf8-f
 use Rattle.std.proofs.lemmas.Bool.Decides.{nat_tests}
 use Rattle.std.proofs.lemmas.List.{take_rest}
 use Rattle.std.proofs.lemmas.List.Sums.{prefix_len_passes, prefix_len_stops, prefix_len-le-length}
-use Rattle.mixed_graph.specs.Names.{IsName, is_line_byte}
+use Rattle.mixed_graph.specs.Vocabulary.{IsName, is_line_byte}
 use Rattle.dag_reader.specs.declared.tokens.Class.{Class}
 use Rattle.dag_reader.specs.declared.tokens.Class.TheVariants as classes
-use Rattle.answer_text.specs.Printing.{is_white, is_edge_byte, is_sign, is_name_byte}
+use Rattle.answer_text.specs.Vocabulary.{is_white, is_edge_byte, is_sign, is_name_byte}
 use Rattle.dag_reader.specs.Bytes.{in_class, is_run_byte}
 use Rattle.dag_reader.specs.Tokens.{past_white}
 

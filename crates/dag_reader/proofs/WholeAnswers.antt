@@ -4,8 +4,7 @@ use Rattle.std.specs.Prelude.{Result, Ok, Err}
 use Rattle.std.specs.List.{list_all}
 use Rattle.std.specs.Str.{IsUtf8}
 use Rattle.std.proofs.lemmas.Bool.{cases_Bool}
-use Rattle.mixed_graph.specs.Sets.{Within, Apart}
-use Rattle.mixed_graph.specs.Shown.{graph_of}
+use Rattle.mixed_graph.specs.Vocabulary.{Within, Apart, graph_of, IsGraphOf}
 use Rattle.dag_reader.specs.declared.marks.Role.{Role}
 use Rattle.dag_reader.specs.declared.marks.Role.TheVariants.{Exposure, Outcome, Adjusted, Latent}
 use Rattle.dag_reader.specs.declared.marks.Remark.{Remark}
@@ -19,7 +18,6 @@ use Rattle.dag_reader.specs.declared.faults.GraphFault.TheVariants.{SelfLoop, Ro
 use Rattle.dag_reader.specs.Grammar.{Said}
 use Rattle.dag_reader.specs.MarkEnds.{is_inside}
 use Rattle.dag_reader.specs.RoleSets.{in_set}
-use Rattle.mixed_graph.specs.Built.{IsGraphOf}
 use Rattle.dag_reader.specs.Passes.{arrows_of, doubles_of}
 use Rattle.dag_reader.specs.Reading.{Says}
 use Rattle.dag_reader.specs.Turns.{ReadsStatements}

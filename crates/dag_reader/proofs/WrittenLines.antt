@@ -5,11 +5,10 @@ use Rattle.std.specs.Prelude.{slice_get}
 use Rattle.std.specs.List.{flat_map}
 use Rattle.std.proofs.lemmas.List.{length-map, map-append}
 use Rattle.std.proofs.lemmas.Option.{get_or_from_slice_get}
-use Rattle.mixed_graph.specs.Bits.{members_below}
+use Rattle.mixed_graph.specs.Vocabulary.{members_below, name_of}
 use Rattle.mixed_graph.proofs.Members.{length-members-suc, length-members-zero}
 use Rattle.dag_reader.specs.declared.marks.Role.{Role}
-use Rattle.mixed_graph.specs.Names.{name_of}
-use Rattle.answer_text.specs.Printing.{printed}
+use Rattle.answer_text.specs.Vocabulary.{printed}
 use Rattle.dag_reader.specs.Rows.{count_up, pairs_below}
 use Rattle.dag_reader.specs.Written.{role_text, vertex_lines, edge_lines}
 use Rattle.dag_reader.proofs.RowPairs.{members-zero, members-suc}

@@ -1,11 +1,9 @@
 -- What the parts of reading answer.
 use Rattle.std.specs.Prelude.{◌≡◌, ℕ, List, length, Some, Result, Ok, Err}
-use Rattle.mixed_graph.specs.Shown.{graph_of}
-use Rattle.mixed_graph.specs.Built.{IsGraphOf}
-use Rattle.mixed_graph.specs.Pairs.{has_pair}
+use Rattle.mixed_graph.specs.declared.mixed.Graph.{Graph}
+use Rattle.mixed_graph.specs.Vocabulary.{graph_of, IsGraphOf, has_pair, AreNames, name_of}
 use Rattle.dag_reader.specs.declared.edges.Edges.{Edges}
 use Rattle.dag_reader.specs.Rows.{row_has}
-use Rattle.mixed_graph.specs.declared.mixed.Graph.{Graph}
 use Rattle.dag_reader.specs.declared.marks.Remark.{Remark}
 use Rattle.dag_reader.specs.declared.faults.Fault.TheVariants as faults
 use Rattle.dag_reader.specs.declared.faults.ReadFault.{ReadFault}
@@ -13,12 +11,10 @@ use Rattle.dag_reader.specs.declared.faults.ReadFault.TheVariants as errors
 use Rattle.dag_reader.specs.declared.faults.GraphFault.{GraphFault}
 use Rattle.dag_reader.specs.declared.faults.GraphFault.TheVariants.{Token, Expected, NotADag, EdgeKind, Flag, Selected, SelfLoop, TooMany, RoleClash}
 use Rattle.dag_reader.specs.declared.faults.GraphFault.TheVariants.{Cycle, NoMemory}
-use Rattle.mixed_graph.specs.Names.{AreNames}
 use Rattle.dag_reader.specs.declared.marks.Role.{Role}
 use Rattle.dag_reader.specs.declared.roles.Roles.{Roles}
 use Rattle.dag_reader.specs.declared.building.MarkedGraph.{MarkedGraph}
 use Rattle.dag_reader.specs.RoleSets.{in_set, AreRoleSets}
-use Rattle.mixed_graph.specs.Names.{name_of}
 use Rattle.dag_reader.specs.Passes.{Edge, self_loop, arrows_of, doubles_of, roles_of, has_role, IsRoleClash}
 use Rattle.dag_reader.specs.Reads.{HasNoLoop, HasNoClash, IsNamedCycle, GivesGraph, is_marked}
 use Rattle.dag_reader.specs.declared.graph.ReadGraph.{ReadGraph}

@@ -1,7 +1,7 @@
 -- The classes of bytes.
-use Rattle.answer_text.specs.Printing.{is_white, is_edge_byte, is_name_byte}
+use Rattle.answer_text.specs.Vocabulary.{is_white, is_edge_byte, is_name_byte}
 use Rattle.std.specs.Prelude.{ℕ, Bool, not, ◌||◌, ◌&&◌, ◌==◌}
-use Rattle.mixed_graph.specs.Names.{is_line_byte}
+use Rattle.mixed_graph.specs.Vocabulary.{is_line_byte}
 use Rattle.dag_reader.specs.declared.tokens.Class.{Class}
 use Rattle.dag_reader.specs.declared.tokens.Class.TheVariants.{Edge, Name, Line, Run}
 

@@ -2,7 +2,7 @@
 use Rattle.std.specs.Prelude.{ℕ, Bool, true, false, not, ◌&&◌, nat_le, List, [], ◌∷◌, ◌++◌, length, Option, Some, None, if◌then◌else◌, codes, Result, Ok, Err}
 use Rattle.std.specs.List.{list_any}
 use Rattle.std.specs.Str.{bytes_eq}
-use Rattle.mixed_graph.specs.Names.{with_name, index_of}
+use Rattle.mixed_graph.specs.Vocabulary.{with_name, index_of}
 use Rattle.dag_reader.specs.declared.grammar.Braces.{Braces}
 use Rattle.dag_reader.specs.declared.grammar.Braces.TheVariants as which
 use Rattle.dag_reader.specs.declared.marks.Role.{Role}

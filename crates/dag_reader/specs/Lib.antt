@@ -20,3 +20,4 @@ pub mod Written
 pub mod RoundTrip
 pub mod Links
 pub mod LoneEdges
+pub mod Vocabulary

@@ -1,6 +1,6 @@
 -- Edges between two bare names, read as a whole.
 use Rattle.std.specs.Prelude.{◌≡◌, ℕ, Bool, true, false, not, List, [], ◌∷◌, codes, Result, Ok}
-use Rattle.answer_text.specs.Printing.{is_edge_byte}
+use Rattle.answer_text.specs.Vocabulary.{is_edge_byte}
 use Rattle.dag_reader.specs.declared.marks.Arrow.{Arrow}
 use Rattle.dag_reader.specs.declared.marks.Arrow.TheVariants.{Right, Left, Both}
 use Rattle.dag_reader.specs.declared.marks.Remark.TheVariants.{Begins, Joined}

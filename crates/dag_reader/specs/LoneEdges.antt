@@ -1,7 +1,7 @@
 -- Edges whose ends are the only members of their groups.
 use Rattle.std.specs.Prelude.{◌≡◌, ℕ, Bool, List, [], ◌∷◌, drop, Option}
 use Rattle.std.specs.List.{filter_map}
-use Rattle.mixed_graph.specs.Pairs.{has_pair}
+use Rattle.mixed_graph.specs.Vocabulary.{has_pair}
 use Rattle.dag_reader.specs.declared.marks.Arrow.{Arrow}
 use Rattle.dag_reader.specs.declared.marks.Remark.{Remark}
 use Rattle.dag_reader.specs.declared.marks.Remark.TheVariants.{Begins, Joined, Member}

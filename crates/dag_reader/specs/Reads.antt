@@ -2,11 +2,7 @@
 use Rattle.std.specs.Prelude.{◌≡◌, ℕ, Bool, List, length, map, take, Some, None, Result, Ok, Err}
 use Rattle.std.specs.Str.{IsUtf8}
 use Rattle.std.specs.Str.Lossy.{utf8_valid_len}
-use Rattle.mixed_graph.specs.Bits.{has}
-use Rattle.mixed_graph.specs.Graphs.{IsAcyclic}
-use Rattle.mixed_graph.specs.Shown.{graph_of}
-use Rattle.mixed_graph.specs.Pairs.{has_pair, IsCycle}
-use Rattle.mixed_graph.specs.Built.{IsGraphOf}
+use Rattle.mixed_graph.specs.Vocabulary.{has, IsAcyclic, graph_of, has_pair, IsCycle, IsGraphOf, name_of}
 use Rattle.dag_reader.specs.declared.marks.Role.{Role}
 use Rattle.dag_reader.specs.declared.marks.Remark.{Remark}
 use Rattle.dag_reader.specs.declared.graph.ReadGraph.{ReadGraph}
@@ -16,7 +12,6 @@ use Rattle.dag_reader.specs.declared.faults.GraphFault.TheVariants.{RoleClash, C
 use Rattle.dag_reader.specs.Grammar.{Said, token, expected, not_a_dag, edge_kind, flag, selected, too_many}
 use Rattle.dag_reader.specs.Reading.{Says}
 use Rattle.dag_reader.specs.RoleSets.{set_of}
-use Rattle.mixed_graph.specs.Names.{name_of}
 use Rattle.dag_reader.specs.Passes.{Edge, self_loop, arrows_of, doubles_of, roles_of, has_role, HasTwo, IsRoleClash}
 
 -- whether the vertex has the role in the graph

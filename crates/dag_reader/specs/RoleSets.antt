@@ -1,7 +1,6 @@
 -- The vertices of each role, as four sets.
 use Rattle.std.specs.Prelude.{ℕ, Bool}
-use Rattle.mixed_graph.specs.Bits.{has}
-use Rattle.mixed_graph.specs.Sets.{Within, Apart}
+use Rattle.mixed_graph.specs.Vocabulary.{has, Within, Apart}
 use Rattle.dag_reader.specs.declared.marks.Role.{Role}
 use Rattle.dag_reader.specs.declared.marks.Role.TheVariants.{Exposure, Outcome, Adjusted, Latent}
 use Rattle.dag_reader.specs.declared.roles.Roles.{Roles}

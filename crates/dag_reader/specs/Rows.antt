@@ -1,7 +1,7 @@
 -- Relations between vertices as rows of bits, and as sorted lists of pairs.
 use Rattle.std.specs.Prelude.{ℕ, Bool, true, List, map, slice_index}
 use Rattle.std.specs.List.{flat_map}
-use Rattle.mixed_graph.specs.Bits.{has, members_below}
+use Rattle.mixed_graph.specs.Vocabulary.{has, members_below}
 
 -- row a has b
 abbrev pub row_has : List ℕ → ℕ → ℕ → Bool

@@ -6,9 +6,9 @@ use Rattle.dag_reader.specs.declared.marks.Arrow.{Arrow}
 use Rattle.dag_reader.specs.declared.marks.Arrow.TheVariants as arrows
 use Rattle.dag_reader.specs.declared.tokens.Due.{Due}
 use Rattle.dag_reader.specs.declared.tokens.Due.TheVariants as dues
-use Rattle.answer_text.specs.Printing.{is_white, is_edge_byte, is_name_byte, begins_with_arrow}
+use Rattle.answer_text.specs.Vocabulary.{is_white, is_edge_byte, is_name_byte, begins_with_arrow}
 use Rattle.dag_reader.specs.Bytes.{is_run_byte, is_edge_sign}
-use Rattle.mixed_graph.specs.Names.{is_line_byte}
+use Rattle.mixed_graph.specs.Vocabulary.{is_line_byte}
 
 -- the tokens
 pub data Tok : Type 0 where

@@ -2,13 +2,10 @@
 use Rattle.std.specs.Prelude.{◌≡◌, ◌<◌, ℕ, ◌&&◌, List, [], ◌∷◌, ◌++◌, length, map, Option, Some, None, codes, All, nat_lt, if◌then◌else◌}
 use Rattle.dag_reader.specs.declared.marks.Role.{Role}
 use Rattle.dag_reader.specs.declared.marks.Role.TheVariants.{Exposure, Outcome, Adjusted, Latent}
-use Rattle.answer_text.specs.Printing.{printed}
-use Rattle.mixed_graph.specs.Names.{AreNames}
-use Rattle.mixed_graph.specs.Bits.{has}
-use Rattle.mixed_graph.specs.Shown.{graph_of}
+use Rattle.answer_text.specs.Vocabulary.{printed}
+use Rattle.mixed_graph.specs.Vocabulary.{AreNames, has, graph_of, name_of}
 use Rattle.dag_reader.specs.declared.graph.ReadGraph.{ReadGraph}
 use Rattle.dag_reader.specs.Rows.{count_up, pairs_below}
-use Rattle.mixed_graph.specs.Names.{name_of}
 
 -- what is written of a graph: its names, a role for each or none, its edges
 pub record Drawn : Type 0 where

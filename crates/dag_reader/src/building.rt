@@ -3,7 +3,7 @@
 ghost use Rattle.std.specs.Prelude.{◌≡◌, ◌<◌, List, ℕ, length, true, None, map, take, IfOk, slice_index};
 ghost use Rattle.std.specs.List.{list_all};
 ghost use Rattle.dag_reader.specs.MarkEnds.{is_inside};
-ghost use Rattle.mixed_graph.specs.Names.{name_of};
+ghost use Rattle.mixed_graph.specs.Vocabulary.{name_of};
 ghost use Rattle.dag_reader.specs.Reads.{HasNoLoop};
 ghost use Rattle.dag_reader.specs.declared.marks.Role.{Role};
 ghost use Rattle.dag_reader.specs.Passes.{has_role, roles_of};

@@ -1,7 +1,7 @@
 //! The classes of bytes.
 
 ghost use Rattle.std.specs.Prelude.{◌≡◌};
-ghost use Rattle.answer_text.specs.Printing.{is_white, is_edge_byte, is_name_byte};
+ghost use Rattle.answer_text.specs.Vocabulary.{is_white, is_edge_byte, is_name_byte};
 ghost use Rattle.dag_reader.specs.Bytes.{begins_name};
 
 /// For each byte its kind: `a` for the quotation mark, `b` for a blank, `c` for a sign, `e` for one of edges, and for any other, which may stand in a

@@ -2,8 +2,7 @@
 
 ghost use Rattle.std.specs.Prelude.{◌≡◌, ◌<◌, ◌≤◌, ◌&&◌, ◌||◌, ◌==◌, nat_lt, ℕ, List, [], true, false, slice_index, Option, find, option_map, IfOk, IfSome, All, ◌++◌, map, OnOk};
 ghost use Rattle.std.specs.List.{list_all, list_any};
-ghost use Rattle.mixed_graph.specs.Bits.{has, members_below};
-ghost use Rattle.mixed_graph.specs.Pairs.{has_pair};
+ghost use Rattle.mixed_graph.specs.Vocabulary.{has, members_below, has_pair};
 ghost use Rattle.dag_reader.specs.MarkEnds.{is_inside};
 ghost use Rattle.dag_reader.specs.declared.marks.Role.{Role};
 ghost use Rattle.dag_reader.specs.Passes.{Edge, members, self_loop, arrow_of, both_of, arrows_of, doubles_of, has_role, roles_of};

@@ -1,7 +1,7 @@
 //! The lines that say why a text is no graph.
 
 ghost use Rattle.std.specs.Prelude.{◌≡◌, ◌++◌, codes, IfOk, OnOk};
-ghost use Rattle.answer_text.specs.Lines.{line_of, second};
+ghost use Rattle.answer_text.specs.Vocabulary.{line_of, second};
 ghost use Rattle.dag_reader.specs.FaultTexts.{graph_fault_text, size_text, spaced};
 
 use crate::faults::GraphFault;

@@ -1,7 +1,7 @@
 //! A graph as it was read.
 
 ghost use Rattle.std.specs.Prelude.{◌≡◌, length};
-ghost use Rattle.mixed_graph.specs.Names.{AreNames};
+ghost use Rattle.mixed_graph.specs.Vocabulary.{AreNames};
 ghost use Rattle.dag_reader.specs.RoleSets.{AreRoleSets};
 
 use mixed_graph::{Graph, Names, VSet};

@@ -1,7 +1,7 @@
 //! The vertices of each role.
 
 ghost use Rattle.std.specs.Prelude.{◌≡◌, ◌<◌, ◌&&◌, ◌||◌, ◌==◌, ℕ, List, [], ◌∷◌, Some, false, IfSome, IfNone};
-ghost use Rattle.mixed_graph.specs.Bits.{has};
+ghost use Rattle.mixed_graph.specs.Vocabulary.{has};
 ghost use Rattle.dag_reader.specs.declared.marks.Role.{Role};
 ghost use Rattle.dag_reader.specs.declared.marks.Remark.TheVariants.{HasRole};
 ghost use Rattle.dag_reader.specs.Passes.{same_role, has_role, roles_behind, HasTwo, IsRoleClash};

@@ -3,11 +3,9 @@
 ghost use Rattle.std.specs.Prelude.{◌≡◌, ◌≢◌, ◌<◌, ◌≤◌, ◌-◌, ◌+◌, ◌++◌, List, ℕ, [], ◌∷◌, Some, None, IsTrue, true, false, length, take, drop, IfOk, IfSome, IfNone, option_map};
 ghost use Rattle.std.specs.List.{prefix_len, list_all, list_any};
 ghost use Rattle.std.specs.Str.{is_utf8};
-ghost use Rattle.mixed_graph.specs.Names.{IsName};
-ghost use Rattle.mixed_graph.specs.NameKeys.{AreBytes, IsKeyed, digits_on};
-ghost use Rattle.answer_text.specs.Printing.{is_white, is_edge_byte, is_sign, is_name_byte};
+ghost use Rattle.mixed_graph.specs.Vocabulary.{IsName, AreBytes, IsKeyed, digits_on, is_line_byte};
+ghost use Rattle.answer_text.specs.Vocabulary.{is_white, is_edge_byte, is_sign, is_name_byte};
 ghost use Rattle.dag_reader.specs.Bytes.{in_class, is_run_byte, is_edge_sign};
-ghost use Rattle.mixed_graph.specs.Names.{is_line_byte};
 ghost use Rattle.dag_reader.specs.Tokens.{Tok, end, edge, name, edge_token, name_token, begins_with_dash, is_droppable, quoted_name_token, sign_token, quoted_text, token_at, value_at, token_of, past_white, first, place_of, due_behind};
 ghost use Rattle.dag_reader.specs.Views.{view};
 ghost use Rattle.dag_reader.specs.Grammar.{is_end};

@@ -1,7 +1,6 @@
 //! Names and edges where they stand in a text.
 
-ghost use Rattle.mixed_graph.specs.Names.{IsName};
-ghost use Rattle.mixed_graph.specs.NameKeys.{IsKeyed};
+ghost use Rattle.mixed_graph.specs.Vocabulary.{IsName, IsKeyed};
 
 use crate::marks::Arrow;
 

@@ -1,7 +1,7 @@
 //! The text of a graph.
 
 ghost use Rattle.std.specs.Prelude.{◌≡◌, ◌<◌, ◌≤◌, ◌++◌, ◌&&◌, nat_lt, List, ℕ, [], ◌∷◌, length, map, All, OnOk, IfOk};
-ghost use Rattle.answer_text.specs.Printing.{printed};
+ghost use Rattle.answer_text.specs.Vocabulary.{printed};
 ghost use Rattle.dag_reader.specs.Rows.{row_has, count_up};
 ghost use Rattle.dag_reader.specs.Written.{role_text, vertex_lines, edge_lines, role_at, drawn_of, written};
 

@@ -1,11 +1,11 @@
 -- What a step makes, its moves make in turn.
 use Rattle.std.proofs.Common.{ℕ, zero, suc, ◌≡◌, ◌∙◌, sym, ap, subst, refl, List, [], ◌∷◌, ◌++◌, map, Option, Some, None, MatchOption}
 use Rattle.std.proofs.lemmas.Option.{none-some}
-use Rattle.mixed_graph.specs.Graphs.{MixedGraph}
-use Rattle.prob_expr.specs.Tree.{Tree, prob, sum, product, quotient, named, Trees, no_trees, tree}
-use Rattle.do_derivation.specs.Plans.{Plan, Plans, no_plans, plan}
-use Rattle.do_derivation.specs.Shapes.{child, with_child, factor_at, with_factor}
-use Rattle.do_derivation.specs.Steps.{Makes, MakesAll}
+use Rattle.mixed_graph.specs.Vocabulary.{MixedGraph}
+use Rattle.prob_expr.specs.Tree.{Tree, prob, sum, product, quotient, named, tree}
+use Rattle.prob_expr.specs.Vocabulary.{Trees, no_trees}
+use Rattle.do_derivation.specs.Plans.{Plan, Plans, plan}
+use Rattle.do_derivation.specs.Vocabulary.{no_plans, child, with_child, factor_at, with_factor, Makes, MakesAll}
 use Rattle.do_derivation.proofs.Children.{some_is}
 use Rattle.derivation_steps.specs.Moves.{moves_of, moves_of_each}
 use Rattle.derivation_steps.specs.Traces.{MadeInTurn}

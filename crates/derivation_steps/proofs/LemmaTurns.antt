@@ -2,13 +2,10 @@
 use Rattle.std.proofs.Common.{ℕ, ◌+◌, ◌≡◌, ◌<◌, sym, ap, ◌∙◌, subst, refl, List, [], ◌∷◌, ◌++◌, map, length, get_or, drop, Some}
 use Rattle.std.proofs.Common.{append_assoc, append-nil}
 use Rattle.std.proofs.lemmas.List.{at_drop_more}
-use Rattle.mixed_graph.specs.Graphs.{MixedGraph}
+use Rattle.mixed_graph.specs.Vocabulary.{MixedGraph}
 use Rattle.prob_expr.specs.Tree.{Tree}
-use Rattle.do_derivation.specs.Accepts.{sets_of, start_of, Define}
-use Rattle.do_derivation.specs.Plans.{PlainLemma}
-use Rattle.do_derivation.specs.Steps.{Makes}
-use Rattle.do_derivation.specs.View.{lemma_view}
 use Rattle.do_derivation.specs.declared.steps.Lemma.{Lemma}
+use Rattle.do_derivation.specs.Vocabulary.{sets_of, start_of, Define, PlainLemma, Makes, lemma_view}
 use Rattle.derivation_steps.specs.Parts.{IsPart, AreLemmaParts}
 use Rattle.derivation_steps.specs.declared.parts.Part.{Part}
 

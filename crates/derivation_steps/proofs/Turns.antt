@@ -1,13 +1,12 @@
 -- Moves in turn.
 use Rattle.std.proofs.Common.{ℕ, ◌+◌, ◌≡◌, ◌<◌, true, sym, ap, ◌∙◌, subst, refl, List, [], ◌∷◌, ◌++◌, map, length, get_or, drop, append_assoc, append-nil}
 use Rattle.std.proofs.lemmas.List.{at_drop_more}
-use Rattle.mixed_graph.specs.Graphs.{MixedGraph, IsMixedGraph}
-use Rattle.prob_expr.specs.Terms.{are_terms}
+use Rattle.mixed_graph.specs.Vocabulary.{MixedGraph, IsMixedGraph}
+use Rattle.prob_expr.specs.Vocabulary.{are_terms}
 use Rattle.prob_expr.specs.Tree.{Tree}
 use Rattle.prob_expr.specs.View.{view}
 use Rattle.do_derivation.specs.Plans.{Plan}
-use Rattle.do_derivation.specs.Steps.{Makes}
-use Rattle.do_derivation.specs.View.{step_view}
+use Rattle.do_derivation.specs.Vocabulary.{Makes, step_view}
 use Rattle.do_derivation.specs.declared.steps.Step.{Step}
 use Rattle.do_derivation.proofs.Exact.{steps_are_exact}
 use Rattle.do_derivation.proofs.Preserved.{step_keeps_terms}

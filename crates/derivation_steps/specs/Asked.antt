@@ -1,13 +1,11 @@
 -- The rule for which a move asks, with its sets, and the graph in which it is asked.
 use Rattle.std.specs.Prelude.{ℕ, ◌≡◌, List, Option, Some, None, MatchOption}
-use Rattle.mixed_graph.specs.Bits.{has}
-use Rattle.mixed_graph.specs.Graphs.{MixedGraph}
-use Rattle.mixed_graph.specs.Shown.{graph_of}
+use Rattle.mixed_graph.specs.Vocabulary.{has, MixedGraph, graph_of}
 use Rattle.prob_expr.specs.Tree.{Tree}
-use Rattle.do_rules.specs.Rules.{IsRuleGraph}
 use Rattle.do_rules.specs.declared.rules.Rule.{Rule}
+use Rattle.do_rules.specs.Vocabulary.{IsRuleGraph}
 use Rattle.do_derivation.specs.Plans.{Plan}
-use Rattle.do_derivation.specs.Shapes.{child}
+use Rattle.do_derivation.specs.Vocabulary.{child}
 use Rattle.do_derivation.specs.Table.{Row, row}
 use Rattle.derivation_steps.specs.Questions.{Asked, asked_of}
 use Rattle.derivation_steps.specs.declared.questions.AskedRule.{AskedRule}

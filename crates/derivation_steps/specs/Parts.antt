@@ -1,11 +1,11 @@
 -- A derivation part by part: the moves of its lemmas and of its main step, one after another.
 use Rattle.std.specs.Prelude.{ℕ, ◌+◌, ◌≡◌, true, List, [], ◌∷◌, ◌++◌, Option, Some, None}
-use Rattle.mixed_graph.specs.Graphs.{MixedGraph}
-use Rattle.prob_expr.specs.Tree.{Tree, PlainFormula, PlainTarget, term_of}
+use Rattle.mixed_graph.specs.Vocabulary.{MixedGraph}
+use Rattle.prob_expr.specs.Tree.{Tree}
+use Rattle.prob_expr.specs.Vocabulary.{PlainFormula, PlainTarget, term_of}
 use Rattle.prob_expr.specs.View.{view}
-use Rattle.do_derivation.specs.Accepts.{are_sets, sets_of, start_of, Define}
-use Rattle.do_derivation.specs.Plans.{Plan, PlainLemma, PlainDerivation}
-use Rattle.do_derivation.specs.Steps.{Makes}
+use Rattle.do_derivation.specs.Vocabulary.{are_sets, sets_of, start_of, Define, PlainLemma, PlainDerivation, Makes}
+use Rattle.do_derivation.specs.Plans.{Plan}
 use Rattle.derivation_steps.specs.Moves.{moves_of}
 use Rattle.derivation_steps.specs.Traces.{plans_in, Leads}
 use Rattle.derivation_steps.specs.declared.parts.Part.{Part}

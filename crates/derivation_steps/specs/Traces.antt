@@ -1,11 +1,10 @@
 -- What the moves of a step make, one after another.
 use Rattle.std.specs.Prelude.{ℕ, ◌≡◌, List, [], ◌∷◌, map}
-use Rattle.mixed_graph.specs.Graphs.{MixedGraph}
+use Rattle.mixed_graph.specs.Vocabulary.{MixedGraph}
 use Rattle.prob_expr.specs.Tree.{Tree}
 use Rattle.prob_expr.specs.View.{view}
 use Rattle.do_derivation.specs.Plans.{Plan}
-use Rattle.do_derivation.specs.Steps.{Makes}
-use Rattle.do_derivation.specs.View.{step_view}
+use Rattle.do_derivation.specs.Vocabulary.{Makes, step_view}
 use Rattle.derivation_steps.specs.Asked.{IsAsked}
 use Rattle.derivation_steps.specs.declared.tracing.Made.{Made}
 

@@ -1,7 +1,7 @@
 // The moves of a step.
 ghost use Rattle.std.specs.Prelude.{◌≡◌, ◌++◌, [], ◌∷◌, List, ℕ, map, IfOk, OnOk};
 ghost use Rattle.do_derivation.specs.Plans.{Plan};
-ghost use Rattle.do_derivation.specs.View.{step_view, steps_view};
+ghost use Rattle.do_derivation.specs.Vocabulary.{step_view, steps_view};
 ghost use Rattle.derivation_steps.specs.Moves.{moves_of, moves_of_each};
 
 use do_derivation::{Step, copy_move};

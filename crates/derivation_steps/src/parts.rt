@@ -1,14 +1,11 @@
 //! The steps of a formula and of its lemmas, part by part.
 
 ghost use Rattle.std.specs.Prelude.{◌≡◌, ℕ, [], true, List, map, IfOk};
-ghost use Rattle.mixed_graph.specs.Shown.{graph_of};
-ghost use Rattle.prob_expr.specs.Listed.{masks_of};
-ghost use Rattle.prob_expr.specs.Terms.{are_terms, is_term};
-ghost use Rattle.prob_expr.specs.Tree.{Tree, PlainFormula};
-ghost use Rattle.prob_expr.specs.View.{view, target_view};
-ghost use Rattle.do_derivation.specs.Accepts.{are_sets, sets_of, start_of, Define};
-ghost use Rattle.do_derivation.specs.Steps.{Makes};
-ghost use Rattle.do_derivation.specs.View.{step_view, lemma_view, derivation_view};
+ghost use Rattle.mixed_graph.specs.Vocabulary.{graph_of};
+ghost use Rattle.prob_expr.specs.Vocabulary.{masks_of, are_terms, is_term, PlainFormula, target_view};
+ghost use Rattle.prob_expr.specs.Tree.{Tree};
+ghost use Rattle.prob_expr.specs.View.{view};
+ghost use Rattle.do_derivation.specs.Vocabulary.{are_sets, sets_of, start_of, Define, Makes, step_view, lemma_view, derivation_view};
 ghost use Rattle.derivation_steps.specs.Parts.{IsPart, AreLemmaParts, IsDerived, Explains};
 
 use crate::moves::moves_of;

@@ -1,9 +1,8 @@
 // The rule for which a step asks.
 ghost use Rattle.std.specs.Prelude.{◌≡◌, IfSome, option_map};
-ghost use Rattle.mixed_graph.specs.Shown.{graph_of};
+ghost use Rattle.mixed_graph.specs.Vocabulary.{graph_of};
 ghost use Rattle.prob_expr.specs.View.{view};
-ghost use Rattle.do_derivation.specs.Shapes.{child};
-ghost use Rattle.do_derivation.specs.View.{move_view, step_view};
+ghost use Rattle.do_derivation.specs.Vocabulary.{child, move_view, step_view};
 ghost use Rattle.derivation_steps.specs.Asked.{IsAskedIn};
 ghost use Rattle.derivation_steps.specs.Questions.{asked_of, beside, of_given, of_doing, on_sets, set_question, move_question, question_of, IsBelow};
 

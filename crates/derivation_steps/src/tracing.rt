@@ -1,13 +1,11 @@
 //! The expressions that moves make in turn.
 
 ghost use Rattle.std.specs.Prelude.{◌≡◌, true, map, IfOk};
-ghost use Rattle.mixed_graph.specs.Shown.{graph_of};
-ghost use Rattle.prob_expr.specs.Listed.{masks_of};
-ghost use Rattle.prob_expr.specs.Terms.{are_terms};
+ghost use Rattle.mixed_graph.specs.Vocabulary.{graph_of};
+ghost use Rattle.prob_expr.specs.Vocabulary.{masks_of, are_terms};
 ghost use Rattle.prob_expr.specs.Tree.{Tree};
 ghost use Rattle.prob_expr.specs.View.{view};
-ghost use Rattle.do_derivation.specs.Steps.{Makes};
-ghost use Rattle.do_derivation.specs.View.{step_view};
+ghost use Rattle.do_derivation.specs.Vocabulary.{Makes, step_view};
 ghost use Rattle.derivation_steps.specs.Traces.{IsMadeOf, plans_in, Leads, MadeInTurn};
 
 use crate::questions::{AskedRule, asked_in, question_of};

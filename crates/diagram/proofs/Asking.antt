@@ -2,13 +2,11 @@
 use Rattle.std.proofs.Common.{◌≡◌, ℕ, ◌<◌, Bool, true, false, ◌||◌, List, [], ◌∷◌, ◌++◌, length, None, Result, Ok, Err, IfOk, refl, sym, ap, subst, ◌∙◌, arith}
 use Rattle.std.specs.Prelude.{nat_lt}
 use Rattle.std.proofs.lemmas.Bool.{and_right}
-use Rattle.mixed_graph.specs.Bits.{has}
-use Rattle.mixed_graph.specs.Names.{AreNames}
-use Rattle.mixed_graph.specs.Sets.{Within}
 use Rattle.mixed_graph.specs.declared.sets.VSet.{VSet}
+use Rattle.mixed_graph.specs.Vocabulary.{has, AreNames, Within}
 use Rattle.mixed_graph.proofs.Masks.{zero_from_empty}
 use Rattle.targets.specs.declared.fault.TargetFault.{TargetFault}
-use Rattle.targets.specs.Targets.{first_fault, walked_in, IsListedSet, IsNameFault, listed, Lists, AreListedSets}
+use Rattle.targets.specs.Vocabulary.{first_fault, walked_in, IsListedSet, IsNameFault, listed, Lists, AreListedSets}
 use Rattle.targets.proofs.Queries.{first_fault-append, from_empty, after_list, behind}
 use Rattle.targets.proofs.RuleWalks.{some_in}
 use Rattle.targets.proofs.Walking.{fault_first}

@@ -7,9 +7,7 @@ use Rattle.std.proofs.lemmas.Option.{slice_get-get_or}
 use Rattle.std.proofs.lemmas.Slice.Eq.{bytes_eq-Decides}
 use Rattle.std.proofs.Math.Seq.{get_or-append_seam}
 use Rattle.std.specs.Str.{bytes_eq}
-use Rattle.mixed_graph.specs.Bits.{has, members_below}
-use Rattle.mixed_graph.specs.Names.{AreNames, is_named, index_of, name_of}
-use Rattle.mixed_graph.specs.Sets.{Within, Apart}
+use Rattle.mixed_graph.specs.Vocabulary.{has, members_below, AreNames, is_named, index_of, name_of, Within, Apart}
 use Rattle.mixed_graph.proofs.KnownNames.{name_at}
 use Rattle.mixed_graph.proofs.MemberLists.{is_in, AreMembers, members-are}
 use Rattle.dag_reader.proofs.Joined.{members-cut}
@@ -21,10 +19,11 @@ use Rattle.diagram.specs.declared.sets.Marked.{Marked}
 use Rattle.diagram.specs.declared.sets.Marked.TheVariants.{Exposures, Outcomes, Adjusted}
 use Rattle.diagram.proofs.ObservedParts.{is_in_within, part_of}
 use Rattle.mixed_graph.proofs.Members.{length-members-le}
-use Rattle.latent_projection.specs.Renumbering.{observed_below, renumbered_set, names_at}
+use Rattle.latent_projection.specs.Vocabulary.{observed_below, renumbered_set, names_at}
 use Rattle.latent_projection.proofs.Numbering.{members-more, members-same, renumbered_set-more}
 use Rattle.latent_projection.proofs.Treks.{left_true}
-use Rattle.targets.specs.Targets.{NameFault, twice, listed, name_fault, or_fault, first_fault, walked_in, IsListedSet}
+use Rattle.targets.specs.Targets.{twice}
+use Rattle.targets.specs.Vocabulary.{NameFault, listed, name_fault, or_fault, first_fault, walked_in, IsListedSet}
 use Rattle.targets.proofs.Walking.{name_is}
 
 -- ---- members by their observed numbers

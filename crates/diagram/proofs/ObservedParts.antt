@@ -6,14 +6,9 @@ use Rattle.std.proofs.Math.Nat.{ℕ_set}
 use Rattle.std.proofs.lemmas.Bool.{eq-eqb, ne_eqb, eqb-true, or_left, or_right}
 use Rattle.std.specs.Cmp.{both_ways}
 use mathlib.Core.List.{is_set as List-set}
-use Rattle.mixed_graph.specs.Bits.{has, members_below}
-use Rattle.mixed_graph.specs.Graphs.{MixedGraph, IsMixedGraph}
-use Rattle.mixed_graph.specs.Sets.{Within}
-use Rattle.mixed_graph.specs.Shown.{graph_of}
+use Rattle.mixed_graph.specs.Vocabulary.{has, members_below, MixedGraph, IsMixedGraph, Within, graph_of}
 use Rattle.mixed_graph.proofs.MemberLists.{AreMembers, is_in, members-are, some-member, member-some}
-use Rattle.latent_projection.specs.Projection.{IsProjection}
-use Rattle.latent_projection.specs.Removal.{without}
-use Rattle.latent_projection.specs.Renumbering.{IsObserved, observed_below, renumbered}
+use Rattle.latent_projection.specs.Vocabulary.{IsProjection, without, IsObserved, observed_below, renumbered}
 use Rattle.latent_projection.proofs.Treks.{ProjectsByTreks}
 use Rattle.latent_projection.proofs.Removing.{projects_up}
 use Rattle.latent_projection.proofs.Removals.{graph_without, projects_itself}

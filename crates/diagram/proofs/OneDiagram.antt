@@ -1,13 +1,11 @@
 -- Graphs that are the same have one diagram.
 use Rattle.std.proofs.Common.{◌≡◌, ℕ, List, sym, ap, ◌∙◌}
-use Rattle.mixed_graph.specs.Bits.{has}
-use Rattle.mixed_graph.specs.Graphs.{MixedGraph}
-use Rattle.mixed_graph.specs.Shown.{graph_of}
+use Rattle.mixed_graph.specs.Vocabulary.{has, MixedGraph, graph_of}
 use Rattle.mixed_graph.proofs.Masks.{same_from_has}
 use Rattle.dag_reader.specs.declared.graph.ReadGraph.{ReadGraph}
-use Rattle.dag_reader.specs.RoundTrip.{AreSame}
-use Rattle.latent_projection.specs.Renumbering.{renumbered_set, observed_below}
-use Rattle.targets.specs.Targets.{listed}
+use Rattle.dag_reader.specs.Vocabulary.{AreSame}
+use Rattle.latent_projection.specs.Vocabulary.{renumbered_set, observed_below}
+use Rattle.targets.specs.Vocabulary.{listed}
 use Rattle.diagram.specs.Observed.{observed_set}
 use Rattle.diagram.specs.Sets.{Names, effect_lists, query_lists, rule_lists}
 use Rattle.diagram.specs.declared.diagram.Diagram.{Diagram}

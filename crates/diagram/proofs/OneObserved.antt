@@ -2,14 +2,11 @@
 use Rattle.std.proofs.Common.{◌≡◌, ℕ, Bool, true, false, List, length, inl, inr, refl, sym, ap, subst, ◌∙◌, IsTrue}
 use Rattle.std.specs.Prelude.{◌↔◌}
 use Rattle.std.proofs.lemmas.Bool.{cases_Bool}
-use Rattle.mixed_graph.specs.Bits.{has}
-use Rattle.mixed_graph.specs.Graphs.{MixedGraph, IsMixedGraph}
-use Rattle.mixed_graph.specs.Shown.{graph_of}
+use Rattle.mixed_graph.specs.Vocabulary.{has, MixedGraph, IsMixedGraph, graph_of}
 use Rattle.mixed_graph.proofs.Restricting.{same_graph}
 use Rattle.dag_reader.specs.declared.graph.ReadGraph.{ReadGraph}
-use Rattle.dag_reader.specs.RoundTrip.{AreSame}
-use Rattle.latent_projection.specs.Projection.{LeadsThrough, IsProjection}
-use Rattle.latent_projection.specs.Renumbering.{IsObserved, renumbered, observed_below, names_at}
+use Rattle.dag_reader.specs.Vocabulary.{AreSame}
+use Rattle.latent_projection.specs.Vocabulary.{LeadsThrough, IsProjection, IsObserved, renumbered, observed_below, names_at}
 use Rattle.latent_projection.proofs.KeptNames.{length-names_at}
 use Rattle.latent_projection.proofs.Numbering.{IsMixedGraph-renumbered}
 use Rattle.latent_projection.proofs.Projected.{IsMixedGraph-projection}

@@ -1,2 +1,3 @@
 pub mod Observed
 pub mod Sets
+pub mod Vocabulary

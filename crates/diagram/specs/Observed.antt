@@ -1,10 +1,8 @@
 -- The observed part of a graph that was read.
 use Rattle.std.specs.Prelude.{ℕ, ◌≡◌, Bool, false, List}
-use Rattle.mixed_graph.specs.Bits.{has}
-use Rattle.mixed_graph.specs.Graphs.{MixedGraph}
-use Rattle.mixed_graph.specs.Shown.{graph_of}
+use Rattle.mixed_graph.specs.Vocabulary.{has, MixedGraph, graph_of}
 use Rattle.dag_reader.specs.declared.graph.ReadGraph.{ReadGraph}
-use Rattle.latent_projection.specs.Renumbering.{IsObserved, observed_below, renumbered_set, names_at}
+use Rattle.latent_projection.specs.Vocabulary.{IsObserved, observed_below, renumbered_set, names_at}
 
 -- the names of the observed vertices, in their order
 abbrev pub observed_names : ReadGraph → List (List ℕ)

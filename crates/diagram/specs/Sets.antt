@@ -2,9 +2,9 @@
 use Rattle.std.specs.Prelude.{ℕ, List, Option, option_map}
 use Rattle.std.specs.Borrow.{Bor}
 use Rattle.std.specs.Global.{Vec}
-use Rattle.mixed_graph.specs.Names.{texts}
+use Rattle.mixed_graph.specs.Vocabulary.{texts}
 use Rattle.dag_reader.specs.declared.graph.ReadGraph.{ReadGraph}
-use Rattle.targets.specs.Targets.{listed, Lists, EffectLists, RuleLists}
+use Rattle.targets.specs.Vocabulary.{listed, Lists, EffectLists, RuleLists}
 use Rattle.diagram.specs.declared.sets.Marked.{Marked}
 use Rattle.diagram.specs.declared.sets.Marked.TheVariants.{Exposures, Outcomes, Adjusted}
 

@@ -1,10 +1,9 @@
 //! The sets that the lists of a question name in a diagram.
 
 ghost use Rattle.std.specs.Prelude.{◌≡◌, ℕ, IfOk, IfErr, OnOk, None, Some, length};
-ghost use Rattle.mixed_graph.specs.Bits.{has};
-ghost use Rattle.mixed_graph.specs.Names.{texts};
-ghost use Rattle.mixed_graph.specs.Sets.{Within};
-ghost use Rattle.targets.specs.Targets.{first_fault, listed, twice, walked_in, IsListedSet, IsNameFault, OrMemory, AreListedSets, IsListFault, AreSets, IsTargetFault, AreEffectSets, IsEffectFault, AreRuleSets, IsRuleFault};
+ghost use Rattle.mixed_graph.specs.Vocabulary.{has, texts, Within};
+ghost use Rattle.targets.specs.Targets.{twice};
+ghost use Rattle.targets.specs.Vocabulary.{first_fault, listed, walked_in, IsListedSet, IsNameFault, OrMemory, AreListedSets, IsListFault, AreSets, IsTargetFault, AreEffectSets, IsEffectFault, AreRuleSets, IsRuleFault};
 ghost use Rattle.diagram.specs.Observed.{observed_set};
 ghost use Rattle.diagram.specs.Sets.{lent, marked, names_or, query_lists, effect_lists, rule_lists};
 

@@ -3,16 +3,13 @@ use Rattle.std.proofs.Common.{ℕ, suc, ◌≡◌, ◌<◌, Bool, true, false, c
 use Rattle.std.proofs.Common.{get_or, length-append, append_assoc, append-nil, arith, eqb-true, ltb-true}
 use lib.ListN.{get_or-append}
 use lib.Seq.{get_or-append_seam}
-use Rattle.mixed_graph.specs.Bits.{has}
-use Rattle.mixed_graph.specs.Graphs.{MixedGraph, IsMixedGraph}
-use Rattle.fractions.specs.Fractions.{Fraction, over, IsEqual}
+use Rattle.mixed_graph.specs.Vocabulary.{has, MixedGraph, IsMixedGraph, minus, all, is_empty, is_below}
+use Rattle.fractions.specs.Vocabulary.{Fraction, over, IsEqual}
 use Rattle.fractions.proofs.FractionLaws.{equal_sym}
-use Rattle.finite_models.specs.Models.{FiniteModel, Fits, IsAssignment, IsPositiveModel}
+use Rattle.finite_models.specs.Vocabulary.{FiniteModel, Fits, IsAssignment, IsPositiveModel}
 use Rattle.finite_models.proofs.Bools.{and_first, and_second}
-use Rattle.mixed_graph.specs.Masks.{minus, all, is_empty, is_below}
-use Rattle.prob_expr.specs.Terms.{is_term}
-use Rattle.prob_expr.specs.Tree.{Tree, prob, PlainFormula, PlainTarget}
-use Rattle.prob_expr.specs.Values.{weights_of, term_value, value, values_from, value_of, effect}
+use Rattle.prob_expr.specs.Vocabulary.{is_term, PlainFormula, PlainTarget, weights_of, term_value, value, values_from, value_of, effect}
+use Rattle.prob_expr.specs.Tree.{Tree, prob}
 use Rattle.mixed_graph.proofs.MaskLaws.{has_none, has_all_above, below_has, filled_from}
 use Rattle.do_derivation.specs.Accepts.{Accepts, Define, start_of, sets_of, are_sets}
 use Rattle.do_derivation.specs.Plans.{PlainLemma, PlainDerivation}

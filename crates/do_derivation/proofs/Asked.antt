@@ -1,10 +1,9 @@
 -- Rows that ask for a rule.
 use Rattle.std.proofs.Common.{ℕ, ◌≡◌, Bool, true, false, arith}
-use Rattle.mixed_graph.specs.Bits.{has}
-use Rattle.mixed_graph.specs.Graphs.{MixedGraph}
+use Rattle.mixed_graph.specs.Vocabulary.{has, MixedGraph}
 use Rattle.m_separation.specs.declared.paths.OpenPath.{OpenPath}
-use Rattle.do_rules.specs.Rules.{IsBlockedFor, IsOpenFor}
 use Rattle.do_rules.specs.declared.rules.Rule.{Rule}
+use Rattle.do_rules.specs.Vocabulary.{IsBlockedFor, IsOpenFor}
 use Rattle.prob_expr.specs.Tree.{Tree}
 use Rattle.do_derivation.specs.Table.{Row, if_so}
 use Rattle.do_derivation.specs.Steps.{IsMade, RowRefuses}

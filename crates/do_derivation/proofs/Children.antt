@@ -1,12 +1,12 @@
 -- An expression with a child of the same value has the same value.
 use Rattle.std.proofs.Common.{ℕ, zero, suc, ◌≡◌, sym, ap, subst, Some, None, Option}
 use Rattle.std.proofs.lemmas.Option.{none-some}
-use Rattle.mixed_graph.specs.Graphs.{MixedGraph, IsMixedGraph}
-use Rattle.fractions.specs.Fractions.{Fraction, IsEqual, IsPositive}
+use Rattle.mixed_graph.specs.Vocabulary.{MixedGraph, IsMixedGraph}
+use Rattle.fractions.specs.Vocabulary.{Fraction, IsEqual, IsPositive}
 use Rattle.fractions.proofs.FractionLaws.{equal_refl, mul_equal}
-use Rattle.finite_models.specs.Models.{FiniteModel, Fits, IsAssignment, IsPositiveModel}
-use Rattle.prob_expr.specs.Tree.{Tree, prob, sum, product, quotient, named, Trees, no_trees, tree}
-use Rattle.prob_expr.specs.Values.{weights_of, value, product_value}
+use Rattle.finite_models.specs.Vocabulary.{FiniteModel, Fits, IsAssignment, IsPositiveModel}
+use Rattle.prob_expr.specs.Tree.{Tree, prob, sum, product, quotient, named, tree}
+use Rattle.prob_expr.specs.Vocabulary.{Trees, no_trees, weights_of, value, product_value}
 use Rattle.prob_expr.proofs.ValueLaws.{IsSame, value_positive, product_positive, sum_same, top_same, bottom_same}
 use Rattle.do_derivation.specs.Shapes.{child, with_child, factor_at, with_factor}
 

@@ -2,16 +2,13 @@
 use Rattle.std.proofs.Common.{ℕ, zero, suc, ◌+◌, ◌≡◌, ◌<◌, ◌≤◌, true, not, refl, sym, ap, ◌∙◌, ◌&&◌, List, [], ◌∷◌, ◌++◌, length, get_or, drop, map}
 use Rattle.std.proofs.Common.{Some, None, inl, inr, subst, arith, append_assoc}
 use Rattle.std.proofs.lemmas.List.{at_drop_more, at_drop_all}
-use Rattle.mixed_graph.specs.Graphs.{MixedGraph}
 use Rattle.mixed_graph.specs.declared.sets.VSet.{VSet}
+use Rattle.mixed_graph.specs.Vocabulary.{MixedGraph, minus, all, is_empty, is_below}
 use Rattle.finite_models.proofs.Bools.{and_first, and_second}
-use Rattle.prob_expr.specs.Check.{cap}
-use Rattle.prob_expr.specs.Listed.{masks_of}
-use Rattle.mixed_graph.specs.Masks.{minus, all, is_empty, is_below}
-use Rattle.prob_expr.specs.Terms.{are_terms, is_allowed}
-use Rattle.prob_expr.specs.Tree.{Tree, PlainFormula, PlainTarget, term_of}
-use Rattle.prob_expr.specs.View.{view}
 use Rattle.prob_expr.specs.declared.expr.Expr.{Expr}
+use Rattle.prob_expr.specs.Vocabulary.{cap, masks_of, are_terms, is_allowed, PlainFormula, PlainTarget, term_of}
+use Rattle.prob_expr.specs.Tree.{Tree}
+use Rattle.prob_expr.specs.View.{view}
 use Rattle.mixed_graph.proofs.MaskLaws.{filled_from}
 use Rattle.do_derivation.specs.Accepts.{Accepts, AcceptsNot, Define, DefinesNot, are_sets, sets_of, start_of}
 use Rattle.do_derivation.specs.Answers.{UnlessNoMemory, StopsAtStep}

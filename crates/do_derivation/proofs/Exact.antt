@@ -1,16 +1,14 @@
 -- A step makes at most one expression, and is refused in at most one way; never both.
 use Rattle.std.proofs.Common.{ℕ, ◌+◌, ◌-◌, ◌≡◌, Bool, sym, ap, ◌∙◌, ◌||◌, inl, inr, subst, List, [], ◌∷◌, ◌++◌, Some, None, Option, MatchOption, arith}
-use Rattle.mixed_graph.specs.Bits.{has}
-use Rattle.mixed_graph.specs.Graphs.{MixedGraph}
-use Rattle.m_separation.specs.Walks.{IsSeparated}
-use Rattle.m_separation.specs.Paths.{IsOpenPath, steps_from}
-use Rattle.std.specs.Prelude.{slice_index}
+use Rattle.mixed_graph.specs.Vocabulary.{has, MixedGraph}
 use Rattle.m_separation.specs.declared.paths.OpenPath.{OpenPath}
-use Rattle.do_rules.specs.Rules.{IsBlockedFor, IsOpenFor}
+use Rattle.m_separation.specs.Vocabulary.{IsSeparated, IsOpenPath, steps_from}
+use Rattle.std.specs.Prelude.{slice_index}
 use Rattle.do_rules.specs.declared.rules.Rule.{Rule}
+use Rattle.do_rules.specs.Vocabulary.{IsBlockedFor, IsOpenFor}
 use Rattle.do_rules.proofs.RuleGraphs.{one_graph}
-use Rattle.prob_expr.specs.Check.{cap}
-use Rattle.prob_expr.specs.Tree.{Tree, PlainFormula, PlainTarget, term_of}
+use Rattle.prob_expr.specs.Vocabulary.{cap, PlainFormula, PlainTarget, term_of}
+use Rattle.prob_expr.specs.Tree.{Tree}
 use Rattle.do_derivation.specs.Plans.{Plan, Plans, no_plans, plan, numbered, PlainLemma, PlainDerivation}
 use Rattle.do_derivation.specs.Shapes.{child, with_child}
 use Rattle.do_derivation.specs.Table.{Row, row}

@@ -3,16 +3,14 @@ use Rattle.std.proofs.Common.{ℕ, ◌≡◌, ◌<◌, ◌≤◌, Bool, true, fa
 use Rattle.std.proofs.Common.{get_or, Some, None, Option, MatchOption, arith, eqb-true, ltb-true, eq-eqb}
 use Rattle.std.proofs.Math.Bool.{or_comm}
 use Rattle.std.proofs.lemmas.Option.{none-some}
-use Rattle.mixed_graph.specs.Bits.{has}
-use Rattle.mixed_graph.specs.Graphs.{MixedGraph, IsMixedGraph}
-use Rattle.fractions.specs.Fractions.{Fraction, over, IsEqual, IsPositive, mul}
+use Rattle.mixed_graph.specs.Vocabulary.{has, MixedGraph, IsMixedGraph, union, minus, all, is_empty, is_apart, is_inside}
+use Rattle.fractions.specs.Vocabulary.{Fraction, over, IsEqual, IsPositive, mul}
 use Rattle.fractions.proofs.FractionLaws.{equal_refl, equal_sym, equal_trans, mul-one, mul_assoc, mul_equal}
-use Rattle.finite_models.specs.Models.{FiniteModel, Fits, IsAssignment, IsPositiveModel}
+use Rattle.finite_models.specs.Vocabulary.{FiniteModel, Fits, IsAssignment, IsPositiveModel}
 use Rattle.finite_models.proofs.Bools.{and_first, and_second}
 use Rattle.do_rules.specs.declared.rules.Rule.TheVariants.{One, Two, Three}
-use Rattle.mixed_graph.specs.Masks.{union, minus, all, is_empty, is_apart, is_inside}
-use Rattle.prob_expr.specs.Tree.{Tree, prob, sum, product, quotient, named, Trees, no_trees, tree}
-use Rattle.prob_expr.specs.Values.{weights_of, term_value, value, product_value}
+use Rattle.prob_expr.specs.Tree.{Tree, prob, sum, product, quotient, named, tree}
+use Rattle.prob_expr.specs.Vocabulary.{Trees, no_trees, weights_of, term_value, value, product_value}
 use Rattle.mixed_graph.proofs.MaskLaws as masks
 use Rattle.mixed_graph.proofs.MaskLaws.{has_join, has_one, put_back}
 use Rattle.do_derivation.specs.Plans.{Move, Plan, Plans, no_plans, plan}

@@ -1,12 +1,13 @@
 -- Lists of factors, of vertices and of numbers, as loops go over them.
 use Rattle.std.proofs.Common.{ℕ, zero, suc, ◌+◌, ◌^◌, ◌≡◌, ◌<◌, ◌≤◌, Bool, true, false, eqb, ltb, ◌&&◌, refl, sym, ap, ◌∙◌, List, [], ◌∷◌, ◌++◌}
 use Rattle.std.proofs.Common.{length, get_or, set, drop, Option, Some, None, arith, eqb-true}
-use Rattle.mixed_graph.specs.Bits.{has}
+use Rattle.mixed_graph.specs.Vocabulary.{has}
 use Rattle.mixed_graph.proofs.Masks.{has-above}
-use Rattle.finite_models.specs.Sums.{all_below}
-use Rattle.prob_expr.specs.Tree.{Tree, prob, sum, product, quotient, named, Trees, no_trees, tree}
-use Rattle.prob_expr.specs.View.{view, views}
+use Rattle.finite_models.specs.Vocabulary.{all_below}
+use Rattle.prob_expr.specs.Tree.{Tree, prob, sum, product, quotient, named, tree}
 use Rattle.prob_expr.specs.declared.expr.Expr.{Expr}
+use Rattle.prob_expr.specs.Vocabulary.{Trees, no_trees, views}
+use Rattle.prob_expr.specs.View.{view}
 use Rattle.do_derivation.specs.Shapes.{factor_at, with_factor, count_factors, appended, flat, times_in, each_below, or_nothing, gathered, term_with, unchained}
 
 pub not_above : (m v : ℕ) → m < 2 ^ 64 → 64 ≤ v → has m v ≡ false

@@ -1,9 +1,7 @@
 -- The set of a move that is made lies in the graph.
 use Rattle.std.proofs.Common.{ℕ, ◌≡◌, ◌<◌, Bool, true, false, not, ◌&&◌, List, refl}
-use Rattle.mixed_graph.specs.Bits.{has}
-use Rattle.mixed_graph.specs.Graphs.{MixedGraph}
+use Rattle.mixed_graph.specs.Vocabulary.{has, MixedGraph, is_empty, is_apart, is_inside, is_below}
 use Rattle.finite_models.proofs.Bools.{and_first, and_second}
-use Rattle.mixed_graph.specs.Masks.{is_empty, is_apart, is_inside, is_below}
 use Rattle.mixed_graph.proofs.MaskLaws.{below_from, inside_has}
 use Rattle.prob_expr.specs.Tree.{Tree, prob, sum, product, quotient, named}
 use Rattle.do_derivation.specs.Plans.{Move}

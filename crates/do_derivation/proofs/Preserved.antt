@@ -1,12 +1,11 @@
 -- A step makes an expression of terms of one, whatever the model: the law on values at the model in which each vertex has one value.
 use Rattle.std.proofs.Common.{ℕ, zero, suc, ◌≡◌, ◌≤◌, ◌<◌, true, false, cond, refl, sym, ◌∙◌, subst, get_or, length, arith}
-use Rattle.mixed_graph.specs.Graphs.{MixedGraph}
-use Rattle.fractions.specs.Fractions.{Fraction, IsEqual, IsPositive}
+use Rattle.mixed_graph.specs.Vocabulary.{MixedGraph, minus, all}
+use Rattle.fractions.specs.Vocabulary.{Fraction, IsEqual, IsPositive}
 use Rattle.fractions.proofs.FractionLaws.{equal_refl}
-use Rattle.finite_models.specs.Models.{FiniteModel, Fits, IsAssignment, IsPositiveModel, rounds, solution}
+use Rattle.finite_models.specs.Vocabulary.{FiniteModel, Fits, IsAssignment, IsPositiveModel, rounds, solution}
 use Rattle.finite_models.proofs.Solutions.{agree_from}
-use Rattle.mixed_graph.specs.Masks.{minus, all}
-use Rattle.prob_expr.specs.Values.{weights_of, term_value}
+use Rattle.prob_expr.specs.Vocabulary.{weights_of, term_value}
 use Rattle.do_derivation.specs.Sound.{StepKeepsTerms}
 use Rattle.prob_expr.proofs.ValueLaws.{term_positive}
 use Rattle.do_derivation.proofs.TreeTerms.{terms_of, terms_test}

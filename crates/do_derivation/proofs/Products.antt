@@ -1,14 +1,14 @@
 -- The value of a product doesn't change when its factors are grouped, or when products among them are opened.
 use Rattle.std.proofs.Common.{ℕ, zero, suc, ◌+◌, ◌*◌, ◌≡◌, ◌<◌, ◌≤◌, Bool, true, false, cond, eqb, ltb, leb, refl, sym, ap, ◌∙◌, ◌&&◌, List, [], ◌∷◌}
 use Rattle.std.proofs.Common.{◌++◌, length, arith, eqb-true, ltb-true, ne_eqb}
-use Rattle.fractions.specs.Fractions.{Fraction, over, IsEqual, mul}
+use Rattle.fractions.specs.Vocabulary.{Fraction, over, IsEqual, mul}
 use Rattle.fractions.proofs.FractionLaws.{equal_same}
-use Rattle.finite_models.specs.Sums.{product_below, all_below}
+use Rattle.finite_models.specs.Vocabulary.{product_below, all_below}
 use Rattle.finite_models.proofs.Bools.{and_first, and_second}
 use Rattle.finite_models.proofs.Indicators.{all_below_each}
 use Rattle.finite_models.proofs.SumLaws.{product_below-congr, product_below-mul}
-use Rattle.prob_expr.specs.Tree.{Tree, prob, sum, product, quotient, named, Trees, no_trees, tree}
-use Rattle.prob_expr.specs.Values.{Weights, value, product_value}
+use Rattle.prob_expr.specs.Tree.{Tree, prob, sum, product, quotient, named, tree}
+use Rattle.prob_expr.specs.Vocabulary.{Trees, no_trees, Weights, value, product_value}
 use Rattle.do_derivation.specs.Shapes.{factor_at, or_nothing, picked, as_one, groups_of, all_of, times_in, each_below, is_grouping, none_empty}
 use Rattle.do_derivation.specs.Shapes.{count_factors, appended, flat}
 

@@ -4,25 +4,21 @@ use Rattle.std.proofs.Common.{eqb-true, mul-pos}
 use Rattle.std.proofs.Math.Bool.{or_comm, or_assoc}
 use Rattle.std.proofs.lemmas.Bool.{or_from}
 use mathlib.Core.Path.{fun_ext}
-use Rattle.mixed_graph.specs.Bits.{has}
-use Rattle.mixed_graph.specs.Graphs.{MixedGraph, IsMixedGraph}
-use Rattle.fractions.specs.Fractions.{Fraction, over, IsEqual, mul, div}
+use Rattle.mixed_graph.specs.Vocabulary.{has, MixedGraph, IsMixedGraph, union, minus, one}
+use Rattle.fractions.specs.Vocabulary.{Fraction, over, IsEqual, mul, div}
 use Rattle.fractions.proofs.FractionLaws.{equal_refl, equal_trans, mul_equal}
-use Rattle.finite_models.specs.Sums.{all_below, sum_over}
-use Rattle.finite_models.specs.Models.{FiniteModel, Fits, IsAssignment, IsPositiveModel, solution, agree, event_weight, world_weight, intervene}
-use Rattle.finite_models.specs.Models.{weight_of, probability}
+use Rattle.finite_models.specs.Vocabulary.{all_below, sum_over, FiniteModel, Fits, IsAssignment, IsPositiveModel, solution, agree, event_weight, world_weight, intervene, weight_of, probability}
 use Rattle.finite_models.proofs.Bools.{and_first, and_second, or_false}
 use Rattle.finite_models.proofs.SumLaws.{over-congr, set_at-other}
 use Rattle.finite_models.proofs.Following.{follows_of, follows_intervene}
 use Rattle.finite_models.proofs.Ranks.{with_rank}
 use Rattle.finite_models.proofs.Factors.{marginal}
 use Rattle.finite_models.proofs.Positive.{positive_weight}
-use Rattle.do_rules.specs.Rules.{IsBlockedFor}
 use Rattle.do_rules.specs.declared.rules.Rule.TheVariants.{One, Two, Three}
+use Rattle.do_rules.specs.Vocabulary.{IsBlockedFor}
 use Rattle.do_rules.proofs.Holds.{rule_holds}
-use Rattle.mixed_graph.specs.Masks.{union, minus, one}
 use Rattle.prob_expr.specs.Tree.{prob, sum}
-use Rattle.prob_expr.specs.Values.{weights_of, term_value, value, product_value, add_over}
+use Rattle.prob_expr.specs.Vocabulary.{weights_of, term_value, value, product_value, add_over}
 use Rattle.mixed_graph.proofs.MaskLaws.{has_join, has_minus, has_none, has_one, empty_has}
 use Rattle.do_derivation.specs.Shapes.{is_list_of, chained}
 use Rattle.prob_expr.proofs.Boxes.{add_over_whole}

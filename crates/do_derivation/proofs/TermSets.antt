@@ -1,12 +1,10 @@
 -- Terms with a set added, taken away or moved are terms.
 use Rattle.std.proofs.Common.{ℕ, ◌≡◌, ◌<◌, Bool, true, false, not, refl, sym, ap, ◌∙◌, ◌||◌, ◌&&◌, subst, arith, eqb-true}
 use Rattle.std.proofs.lemmas.Bool.{and_from, or_from, false_from_ne_true}
-use Rattle.mixed_graph.specs.Bits.{has}
+use Rattle.mixed_graph.specs.Vocabulary.{has, union, minus, one, is_empty, is_apart, is_inside, is_below}
 use Rattle.finite_models.proofs.Bools.{and_first, and_second, either}
-use Rattle.do_rules.specs.Rules.{AreFourSets}
-use Rattle.mixed_graph.specs.Masks.{union, minus, one, is_empty, is_apart, is_inside, is_below}
-use Rattle.prob_expr.specs.TermSets.{are_term_sets}
-use Rattle.prob_expr.specs.Terms.{is_term}
+use Rattle.do_rules.specs.Vocabulary.{AreFourSets}
+use Rattle.prob_expr.specs.Vocabulary.{are_term_sets, is_term}
 use Rattle.mixed_graph.proofs.MaskLaws.{filled_from, not_empty, has_join, has_minus, has_none, has_one, apart_has, apart_from, inside_has, below_has}
 use Rattle.mixed_graph.proofs.MaskLaws.{below_from}
 use Rattle.do_derivation.specs.Table.{is_new}

@@ -2,11 +2,10 @@
 use Rattle.std.proofs.Common.{ℕ, zero, suc, ◌≡◌, ◌<◌, true, refl, sym, ◌∙◌, subst, List, [], ◌∷◌, Some, eqb-true, eq-eqb}
 use Rattle.std.proofs.lemmas.Bool.{and_from}
 use Rattle.std.proofs.lemmas.Option.{none-some}
-use Rattle.mixed_graph.specs.Bits.{has}
+use Rattle.mixed_graph.specs.Vocabulary.{has, minus, one, union, is_below}
 use Rattle.finite_models.proofs.Bools.{and_first, and_second}
-use Rattle.mixed_graph.specs.Masks.{minus, one, union, is_below}
-use Rattle.prob_expr.specs.Terms.{are_terms, are_terms_each}
-use Rattle.prob_expr.specs.Tree.{Tree, prob, sum, product, quotient, named, Trees, no_trees, tree}
+use Rattle.prob_expr.specs.Vocabulary.{are_terms, are_terms_each, Trees, no_trees}
+use Rattle.prob_expr.specs.Tree.{Tree, prob, sum, product, quotient, named, tree}
 use Rattle.mixed_graph.proofs.MaskLaws.{has_one, filled_has, below_has, below_from}
 use Rattle.do_derivation.specs.Shapes.{is_list_of, chained, picked, as_one, or_nothing, groups_of, factor_at, flat, appended, child, with_child, with_factor}
 use Rattle.do_derivation.proofs.TermSets.{IsTerm, of_part, chain_on, term_from, term_filled, term_test}

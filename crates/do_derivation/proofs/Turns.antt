@@ -2,13 +2,12 @@
 use Rattle.std.proofs.Common.{ℕ, zero, suc, ◌+◌, ◌≡◌, ◌<◌, true, sym, ap, ◌∙◌, List, length, get_or, drop, Some, None, Option, MatchOption, Result}
 use Rattle.std.proofs.Common.{Ok, Err, subst, inl, inr, arith}
 use Rattle.std.proofs.lemmas.List.{at_drop_more}
-use Rattle.mixed_graph.specs.Graphs.{MixedGraph, IsMixedGraph}
+use Rattle.mixed_graph.specs.Vocabulary.{MixedGraph, IsMixedGraph}
 use Rattle.finite_models.proofs.Bools.{and_first, and_second}
-use Rattle.prob_expr.specs.Check.{cap}
-use Rattle.prob_expr.specs.Terms.{are_terms, are_terms_each}
-use Rattle.prob_expr.specs.Tree.{Tree, product, Trees, no_trees, tree}
-use Rattle.prob_expr.specs.View.{view}
 use Rattle.prob_expr.specs.declared.expr.Expr.{Expr}
+use Rattle.prob_expr.specs.Vocabulary.{cap, are_terms, are_terms_each, Trees, no_trees}
+use Rattle.prob_expr.specs.Tree.{Tree, product, tree}
+use Rattle.prob_expr.specs.View.{view}
 use Rattle.do_derivation.specs.Applied.{IsRow, IsApplied, IsAppliedBoxed, IsAppliedAt}
 use Rattle.do_derivation.specs.Plans.{Move, Plan, Plans, no_plans, plan, numbered, numbered_all}
 use Rattle.do_derivation.specs.Shapes.{child, factor_at}

@@ -1,15 +1,15 @@
 -- The plain tree of a term, and the sets that a rule takes of it.
 use Rattle.std.proofs.Common.{ℕ, ◌≡◌, true, not, sym, ap, subst, ◌∙◌, rules}
 use Rattle.std.specs.Global.{Box}
-use Rattle.mixed_graph.specs.Bits.{has}
 use Rattle.mixed_graph.specs.declared.sets.VSet.{VSet}
+use Rattle.mixed_graph.specs.Vocabulary.{has, minus, is_empty, is_inside}
 use Rattle.finite_models.proofs.Bools.{and_second}
-use Rattle.do_rules.specs.Rules.{AreFourSets}
-use Rattle.mixed_graph.specs.Masks.{minus, is_empty, is_inside}
-use Rattle.prob_expr.specs.Terms.{are_terms}
+use Rattle.do_rules.specs.Vocabulary.{AreFourSets}
+use Rattle.prob_expr.specs.declared.expr.Expr.{Expr, the_lemmas}
+use Rattle.prob_expr.specs.Vocabulary.{are_terms}
 use Rattle.prob_expr.specs.Tree.{prob, sum, quotient}
 use Rattle.prob_expr.specs.View.{view}
-use Rattle.prob_expr.specs.declared.expr.Expr.{Expr, the_lemmas, Prob, Sum, Quotient}
+use Rattle.prob_expr.specs.declared.expr.Expr.{Prob, Sum, Quotient}
 use Rattle.do_derivation.specs.Table.{is_new, is_part}
 use Rattle.do_derivation.proofs.TermSets.{IsTerm, term_from, new_from, four_sets, given_less, doing_less, taken_given, taken_doing}
 

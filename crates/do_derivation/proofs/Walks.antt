@@ -3,13 +3,12 @@ use Rattle.std.proofs.Common.{ℕ, zero, suc, ◌+◌, ◌≡◌, ◌<◌, ◌�
 use Rattle.std.proofs.Common.{length, get_or, drop, arith, ltb-true, eqb-true, ne_eqb, subst}
 use Rattle.std.specs.Global.{Vec}
 use Rattle.std.proofs.lemmas.List.{at_drop_more, at_drop_all}
-use Rattle.mixed_graph.specs.Bits.{has}
-use Rattle.mixed_graph.specs.Graphs.{MixedGraph}
+use Rattle.mixed_graph.specs.Vocabulary.{has, MixedGraph, one, union, minus}
 use Rattle.finite_models.proofs.Bools.{and_first, and_second}
-use Rattle.mixed_graph.specs.Masks.{one, union, minus}
-use Rattle.prob_expr.specs.Tree.{Tree, prob, sum, product, quotient, named, Trees, no_trees, tree}
-use Rattle.prob_expr.specs.View.{view, views}
+use Rattle.prob_expr.specs.Tree.{Tree, prob, sum, product, quotient, named, tree}
 use Rattle.prob_expr.specs.declared.expr.Expr.{Expr}
+use Rattle.prob_expr.specs.Vocabulary.{Trees, no_trees, views}
+use Rattle.prob_expr.specs.View.{view}
 use Rattle.do_derivation.specs.View.{numbers_of}
 use Rattle.do_derivation.specs.Shapes.{is_list_of, chained, appended, flat, has_product, picked, as_one, groups_of, times_in, each_below, all_of}
 use Rattle.do_derivation.specs.Shapes.{grouped, is_grouping, unwrapped}

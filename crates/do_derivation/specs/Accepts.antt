@@ -1,10 +1,8 @@
 -- When a derivation is accepted for a formula, and its first fault otherwise.
 use Rattle.std.specs.Prelude.{ℕ, ◌+◌, ◌≡◌, ◌⊎◌, Bool, true, false, not, ◌&&◌, List, [], ◌∷◌, ◌++◌, length, map, Some, None, ⊤}
-use Rattle.mixed_graph.specs.Graphs.{MixedGraph}
-use Rattle.prob_expr.specs.Check.{cap}
-use Rattle.mixed_graph.specs.Masks.{minus, all, is_empty, is_below}
-use Rattle.prob_expr.specs.Terms.{is_allowed}
-use Rattle.prob_expr.specs.Tree.{Tree, prob, PlainFormula, PlainTarget, term_of}
+use Rattle.mixed_graph.specs.Vocabulary.{MixedGraph, minus, all, is_empty, is_below}
+use Rattle.prob_expr.specs.Vocabulary.{cap, is_allowed, PlainFormula, PlainTarget, term_of}
+use Rattle.prob_expr.specs.Tree.{Tree, prob}
 use Rattle.do_derivation.specs.Plans.{PlainLemma, PlainDerivation}
 use Rattle.do_derivation.specs.Steps.{Makes, Refuses}
 use Rattle.do_derivation.specs.declared.faults.StepFault.{StepFault}

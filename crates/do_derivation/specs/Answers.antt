@@ -1,6 +1,6 @@
 -- What `apply` and `check` answer where they don't succeed. Want of memory may come at any time.
 use Rattle.std.specs.Prelude.{ℕ, ◌≡◌, ◌⊎◌, List, Option}
-use Rattle.mixed_graph.specs.Graphs.{MixedGraph}
+use Rattle.mixed_graph.specs.Vocabulary.{MixedGraph}
 use Rattle.prob_expr.specs.Tree.{Tree}
 use Rattle.do_derivation.specs.Plans.{Plan}
 use Rattle.do_derivation.specs.Steps.{Makes, Refuses}

@@ -1,11 +1,11 @@
 -- What the parts of `apply` answer.
 use Rattle.std.specs.Prelude.{ℕ, ◌+◌, ◌≡◌, List, Result, Ok, Err, MatchOption}
 use Rattle.std.specs.Global.{Box}
-use Rattle.mixed_graph.specs.Graphs.{MixedGraph}
-use Rattle.prob_expr.specs.Check.{cap}
-use Rattle.prob_expr.specs.Tree.{Tree, Trees, product}
-use Rattle.prob_expr.specs.View.{view}
+use Rattle.mixed_graph.specs.Vocabulary.{MixedGraph}
 use Rattle.prob_expr.specs.declared.expr.Expr.{Expr}
+use Rattle.prob_expr.specs.Vocabulary.{cap, Trees}
+use Rattle.prob_expr.specs.Tree.{Tree, product}
+use Rattle.prob_expr.specs.View.{view}
 use Rattle.do_derivation.specs.Plans.{Plan, Plans, numbered, numbered_all}
 use Rattle.do_derivation.specs.Shapes.{factor_at}
 use Rattle.do_derivation.specs.Steps.{IsMade, RowRefuses, Makes, MakesAll, Refuses, RefusesAny}

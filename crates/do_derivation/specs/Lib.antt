@@ -8,3 +8,4 @@ pub mod Steps
 pub mod Table
 pub mod View
 pub mod Words
+pub mod Vocabulary

@@ -1,9 +1,9 @@
 -- What the moves on products and sums make, and of which expressions: `None` where they have no result.
 use Rattle.std.specs.Prelude.{ℕ, zero, suc, ◌+◌, Bool, true, false, not, ◌&&◌, if◌then◌else◌, ◌==◌, ltb, leb, List, [], ◌∷◌, ◌++◌, length, Option, Some, None}
-use Rattle.mixed_graph.specs.Bits.{has}
-use Rattle.finite_models.specs.Sums.{all_below}
-use Rattle.mixed_graph.specs.Masks.{union, minus, one, is_empty, is_apart, is_inside}
-use Rattle.prob_expr.specs.Tree.{Tree, prob, sum, product, quotient, named, Trees, no_trees, tree}
+use Rattle.mixed_graph.specs.Vocabulary.{has, union, minus, one, is_empty, is_apart, is_inside}
+use Rattle.finite_models.specs.Vocabulary.{all_below}
+use Rattle.prob_expr.specs.Tree.{Tree, prob, sum, product, quotient, named, tree}
+use Rattle.prob_expr.specs.Vocabulary.{Trees, no_trees}
 
 -- the list holds each member of a once, and nothing else
 abbrev pub is_list_of : List ℕ → ℕ → Bool

@@ -1,11 +1,10 @@
 -- What steps and derivations promise, in each positive model that fits the graph.
 use Rattle.std.specs.Prelude.{ℕ, ◌≡◌, ◌<◌, true, List, length, get_or, Option, Some, None}
-use Rattle.mixed_graph.specs.Graphs.{MixedGraph, IsMixedGraph}
-use Rattle.fractions.specs.Fractions.{Fraction, IsEqual, IsPositive}
-use Rattle.finite_models.specs.Models.{FiniteModel, Fits, IsAssignment, IsPositiveModel}
-use Rattle.prob_expr.specs.Terms.{is_term, are_terms, is_allowed}
-use Rattle.prob_expr.specs.Tree.{Tree, PlainFormula, PlainTarget}
-use Rattle.prob_expr.specs.Values.{weights_of, value, EqualsEffect}
+use Rattle.mixed_graph.specs.Vocabulary.{MixedGraph, IsMixedGraph}
+use Rattle.fractions.specs.Vocabulary.{Fraction, IsEqual, IsPositive}
+use Rattle.finite_models.specs.Vocabulary.{FiniteModel, Fits, IsAssignment, IsPositiveModel}
+use Rattle.prob_expr.specs.Vocabulary.{is_term, are_terms, is_allowed, PlainFormula, PlainTarget, weights_of, value, EqualsEffect}
+use Rattle.prob_expr.specs.Tree.{Tree}
 use Rattle.do_derivation.specs.Accepts.{Accepts, AcceptsNot, start_of}
 use Rattle.do_derivation.specs.Plans.{Plan, PlainDerivation}
 use Rattle.do_derivation.specs.Steps.{Makes, Refuses}

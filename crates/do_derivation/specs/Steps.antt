@@ -1,10 +1,9 @@
 -- What a step makes of an expression, and where it is refused.
 use Rattle.std.specs.Prelude.{ℕ, ◌+◌, ◌≡◌, ◌⊎◌, List, MatchOption}
-use Rattle.mixed_graph.specs.Bits.{has}
-use Rattle.mixed_graph.specs.Graphs.{MixedGraph}
+use Rattle.mixed_graph.specs.Vocabulary.{has, MixedGraph}
 use Rattle.m_separation.specs.declared.paths.OpenPath.{OpenPath}
-use Rattle.do_rules.specs.Rules.{IsBlockedFor, IsOpenFor}
-use Rattle.prob_expr.specs.Check.{cap}
+use Rattle.do_rules.specs.Vocabulary.{IsBlockedFor, IsOpenFor}
+use Rattle.prob_expr.specs.Vocabulary.{cap}
 use Rattle.prob_expr.specs.Tree.{Tree}
 use Rattle.do_derivation.specs.Plans.{Plan, Plans, no_plans, plan, numbered}
 use Rattle.do_derivation.specs.Shapes.{child, with_child}

@@ -2,7 +2,7 @@
 use Rattle.std.specs.Prelude.{ℕ, Bool, not, ◌&&◌, if◌then◌else◌, ◌==◌, ltb, leb, List, length, get_or, Option, Some, None}
 use Rattle.do_rules.specs.declared.rules.Rule.{Rule}
 use Rattle.do_rules.specs.declared.rules.Rule.TheVariants.{One, Two, Three}
-use Rattle.mixed_graph.specs.Masks.{union, minus, all, is_empty, is_apart, is_inside, is_below}
+use Rattle.mixed_graph.specs.Vocabulary.{union, minus, all, is_empty, is_apart, is_inside, is_below}
 use Rattle.prob_expr.specs.Tree.{Tree, prob, sum, product, quotient, named}
 use Rattle.do_derivation.specs.Plans.{Move}
 use Rattle.do_derivation.specs.Shapes.{is_list_of, chained, unchained, grouped, narrowed, unwrapped}

@@ -1,13 +1,10 @@
 //! A move made at its place, with the nodes counted.
 
 ghost use Rattle.std.specs.Prelude.{◌≡◌, ◌<◌, ◌+◌, ℕ, List, true, length, Some};
-ghost use Rattle.mixed_graph.specs.Graphs.{MixedGraph};
-ghost use Rattle.mixed_graph.specs.Shown.{graph_of};
-ghost use Rattle.prob_expr.specs.Check.{cap};
-ghost use Rattle.prob_expr.specs.Listed.{masks_of};
-ghost use Rattle.prob_expr.specs.Terms.{are_terms, are_terms_each};
+ghost use Rattle.mixed_graph.specs.Vocabulary.{MixedGraph, graph_of};
+ghost use Rattle.prob_expr.specs.Vocabulary.{cap, masks_of, are_terms, are_terms_each, views};
 ghost use Rattle.prob_expr.specs.Tree.{Tree};
-ghost use Rattle.prob_expr.specs.View.{view, views};
+ghost use Rattle.prob_expr.specs.View.{view};
 ghost use Rattle.do_derivation.specs.Applied.{IsRow, IsApplied, IsAppliedBoxed, AreApplied, IsAppliedAt};
 ghost use Rattle.do_derivation.specs.Plans.{Move as PlainMove, Plan};
 ghost use Rattle.do_derivation.specs.Shapes.{factor_at, with_factor};

@@ -1,14 +1,9 @@
 //! The checker of derivations.
 
 ghost use Rattle.std.specs.Prelude.{◌≡◌, ◌<◌, ℕ, [], true, length, map, IfOk, IfErr, OnOk};
-ghost use Rattle.mixed_graph.specs.Bits.{has};
-ghost use Rattle.mixed_graph.specs.Shown.{graph_of};
-ghost use Rattle.prob_expr.specs.Check.{cap};
-ghost use Rattle.prob_expr.specs.Listed.{masks_of};
-ghost use Rattle.mixed_graph.specs.Masks.{is_below};
-ghost use Rattle.prob_expr.specs.Terms.{is_term, are_terms, is_allowed, is_do_free};
-ghost use Rattle.prob_expr.specs.Values.{EqualsEffect};
-ghost use Rattle.prob_expr.specs.View.{view, formula_view, target_view};
+ghost use Rattle.mixed_graph.specs.Vocabulary.{has, graph_of, is_below};
+ghost use Rattle.prob_expr.specs.Vocabulary.{cap, masks_of, is_term, are_terms, is_allowed, is_do_free, EqualsEffect, formula_view, target_view};
+ghost use Rattle.prob_expr.specs.View.{view};
 ghost use Rattle.do_derivation.specs.Accepts.{Accepts, AcceptsNot, Define, DefinesNot, are_sets, sets_of, start_of};
 ghost use Rattle.do_derivation.specs.Answers.{IsApplyFault, UnlessNoMemory, StopsAtStep};
 ghost use Rattle.do_derivation.specs.Steps.{Makes};

@@ -1,8 +1,9 @@
 //! The factors of a product.
 
 ghost use Rattle.std.specs.Prelude.{◌≡◌, true, IfOk, OnOk};
-ghost use Rattle.prob_expr.specs.Tree.{product, no_trees, tree};
-ghost use Rattle.prob_expr.specs.View.{view, views};
+ghost use Rattle.prob_expr.specs.Tree.{product, tree};
+ghost use Rattle.prob_expr.specs.Vocabulary.{no_trees, views};
+ghost use Rattle.prob_expr.specs.View.{view};
 ghost use Rattle.do_derivation.specs.Shapes.{has_product, flat, appended, as_one};
 
 use prob_expr::Expr;

@@ -1,10 +1,11 @@
 //! The moves on products.
 
 ghost use Rattle.std.specs.Prelude.{◌≡◌, ◌+◌, ◌≤◌, ℕ, [], true, length, map, eqb, Some, None, IfOk, OnOk, MatchOption, cond};
-ghost use Rattle.mixed_graph.specs.Shown.{graph_of};
-ghost use Rattle.finite_models.specs.Sums.{all_below};
-ghost use Rattle.prob_expr.specs.Tree.{prob, product, no_trees, tree};
-ghost use Rattle.prob_expr.specs.View.{view, views};
+ghost use Rattle.mixed_graph.specs.Vocabulary.{graph_of};
+ghost use Rattle.finite_models.specs.Vocabulary.{all_below};
+ghost use Rattle.prob_expr.specs.Tree.{prob, product, tree};
+ghost use Rattle.prob_expr.specs.Vocabulary.{no_trees, views};
+ghost use Rattle.prob_expr.specs.View.{view};
 ghost use Rattle.do_derivation.specs.Plans.{Move};
 ghost use Rattle.do_derivation.specs.Shapes.{gathered, unchained, is_grouping, none_empty, each_below, times_in, all_of, picked, groups_of};
 ghost use Rattle.do_derivation.specs.Table.{row};

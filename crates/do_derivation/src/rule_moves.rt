@@ -1,8 +1,8 @@
 //! The moves by the three rules.
 
 ghost use Rattle.std.specs.Prelude.{◌≡◌, [], true};
-ghost use Rattle.mixed_graph.specs.Shown.{graph_of};
-ghost use Rattle.prob_expr.specs.Terms.{are_terms};
+ghost use Rattle.mixed_graph.specs.Vocabulary.{graph_of};
+ghost use Rattle.prob_expr.specs.Vocabulary.{are_terms};
 ghost use Rattle.prob_expr.specs.View.{view};
 ghost use Rattle.do_derivation.specs.Plans.{Move};
 ghost use Rattle.do_derivation.specs.Table.{row, is_new, is_part};

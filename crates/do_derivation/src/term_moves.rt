@@ -2,11 +2,10 @@
 
 ghost use Rattle.std.specs.Prelude.{◌≡◌, ◌<◌, ◌≤◌, ℕ, [], true, length, IfOk, All};
 ghost use Rattle.std.specs.Bool.{OnTrue};
-ghost use Rattle.mixed_graph.specs.Bits.{has};
-ghost use Rattle.mixed_graph.specs.Shown.{graph_of};
+ghost use Rattle.mixed_graph.specs.Vocabulary.{has, graph_of};
 ghost use Rattle.prob_expr.specs.Tree.{prob};
-ghost use Rattle.prob_expr.specs.View.{view, views};
-ghost use Rattle.prob_expr.specs.Listed.{masks_of};
+ghost use Rattle.prob_expr.specs.View.{view};
+ghost use Rattle.prob_expr.specs.Vocabulary.{views, masks_of};
 ghost use Rattle.do_derivation.specs.Plans.{Move};
 ghost use Rattle.do_derivation.specs.Shapes.{is_list_of, chained};
 ghost use Rattle.do_derivation.specs.Table.{row};

@@ -1,9 +1,9 @@
 -- Interventions and held arrows: the altered models follows the cut graphs.
 use Rattle.std.proofs.Common.{ℕ, ◌≡◌, ◌<◌, Bool, true, false, cond, not, refl, ◌&&◌}
 use Rattle.std.proofs.lemmas.Bool.{and_from, not_from_false}
-use Rattle.mixed_graph.specs.Graphs.{MixedGraph}
+use Rattle.mixed_graph.specs.Vocabulary.{MixedGraph}
 use Rattle.do_rules.specs.Cuts.{cut_into, cut_out}
-use Rattle.finite_models.specs.Models.{FiniteModel, IsAssignment, intervene}
+use Rattle.finite_models.specs.Vocabulary.{FiniteModel, IsAssignment, intervene}
 use Rattle.finite_models.proofs.Bools.{and_first, and_second}
 use Rattle.finite_models.proofs.Following.{Follows}
 use Rattle.finite_models.proofs.Solutions.{IsRanked}

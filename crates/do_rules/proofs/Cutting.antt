@@ -1,8 +1,7 @@
 -- The cuts as restrictions.
 use Rattle.std.proofs.Common.{◌≡◌, ℕ, ◌<◌, Bool, true, false, not, ◌&&◌, ◌||◌, List, get_or, nat_lt, refl, ap, ◌∙◌, arith}
 use Rattle.std.proofs.lemmas.Bool.{lt-ltb, and_from, and_parts}
-use Rattle.mixed_graph.specs.Bits.{has}
-use Rattle.mixed_graph.specs.Graphs.{MixedGraph, IsMixedGraph, restricted}
+use Rattle.mixed_graph.specs.Vocabulary.{has, MixedGraph, IsMixedGraph, restricted}
 use Rattle.mixed_graph.proofs.Restricting.{same_graph}
 use Rattle.do_rules.specs.Cuts.{cut_into, cut_out, cut_edges}
 use Rattle.do_rules.proofs.Fewer.{graph_of_fewer}

@@ -2,19 +2,17 @@
 use Rattle.std.proofs.Common.{ℕ, suc, ◌+◌, ◌-◌, ◌*◌, ◌≡◌, ◌≢◌, ◌<◌, ◌≤◌, ◌⊎◌, inl, inr, Bool, true, false, not, ◌&&◌, ◌||◌, List, [], ◌∷◌, length}
 use Rattle.std.proofs.Common.{slice_index, refl, sym, ap, ap₂, ◌∙◌, subst, arith}
 use Rattle.std.proofs.lemmas.Bool.{cases_lt, not-true}
-use Rattle.mixed_graph.specs.Graphs.{MixedGraph, IsMixedGraph, IsAncestor, IsDirectedPath}
+use Rattle.mixed_graph.specs.Vocabulary.{MixedGraph, IsMixedGraph, IsAncestor, IsDirectedPath}
 use Rattle.do_rules.specs.Cuts.{cut_into, cut_out}
 use Rattle.do_rules.proofs.Fewer.{HasFewer, fewer_into, fewer_out, graph_into, path_of_fewer}
 use Rattle.m_separation.specs.declared.marks.Mark.{Mark}
 use Rattle.m_separation.specs.declared.marks.Mark.TheVariants.{Out, Into, Both}
-use Rattle.m_separation.specs.Walks.{IsJoined, HasOpenWalk, heads_second}
-use Rattle.m_separation.specs.Paths.{IsOpenPath, steps_from}
 use Rattle.m_separation.specs.declared.paths.OpenPath.{OpenPath}
-use Rattle.finite_models.specs.Models.{event_weight, weight_of}
+use Rattle.m_separation.specs.Vocabulary.{IsJoined, HasOpenWalk, heads_second, IsOpenPath, steps_from}
+use Rattle.finite_models.specs.Vocabulary.{event_weight, weight_of}
 use Rattle.finite_models.proofs.Bools.{and_second, not_both}
 use Rattle.finite_models.proofs.Weights.{weight_of-none}
-use Rattle.walk_models.specs.Visits.{Walk, is_collider}
-use Rattle.walk_models.specs.Laws.{IsBelowSomewhere, IsWalkTo, event}
+use Rattle.walk_models.specs.Vocabulary.{Walk, is_collider, IsBelowSomewhere, IsWalkTo, event}
 use Rattle.walk_models.proofs.Stricts.{open_walks_depend}
 use Rattle.walk_models.proofs.Told.{seen_ends_tell}
 use Rattle.walk_models.proofs.Done.{done_ends_tell}

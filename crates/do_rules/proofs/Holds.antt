@@ -1,10 +1,9 @@
 -- Separation makes independence and the equations of the rules.
 use Rattle.std.proofs.Common.{ℕ, ◌*◌, ◌≡◌, ◌≤◌, Bool, true, false, ◌||◌, subst}
 use Rattle.std.proofs.lemmas.Bool.{false_from_ne_true, or_from}
-use Rattle.mixed_graph.specs.Graphs.{MixedGraph, IsMixedGraph}
-use Rattle.mixed_graph.specs.Sets.{Apart}
-use Rattle.m_separation.specs.Walks.{IsSeparated}
-use Rattle.finite_models.specs.Models.{FiniteModel, Fits, IsAssignment, IsPositiveModel, event_weight, weight_of}
+use Rattle.mixed_graph.specs.Vocabulary.{MixedGraph, IsMixedGraph, Apart}
+use Rattle.m_separation.specs.Vocabulary.{IsSeparated}
+use Rattle.finite_models.specs.Vocabulary.{FiniteModel, Fits, IsAssignment, IsPositiveModel, event_weight, weight_of}
 use Rattle.finite_models.proofs.Bools.{not_both}
 use Rattle.finite_models.proofs.Following.{follows_of}
 use Rattle.finite_models.proofs.Positive.{positive_weight}

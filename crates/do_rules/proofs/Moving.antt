@@ -2,10 +2,9 @@
 use Rattle.std.proofs.Common.{ℕ, ◌≡◌, Bool, not, ◌&&◌, ◌↔◌, IsTrue, List, sym, subst, ◌∙◌, refl}
 use mathlib.Core.Path.{fun_ext}
 use Rattle.std.proofs.lemmas.Bool.{not-true, true_from_ne_false}
-use Rattle.mixed_graph.specs.Graphs.{MixedGraph, IsAncestor}
-use Rattle.m_separation.specs.Paths.{IsOpenPath}
-use Rattle.m_separation.specs.Walks.{IsSeparated}
+use Rattle.mixed_graph.specs.Vocabulary.{MixedGraph, IsAncestor}
 use Rattle.m_separation.specs.declared.marks.Mark.{Mark}
+use Rattle.m_separation.specs.Vocabulary.{IsOpenPath, IsSeparated}
 use Rattle.do_rules.specs.Cuts.{cut_into}
 use Rattle.finite_models.proofs.Bools.{not_both, and_first, and_second}
 use Rattle.do_rules.specs.Rules.{IsFarPart}

@@ -2,9 +2,8 @@
 use Rattle.std.proofs.Common.{ℕ, ◌*◌, ◌≡◌, Bool, true, false, not, refl, sym, ap, ◌∙◌, ◌||◌, ◌&&◌, arith}
 use mathlib.Core.Path.{fun_ext}
 use Rattle.std.proofs.lemmas.Bool.{false_from_ne_true, not-true, or_right}
-use Rattle.mixed_graph.specs.Graphs.{MixedGraph}
-use Rattle.finite_models.specs.Models.{FiniteModel, event_weight}
-use Rattle.finite_models.specs.Sums.{sum_over}
+use Rattle.mixed_graph.specs.Vocabulary.{MixedGraph}
+use Rattle.finite_models.specs.Vocabulary.{FiniteModel, event_weight, sum_over}
 use Rattle.finite_models.proofs.Bools.{and_first, and_second, either, not_both}
 use Rattle.finite_models.proofs.Factors.{group, marginal}
 use Rattle.finite_models.proofs.Following.{Follows}

@@ -1,9 +1,9 @@
 -- Linked vertices are joined by an open walk.
 use Rattle.std.proofs.Common.{ℕ, ◌≡◌, ◌<◌, Bool, true, false, refl, sym, ◌||◌, ◌⊎◌, inl, inr, List, [], ◌∷◌, arith}
-use Rattle.mixed_graph.specs.Graphs.{MixedGraph, IsMixedGraph, IsDirectedPath, IsAncestor}
-use Rattle.m_separation.specs.Walks.{Step, IsJoined, IsWalk, last, heads_first, heads_second, IsPassed, ArePassedFrom, ArePassed, IsSeparated}
+use Rattle.mixed_graph.specs.Vocabulary.{MixedGraph, IsMixedGraph, IsDirectedPath, IsAncestor}
 use Rattle.m_separation.specs.declared.marks.Mark.{Mark}
 use Rattle.m_separation.specs.declared.marks.Mark.TheVariants.{Both, Into, Out}
+use Rattle.m_separation.specs.Vocabulary.{Step, IsJoined, IsWalk, last, heads_first, heads_second, IsPassed, ArePassedFrom, ArePassed, IsSeparated}
 
 -- a step u-v between members of S, from v on: a directed one only where its tail is outside W
 pub data Linked (g : MixedGraph) (S W Y : ℕ → Bool) : ℕ → Type 0 where

@@ -2,9 +2,9 @@
 use Rattle.std.proofs.Common.{ℕ, ◌≡◌, Bool, true, ◌||◌, refl, sym, ap, ◌∙◌, subst}
 use mathlib.Core.Path.{fun_ext}
 use Rattle.std.proofs.lemmas.Bool.{true_from_ne_false}
-use Rattle.mixed_graph.specs.Graphs.{MixedGraph, IsMixedGraph}
+use Rattle.mixed_graph.specs.Vocabulary.{MixedGraph, IsMixedGraph}
 use Rattle.finite_models.proofs.Bools.{same_truth}
-use Rattle.m_separation.specs.Walks.{IsSeparated}
+use Rattle.m_separation.specs.Vocabulary.{IsSeparated}
 use Rattle.do_rules.specs.Cuts.{cut_into, cut_out}
 use Rattle.do_rules.proofs.Fewer.{graph_into, graph_out}
 use Rattle.do_rules.specs.Rules.{IsFarPart, IsRuleGraph, IsBlockedFor}

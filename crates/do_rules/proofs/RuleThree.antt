@@ -3,13 +3,13 @@ use Rattle.std.proofs.Common.{ℕ, zero, suc, ◌+◌, ◌-◌, ◌*◌, ◌≡�
 use Rattle.std.proofs.Common.{inl, inr, arith}
 use mathlib.Core.Path.{fun_ext}
 use Rattle.std.proofs.lemmas.Bool.{and_from, false_from_ne_true, not-true, or_from, or_left, or_right}
-use Rattle.mixed_graph.specs.Graphs.{MixedGraph, IsMixedGraph, IsDirectedPath, IsAncestor}
-use Rattle.m_separation.specs.Walks.{Step, IsJoined, IsWalk, last, heads_first, heads_second, IsPassed, ArePassedFrom, ArePassed, IsSeparated}
+use Rattle.mixed_graph.specs.Vocabulary.{MixedGraph, IsMixedGraph, IsDirectedPath, IsAncestor}
 use Rattle.m_separation.specs.declared.marks.Mark.{Mark}
 use Rattle.m_separation.specs.declared.marks.Mark.TheVariants.{Both, Into, Out}
+use Rattle.m_separation.specs.Vocabulary.{Step, IsJoined, IsWalk, last, heads_first, heads_second, IsPassed, ArePassedFrom, ArePassed, IsSeparated}
 use Rattle.do_rules.specs.Cuts.{cut_into, cut_out}
 use Rattle.do_rules.proofs.Fewer.{graph_into}
-use Rattle.finite_models.specs.Models.{FiniteModel, IsAssignment, IsPositiveModel, weight_of}
+use Rattle.finite_models.specs.Vocabulary.{FiniteModel, IsAssignment, IsPositiveModel, weight_of}
 use Rattle.finite_models.proofs.Bools.{and_first, and_second, either, not_both}
 use Rattle.finite_models.proofs.Following.{Follows}
 use Rattle.finite_models.proofs.Positive.{positive_each}

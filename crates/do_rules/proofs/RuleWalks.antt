@@ -2,17 +2,15 @@
 use Rattle.std.proofs.Common.{◌⊎◌, inl, inr, ℕ, zero, suc, ◌+◌, ◌-◌, ◌≡◌, ◌<◌, ◌≤◌, Bool, true, false, cond, ltb, not, ◌&&◌, ◌||◌, List, [], ◌∷◌}
 use Rattle.std.proofs.Common.{length, refl, sym, ap, ◌∙◌, subst, IsTrue, arith, lt-ltb, le-ltb}
 use Rattle.std.proofs.lemmas.Bool.{cases_lt, false_from_ne_true, not-true, or_left}
-use Rattle.mixed_graph.specs.Graphs.{MixedGraph, IsMixedGraph, IsDirectedPath}
-use Rattle.mixed_graph.specs.Sets.{Apart}
+use Rattle.mixed_graph.specs.Vocabulary.{MixedGraph, IsMixedGraph, IsDirectedPath, Apart}
 use Rattle.do_rules.specs.Cuts.{cut_into}
 use Rattle.do_rules.proofs.Fewer.{HasFewer}
 use Rattle.m_separation.specs.declared.marks.Mark.{Mark}
 use Rattle.m_separation.specs.declared.marks.Mark.TheVariants.{Out, Into, Both}
-use Rattle.m_separation.specs.Walks.{IsJoined, last, HasOpenWalk, heads_first, heads_second}
+use Rattle.m_separation.specs.Vocabulary.{IsJoined, last, HasOpenWalk, heads_first, heads_second}
 use Rattle.m_separation.proofs.Going.{passed_from_start}
 use Rattle.finite_models.proofs.Bools.{and_first, and_second, not_both, or_false}
-use Rattle.walk_models.specs.Visits.{Walk, IsWalkIn, IsStrict, head_before, head_after, is_collider}
-use Rattle.walk_models.specs.Laws.{IsWalkTo, IsFirstIn}
+use Rattle.walk_models.specs.Vocabulary.{Walk, IsWalkIn, IsStrict, head_before, head_after, is_collider, IsWalkTo, IsFirstIn}
 use Rattle.walk_models.proofs.Firsts.{First, first}
 use Rattle.walk_models.proofs.Stricts.{StrictSteps, Anything, strict_from, walk_of, strict_visits, visits, starts_at, ends_at}
 

@@ -1,9 +1,9 @@
 -- Separation is independence.
 use Rattle.std.proofs.Common.{ℕ, ◌*◌, ◌≡◌, ◌<◌, Bool, true, false, refl, ◌||◌, ◌∷◌, []}
 use Rattle.std.proofs.lemmas.Bool.{false_from_ne_true, or_left, or_right}
-use Rattle.mixed_graph.specs.Graphs.{MixedGraph, IsMixedGraph, IsAncestor}
-use Rattle.m_separation.specs.Walks.{IsSeparated}
-use Rattle.finite_models.specs.Models.{FiniteModel, event_weight}
+use Rattle.mixed_graph.specs.Vocabulary.{MixedGraph, IsMixedGraph, IsAncestor}
+use Rattle.m_separation.specs.Vocabulary.{IsSeparated}
+use Rattle.finite_models.specs.Vocabulary.{FiniteModel, event_weight}
 use Rattle.finite_models.proofs.Bools.{either, same_truth}
 use Rattle.finite_models.proofs.Following.{Follows}
 use Rattle.finite_models.proofs.Solutions.{IsRanked}

@@ -2,9 +2,8 @@
 use Rattle.std.proofs.Common.{ℕ, ◌*◌, ◌≡◌, ◌<◌, Bool, true, false, cond, eqb, not, refl, sym, ap, ◌∙◌, ◌||◌, ◌&&◌, arith, eqb-true}
 use mathlib.Core.Path.{fun_ext}
 use Rattle.std.proofs.lemmas.Bool.{and_from, not-true}
-use Rattle.mixed_graph.specs.Graphs.{MixedGraph}
-use Rattle.finite_models.specs.Models.{FiniteModel, event_weight, world_weight}
-use Rattle.finite_models.specs.Sums.{sum_over, product_below, set_at}
+use Rattle.mixed_graph.specs.Vocabulary.{MixedGraph}
+use Rattle.finite_models.specs.Vocabulary.{FiniteModel, event_weight, world_weight, sum_over, product_below, set_at}
 use Rattle.finite_models.proofs.Bools.{and_first, and_second, not_both}
 use Rattle.finite_models.proofs.Factors.{any_below, any_below_from, any_below_gives, check, checks, factor, group, weight_by_checks}
 use Rattle.finite_models.proofs.Following.{Follows}

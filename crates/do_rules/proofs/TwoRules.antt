@@ -1,11 +1,11 @@
 -- The three rules of the do-calculus.
 use Rattle.std.proofs.Common.{ℕ, zero, suc, ◌*◌, ◌≡◌, ◌<◌, Bool, true, false, cond, not, refl, sym, ap, ◌∙◌, ◌||◌, arith}
 use Rattle.std.proofs.lemmas.Bool.{and_from, cond-false, cond-true, false_from_ne_true, or_left, or_parts, or_right}
-use Rattle.mixed_graph.specs.Graphs.{MixedGraph, IsMixedGraph}
-use Rattle.m_separation.specs.Walks.{IsSeparated}
+use Rattle.mixed_graph.specs.Vocabulary.{MixedGraph, IsMixedGraph}
+use Rattle.m_separation.specs.Vocabulary.{IsSeparated}
 use Rattle.do_rules.specs.Cuts.{cut_into, cut_out}
 use Rattle.do_rules.proofs.Fewer.{graph_into, graph_out}
-use Rattle.finite_models.specs.Models.{FiniteModel, IsAssignment, IsSolution, solution, agree, event_weight, world_weight, intervene, weight_of}
+use Rattle.finite_models.specs.Vocabulary.{FiniteModel, IsAssignment, IsSolution, solution, agree, event_weight, world_weight, intervene, weight_of}
 use Rattle.finite_models.proofs.Bools.{either, not_both, or_false}
 use Rattle.finite_models.proofs.Following.{Follows}
 use Rattle.finite_models.proofs.Solutions.{IsRanked, IsClosed, solution_is, unique, agree_same}

@@ -1,7 +1,6 @@
 -- Graphs with edges cut out, as the do-calculus has them (Pearl, Causality, chapter 3).
 use Rattle.std.specs.Prelude.{ℕ, Bool, not, ◌&&◌, ◌||◌, List, slice_index}
-use Rattle.mixed_graph.specs.Bits.{has}
-use Rattle.mixed_graph.specs.Graphs.{MixedGraph}
+use Rattle.mixed_graph.specs.Vocabulary.{has, MixedGraph}
 
 -- g without the edges that have an arrowhead at a member of x
 abbrev pub cut_into : MixedGraph → (ℕ → Bool) → MixedGraph

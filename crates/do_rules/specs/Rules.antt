@@ -1,14 +1,11 @@
 -- Independence, and the three rules of the do-calculus as equations of probabilities (Pearl, Causality, chapter 3).
 use Rattle.std.specs.Prelude.{ℕ, ◌*◌, ◌≡◌, ◌≢◌, Bool, false, ◌||◌, ◌↔◌, IsTrue}
-use Rattle.mixed_graph.specs.Graphs.{MixedGraph, IsMixedGraph, IsAncestor}
-use Rattle.mixed_graph.specs.Sets.{Within, Apart}
-use Rattle.fractions.specs.Fractions.{Fraction, IsEqual}
-use Rattle.finite_models.specs.Models.{FiniteModel, Fits, IsAssignment, IsPositiveModel, event_weight, probability}
-use Rattle.finite_models.specs.Served.{ServesTwo}
+use Rattle.mixed_graph.specs.Vocabulary.{MixedGraph, IsMixedGraph, IsAncestor, Within, Apart}
+use Rattle.fractions.specs.Vocabulary.{Fraction, IsEqual}
+use Rattle.finite_models.specs.Vocabulary.{FiniteModel, Fits, IsAssignment, IsPositiveModel, event_weight, probability, ServesTwo}
 use Rattle.do_rules.specs.Cuts.{cut_into, cut_out}
-use Rattle.m_separation.specs.Walks.{IsSeparated}
-use Rattle.m_separation.specs.Paths.{IsOpenPath}
 use Rattle.m_separation.specs.declared.paths.OpenPath.{OpenPath}
+use Rattle.m_separation.specs.Vocabulary.{IsSeparated, IsOpenPath}
 use Rattle.do_rules.specs.declared.rules.Rule.{Rule}
 use Rattle.do_rules.specs.declared.rules.Rule.TheVariants.{One, Two, Three}
 

@@ -1,11 +1,8 @@
 //! Independence and the three rules (Pearl 1995).
 
 ghost use Rattle.std.specs.Prelude.{ℕ, ◌≡◌, ◌<◌, ◌≤◌, ◌↔◌, IfErr, OnOk, IsTrue};
-ghost use Rattle.mixed_graph.specs.Bits.{has};
-ghost use Rattle.mixed_graph.specs.Sets.{Within, Apart};
-ghost use Rattle.mixed_graph.specs.Shown.{graph_of};
-ghost use Rattle.m_separation.specs.Walks.{IsSeparated};
-ghost use Rattle.m_separation.specs.Paths.{IsOpenPath};
+ghost use Rattle.mixed_graph.specs.Vocabulary.{has, Within, Apart, graph_of};
+ghost use Rattle.m_separation.specs.Vocabulary.{IsSeparated, IsOpenPath};
 ghost use Rattle.do_rules.specs.Rules.{AreThreeSets, AreFourSets, AreIndependent, AreDependent, DifferSomewhere, left_of, right_of, IsBlockedFor, IsRuleFor, IsOpenFor};
 
 use crate::cuts::{cut_into, cut_out};

@@ -3,24 +3,20 @@ use Rattle.std.proofs.Common.{◌≡◌, ℕ, zero, suc, ◌+◌, ◌-◌, ◌<�
 use Rattle.std.proofs.Common.{Option, Some, None, inl, inr, refl, sym, ap, ap₂, ◌∙◌, subst, arith}
 use Rattle.std.specs.Prelude.{slice_index}
 use Rattle.std.proofs.lemmas.Bool.{cases_Bool, cases_lt, and_parts}
-use Rattle.mixed_graph.specs.Bits.{has, members_below}
-use Rattle.mixed_graph.specs.Graphs.{MixedGraph, IsMixedGraph}
-use Rattle.mixed_graph.specs.Sets.{Within}
+use Rattle.mixed_graph.specs.Vocabulary.{has, members_below, MixedGraph, IsMixedGraph, Within}
 use Rattle.mixed_graph.proofs.Masks.{same_from_has}
-use Rattle.finite_models.specs.Data.{weights_of, children_of}
-use Rattle.finite_models.specs.declared.model.Cause.{Cause}
 use Rattle.finite_models.specs.declared.model.Model.{Model}
 use Rattle.finite_models.specs.declared.model.Part.{Part}
 use Rattle.finite_models.specs.declared.model.Mechanism.{Mechanism}
 use Rattle.finite_models.specs.declared.model.Mechanism.TheVariants.{Table, Parity}
-use Rattle.hedge.specs.Hedges.{size_of}
-use Rattle.hedge.specs.Linked.{IsInside}
+use Rattle.finite_models.specs.Vocabulary.{weights_of, children_of}
+use Rattle.finite_models.specs.declared.model.Cause.{Cause}
 use Rattle.hedge.specs.declared.hedge.Hedge.{Hedge}
+use Rattle.hedge.specs.Vocabulary.{size_of, IsInside}
 use Rattle.identification_theory.proofs.Unique.{one_set}
-use Rattle.counter_models.specs.Kept.{IsCarrier, AreCarriers}
-use Rattle.counter_models.specs.Pairs.{links_of, is_linked, before, small_cause, kept_cause, IsCauseAt, AreCauses, link_causes, IsHedgePart, IsCarriedPart}
-use Rattle.counter_models.specs.Pairs.{IsPartWhere, IsMechanismOf, IsModelOf, in_first, in_second, IsPairOf}
 use Rattle.counter_models.specs.declared.counter_pair.CounterPair.{CounterPair}
+use Rattle.counter_models.specs.Vocabulary.{IsCarrier, AreCarriers, is_linked, before, small_cause, kept_cause, IsCauseAt, AreCauses, link_causes, IsHedgePart, IsCarriedPart, IsPartWhere, IsMechanismOf, IsModelOf, in_first, in_second, IsPairOf}
+use Rattle.counter_models.specs.Pairs.{links_of}
 use Rattle.counter_models.proofs.Counted.{find}
 use Rattle.effect_answers.proofs.OneHedge.{AreAlike, one_nearest}
 

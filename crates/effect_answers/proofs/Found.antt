@@ -1,16 +1,15 @@
 -- What is known of a hedge that the identification answers.
 use Rattle.std.proofs.Common.{◌≡◌, ℕ, subst}
-use Rattle.mixed_graph.specs.Graphs.{MixedGraph}
-use Rattle.hedge.specs.Hedges.{IsHedge}
+use Rattle.mixed_graph.specs.Vocabulary.{MixedGraph}
 use Rattle.hedge.specs.declared.hedge.Hedge.{Hedge}
-use Rattle.counter_models.specs.Pairs.{IsPairOf}
+use Rattle.hedge.specs.Vocabulary.{IsHedge}
 use Rattle.counter_models.specs.declared.counter_pair.CounterPair.{CounterPair}
-use Rattle.identification_theory.specs.Procedure.{IsUnidentified}
-use Rattle.identify.specs.Answers.{IsRight, IfHedge, IsRightAlone, IfHedgeAlone}
-use Rattle.identify.specs.Hedged.{IsHedgeOf}
+use Rattle.counter_models.specs.Vocabulary.{IsPairOf}
+use Rattle.identification_theory.specs.Vocabulary.{IsUnidentified}
 use Rattle.identify.specs.declared.answer.Answer.{Answer}
-use Rattle.identify.specs.declared.answer.Answer.TheVariants as answers
 use Rattle.identify.specs.declared.answer.FormulaAnswer.{FormulaAnswer}
+use Rattle.identify.specs.Vocabulary.{IsRight, IfHedge, IsRightAlone, IfHedgeAlone, IsHedgeOf}
+use Rattle.identify.specs.declared.answer.Answer.TheVariants as answers
 use Rattle.identify.specs.declared.answer.FormulaAnswer.TheVariants as alone
 use Rattle.effect_answers.specs.Hedges.{IsFoundHedge}
 

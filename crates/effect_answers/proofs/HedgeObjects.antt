@@ -5,22 +5,19 @@ use Rattle.std.specs.Prelude.{codes, decimal}
 use Rattle.std.proofs.lemmas.Bool.{ltb-true}
 use Rattle.std.proofs.lemmas.List.{map-append}
 use Rattle.json.specs.Json.{Json, string}
-use Rattle.mixed_graph.specs.Bits.{has, members_below}
+use Rattle.mixed_graph.specs.Vocabulary.{has, members_below}
 use Rattle.finite_models.specs.declared.model.Cause.{Cause}
 use Rattle.finite_models.specs.declared.model.Part.{Part}
 use Rattle.finite_models.specs.declared.model.Mechanism.{Mechanism}
 use Rattle.finite_models.specs.declared.model.Mechanism.TheVariants.{Table, Parity}
-use Rattle.prob_expr.specs.Tree.{PlainTarget}
+use Rattle.prob_expr.specs.Vocabulary.{PlainTarget}
 use Rattle.hedge.specs.declared.hedge.Hedge.{Hedge}
 use Rattle.counter_models.specs.declared.counter_pair.CounterPair.{CounterPair}
-use Rattle.identify_text.specs.HedgeLines.{chooses}
-use Rattle.answer_json.specs.Progress.{array_of, object_of}
-use Rattle.answer_json.specs.Values.{set_json, vertex_json, pair_json}
-use Rattle.hedge_json.specs.Hedges.{choice_json, choices_json, link_json, links_json, hedge_json}
-use Rattle.hedge_json.specs.Models.{cause_json, bit_members, bit_json, bits_json, cause_term, terms_json, part_values, mechanism_values}
-use Rattle.hedge_json.specs.Models.{vertex_values, event_json, models_json}
+use Rattle.identify_text.specs.Vocabulary.{chooses}
+use Rattle.answer_json.specs.Vocabulary.{array_of, object_of, set_json, vertex_json, pair_json}
 use Rattle.hedge_json.specs.declared.bits.Bit.{Bit}
 use Rattle.hedge_json.specs.declared.bits.Bit.TheVariants.{HedgeBit, CarriedBit}
+use Rattle.hedge_json.specs.Vocabulary.{choice_json, choices_json, link_json, links_json, hedge_json, cause_json, bit_members, bit_json, bits_json, cause_term, terms_json, part_values, mechanism_values, vertex_values, event_json, models_json}
 use Rattle.effect_answers.specs.Objects.{target_members, effect_json, joint_json, hedge_members}
 use Rattle.effect_answers.proofs.OneHedge.{AreAlike}
 use Rattle.effect_answers.proofs.AlikePairs.{members_alike, AreSameCauses, IsSamePart, AreSameParts, IsSameMechanism, AreSameMechanisms, ArePairsAlike}

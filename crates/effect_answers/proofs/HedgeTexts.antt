@@ -5,19 +5,16 @@ use Rattle.std.specs.Prelude.{codes, decimal}
 use Rattle.std.specs.List.{flat_map}
 use Rattle.std.proofs.lemmas.Bool.{ltb-true}
 use Rattle.std.proofs.lemmas.List.Concat.{flat_map-append}
-use Rattle.mixed_graph.specs.Bits.{has, members_below}
-use Rattle.answer_text.specs.Texts.{set_text}
+use Rattle.mixed_graph.specs.Vocabulary.{has, members_below}
+use Rattle.answer_text.specs.Vocabulary.{set_text}
 use Rattle.finite_models.specs.declared.model.Cause.{Cause}
 use Rattle.finite_models.specs.declared.model.Part.{Part}
 use Rattle.finite_models.specs.declared.model.Mechanism.{Mechanism}
 use Rattle.finite_models.specs.declared.model.Mechanism.TheVariants.{Table, Parity}
 use Rattle.hedge.specs.declared.hedge.Hedge.{Hedge}
 use Rattle.counter_models.specs.declared.counter_pair.CounterPair.{CounterPair}
-use Rattle.identify_text.specs.HedgeLines.{sets_line, unidentifiable_line, chooses, choice_line, choice_lines, link_line, link_lines}
-use Rattle.identify_text.specs.ModelLines.{weights_text, cause_line, cause_lines, vertex_text, bit_text, bits_of, cause_text, terms_of, sum_text, part_line}
-use Rattle.identify_text.specs.ModelLines.{mechanism_lines, vertex_lines}
-use Rattle.identify_text.specs.PairLines.{event_line, models_text, hedge_answer}
 use Rattle.identify_text.specs.declared.bits.Bit.{Bit}
+use Rattle.identify_text.specs.Vocabulary.{sets_line, unidentifiable_line, chooses, choice_line, choice_lines, link_line, link_lines, weights_text, cause_line, cause_lines, vertex_text, bit_text, bits_of, cause_text, terms_of, sum_text, part_line, mechanism_lines, vertex_lines, event_line, models_text, hedge_answer}
 use Rattle.identify_text.specs.declared.bits.Bit.TheVariants as bits
 use Rattle.effect_answers.proofs.OneHedge.{AreAlike}
 use Rattle.effect_answers.proofs.AlikePairs.{members_alike, AreSameCauses, IsSamePart, AreSameParts, IsSameMechanism, AreSameMechanisms, ArePairsAlike}

@@ -5,7 +5,7 @@ use Rattle.std.specs.List.{zip}
 use Rattle.std.proofs.lemmas.Bool.{cases_lt}
 use Rattle.std.proofs.lemmas.Grind.{same_number_lists}
 use Rattle.hedge.specs.declared.hedge.Hedge.{Hedge}
-use Rattle.certificate.specs.Plain.{links_view, hedge_view}
+use Rattle.certificate.specs.Vocabulary.{links_view, hedge_view}
 use Rattle.effect_answers.specs.Hedges.{HasArrays}
 use Rattle.effect_answers.proofs.OneHedge.{AreAlike}
 

@@ -4,16 +4,12 @@ use Rattle.std.proofs.Common.{IsTrue}
 use Rattle.std.specs.Prelude.{slice_index}
 use mathlib.Core.Path.{fun_ext}
 use Rattle.std.proofs.lemmas.Bool.{cases_Bool, cases_lt, false≢true}
-use Rattle.mixed_graph.specs.Bits.{has}
-use Rattle.mixed_graph.specs.Graphs.{MixedGraph}
-use Rattle.mixed_graph.specs.Orders.{taken_by}
-use Rattle.hedge.specs.Linked.{IsInside}
-use Rattle.hedge.specs.Nearest.{IsNearestChild, IsChoiceOf}
-use Rattle.hedge.specs.Spanning.{IsLowest, IsNextOf, IsNextLink, IsEarliest, AreLinks}
+use Rattle.mixed_graph.specs.Vocabulary.{has, MixedGraph, taken_by}
 use Rattle.hedge.specs.declared.hedge.Hedge.{Hedge}
-use Rattle.identification_theory.specs.AnswerLaws.{AreRoots}
+use Rattle.hedge.specs.Vocabulary.{IsInside, IsNearestChild, IsChoiceOf, IsLowest, IsNextOf, IsNextLink, IsEarliest, AreLinks}
+use Rattle.identification_theory.specs.Vocabulary.{AreRoots}
 use Rattle.identification_theory.proofs.Unique.{one_set}
-use Rattle.identify.specs.Hedged.{IsHedgeOf}
+use Rattle.identify.specs.Vocabulary.{IsHedgeOf}
 
 -- ---- choices
 

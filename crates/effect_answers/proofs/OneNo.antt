@@ -2,16 +2,16 @@
 use Rattle.std.proofs.Common.{◌≡◌, ◌≤◌, ℕ, List, ◌++◌, Some, sym, ap, ap₂, ◌∙◌, subst}
 use Rattle.std.specs.Prelude.{codes}
 use Rattle.json.specs.Json.{Json}
-use Rattle.mixed_graph.specs.Graphs.{MixedGraph, IsMixedGraph}
+use Rattle.mixed_graph.specs.Vocabulary.{MixedGraph, IsMixedGraph}
 use Rattle.hedge.specs.declared.hedge.Hedge.{Hedge}
 use Rattle.counter_models.specs.declared.counter_pair.CounterPair.{CounterPair}
-use Rattle.prob_expr.specs.Tree.{PlainTarget, effect_on, term_of}
-use Rattle.expr_text.specs.Write.{text_of}
+use Rattle.prob_expr.specs.Vocabulary.{PlainTarget, effect_on, term_of}
+use Rattle.expr_text.specs.Vocabulary.{text_of}
 use Rattle.identification_theory.proofs.Answered.{one_stop}
-use Rattle.identify_text.specs.PairLines.{hedge_answer, joint_answer}
-use Rattle.certificate.specs.Plain.{hedge_view}
+use Rattle.identify_text.specs.Vocabulary.{hedge_answer, joint_answer}
+use Rattle.certificate.specs.Vocabulary.{hedge_view}
 use Rattle.certificate.specs.Plain as plain
-use Rattle.certificate_json.specs.Certificates.{certificate_line}
+use Rattle.certificate_json.specs.Vocabulary.{certificate_line}
 use Rattle.targets.specs.declared.query.EffectSets.{EffectSets}
 use Rattle.told.specs.declared.form.Writing.{Writing}
 use Rattle.told.specs.declared.form.Writing.TheVariants.{Plain, Latex, Certificate}

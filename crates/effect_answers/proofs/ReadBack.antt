@@ -1,15 +1,13 @@
 -- The certificate of a right answer is read back.
 use Rattle.std.proofs.Common.{◌≡◌, ℕ, List, None, sym, subst}
-use Rattle.mixed_graph.specs.Graphs.{MixedGraph, IsMixedGraph}
-use Rattle.prob_expr.specs.Check.{fault_in}
-use Rattle.prob_expr.specs.Tree.{PlainTarget, PlainFormula, effect_on}
+use Rattle.mixed_graph.specs.Vocabulary.{MixedGraph, IsMixedGraph}
+use Rattle.prob_expr.specs.Vocabulary.{fault_in, PlainTarget, PlainFormula, effect_on}
 use Rattle.do_derivation.specs.Accepts.{Accepts}
-use Rattle.do_derivation.specs.Plans.{PlainDerivation}
-use Rattle.hedge.specs.Hedges.{IsHedge}
+use Rattle.do_derivation.specs.Vocabulary.{PlainDerivation}
 use Rattle.hedge.specs.declared.hedge.Hedge.{Hedge}
-use Rattle.certificate.specs.Plain.{hedge_view, formula, hedge}
-use Rattle.certificate_json.specs.Kept.{IsShort}
-use Rattle.certificate_json.specs.Writable.{IsWritable, IsTargetWithin, IsBareTarget, IsFormulaShallow}
+use Rattle.hedge.specs.Vocabulary.{IsHedge}
+use Rattle.certificate.specs.Vocabulary.{hedge_view, formula, hedge}
+use Rattle.certificate_json.specs.Vocabulary.{IsShort, IsWritable, IsTargetWithin, IsBareTarget, IsFormulaShallow}
 use Rattle.certificate_json.proofs.Keeping.{links_few, links_blank}
 use Rattle.certificate_json.proofs.ReadsBack.{text_back}
 use Rattle.effect_answers.specs.Certificates.{IsReadBack}

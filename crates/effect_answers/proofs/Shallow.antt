@@ -2,14 +2,15 @@
 use Rattle.std.proofs.Common.{ℕ, zero, suc, ◌≡◌, ◌≤◌, ◌<◌, true, List, [], ◌∷◌, length, arith}
 use Rattle.std.proofs.Math.Nat.{max-le}
 use Rattle.finite_models.proofs.Bools.{and_first, and_second}
-use Rattle.prob_expr.specs.Tree.{Tree, prob, sum, product, quotient, named, Trees, no_trees, tree, PlainFormula}
-use Rattle.do_derivation.specs.Plans.{Plan, Plans, no_plans, plan, PlainLemma, PlainDerivation}
+use Rattle.prob_expr.specs.Tree.{Tree, prob, sum, product, quotient, named, tree}
+use Rattle.prob_expr.specs.Vocabulary.{Trees, no_trees, PlainFormula}
+use Rattle.do_derivation.specs.Plans.{Plan, Plans, plan}
+use Rattle.do_derivation.specs.Vocabulary.{no_plans, PlainLemma, PlainDerivation}
 use Rattle.expr_text.specs.Write as expr
 use Rattle.certificate_json.specs.StepSizes as step
-use Rattle.identification_theory.specs.Depth.{is_plan_within, are_plans_within, are_lemmas_within}
-use Rattle.identification_theory.specs.AnswerDepth.{is_tree_within, are_trees_within, are_defs_within}
-use Rattle.identify.specs.Answers.{AreShallowSteps, IsShallowFormula}
-use Rattle.certificate_json.specs.Writable.{AreStepsShallow, IsFormulaShallow}
+use Rattle.identification_theory.specs.Vocabulary.{is_plan_within, are_plans_within, are_lemmas_within, is_tree_within, are_trees_within, are_defs_within}
+use Rattle.identify.specs.Vocabulary.{AreShallowSteps, IsShallowFormula}
+use Rattle.certificate_json.specs.Vocabulary.{AreStepsShallow, IsFormulaShallow}
 
 -- ---- formulas
 -- an expression has at most one pair of parentheses round it

@@ -2,13 +2,11 @@
 use Rattle.std.proofs.Common.{◌≡◌, ℕ, true, List, [], ◌++◌, Option, Some, None, option_map, refl, sym, ap, ap₂, ◌∙◌, true≢false}
 use Rattle.json.specs.Json.{Json}
 use Rattle.answer_text.specs.declared.signs.Notation.TheVariants as notations
-use Rattle.prob_expr.specs.Tree.{PlainTarget, PlainFormula}
-use Rattle.do_derivation.specs.Plans.{PlainDerivation}
-use Rattle.do_derivation.specs.View.{derivation_view}
-use Rattle.prob_expr.specs.View.{target_view, formula_view}
+use Rattle.prob_expr.specs.Vocabulary.{PlainTarget, PlainFormula, target_view, formula_view}
 use Rattle.do_derivation.specs.declared.steps.Derivation.{Derivation}
-use Rattle.identify_text.specs.Answers.{answer_in}
-use Rattle.certificate.specs.Plain.{PlainCertificate, formula}
+use Rattle.do_derivation.specs.Vocabulary.{PlainDerivation, derivation_view}
+use Rattle.identify_text.specs.Vocabulary.{answer_in}
+use Rattle.certificate.specs.Vocabulary.{PlainCertificate, formula}
 use Rattle.told.specs.declared.form.Writing.{Writing}
 use Rattle.told.specs.declared.form.Writing.TheVariants.{Plain, Latex, Certificate}
 use Rattle.effect_answers.specs.declared.formulas.EffectFormula.{EffectFormula}

@@ -1,17 +1,14 @@
 -- The steps of an accepted derivation name vertices of the graph alone.
 use Rattle.std.proofs.Common.{ℕ, ◌≡◌, ◌<◌, Bool, true, false, not, ◌&&◌, leb, ltb, List, [], ◌∷◌, ◌++◌, length, Option, Some, None, MatchOption, refl}
 use Rattle.std.proofs.lemmas.Bool.{and_from, lt-ltb}
-use Rattle.mixed_graph.specs.Bits.{has}
-use Rattle.mixed_graph.specs.Graphs.{MixedGraph, IsMixedGraph}
+use Rattle.mixed_graph.specs.Vocabulary.{has, MixedGraph, IsMixedGraph, minus, one, is_empty, is_apart, is_inside, is_below}
 use Rattle.finite_models.proofs.Bools.{and_first, and_second}
-use Rattle.mixed_graph.specs.Masks.{minus, one, is_empty, is_apart, is_inside, is_below}
-use Rattle.prob_expr.specs.Terms.{is_term}
-use Rattle.prob_expr.specs.Tree.{Tree, prob, sum, product, quotient, named, PlainFormula, PlainTarget, term_of}
+use Rattle.prob_expr.specs.Vocabulary.{is_term, PlainFormula, PlainTarget, term_of}
+use Rattle.prob_expr.specs.Tree.{Tree, prob, sum, product, quotient, named}
 use Rattle.mixed_graph.proofs.MaskLaws.{below_from, inside_has}
-use Rattle.do_derivation.specs.Accepts.{Accepts, Define, start_of, sets_of, are_sets}
-use Rattle.do_derivation.specs.Plans.{Move, Plan, Plans, no_plans, plan, PlainLemma, PlainDerivation}
-use Rattle.do_derivation.specs.Shapes.{is_list_of, child, with_child}
-use Rattle.do_derivation.specs.Steps.{IsMade, Makes, MakesAll}
+use Rattle.do_derivation.specs.Accepts.{Accepts}
+use Rattle.do_derivation.specs.Vocabulary.{Define, start_of, sets_of, are_sets, no_plans, PlainLemma, PlainDerivation, is_list_of, child, with_child, IsMade, Makes, MakesAll}
+use Rattle.do_derivation.specs.Plans.{Move, Plan, Plans, plan}
 use Rattle.do_derivation.specs.Table.{row}
 use Rattle.do_derivation.proofs.Accepted.{start_term}
 use Rattle.do_derivation.proofs.MadeSets.{so, on_a_term, set_below}
@@ -19,8 +16,7 @@ use Rattle.do_derivation.proofs.Preserved.{step_keeps_terms}
 use Rattle.do_derivation.proofs.TermSets.{IsTerm, minus_left, term_from, term_filled}
 use Rattle.do_derivation.proofs.TreeTerms.{AreTerms, child_terms, terms_of, terms_test}
 use Rattle.mixed_graph.proofs.MaskLaws.{filled_from}
-use Rattle.certificate_json.specs.StepSizes.{are_below, is_move_within, is_within, are_within}
-use Rattle.certificate_json.specs.Writable.{are_steps_within, IsDerivationWithin}
+use Rattle.certificate_json.specs.Vocabulary.{are_below, is_move_within, is_within, are_within, are_steps_within, IsDerivationWithin}
 
 -- the vertices of a chain are those of the term
 list_below : (n : ℕ) (o : List ℕ) (a : ℕ) → is_list_of o a ≡ true → ((v : ℕ) → has a v ≡ true → v < n) → are_below n o ≡ true

@@ -6,18 +6,15 @@ use Rattle.std.specs.List.{zip}
 use Rattle.std.proofs.lemmas.Bool.{cases_Bool}
 use Rattle.std.proofs.lemmas.List.Elements.{All-from_get_or}
 use Rattle.std.proofs.lemmas.Slice.Zip.{length-zip, get_or-zip}
-use Rattle.mixed_graph.specs.Bits.{has}
-use Rattle.mixed_graph.specs.Sets.{Within, Apart}
-use Rattle.mixed_graph.specs.Graphs.{MixedGraph}
-use Rattle.do_rules.specs.Rules.{AreThreeSets}
-use Rattle.prob_expr.specs.Tree.{PlainTarget, effect_on}
+use Rattle.mixed_graph.specs.Vocabulary.{has, Within, Apart, MixedGraph}
+use Rattle.do_rules.specs.Vocabulary.{AreThreeSets}
+use Rattle.prob_expr.specs.Vocabulary.{PlainTarget, effect_on}
 use Rattle.mixed_graph.proofs.MaskLaws.{below_from, has_none}
 use Rattle.do_derivation.proofs.TermSets.{apart_back, term_test}
-use Rattle.hedge.specs.Entries.{HasEntries}
-use Rattle.hedge.specs.Hedges.{IsHedge}
 use Rattle.hedge.specs.declared.hedge.Hedge.{Hedge}
-use Rattle.certificate.specs.Plain.{hedge_view}
-use Rattle.certificate_json.specs.Writable.{IsTargetWithin, IsBareTarget, IsHedgeWithin}
+use Rattle.hedge.specs.Vocabulary.{HasEntries, IsHedge}
+use Rattle.certificate.specs.Vocabulary.{hedge_view}
+use Rattle.certificate_json.specs.Vocabulary.{IsTargetWithin, IsBareTarget, IsHedgeWithin}
 
 -- a target whose sets are disjoint
 pub target_within : (n : ℕ) (t : PlainTarget) → AreThreeSets n (has t.x) (has t.y) (has t.given) → 0 < t.y → IsTargetWithin n t

@@ -1,10 +1,9 @@
 -- Certificates of answers: as text, as a member of an object, and that they are read back.
 use Rattle.std.specs.Prelude.{ℕ, ◌≡◌, List, [], ◌∷◌, Option, Some, None, length, Ok, codes}
 use Rattle.json.specs.Json.{Json}
-use Rattle.mixed_graph.specs.Names.{AreNames}
-use Rattle.certificate.specs.Plain.{PlainCertificate}
-use Rattle.certificate.specs.Reading.{certificate_in}
-use Rattle.certificate_json.specs.Certificates.{certificate_json, certificate_text, certificate_line}
+use Rattle.mixed_graph.specs.Vocabulary.{AreNames}
+use Rattle.certificate.specs.Vocabulary.{PlainCertificate, certificate_in}
+use Rattle.certificate_json.specs.Vocabulary.{certificate_json, certificate_text, certificate_line}
 use Rattle.told.specs.declared.form.Writing.{Writing}
 use Rattle.told.specs.declared.form.Writing.TheVariants.{Plain, Latex, Certificate}
 

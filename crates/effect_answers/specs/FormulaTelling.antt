@@ -2,11 +2,10 @@
 use Rattle.std.specs.Prelude.{ℕ, List, ◌∷◌, ◌++◌, Option, option_map, codes}
 use Rattle.json.specs.Json.{Json, string}
 use Rattle.answer_text.specs.declared.signs.Notation.TheVariants as notations
-use Rattle.prob_expr.specs.View.{target_view, formula_view}
-use Rattle.prob_expr.specs.Tree.{PlainFormula, PlainTarget}
-use Rattle.do_derivation.specs.View.{derivation_view}
-use Rattle.identify_text.specs.Answers.{answer_in}
-use Rattle.certificate.specs.Plain.{PlainCertificate}
+use Rattle.prob_expr.specs.Vocabulary.{target_view, formula_view, PlainFormula, PlainTarget}
+use Rattle.do_derivation.specs.Vocabulary.{derivation_view}
+use Rattle.identify_text.specs.Vocabulary.{answer_in}
+use Rattle.certificate.specs.Vocabulary.{PlainCertificate}
 use Rattle.certificate.specs.Plain as plain
 use Rattle.told.specs.declared.form.Writing.{Writing}
 use Rattle.told.specs.declared.form.Writing.TheVariants.{Plain, Latex, Certificate}

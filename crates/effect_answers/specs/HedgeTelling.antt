@@ -1,11 +1,11 @@
 -- What is told of a hedge with its two models.
 use Rattle.std.specs.Prelude.{ℕ, List, ◌++◌, Some}
 use Rattle.json.specs.Json.{Json}
-use Rattle.prob_expr.specs.Tree.{PlainTarget, effect_on}
-use Rattle.identify_text.specs.PairLines.{hedge_answer, joint_answer}
-use Rattle.certificate.specs.Plain.{PlainCertificate, hedge_view}
+use Rattle.prob_expr.specs.Vocabulary.{PlainTarget, effect_on}
+use Rattle.identify_text.specs.Vocabulary.{hedge_answer, joint_answer}
+use Rattle.certificate.specs.Vocabulary.{PlainCertificate, hedge_view}
 use Rattle.certificate.specs.Plain as plain
-use Rattle.certificate_json.specs.Certificates.{certificate_line}
+use Rattle.certificate_json.specs.Vocabulary.{certificate_line}
 use Rattle.told.specs.declared.form.Writing.{Writing}
 use Rattle.told.specs.declared.form.Writing.TheVariants.{Plain, Latex, Certificate}
 use Rattle.effect_answers.specs.declared.hedges.EffectHedge.{EffectHedge}

@@ -1,14 +1,12 @@
 -- The hedge that answers no.
 use Rattle.std.specs.Prelude.{ℕ, ◌≡◌, length}
-use Rattle.mixed_graph.specs.Graphs.{MixedGraph}
-use Rattle.hedge.specs.Entries.{HasEntries}
-use Rattle.hedge.specs.Hedges.{IsHedge}
+use Rattle.mixed_graph.specs.Vocabulary.{MixedGraph}
 use Rattle.hedge.specs.declared.hedge.Hedge.{Hedge}
-use Rattle.counter_models.specs.Pairs.{IsPairOf}
+use Rattle.hedge.specs.Vocabulary.{HasEntries, IsHedge}
 use Rattle.counter_models.specs.declared.counter_pair.CounterPair.{CounterPair}
-use Rattle.identification_theory.specs.Procedure.{IsUnidentified}
-use Rattle.identify.specs.Answers.{IsRightHedge}
-use Rattle.identify.specs.Hedged.{IsHedgeOf}
+use Rattle.counter_models.specs.Vocabulary.{IsPairOf}
+use Rattle.identification_theory.specs.Vocabulary.{IsUnidentified}
+use Rattle.identify.specs.Vocabulary.{IsRightHedge, IsHedgeOf}
 
 -- Its sets form a hedge for the effect of x on y, and its two models, which are positive and fit q, agree on all observations and differ on the
 -- effect under every value of x.

@@ -4,3 +4,4 @@ pub mod FormulaTelling
 pub mod HedgeTelling
 pub mod Hedges
 pub mod Right
+pub mod Vocabulary

@@ -1,17 +1,15 @@
 -- The objects of answers to the effect of x on y: what those of a formula and of a hedge have in common, and that of a hedge.
 use Rattle.std.specs.Prelude.{ℕ, List, [], ◌∷◌, ◌++◌, map, codes}
 use Rattle.json.specs.Json.{Json, string}
-use Rattle.prob_expr.specs.Tree.{PlainFormula, PlainTarget, term_of}
-use Rattle.expr_text.specs.Write.{text_of, latex_of, formula_latex}
+use Rattle.prob_expr.specs.Vocabulary.{PlainFormula, PlainTarget, term_of}
+use Rattle.expr_text.specs.Vocabulary.{text_of, latex_of, formula_latex}
 use Rattle.hedge.specs.declared.hedge.Hedge.{Hedge}
 use Rattle.counter_models.specs.declared.counter_pair.CounterPair.{CounterPair}
-use Rattle.identify_text.specs.Answers.{free_beside}
-use Rattle.answer_json.specs.Progress.{array_of, object_of}
-use Rattle.answer_json.specs.Values.{text_json, set_json}
-use Rattle.formula_json.specs.Trees.{tree_json, definitions_json}
-use Rattle.hedge_json.specs.Hedges.{hedge_json}
-use Rattle.hedge_json.specs.Models.{models_json}
-use Rattle.certificate_json.specs.Certificates.{expr_json}
+use Rattle.identify_text.specs.Vocabulary.{free_beside}
+use Rattle.answer_json.specs.Vocabulary.{array_of, object_of, text_json, set_json}
+use Rattle.formula_json.specs.Vocabulary.{tree_json, definitions_json}
+use Rattle.hedge_json.specs.Vocabulary.{hedge_json, models_json}
+use Rattle.certificate_json.specs.Vocabulary.{expr_json}
 
 -- ---- what was asked for
 

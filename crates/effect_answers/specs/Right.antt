@@ -1,9 +1,8 @@
 -- Which answers to the effect of x on y are right, in the observed graph q.
 use Rattle.std.specs.Prelude.{◌≡◌, Bool, false, Option, Some, None}
-use Rattle.mixed_graph.specs.Graphs.{MixedGraph}
-use Rattle.do_derivation.specs.Plans.{PlainDerivation}
-use Rattle.do_derivation.specs.View.{derivation_view}
+use Rattle.mixed_graph.specs.Vocabulary.{MixedGraph}
 use Rattle.do_derivation.specs.declared.steps.Derivation.{Derivation}
+use Rattle.do_derivation.specs.Vocabulary.{PlainDerivation, derivation_view}
 use Rattle.effect_answers.specs.declared.hedges.EffectHedge.{EffectHedge}
 use Rattle.effect_answers.specs.Hedges.{IsFoundHedge, HasArrays}
 use Rattle.effect_answers.specs.Certificates.{IsReadBack}

@@ -1,8 +1,7 @@
 //! The effect of sets.
 
 ghost use Rattle.std.specs.Prelude.{◌≡◌};
-ghost use Rattle.prob_expr.specs.Tree.{effect_on};
-ghost use Rattle.prob_expr.specs.View.{target_view};
+ghost use Rattle.prob_expr.specs.Vocabulary.{effect_on, target_view};
 
 use mixed_graph::VSet;
 use prob_expr::Target;

@@ -1,9 +1,8 @@
 //! What the types of a derivation keep, which is what reading back its certificate asks of it.
 
 ghost use Rattle.std.specs.Prelude.{◌≡◌, ◌^◌, true, ltb, leb, length, map};
-ghost use Rattle.do_derivation.specs.View.{move_view, step_view, steps_view, lemma_view, derivation_view, listed, numbers_of};
-ghost use Rattle.certificate_json.specs.StepSizes.{are_below, groups_below, is_move_short, is_short, are_short};
-ghost use Rattle.certificate_json.specs.Kept.{are_steps_short, IsShort};
+ghost use Rattle.do_derivation.specs.Vocabulary.{move_view, step_view, steps_view, lemma_view, derivation_view, listed, numbers_of};
+ghost use Rattle.certificate_json.specs.Vocabulary.{are_below, groups_below, is_move_short, is_short, are_short, are_steps_short, IsShort};
 
 use do_derivation::{Derivation, Lemma, Move, Step};
 use mixed_graph::Order;

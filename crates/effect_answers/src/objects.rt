@@ -1,11 +1,11 @@
 //! The objects of answers to the effect of x on y.
 
 ghost use Rattle.std.specs.Prelude.{◌≡◌, ◌++◌, codes, map, IfOk, OnOk};
-ghost use Rattle.prob_expr.specs.View.{view, formula_view, target_view};
-ghost use Rattle.identify_text.specs.Answers.{free_beside};
-ghost use Rattle.certificate_json.specs.Certificates.{expr_json};
-ghost use Rattle.answer_json.specs.Progress.{with_member, with_members, array_of};
-ghost use Rattle.answer_json.specs.Values.{text_json, set_json};
+ghost use Rattle.prob_expr.specs.View.{view};
+ghost use Rattle.prob_expr.specs.Vocabulary.{formula_view, target_view};
+ghost use Rattle.identify_text.specs.Vocabulary.{free_beside};
+ghost use Rattle.certificate_json.specs.Vocabulary.{expr_json};
+ghost use Rattle.answer_json.specs.Vocabulary.{with_member, with_members, array_of, text_json, set_json};
 ghost use Rattle.effect_answers.specs.Objects.{target_members, effect_json, joint_json, equation_latex, formula_members, hedge_members};
 
 use answer_json::Object;

@@ -1,6 +1,6 @@
 -- Values that list no query.
 use Rattle.std.proofs.Common.{◌≡◌, Option, Some, None, ◌∙◌}
-use Rattle.command_words.specs.Form.{Text}
+use Rattle.command_words.specs.Vocabulary.{Text}
 use Rattle.equivalent_command.specs.Requests.{Query, IsQuery}
 
 -- a value that is there isn't missing

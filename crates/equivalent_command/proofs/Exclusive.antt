@@ -1,22 +1,20 @@
 -- Right answers of two graphs end alike, and a second graph that has one isn't refused; a first graph that is refused isn't accepted.
 use Rattle.std.proofs.Common.{◌≡◌, ◌⊎◌, ℕ, Bool, true, false, List, Option, Some, None, Result, Ok, Err, inl, inr, refl, sym, ◌∙◌, subst, arith}
-use Rattle.mixed_graph.specs.Graphs.{MixedGraph}
-use Rattle.mixed_graph.specs.Shown.{graph_of}
-use Rattle.markov_equivalence.specs.Skeletons.{HasArrowsAlone, AreEquivalent}
+use Rattle.mixed_graph.specs.Vocabulary.{MixedGraph, graph_of}
+use Rattle.markov_equivalence.specs.Vocabulary.{HasArrowsAlone, AreEquivalent}
 use Rattle.dag_reader.specs.declared.graph.ReadGraph.{ReadGraph}
-use Rattle.dag_reader.specs.RoundTrip.{AreSame}
+use Rattle.dag_reader.specs.Vocabulary.{AreSame}
 use Rattle.dag_reader.proofs.OneReading.{reads_either}
 use Rattle.targets.specs.declared.fault.TargetFault.{TargetFault}
 use Rattle.targets.specs.declared.query.Sets.{Sets}
-use Rattle.targets.specs.Targets.{IsTargetFault}
+use Rattle.targets.specs.Vocabulary.{IsTargetFault}
 use Rattle.diagram.specs.declared.diagram.Diagram.{Diagram}
 use Rattle.diagram.proofs.OneDiagram.{AreSameDiagrams, same_drawing, same_query_lists}
 use Rattle.diagram.proofs.OneObserved.{same_as}
 use Rattle.replies.specs.declared.outcome.Outcome.TheVariants.{Yes, No}
 use Rattle.replies.proofs.OneGraph.{one_holding}
 use Rattle.replies.proofs.OneTarget.{no_fault_of}
-use Rattle.told.specs.Refusals.{target_refusal}
-use Rattle.told.specs.Telling.{outcome_in}
+use Rattle.told.specs.Vocabulary.{target_refusal, outcome_in}
 use Rattle.equivalent_command.specs.Numbers.{HaveSameNames, on_names}
 use Rattle.equivalent_command.specs.Faults.{IsBidirectedFault, IsOtherName, in_first, in_second}
 use Rattle.equivalent_command.specs.Queries.{AreAsked, IsListsFault}

@@ -2,11 +2,10 @@
 use Rattle.std.proofs.Common.{◌≡◌, List, Option, Some, None, refl, sym, ◌∙◌}
 use Rattle.std.specs.Prelude.{codes}
 use Rattle.std.proofs.lemmas.Option.{none-some, same_Some}
-use Rattle.command_words.specs.Form.{Text, Use, value_of}
-use Rattle.command_words.specs.Values.{IsRequiredList}
+use Rattle.command_words.specs.Vocabulary.{Text, Use, value_of, IsRequiredList}
 use Rattle.command_words.proofs.OneValue.{one_listed_or_empty, one_needed_list}
 use Rattle.equivalent_command.specs.Requests.{Query, IsQuery}
-use Rattle.replies.specs.Outcomes.{IsAnswered}
+use Rattle.replies.specs.Vocabulary.{IsAnswered}
 use Rattle.replies.proofs.Commands.{IsLawful}
 use Rattle.told.proofs.ToldOnBoth.{lawful_told_on_both}
 use Rattle.equivalent_command.specs.Command.{equivalent_command}

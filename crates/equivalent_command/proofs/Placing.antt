@@ -3,12 +3,10 @@ use Rattle.std.proofs.Common.{◌≡◌, ℕ, ◌+◌, ◌<◌, Bool, true, fals
 use Rattle.std.proofs.Common.{◌∙◌, sym, refl, arith, inl, inr}
 use Rattle.std.proofs.lemmas.Bool.{cases_eq, cases_lt, lt-ltb, le-ltb, eq-eqb, ne_eqb, and_left}
 use Rattle.std.proofs.lemmas.List.{get_or-set_same, get_or-set_other, length-replicate, get_or-map, length-map}
-use Rattle.mixed_graph.specs.Bits.{has}
-use Rattle.mixed_graph.specs.Graphs.{MixedGraph}
-use Rattle.mixed_graph.specs.Names.{index_of, name_of}
+use Rattle.mixed_graph.specs.Vocabulary.{has, MixedGraph, index_of, name_of}
 use Rattle.mixed_graph.proofs.PairMasks.{blank}
-use Rattle.latent_projection.specs.Renumbering.{renumbered, renumbered_set}
-use Rattle.markov_equivalence.specs.Skeletons.{HasArrowsAlone}
+use Rattle.latent_projection.specs.Vocabulary.{renumbered, renumbered_set}
+use Rattle.markov_equivalence.specs.Vocabulary.{HasArrowsAlone}
 use Rattle.equivalent_command.specs.Numbers.{places}
 
 -- the first i names have their places among the others

@@ -2,17 +2,15 @@
 use Rattle.std.proofs.Common.{◌≡◌, ℕ, ◌+◌, ◌-◌, Bool, List, length, Option, Some, None, zero, suc, refl, ap, ◌∙◌, arith, eq-eqb}
 use Rattle.std.specs.Prelude.{IfSome, slice_index}
 use Rattle.std.specs.Global.{Vec}
-use Rattle.mixed_graph.specs.Graphs.{MixedGraph}
-use Rattle.mixed_graph.specs.Names.{texts}
+use Rattle.mixed_graph.specs.Vocabulary.{MixedGraph, texts}
 use Rattle.m_separation.specs.declared.marks.Mark.{Mark}
 use Rattle.m_separation.specs.declared.paths.OpenPath.{OpenPath}
-use Rattle.m_separation.specs.Walks.{last}
-use Rattle.m_separation.specs.Paths.{IsOpenPath, steps_from}
+use Rattle.m_separation.specs.Vocabulary.{last, IsOpenPath, steps_from}
 use Rattle.targets.specs.declared.query.Sets.{Sets}
 use Rattle.targets.proofs.Queries.{set_within}
-use Rattle.markov_equivalence.specs.Separations.{IsOpenWithEndsOf}
+use Rattle.markov_equivalence.specs.Vocabulary.{IsOpenWithEndsOf}
 use Rattle.diagram.specs.declared.diagram.Diagram.{Diagram}
-use Rattle.diagram.specs.Sets.{query_lists}
+use Rattle.diagram.specs.Vocabulary.{query_lists}
 use Rattle.equivalent_command.specs.Requests.{Query, query_of}
 use Rattle.equivalent_command.specs.Queries.{lists_on, AreAsked, AreBelow}
 use Rattle.equivalent_command.specs.declared.request.Query.{Query as CodeQuery}

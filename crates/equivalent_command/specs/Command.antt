@@ -1,13 +1,11 @@
 -- The command `equivalent`.
 use Rattle.std.specs.Prelude.{Option, Some}
-use Rattle.command_words.specs.Form.{Text}
+use Rattle.command_words.specs.Vocabulary.{Text}
 use Rattle.diagram.specs.declared.diagram.Diagram.{Diagram}
 use Rattle.replies.specs.declared.format.Format.{Format}
-use Rattle.replies.specs.Command.{CommandForm, Remainder}
+use Rattle.replies.specs.Vocabulary.{CommandForm, Remainder}
 use Rattle.targets.specs.declared.query.Sets.{Sets}
-use Rattle.told.specs.Forms.{plain_form}
-use Rattle.told.specs.Telling.{Tells}
-use Rattle.told.specs.TwoInputs.{told_on_two_inputs}
+use Rattle.told.specs.Vocabulary.{plain_form, Tells, told_on_two_inputs}
 use Rattle.equivalent_command.specs.Requests.{Query, Request, IsRequest}
 use Rattle.equivalent_command.specs.Right.{IsForFirst, IsAcceptedFirst, IsForSecond}
 use Rattle.equivalent_command.specs.SecondFaults.{second_refusal}

@@ -1,7 +1,6 @@
 -- What keeps two graphs from being compared: a bidirected edge, or a name in one of them alone.
 use Rattle.std.specs.Prelude.{ℕ, ◌≡◌, ◌<◌, true, false, List, length}
-use Rattle.mixed_graph.specs.Graphs.{MixedGraph}
-use Rattle.mixed_graph.specs.Names.{is_named, name_of}
+use Rattle.mixed_graph.specs.Vocabulary.{MixedGraph, is_named, name_of}
 use Rattle.targets.specs.declared.fault.TargetFault.{TargetFault}
 use Rattle.targets.specs.declared.fault.TargetFault.TheVariants.{Bidirected, OtherNames}
 use Rattle.equivalent_command.specs.Numbers.{AreAmong}

@@ -1,10 +1,9 @@
 -- What the first diagram gives.
 use Rattle.std.specs.Prelude.{Option}
 use Rattle.diagram.specs.declared.diagram.Diagram.{Diagram}
-use Rattle.replies.specs.Told.{told_of}
+use Rattle.replies.specs.Vocabulary.{told_of}
 use Rattle.told.specs.declared.form.Form.{Form}
-use Rattle.told.specs.Refusals.{target_refusal}
-use Rattle.told.specs.Telling.{Tells}
+use Rattle.told.specs.Vocabulary.{target_refusal, Tells}
 use Rattle.equivalent_command.specs.Requests.{Query}
 use Rattle.equivalent_command.specs.Right.{IsAcceptedFirst, IsForFirst}
 use Rattle.equivalent_command.specs.Telling.{equivalent_telling}

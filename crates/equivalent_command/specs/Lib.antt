@@ -10,3 +10,4 @@ pub mod SecondFaults
 pub mod Telling
 pub mod Firsts
 pub mod Command
+pub mod Vocabulary

@@ -1,15 +1,14 @@
 -- How the answer of a comparison is printed.
 use Rattle.std.specs.Prelude.{ℕ, List, [], ◌∷◌, ◌++◌, codes}
-use Rattle.mixed_graph.specs.Names.{name_of}
+use Rattle.mixed_graph.specs.Vocabulary.{name_of}
 use Rattle.m_separation.specs.declared.paths.OpenPath.{OpenPath}
-use Rattle.answer_text.specs.Printing.{printed}
-use Rattle.answer_text.specs.Texts.{set_text, path_text}
+use Rattle.answer_text.specs.Vocabulary.{printed, set_text, path_text}
 use Rattle.markov_equivalence.specs.declared.comparison.Difference.{Difference}
 use Rattle.markov_equivalence.specs.declared.sides.Side.{Side}
 use Rattle.markov_equivalence.specs.declared.sides.Side.TheVariants.{First, Second}
-use Rattle.markov_equivalence.specs.Sides.{other_side}
+use Rattle.markov_equivalence.specs.Vocabulary.{other_side}
 use Rattle.targets.specs.declared.query.Sets.{Sets}
-use Rattle.replies.specs.Lines.{query_text}
+use Rattle.replies.specs.Vocabulary.{query_text}
 
 -- the first of the two graphs, or the second
 abbrev pub which : Side → List ℕ

@@ -1,8 +1,7 @@
 -- Two graphs with the same names, numbered alike.
 use Rattle.std.specs.Prelude.{ℕ, ◌≡◌, ◌<◌, true, List, length, map}
-use Rattle.mixed_graph.specs.Graphs.{MixedGraph}
-use Rattle.mixed_graph.specs.Names.{is_named, index_of, name_of}
-use Rattle.latent_projection.specs.Renumbering.{renumbered}
+use Rattle.mixed_graph.specs.Vocabulary.{MixedGraph, is_named, index_of, name_of}
+use Rattle.latent_projection.specs.Vocabulary.{renumbered}
 
 -- each name is one of the others
 abbrev pub AreAmong : List (List ℕ) → List (List ℕ) → Type 0

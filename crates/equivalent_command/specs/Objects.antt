@@ -4,10 +4,9 @@ use Rattle.json.specs.Json.{Json, string, boolean}
 use Rattle.m_separation.specs.declared.paths.OpenPath.{OpenPath}
 use Rattle.markov_equivalence.specs.declared.comparison.Difference.{Difference}
 use Rattle.markov_equivalence.specs.declared.sides.Side.{Side}
-use Rattle.markov_equivalence.specs.Sides.{other_side}
+use Rattle.markov_equivalence.specs.Vocabulary.{other_side}
 use Rattle.targets.specs.declared.query.Sets.{Sets}
-use Rattle.answer_json.specs.Progress.{object_of}
-use Rattle.answer_json.specs.Values.{set_json, vertices_json, path_json}
+use Rattle.answer_json.specs.Vocabulary.{object_of, set_json, vertices_json, path_json}
 use Rattle.equivalent_command.specs.Lines.{which}
 
 -- ---- graphs that don't differ

@@ -1,12 +1,11 @@
 -- What the lists of a query stand for: sets of the first diagram. And sets of vertices.
 use Rattle.std.specs.Prelude.{ℕ, Option, Some, None}
-use Rattle.mixed_graph.specs.Bits.{has}
-use Rattle.mixed_graph.specs.Sets.{Within}
+use Rattle.mixed_graph.specs.Vocabulary.{has, Within}
 use Rattle.targets.specs.declared.query.Sets.{Sets}
 use Rattle.targets.specs.declared.fault.TargetFault.{TargetFault}
-use Rattle.targets.specs.Targets.{Lists, AreSets, IsTargetFault}
+use Rattle.targets.specs.Vocabulary.{Lists, AreSets, IsTargetFault}
 use Rattle.diagram.specs.declared.diagram.Diagram.{Diagram}
-use Rattle.diagram.specs.Sets.{query_lists}
+use Rattle.diagram.specs.Vocabulary.{query_lists}
 use Rattle.equivalent_command.specs.Requests.{Query}
 
 -- the lists, with the names of the diagram and those of its observed vertices

@@ -1,14 +1,14 @@
 -- What is told of a second graph that is refused.
 use Rattle.std.specs.Prelude.{ℕ, List, codes}
-use Rattle.answer_text.specs.Lines.{line_of, second as of_second}
+use Rattle.answer_text.specs.Vocabulary.{line_of, second as of_second}
 use Rattle.dag_reader.specs.declared.faults.GraphFault.{GraphFault}
-use Rattle.dag_reader.specs.FaultTexts.{graph_fault_text, size_text}
+use Rattle.dag_reader.specs.Vocabulary.{graph_fault_text, size_text}
 use Rattle.targets.specs.declared.fault.TargetFault.{TargetFault}
-use Rattle.targets.specs.FaultTexts.{target_fault_text}
-use Rattle.answer_json.specs.Progress.{json_line}
-use Rattle.fault_json.specs.GraphFaults.{graph_fault_json, graph_size_json}
-use Rattle.fault_json.specs.TargetFaults.{target_fault_json}
-use Rattle.replies.specs.Told.{Told, refusal_of}
+use Rattle.targets.specs.Vocabulary.{target_fault_text}
+use Rattle.answer_json.specs.Vocabulary.{json_line}
+use Rattle.fault_json.specs.Vocabulary.{graph_fault_json, graph_size_json, target_fault_json}
+use Rattle.replies.specs.Told.{Told}
+use Rattle.replies.specs.Vocabulary.{refusal_of}
 
 -- its text has more than 1,048,576 bytes
 abbrev pub second_size_told : Told

@@ -1,10 +1,9 @@
 -- What `equivalent` is asked for.
 use Rattle.std.specs.Prelude.{ℕ, ◌≡◌, List, Option, Some, None, [], ◌∷◌, codes, option_map}
-use Rattle.command_words.specs.Form.{Text, Row, Use, word_of, value_of, has_flag}
-use Rattle.command_words.specs.ListViews.{names_in}
+use Rattle.command_words.specs.Vocabulary.{Text, Row, Use, word_of, value_of, has_flag, names_in}
 use Rattle.command_words.specs.Values as values
 use Rattle.replies.specs.declared.format.Format.{Format}
-use Rattle.replies.specs.Told.{format_of}
+use Rattle.replies.specs.Vocabulary.{format_of}
 use Rattle.equivalent_command.specs.declared.request.Query.{Query as CodeQuery}
 use Rattle.equivalent_command.specs.declared.request.Request.{Request as CodeRequest}
 

@@ -1,23 +1,18 @@
 -- Which answers of `equivalent` are right: whether two graphs imply the same separations among their observed vertices, in which no edge is bidirected.
 use Rattle.std.specs.Prelude.{ℕ, ◌≡◌, ◌<◌, ◌≤◌, List, length, Option, Some, None, Result, Ok, Err}
-use Rattle.mixed_graph.specs.Bits.{has}
-use Rattle.mixed_graph.specs.Graphs.{MixedGraph}
-use Rattle.mixed_graph.specs.Shown.{graph_of}
+use Rattle.mixed_graph.specs.Vocabulary.{has, MixedGraph, graph_of}
 use Rattle.m_separation.specs.declared.paths.OpenPath.{OpenPath}
-use Rattle.m_separation.specs.Walks.{IsSeparated}
-use Rattle.m_separation.specs.Paths.{IsOpenPath}
+use Rattle.m_separation.specs.Vocabulary.{IsSeparated, IsOpenPath}
 use Rattle.dag_reader.specs.declared.graph.ReadGraph.{ReadGraph}
 use Rattle.dag_reader.specs.declared.faults.GraphFault.{GraphFault}
 use Rattle.dag_reader.specs.declared.faults.GraphFault.TheVariants as graphs
 use Rattle.dag_reader.specs.Reads.{Reads}
 use Rattle.targets.specs.declared.fault.TargetFault.{TargetFault}
 use Rattle.targets.specs.declared.query.Sets.{Sets}
-use Rattle.markov_equivalence.specs.Skeletons.{HasArrowsAlone, AreEquivalent}
-use Rattle.markov_equivalence.specs.Comparisons.{IsEdgeDifference, IsColliderDifference, IsShown}
 use Rattle.markov_equivalence.specs.declared.comparison.Difference.{Difference}
-use Rattle.markov_equivalence.specs.Separations.{HaveSameSeparations, HaveSameIndependences, IsOpenWithEndsOf}
+use Rattle.markov_equivalence.specs.Vocabulary.{HasArrowsAlone, AreEquivalent, IsEdgeDifference, IsColliderDifference, IsShown, HaveSameSeparations, HaveSameIndependences, IsOpenWithEndsOf}
 use Rattle.diagram.specs.declared.diagram.Diagram.{Diagram}
-use Rattle.replies.specs.Observed.{HoldsDiagram}
+use Rattle.replies.specs.Vocabulary.{HoldsDiagram}
 use Rattle.equivalent_command.specs.Numbers.{HaveSameNames, on_names}
 use Rattle.equivalent_command.specs.Faults.{IsBidirectedFault, IsNamesFault}
 use Rattle.equivalent_command.specs.Requests.{Query}

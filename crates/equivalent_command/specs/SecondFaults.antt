@@ -2,9 +2,10 @@
 use Rattle.std.specs.Prelude.{Bool, true, false, []}
 use Rattle.dag_reader.specs.declared.faults.GraphFault.TheVariants as graphs
 use Rattle.targets.specs.declared.fault.TargetFault.TheVariants as targets
-use Rattle.replies.specs.Told.{Told, refusal_of}
+use Rattle.replies.specs.Told.{Told}
 use Rattle.replies.specs.declared.outcome.Outcome.TheVariants.{Second}
-use Rattle.told.specs.Telling.{Refusal}
+use Rattle.replies.specs.Vocabulary.{refusal_of}
+use Rattle.told.specs.Vocabulary.{Refusal}
 use Rattle.equivalent_command.specs.Refusals.{second_size_told, second_graph_told, second_target_told}
 use Rattle.equivalent_command.specs.declared.second.SecondFault.{SecondFault}
 use Rattle.equivalent_command.specs.declared.second.SecondFault.TheVariants.{TooLong, Faulty, Unlike, NoMemory}

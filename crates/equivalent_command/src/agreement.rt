@@ -1,8 +1,8 @@
 //! What is answered of equivalent graphs.
 
 ghost use Rattle.std.specs.Prelude.{◌≡◌, IfSome};
-ghost use Rattle.mixed_graph.specs.Shown.{graph_of};
-ghost use Rattle.markov_equivalence.specs.Skeletons.{HasArrowsAlone, AreEquivalent};
+ghost use Rattle.mixed_graph.specs.Vocabulary.{graph_of};
+ghost use Rattle.markov_equivalence.specs.Vocabulary.{HasArrowsAlone, AreEquivalent};
 ghost use Rattle.equivalent_command.specs.Queries.{AreBelow};
 ghost use Rattle.equivalent_command.specs.Right.{Agrees};
 

@@ -1,9 +1,8 @@
 //! The fault of a graph with a bidirected edge.
 
 ghost use Rattle.std.specs.Prelude.{◌≡◌, ◌<◌, IfOk, IfSome, IfNone, length};
-ghost use Rattle.mixed_graph.specs.Names.{is_named, name_of};
-ghost use Rattle.mixed_graph.specs.Shown.{graph_of};
-ghost use Rattle.markov_equivalence.specs.Skeletons.{HasArrowsAlone};
+ghost use Rattle.mixed_graph.specs.Vocabulary.{is_named, name_of, graph_of};
+ghost use Rattle.markov_equivalence.specs.Vocabulary.{HasArrowsAlone};
 ghost use Rattle.equivalent_command.specs.Numbers.{AreAmong, HaveSameNames};
 ghost use Rattle.equivalent_command.specs.Faults.{IsFirstBidirected, IsBidirectedFault, IsFirstAlone, IsNamesFault};
 

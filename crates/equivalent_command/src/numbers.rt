@@ -1,9 +1,7 @@
 //! Sets of the second graph in the numbers of the first.
 
 ghost use Rattle.std.specs.Prelude.{◌≡◌, ◌<◌, ◌≤◌, ◌&&◌, ℕ, length, nat_lt, slice_index, true};
-ghost use Rattle.mixed_graph.specs.Bits.{has};
-ghost use Rattle.mixed_graph.specs.Names.{index_of, is_named, name_of};
-ghost use Rattle.mixed_graph.specs.Shown.{graph_of};
+ghost use Rattle.mixed_graph.specs.Vocabulary.{has, index_of, is_named, name_of, graph_of};
 ghost use Rattle.equivalent_command.specs.Numbers.{AreAmong, on_names};
 
 use dag_reader::ReadGraph;

@@ -1,7 +1,7 @@
 //! The members of the objects of graphs that differ, and of graphs that don't.
 
 ghost use Rattle.std.specs.Prelude.{◌≡◌, OnOk, codes};
-ghost use Rattle.answer_json.specs.Progress.{with_member, with_members};
+ghost use Rattle.answer_json.specs.Vocabulary.{with_member, with_members};
 ghost use Rattle.equivalent_command.specs.Objects.{asked_members, paths_members, difference_json, separation_json, different_members};
 
 use crate::texts::word_of;

@@ -1,7 +1,7 @@
 //! The replies to a second graph that is refused.
 
 ghost use Rattle.std.specs.Prelude.{◌≡◌, IfOk, OnOk};
-ghost use Rattle.replies.specs.Told.{told_of};
+ghost use Rattle.replies.specs.Vocabulary.{told_of};
 ghost use Rattle.equivalent_command.specs.Refusals.{second_size_told, second_graph_told, second_target_told};
 
 use dag_reader::GraphFault;

@@ -3,12 +3,11 @@
 ghost use Rattle.std.specs.Prelude.{◌≡◌, ◌≤◌, ◌<◌, ℕ, false, List, Option, IfOk, IfErr, IfSome, IfNone, length};
 ghost use Rattle.diagram.specs.declared.diagram.Diagram.{Diagram as First};
 ghost use Rattle.targets.specs.declared.query.Sets.{Sets as AskedSets};
-ghost use Rattle.mixed_graph.specs.Shown.{graph_of};
-ghost use Rattle.markov_equivalence.specs.Skeletons.{HasArrowsAlone};
-ghost use Rattle.replies.specs.Told.{told_of};
+ghost use Rattle.mixed_graph.specs.Vocabulary.{graph_of};
+ghost use Rattle.markov_equivalence.specs.Vocabulary.{HasArrowsAlone};
+ghost use Rattle.replies.specs.Vocabulary.{told_of};
 ghost use Rattle.told.specs.declared.form.Form.{Form as AskedForm};
-ghost use Rattle.told.specs.Forms.{plain_form};
-ghost use Rattle.told.specs.Telling.{Tells};
+ghost use Rattle.told.specs.Vocabulary.{plain_form, Tells};
 ghost use Rattle.equivalent_command.specs.Requests.{Query as AskedQuery};
 ghost use Rattle.equivalent_command.specs.Queries.{AreBelow};
 ghost use Rattle.equivalent_command.specs.Numbers.{HaveSameNames, on_names};

@@ -1,8 +1,7 @@
 //! What `equivalent` is asked.
 
 ghost use Rattle.std.specs.Prelude.{◌≡◌, true, false, IsTrue, List, Option, None, IfOk, IsErrOf, codes, option_map};
-ghost use Rattle.command_words.specs.Form.{Use, is_among, value_names, value_of};
-ghost use Rattle.command_words.specs.Gives.{HoldsCall};
+ghost use Rattle.command_words.specs.Vocabulary.{Use, is_among, value_names, value_of, HoldsCall};
 ghost use Rattle.equivalent_command.specs.Requests.{Query as AskedQuery, equivalent_row, query_of, IsQuery};
 
 use command_words::forms::Entry;

@@ -1,13 +1,11 @@
 -- The adjustment formula of a set that meets a criterion.
 use Rattle.std.proofs.Common.{◌≡◌, ℕ, Bool, true, false, cond, [], refl}
-use Rattle.mixed_graph.specs.Graphs.{MixedGraph}
-use Rattle.mixed_graph.specs.Masks.{is_empty}
-use Rattle.prob_expr.specs.Terms.{is_under, is_do_free}
-use Rattle.prob_expr.specs.Tree.{prob, effect_on}
-use Rattle.prob_expr.specs.Values.{EqualsEffect}
-use Rattle.adjustment.specs.Formulas.{adjustment_formula, adjusted_sum}
-use Rattle.adjust_command.specs.Verdicts.{IsVerdict}
+use Rattle.mixed_graph.specs.Vocabulary.{MixedGraph, is_empty}
+use Rattle.prob_expr.specs.Vocabulary.{is_under, is_do_free, effect_on, EqualsEffect}
+use Rattle.prob_expr.specs.Tree.{prob}
+use Rattle.adjustment.specs.Vocabulary.{adjustment_formula, adjusted_sum}
 use Rattle.adjust_command.specs.declared.criteria.Verdict.TheVariants.{Meets}
+use Rattle.adjust_command.specs.Vocabulary.{IsVerdict}
 
 -- it equals the effect
 pub verdict_effect : (back_door : Bool) (q : MixedGraph) (x y z : ℕ) → IsVerdict back_door q x y z Meets

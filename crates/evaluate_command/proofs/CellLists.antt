@@ -5,9 +5,10 @@ use Rattle.std.specs.List.{flat_map, range_with_len}
 use Rattle.std.proofs.lemmas.List.{map-append, append-nil}
 use Rattle.std.proofs.lemmas.List.Concat.{flat_map-append}
 use Rattle.quantity.specs.Kinds.{Pair}
-use Rattle.count_rows.specs.Rows.{Table}
-use Rattle.count_table.specs.Cells.{cells_of}
-use Rattle.count_eval.specs.Stops.{Stop, after}
+use Rattle.count_rows.specs.Vocabulary.{Table}
+use Rattle.count_table.specs.Vocabulary.{cells_of}
+use Rattle.count_eval.specs.Stops.{Stop}
+use Rattle.count_eval.specs.Vocabulary.{after}
 use Rattle.evaluate_command.specs.Cells.{with_levels, cells_along, level_count, CellValue, values_at}
 
 -- ---- cells

@@ -1,11 +1,11 @@
 -- Which columns are read, by what a formula names.
 use Rattle.std.proofs.Common.{◌≡◌, ℕ, Bool, true, false, cond, subst}
-use Rattle.mixed_graph.specs.Bits.{has}
-use Rattle.mixed_graph.specs.Masks.{union, is_empty}
+use Rattle.mixed_graph.specs.Vocabulary.{has, union, is_empty}
 use Rattle.prob_expr.specs.Tree.{prob}
-use Rattle.adjustment.specs.Formulas.{adjustment_formula, adjusted_sum}
+use Rattle.adjustment.specs.Vocabulary.{adjustment_formula, adjusted_sum}
 use Rattle.evaluate_command.specs.Effects.{PlainEffect, used_in}
-use Rattle.prob_expr.specs.Mentioned.{mentioned, mentioned_in}
+use Rattle.prob_expr.specs.Mentioned.{mentioned}
+use Rattle.prob_expr.specs.Vocabulary.{mentioned_in}
 use Rattle.evaluate_command.proofs.Mentions.{in_either, in_none}
 
 -- what holds of the vertices that the formula names, of x, of y and of what is given holds of each that is read

@@ -1,8 +1,7 @@
 -- From the values over a table, or why there are none, to those over the bytes that hold it.
 use Rattle.std.proofs.Common.{◌≡◌, ℕ, Bool, false, List, Option, Result, Ok, Err, IfOk, IfErr}
-use Rattle.count_rows.specs.Records.{Field}
-use Rattle.count_rows.specs.Rows.{Table}
-use Rattle.count_answers.specs.Reads.{HoldsCounts}
+use Rattle.count_rows.specs.Vocabulary.{Field, Table}
+use Rattle.count_answers.specs.Vocabulary.{HoldsCounts}
 use Rattle.evaluate_command.specs.Effects.{PlainEffect, used_in}
 use Rattle.evaluate_command.specs.Right.{IsForTable, IsFaultOver, HasValues, IsCountsFault}
 use Rattle.evaluate_command.specs.ValuesFaults.{is_memory}

@@ -2,16 +2,15 @@
 use Rattle.std.proofs.Common.{◌≡◌, ℕ, ◌<◌, true, ◌++◌, All, inl, inr, sym, ap, ◌∙◌, arith}
 use Rattle.std.proofs.lemmas.Bool.{cases_lt, or_parts}
 use Rattle.std.proofs.lemmas.List.Elements.{All-append}
-use Rattle.mixed_graph.specs.Bits.{has, members_below}
-use Rattle.mixed_graph.specs.Masks.{union}
-use Rattle.count_rows.specs.Rows.{Table}
-use Rattle.count_table.specs.Tables.{AreCounts}
-use Rattle.count_eval.specs.Answers.{IsEvaluable}
-use Rattle.count_eval.specs.Programs.{is_used}
+use Rattle.mixed_graph.specs.Vocabulary.{has, members_below, union}
+use Rattle.count_rows.specs.Vocabulary.{Table}
+use Rattle.count_table.specs.Vocabulary.{AreCounts}
+use Rattle.count_eval.specs.Vocabulary.{IsEvaluable, is_used}
 use Rattle.mixed_graph.proofs.MaskLaws.{has_join, has_none, zero_from}
 use Rattle.evaluate_command.specs.Cells.{varied}
 use Rattle.evaluate_command.specs.Effects.{PlainEffect, IsIdentified, used_in}
-use Rattle.prob_expr.specs.Mentioned.{mentioned, mentioned_in, mentioned_in_defs}
+use Rattle.prob_expr.specs.Mentioned.{mentioned}
+use Rattle.prob_expr.specs.Vocabulary.{mentioned_in, mentioned_in_defs}
 use Rattle.evaluate_command.proofs.Mentions.{in_left, in_right, used_tree, used_defs}
 use Rattle.evaluate_command.proofs.Tables.{all_members, member_used, used_member}
 

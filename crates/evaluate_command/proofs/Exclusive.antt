@@ -2,45 +2,38 @@
 use Rattle.std.proofs.Common.{◌≡◌, ◌<◌, ℕ, Bool, true, false, List, Option, Some, Result, Ok, Err, length, inl, inr, refl, sym, ◌∙◌, subst, arith}
 use Rattle.std.proofs.lemmas.Option.{none-some}
 use Rattle.std.specs.Borrow.{Bor}
-use Rattle.mixed_graph.specs.Graphs.{MixedGraph}
-use Rattle.mixed_graph.specs.Masks.{one}
-use Rattle.mixed_graph.specs.Shown.{graph_of}
+use Rattle.mixed_graph.specs.Vocabulary.{MixedGraph, one, graph_of}
 use Rattle.targets.specs.declared.fault.TargetFault.{TargetFault}
 use Rattle.targets.specs.declared.fault.TargetFault.TheVariants.{EmptyX, NotOneX}
-use Rattle.targets.specs.Targets.{EffectLists, IsEffectFault, Lists, AreSets, fault_in, IsFaultOfTarget, IsListFault}
-use Rattle.prob_expr.specs.Tree.{PlainTarget}
-use Rattle.prob_expr.specs.View.{target_view}
+use Rattle.targets.specs.declared.query.Sets.{Sets}
+use Rattle.targets.specs.Vocabulary.{EffectLists, IsEffectFault, Lists, AreSets, fault_in, IsFaultOfTarget, IsListFault}
 use Rattle.prob_expr.specs.declared.expr.Target.{Target}
-use Rattle.identify.specs.Answers.{IsRightFormula, IsRightHedge}
-use Rattle.conditional_id.specs.TurnLaws.{IsRightGiven}
+use Rattle.prob_expr.specs.Vocabulary.{PlainTarget, target_view}
+use Rattle.identify.specs.Vocabulary.{IsRightFormula, IsRightHedge}
+use Rattle.conditional_id.specs.Vocabulary.{IsRightGiven}
 use Rattle.quantity.specs.Exacts.{exact}
 use Rattle.quantity.specs.Intervals.{bounds}
-use Rattle.count_rows.specs.Records.{Field}
-use Rattle.count_rows.specs.Rows.{Table}
 use Rattle.count_rows.specs.declared.fault.CountFault.{CountFault}
+use Rattle.count_rows.specs.Vocabulary.{Field, Table}
 use Rattle.count_eval.specs.Rules.{Rule, rule}
 use Rattle.count_eval.specs.Stops.{Stop}
 use Rattle.count_eval.specs.declared.failure.EvalFault.{EvalFault}
-use Rattle.count_answers.specs.Reads.{HoldsCounts}
-use Rattle.diagram.specs.Sets.{Names, effect_lists, query_lists}
+use Rattle.count_answers.specs.Vocabulary.{HoldsCounts}
 use Rattle.diagram.specs.declared.diagram.Diagram.{Diagram}
+use Rattle.diagram.specs.Vocabulary.{Names, effect_lists, query_lists}
 use Rattle.diagram.proofs.OneDiagram.{AreSameDiagrams, same_drawing, same_effect_lists, same_query_lists}
 use Rattle.replies.specs.declared.format.Format.TheVariants.{Text}
 use Rattle.replies.specs.declared.outcome.Outcome.TheVariants.{Yes, No}
-use Rattle.replies.specs.Told.{answer_of}
+use Rattle.replies.specs.Vocabulary.{answer_of}
 use Rattle.replies.proofs.OneTarget.{one_set, same_two, no_fault_of, no_effect_fault, some_list, is_some_list}
-use Rattle.told.specs.Refusals.{target_refusal}
-use Rattle.told.specs.Telling.{outcome_in}
+use Rattle.told.specs.Vocabulary.{target_refusal, outcome_in}
 use Rattle.effect_answers.specs.declared.hedges.EffectHedge.{EffectHedge}
-use Rattle.adjust_command.specs.Answers.{texts_of, adjust_lists}
-use Rattle.adjust_command.specs.Right.{IsNotDecided, IsAdjustFault}
-use Rattle.adjust_command.specs.Verdicts.{IsVerdict}
 use Rattle.adjust_command.specs.declared.criteria.Verdict.TheVariants.{Meets, Breaks}
+use Rattle.adjust_command.specs.Vocabulary.{texts_of, adjust_lists, IsNotDecided, IsAdjustFault, IsVerdict}
 use Rattle.adjust_command.proofs.Exclusive as adjusting
 use Rattle.adjust_command.proofs.Verdicts.{shown, broken}
 use Rattle.adjustment.specs.declared.criteria.AdjFault.{AdjFault}
-use Rattle.targets.specs.declared.query.Sets.{Sets}
-use Rattle.identify_command.specs.Right.{IsJointHedge}
+use Rattle.identify_command.specs.Vocabulary.{IsJointHedge}
 use Rattle.identify_command.proofs.Lists.{one_target}
 use Rattle.evaluate_command.specs.Cells.{CellValue, printed_cells, value_in, values_at}
 use Rattle.evaluate_command.specs.Effects.{PlainEffect, target_of, Identifies, used_in}

@@ -2,21 +2,18 @@
 use Rattle.std.proofs.Common.{◌≡◌, ℕ, List, refl, sym, ap, subst, ◌∙◌}
 use Rattle.std.specs.Prelude.{codes}
 use Rattle.std.proofs.lemmas.Option.{same_Some}
-use Rattle.command_words.specs.Form.{Use, value_of, has_flag}
+use Rattle.command_words.specs.Vocabulary.{Use, value_of, has_flag}
 use Rattle.command_words.proofs.OneValue.{one_listed, one_listed_or_empty}
 use Rattle.diagram.specs.declared.diagram.Diagram.{Diagram}
-use Rattle.replies.specs.Command.{IsLeft}
-use Rattle.replies.specs.OneOutcome.{OneOutcome, IsAnswerOn}
-use Rattle.replies.specs.Outcomes.{IsAnswered}
-use Rattle.replies.specs.Told.{Told}
+use Rattle.diagram.specs.Vocabulary.{Names}
 use Rattle.replies.specs.declared.outcome.Outcome.{Outcome}
+use Rattle.replies.specs.Vocabulary.{IsLeft, IsAnswerOn, IsAnswered}
+use Rattle.replies.specs.OneOutcome.{OneOutcome}
+use Rattle.replies.specs.Told.{Told}
 use Rattle.replies.proofs.Commands.{IsLawful, lawful_on_two_inputs_where}
 use Rattle.replies.proofs.OneOutcome.{one_on_diagram}
-use Rattle.told.specs.Forms.{plain_form}
-use Rattle.told.specs.Refusals.{target_refusal}
-use Rattle.told.specs.Telling.{Tells}
+use Rattle.told.specs.Vocabulary.{plain_form, target_refusal, Tells}
 use Rattle.told.proofs.ToldOnce.{told_answered}
-use Rattle.diagram.specs.Sets.{Names}
 use Rattle.evaluate_command.specs.Ways.{way_for, FixesFormula}
 use Rattle.evaluate_command.specs.Effects.{PlainEffect, Identifies}
 use Rattle.evaluate_command.specs.Telling.{evaluate_telling}

@@ -1,7 +1,8 @@
 -- Members that are written one after another, as those of an object.
 use Rattle.std.proofs.Common.{◌≡◌, ℕ, List, [], ◌∷◌, ◌++◌, sym, ap, ◌∙◌, append_assoc, append-nil}
 use Rattle.json.specs.Json.{Json}
-use Rattle.answer_json.specs.Progress.{Progress, members, with_members, with_value, ended_object, object_of}
+use Rattle.answer_json.specs.Progress.{Progress}
+use Rattle.answer_json.specs.Vocabulary.{members, with_members, with_value, ended_object, object_of}
 
 members_more : (ms done : List (List ℕ × Json)) (p : Progress) → with_members ms (members p done) ≡ members p (done ++ ms)
 members_more [] done p = ap (members p) (sym (append-nil done))

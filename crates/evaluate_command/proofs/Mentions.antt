@@ -1,13 +1,13 @@
 -- The vertices that a formula names.
 use Rattle.std.proofs.Common.{◌≡◌, ℕ, inl, inr, Bool, true, List, [], ◌∷◌, sym, ◌∙◌}
 use Rattle.std.proofs.lemmas.Bool.{or_cases, or_left, or_right, false≢true}
-use Rattle.mixed_graph.specs.Bits.{has}
-use Rattle.mixed_graph.specs.Masks.{union}
-use Rattle.prob_expr.specs.Tree.{Tree, prob, sum, product, quotient, named, Trees, no_trees, tree, PlainFormula}
+use Rattle.mixed_graph.specs.Vocabulary.{has, union}
+use Rattle.prob_expr.specs.Tree.{Tree, prob, sum, product, quotient, named, tree}
+use Rattle.prob_expr.specs.Vocabulary.{Trees, no_trees, PlainFormula, mentioned_in, mentioned_in_any, mentioned_in_defs}
 use Rattle.mixed_graph.proofs.MaskLaws.{has_join, has_none}
-use Rattle.identification_theory.specs.Names.{NamesOnly, EachNamesOnly, AllNameOnly, FormulaNamesOnly}
-use Rattle.count_eval.specs.Laws.{IsUsed, AreUsed, AllUsed}
-use Rattle.prob_expr.specs.Mentioned.{mentioned, mentioned_in, mentioned_in_any, mentioned_in_defs}
+use Rattle.identification_theory.specs.Vocabulary.{NamesOnly, EachNamesOnly, AllNameOnly, FormulaNamesOnly}
+use Rattle.count_eval.specs.Vocabulary.{IsUsed, AreUsed, AllUsed}
+use Rattle.prob_expr.specs.Mentioned.{mentioned}
 
 -- ---- members of either set
 

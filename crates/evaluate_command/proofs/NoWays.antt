@@ -1,8 +1,7 @@
 -- Where no way is asked for by the lists of two values, none is asked for by any lists of the same values.
 use Rattle.std.proofs.Common.{◌≡◌, ℕ, Bool, List, Option, Some, None, sym, ap, ◌∙◌}
 use Rattle.std.proofs.lemmas.Option.{none-some}
-use Rattle.command_words.specs.Form.{Text}
-use Rattle.command_words.specs.Values.{IsListed, IsListedOrEmpty}
+use Rattle.command_words.specs.Vocabulary.{Text, IsListed, IsListedOrEmpty}
 use Rattle.command_words.proofs.OneValue.{one_listed, one_listed_or_empty}
 use Rattle.evaluate_command.specs.Ways.{Way, way_for}
 

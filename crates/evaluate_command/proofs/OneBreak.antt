@@ -2,14 +2,14 @@
 use Rattle.std.proofs.Common.{◌≡◌, ℕ, Bool, true, false, List, [], ◌∷◌, ◌++◌, Option, Some, None, refl, sym, ap, ◌∙◌, subst}
 use Rattle.std.specs.Prelude.{All}
 use Rattle.std.proofs.lemmas.List.Elements.{All-head, All-tail}
-use Rattle.mixed_graph.specs.Graphs.{MixedGraph}
-use Rattle.count_rows.specs.Rows.{Table}
-use Rattle.count_table.specs.Axes.{Axes, cell_at}
-use Rattle.count_table.specs.Cells.{IsCell}
-use Rattle.count_eval.specs.Programs.{is_used}
+use Rattle.mixed_graph.specs.Vocabulary.{MixedGraph}
+use Rattle.count_rows.specs.Vocabulary.{Table}
+use Rattle.count_table.specs.Axes.{Axes}
+use Rattle.count_table.specs.Vocabulary.{cell_at, IsCell}
+use Rattle.count_eval.specs.Vocabulary.{is_used}
 use Rattle.count_answers.proofs.OneReading.{AreAlike}
 use Rattle.implications.specs.declared.pairs.Implication.{Implication}
-use Rattle.broken_pairs.specs.Broken.{IsBroken, IsFirstBroken}
+use Rattle.broken_pairs.specs.Vocabulary.{IsBroken, IsFirstBroken}
 use Rattle.implications_command.proofs.SameList.{one_list}
 use Rattle.implications_command.proofs.OneText.{axes_same, difference_same}
 use Rattle.evaluate_command.specs.Breaks.{IsBreak}

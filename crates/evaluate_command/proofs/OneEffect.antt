@@ -1,30 +1,25 @@
 -- Lists name one effect with one formula of each kind, and bytes are the text of one table.
 use Rattle.std.proofs.Common.{◌≡◌, ℕ, Bool, true, false, List, Option, Some, Result, length, map, refl, sym, ap, ◌∙◌, subst}
 use mathlib.Core.Path.{fun_ext}
-use Rattle.mixed_graph.specs.Graphs.{MixedGraph}
+use Rattle.mixed_graph.specs.Vocabulary.{MixedGraph}
 use Rattle.dag_reader.specs.declared.graph.ReadGraph.{ReadGraph}
-use Rattle.targets.specs.Targets.{EffectLists, Lists, AreEffectSets, AreSets}
-use Rattle.prob_expr.specs.Tree.{PlainTarget}
-use Rattle.prob_expr.specs.Values.{Weights}
-use Rattle.identification_theory.specs.Procedure.{IsIdentified}
+use Rattle.targets.specs.Vocabulary.{EffectLists, Lists, AreEffectSets, AreSets}
+use Rattle.prob_expr.specs.Vocabulary.{PlainTarget, Weights}
+use Rattle.identification_theory.specs.Vocabulary.{IsIdentified}
 use Rattle.identification_theory.proofs.Answered.{one_formula, derived_is_identified}
-use Rattle.conditional_id.specs.Conditionals.{IsConditional}
+use Rattle.conditional_id.specs.Vocabulary.{IsConditional}
 use Rattle.conditional_id.proofs.Answered.{one_conditional, derived_is_conditional}
 use Rattle.count_eval.specs.Rules.{Rule}
-use Rattle.count_rows.specs.Records.{Field, records_of, rows_of}
-use Rattle.count_rows.specs.Rows.{Table, counted, rows_in}
-use Rattle.count_table.specs.Cells.{cells_of}
-use Rattle.count_table.specs.Tables.{levels_in}
-use Rattle.count_table.specs.Reading.{IsTableOf, layout_in}
-use Rattle.count_eval.specs.Evaluated.{formula_value}
-use Rattle.count_eval.specs.Programs.{cell_of}
+use Rattle.count_rows.specs.Vocabulary.{Field, records_of, rows_of, Table, counted, rows_in}
+use Rattle.count_table.specs.Vocabulary.{cells_of, levels_in, IsTableOf, layout_in}
+use Rattle.count_eval.specs.Vocabulary.{formula_value, cell_of}
 use Rattle.count_eval.specs.Stops.{Stop}
-use Rattle.adjustment.specs.Formulas.{adjustment_formula}
-use Rattle.diagram.specs.Sets.{Names, effect_lists, query_lists}
+use Rattle.adjustment.specs.Vocabulary.{adjustment_formula}
 use Rattle.diagram.specs.declared.diagram.Diagram.{Diagram}
+use Rattle.diagram.specs.Vocabulary.{Names, effect_lists, query_lists}
 use Rattle.diagram.proofs.OneDiagram.{AreSameDiagrams, same_drawing, same_effect_lists, same_query_lists}
 use Rattle.replies.proofs.OneTarget.{one_set}
-use Rattle.identify_command.specs.Right.{AreTargetSets}
+use Rattle.identify_command.specs.Vocabulary.{AreTargetSets}
 use Rattle.identify_command.proofs.Lists as identifying
 use Rattle.evaluate_command.specs.Cells.{CellValue, with_levels, first_cell, varied, printed_cells, value_in, values_at}
 use Rattle.evaluate_command.specs.Effects.{PlainEffect, target_of, effect_for, IsFoundBy, Identifies, used_in}

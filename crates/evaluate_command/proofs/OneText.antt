@@ -1,22 +1,20 @@
 -- Over the bytes of counts one thing is told of an effect.
-use Rattle.answer_json.specs.Faults.{fault_json}
-use Rattle.answer_json.specs.Progress.{array_of, object_of, json_line}
-use Rattle.answer_text.specs.Lines.{line_of}
+use Rattle.answer_json.specs.Vocabulary.{fault_json, array_of, object_of, json_line}
+use Rattle.answer_text.specs.Vocabulary.{line_of}
 use Rattle.count_answers.proofs.OneReading.{AreAlike, one_table}
-use Rattle.count_answers.specs.Reads.{HoldsCounts}
-use Rattle.count_eval.specs.Answers.{IsEvaluationFault}
-use Rattle.count_eval.specs.Programs.{is_used}
+use Rattle.count_answers.specs.Vocabulary.{HoldsCounts}
+use Rattle.count_eval.specs.declared.failure.EvalFault.{EvalFault}
+use Rattle.count_eval.specs.Vocabulary.{IsEvaluationFault, is_used}
 use Rattle.count_eval.specs.Rules.{rule as rule_of}
 use Rattle.count_eval.specs.Stops.{Stop}
-use Rattle.count_eval.specs.declared.failure.EvalFault.{EvalFault}
 use Rattle.count_json.proofs.SameStops.{stop_of_fault}
-use Rattle.count_json.specs.Stops.{evaluation_fault_json, stage, why_number, why_message, definition_json, cell_members}
-use Rattle.count_rows.specs.Records.{Field}
-use Rattle.count_rows.specs.Rows.{Row, Table}
-use Rattle.count_table.specs.Tables.{AreCounts}
+use Rattle.count_json.specs.Vocabulary.{evaluation_fault_json, stage, why_number, why_message, definition_json, cell_members}
+use Rattle.count_rows.specs.declared.fault.CountFault.{CountFault}
+use Rattle.count_rows.specs.Vocabulary.{Field, Row, Table}
+use Rattle.count_table.specs.Vocabulary.{AreCounts}
 use Rattle.diagram.proofs.OneDiagram.{AreSameDiagrams}
-use Rattle.diagram.specs.Sets.{Names}
 use Rattle.diagram.specs.declared.diagram.Diagram.{Diagram}
+use Rattle.diagram.specs.Vocabulary.{Names}
 use Rattle.evaluate_command.proofs.OneBreak.{one_break}
 use Rattle.evaluate_command.proofs.OneEffect.{same_values, same_effect}
 use Rattle.evaluate_command.proofs.Stops.{words_of_stop, why_digit, support_text, stop_told}
@@ -39,30 +37,29 @@ use Rattle.evaluate_command.specs.declared.answer.Values.TheVariants.{Exact, Bou
 use Rattle.evaluate_command.specs.declared.answer.Values.{Values}
 use Rattle.evaluate_command.specs.declared.faults.ValuesFault.TheVariants.{TooLong, Counts, NoValue, NoMemory}
 use Rattle.evaluate_command.specs.declared.faults.ValuesFault.{ValuesFault}
-use Rattle.identify_text.specs.Answers.{free_beside}
+use Rattle.identify_text.specs.Vocabulary.{free_beside}
 use Rattle.implications.specs.declared.pairs.Implication.{Implication}
-use Rattle.implications_command.specs.Objects.{broken_members}
+use Rattle.implications_command.specs.Vocabulary.{broken_members}
 use Rattle.json.specs.Json.{Json, number}
-use Rattle.mixed_graph.specs.Bits.{has, members_below}
-use Rattle.prob_expr.specs.View.{target_view}
+use Rattle.mixed_graph.specs.Vocabulary.{has, members_below}
+use Rattle.prob_expr.specs.Vocabulary.{target_view}
 use Rattle.quantity.specs.Exacts.{exact}
 use Rattle.quantity.specs.Intervals.{bounds}
-use Rattle.quantity.specs.Kinds.{Pair, Kind}
+use Rattle.quantity.specs.Kinds.{Pair}
 use Rattle.quantity.specs.declared.fault.QuantityFault.TheVariants.{ZeroBelow, TooWide, TooFine}
 use Rattle.quantity.specs.declared.fault.QuantityFault.{QuantityFault}
-use Rattle.replies.specs.Told.{Told, refusal_of, text_in, answer_of}
+use Rattle.quantity.specs.Vocabulary.{Kind}
+use Rattle.replies.specs.Told.{Told}
 use Rattle.replies.specs.declared.format.Format.{Format}
 use Rattle.replies.specs.declared.outcome.Outcome.{Outcome}
+use Rattle.replies.specs.Vocabulary.{refusal_of, text_in, answer_of, code_of}
 use Rattle.std.proofs.Common.{◌≡◌, ℕ, Bool, true, false, List, [], ◌∷◌, ◌++◌, Option, Result, Ok, Err, refl, sym, ap, ap₂, ◌∙◌, subst, map, codes, ◌≤◌, ◌<◌}
 use Rattle.std.proofs.Common.{arith}
 use Rattle.std.specs.List.{flat_map}
 use Rattle.std.specs.Prelude.{decimal}
-use Rattle.told.specs.Forms.{plain_form}
-use Rattle.told.specs.Telling.{Tells, told_in}
+use Rattle.told.specs.Vocabulary.{plain_form, Tells, told_in}
 use Rattle.std.proofs.lemmas.Option.{none-some, same_Some}
 use Rattle.std.specs.Borrow.{Bor}
-use Rattle.replies.specs.Outcomes.{code_of}
-use Rattle.count_rows.specs.declared.fault.CountFault.{CountFault}
 use Rattle.told.proofs.OneTold.{one_told}
 use Rattle.evaluate_command.specs.declared.answer.Answer.TheVariants as answers
 

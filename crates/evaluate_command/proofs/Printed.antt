@@ -5,26 +5,21 @@ use Rattle.std.proofs.Common.{subst, ◌∙◌, arith, append-nil, append_assoc}
 use Rattle.std.specs.List.{flat_map, range_with_len}
 use Rattle.std.proofs.lemmas.Bool.{cases_Bool, or_cases}
 use Rattle.std.proofs.lemmas.List.Elements.{All-nil, All-cons, All-append}
-use Rattle.fractions.specs.Fractions.{Fraction, IsEqual}
-use Rattle.mixed_graph.specs.Bits.{has}
-use Rattle.mixed_graph.specs.Masks.{union}
-use Rattle.finite_models.specs.Models.{FiniteModel, Fits, IsAssignment}
-use Rattle.prob_expr.specs.Mentioned.{mentioned, mentioned_in}
-use Rattle.prob_expr.specs.Tree.{prob, product, no_trees, tree, PlainFormula, effect_on}
-use Rattle.prob_expr.specs.Values.{effect, weights_of, value_of}
-use Rattle.adjustment.specs.Formulas.{adjusted_sum, adjustment_formula}
-use Rattle.weak_adjustment.specs.Weakly.{AdmissibleAdjustsMatched}
-use Rattle.quantity.specs.Kinds.{Pair, Kind}
+use Rattle.fractions.specs.Vocabulary.{Fraction, IsEqual}
+use Rattle.mixed_graph.specs.Vocabulary.{has, union}
+use Rattle.finite_models.specs.Vocabulary.{FiniteModel, Fits, IsAssignment}
+use Rattle.prob_expr.specs.Mentioned.{mentioned}
+use Rattle.prob_expr.specs.Vocabulary.{mentioned_in, no_trees, PlainFormula, effect_on, effect, weights_of, value_of}
+use Rattle.prob_expr.specs.Tree.{prob, product, tree}
+use Rattle.adjustment.specs.Vocabulary.{adjusted_sum, adjustment_formula}
+use Rattle.weak_adjustment.specs.Vocabulary.{AdmissibleAdjustsMatched}
+use Rattle.quantity.specs.Kinds.{Pair}
+use Rattle.quantity.specs.Vocabulary.{Kind, IsLawful}
 use Rattle.count_eval.specs.Rules.{Rule}
-use Rattle.quantity.specs.Lawful.{IsLawful}
-use Rattle.count_rows.specs.Rows.{Table}
-use Rattle.count_table.specs.Cells.{total}
-use Rattle.count_eval.specs.Answers.{CoversCounts, CoversWithZeros, CoversMatches}
-use Rattle.count_eval.specs.WithZeros.{value_of_with_zeros}
-use Rattle.count_eval.specs.Laws.{IsMatched}
-use Rattle.count_eval.specs.Programs.{weights_in, is_used, cell_of}
-use Rattle.count_eval.specs.Preparations.{Preparation}
+use Rattle.count_rows.specs.Vocabulary.{Table}
+use Rattle.count_table.specs.Vocabulary.{total}
 use Rattle.count_eval.specs.declared.failure.EvalFault.{EvalFault}
+use Rattle.count_eval.specs.Vocabulary.{CoversCounts, CoversWithZeros, CoversMatches, value_of_with_zeros, IsMatched, weights_in, is_used, cell_of, Preparation}
 use Rattle.evaluate_command.specs.Cells.{CellValue, IsCell, cells_along, level_count, printed_cells}
 use Rattle.evaluate_command.specs.Effects.{PlainEffect, target_of, used_in, IsIdentified}
 use Rattle.evaluate_command.specs.Printing.{value_by, Appends, IsFaultAt}

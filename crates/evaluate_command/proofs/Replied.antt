@@ -3,14 +3,13 @@ use Rattle.std.proofs.Common.{◌≡◌, ℕ, false, List, Result, Ok, Err, IfOk
 use Rattle.std.specs.Prelude.{OnOk}
 use Rattle.targets.specs.declared.fault.TargetFault.{TargetFault}
 use Rattle.targets.specs.declared.fault.TargetFault.TheVariants.{NoMemory}
-use Rattle.targets.specs.Targets.{OrMemory}
-use Rattle.diagram.specs.Sets.{Names}
+use Rattle.targets.specs.Vocabulary.{OrMemory}
 use Rattle.diagram.specs.declared.diagram.Diagram.{Diagram}
+use Rattle.diagram.specs.Vocabulary.{Names}
 use Rattle.replies.specs.declared.outcome.Reply.{Reply}
-use Rattle.replies.specs.Told.{told_of}
+use Rattle.replies.specs.Vocabulary.{told_of}
 use Rattle.told.specs.declared.form.Form.{Form}
-use Rattle.told.specs.Refusals.{is_memory, target_refusal}
-use Rattle.told.specs.Telling.{Tells, outcome_in, told_in, is_wanting}
+use Rattle.told.specs.Vocabulary.{is_memory, target_refusal, Tells, outcome_in, told_in, is_wanting}
 use Rattle.evaluate_command.specs.Telling.{evaluate_telling}
 use Rattle.evaluate_command.specs.First.{IsForDiagram}
 use Rattle.evaluate_command.specs.Firsts.{IsAnswered}

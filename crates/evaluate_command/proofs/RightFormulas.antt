@@ -1,29 +1,20 @@
 -- A right formula for an effect identifies it: that of a procedure, or one that is no longer, and the adjustment formula of a set that meets a criterion.
 use Rattle.std.proofs.Common.{ℕ, ◌≡◌, ◌<◌, ◌⊎◌, inl, inr, true, Bool, IsTrue, [], None, refl, sym, ◌∙◌, arith}
 use Rattle.std.proofs.lemmas.Bool.{false≢true}
-use Rattle.mixed_graph.specs.Bits.{has}
-use Rattle.mixed_graph.specs.Graphs.{IsAncestor}
-use Rattle.mixed_graph.specs.Masks.{union}
-use Rattle.mixed_graph.specs.Sets.{Within, Apart}
-use Rattle.mixed_graph.specs.Shown.{graph_of}
+use Rattle.mixed_graph.specs.Vocabulary.{has, IsAncestor, union, Within, Apart, graph_of}
 use Rattle.mixed_graph.proofs.MaskLaws.{has_none}
 use Rattle.dag_reader.specs.declared.graph.ReadGraph.{ReadGraph}
-use Rattle.do_rules.specs.Rules.{AreThreeSets}
-use Rattle.prob_expr.specs.Check.{fault_in}
+use Rattle.do_rules.specs.Vocabulary.{AreThreeSets}
+use Rattle.prob_expr.specs.Vocabulary.{fault_in, is_do_free, PlainFormula, PlainTarget, effect_on, EqualsEffect}
 use Rattle.prob_expr.specs.Mentioned.{mentioned}
-use Rattle.prob_expr.specs.Terms.{is_do_free}
-use Rattle.prob_expr.specs.Tree.{PlainFormula, PlainTarget, effect_on}
-use Rattle.prob_expr.specs.Values.{EqualsEffect}
-use Rattle.do_derivation.specs.Plans.{PlainDerivation}
-use Rattle.identification_theory.specs.Derivations.{IsDerived}
-use Rattle.identification_theory.specs.Names.{FormulaNamesOnly}
-use Rattle.identify.specs.Answers.{IsRightFormula}
-use Rattle.conditional_id.specs.Conditionals.{IsConditionalBySteps}
-use Rattle.conditional_id.specs.TurnLaws.{IsRightGiven}
-use Rattle.short_formulas.specs.Short.{IsOrShorter}
-use Rattle.adjustment.specs.Formulas.{adjustment_formula}
-use Rattle.adjust_command.specs.Verdicts.{IsVerdict}
+use Rattle.do_derivation.specs.Vocabulary.{PlainDerivation}
+use Rattle.identification_theory.specs.Vocabulary.{IsDerived, FormulaNamesOnly}
+use Rattle.identify.specs.Vocabulary.{IsRightFormula}
+use Rattle.conditional_id.specs.Vocabulary.{IsConditionalBySteps, IsRightGiven}
+use Rattle.short_formulas.specs.Vocabulary.{IsOrShorter}
+use Rattle.adjustment.specs.Vocabulary.{adjustment_formula}
 use Rattle.adjust_command.specs.declared.criteria.Verdict.TheVariants.{Meets}
+use Rattle.adjust_command.specs.Vocabulary.{IsVerdict}
 use Rattle.adjust_command.proofs.Formulas.{formula_sound}
 use Rattle.evaluate_command.specs.Effects.{PlainEffect, effect_for, used_in, IsIdentified, IsByProcedure, IsByAdjusting, IsByCondition}
 use Rattle.evaluate_command.proofs.Adjusted.{verdict_effect, adjusted_free}

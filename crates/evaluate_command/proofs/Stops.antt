@@ -1,24 +1,22 @@
 -- The text of a stop, from the fault that says it.
 use Rattle.std.proofs.Common.{◌≡◌, ℕ, Bool, cond, List, [], ◌++◌, codes, sym, ap, ◌∙◌, append-nil}
-use Rattle.mixed_graph.specs.Names.{name_of}
-use Rattle.answer_text.specs.Lines.{line_of}
-use Rattle.answer_text.specs.Printing.{printed}
-use Rattle.answer_json.specs.Progress.{json_line}
-use Rattle.replies.specs.Told.{Told, refusal_of}
-use Rattle.count_json.specs.Stops.{stop_json}
-use Rattle.mixed_graph.specs.Bits.{members_below}
+use Rattle.mixed_graph.specs.Vocabulary.{name_of, members_below}
+use Rattle.answer_text.specs.Vocabulary.{line_of, printed}
+use Rattle.answer_json.specs.Vocabulary.{json_line}
+use Rattle.replies.specs.Told.{Told}
+use Rattle.replies.specs.Vocabulary.{refusal_of}
+use Rattle.count_json.specs.Vocabulary.{stop_json}
 use Rattle.prob_expr.specs.declared.expr.Place.{Place}
 use Rattle.quantity.specs.declared.fault.QuantityFault.{QuantityFault}
 use Rattle.quantity.specs.declared.fault.QuantityFault.TheVariants.{ZeroBelow, TooWide, TooFine}
-use Rattle.count_rows.specs.Rows.{Table}
-use Rattle.count_table.specs.Tables.{AreCounts}
-use Rattle.count_eval.specs.Answers.{IsPlaceOf, IsCellOf, IsEvaluationFault}
-use Rattle.count_eval.specs.Programs.{is_used, cell_of}
-use Rattle.count_eval.specs.Stops.{Stop}
+use Rattle.count_rows.specs.Vocabulary.{Table}
+use Rattle.count_table.specs.Vocabulary.{AreCounts}
 use Rattle.count_eval.specs.declared.failure.EvalFault.{EvalFault}
 use Rattle.count_eval.specs.declared.failure.EvalFault.TheVariants.{NoSupport, NoMemory}
+use Rattle.count_eval.specs.Vocabulary.{IsPlaceOf, IsCellOf, IsEvaluationFault, is_used, cell_of}
+use Rattle.count_eval.specs.Stops.{Stop}
 use Rattle.count_eval.specs.declared.failure.EvalFault.TheVariants as failure
-use Rattle.count_answers.specs.Lines.{with_commas, assignment, assignments, level_text, printed_level}
+use Rattle.count_answers.specs.Vocabulary.{with_commas, assignment, assignments, level_text, printed_level}
 use Rattle.count_answers.proofs.Texts.{same_texts}
 use Rattle.evaluate_command.specs.Stopped.{place_text, stop_words}
 use Rattle.evaluate_command.proofs.Tables.{member_used}

@@ -5,11 +5,10 @@ use Rattle.std.proofs.lemmas.Bool.{cases_eq, cases_lt, eq-eqb, ne_eqb, lt-ltb, f
 use Rattle.std.proofs.lemmas.List.{length-set, length-replicate, get_or-replicate, get_or_past, length-append, get_or_append_left, get_or_at}
 use Rattle.std.proofs.lemmas.List.{get_or-set_same, get_or-set_other}
 use Rattle.std.proofs.lemmas.List.Elements.{All-nil, All-cons, All-head, All-tail, All-append, All-get_or}
-use Rattle.mixed_graph.specs.Bits.{members_below}
-use Rattle.count_rows.specs.Records.{Field}
-use Rattle.count_rows.specs.Rows.{Table}
-use Rattle.count_table.specs.Tables.{levels_in, AreCounts}
-use Rattle.count_eval.specs.Programs.{is_used}
+use Rattle.mixed_graph.specs.Vocabulary.{members_below}
+use Rattle.count_rows.specs.Vocabulary.{Field, Table}
+use Rattle.count_table.specs.Vocabulary.{levels_in, AreCounts}
+use Rattle.count_eval.specs.Vocabulary.{is_used}
 use Rattle.evaluate_command.specs.Cells.{IsCell, level_count, first_cell}
 
 -- ---- members of a list

@@ -1,22 +1,19 @@
 -- What a criterion answers for a set is what `adjust` answers to its query.
 use Rattle.std.proofs.Common.{ℕ, Bool, true, false, List, Some, inl, inr}
-use Rattle.mixed_graph.specs.Graphs.{MixedGraph}
-use Rattle.mixed_graph.specs.Shown.{graph_of}
+use Rattle.mixed_graph.specs.Vocabulary.{MixedGraph, graph_of}
 use Rattle.targets.specs.declared.fault.TargetFault.{TargetFault}
 use Rattle.targets.specs.declared.fault.TargetFault.TheVariants.{NotOneX, NoMemory}
 use Rattle.targets.specs.declared.query.Sets.{Sets}
-use Rattle.targets.specs.Targets.{Lists, AreSets, IsTargetFault, OrMemory}
-use Rattle.diagram.specs.Sets.{Names, query_lists}
+use Rattle.targets.specs.Vocabulary.{Lists, AreSets, IsTargetFault, OrMemory}
 use Rattle.diagram.specs.declared.diagram.Diagram.{Diagram}
+use Rattle.diagram.specs.Vocabulary.{Names, query_lists}
 use Rattle.replies.specs.declared.format.Format.{Format}
 use Rattle.replies.specs.declared.outcome.Outcome.{Outcome}
+use Rattle.replies.specs.Vocabulary.{IsOfThreeSets, AnswerForSets}
 use Rattle.replies.specs.Told.{Told}
-use Rattle.replies.specs.Observed.{IsOfThreeSets, AnswerForSets}
-use Rattle.adjust_command.specs.Answers.{texts_of, CriterionAnswer, AdjustAnswer}
-use Rattle.adjust_command.specs.Queries.{Query}
-use Rattle.adjust_command.specs.Right.{IsNotDecided, IsAdjustFault}
-use Rattle.adjust_command.specs.Verdicts.{IsVerdict}
 use Rattle.adjust_command.specs.declared.criteria.Verdict.TheVariants.{NotOne}
+use Rattle.adjust_command.specs.Vocabulary.{texts_of, CriterionAnswer, AdjustAnswer, IsNotDecided, IsAdjustFault, IsVerdict}
+use Rattle.adjust_command.specs.Queries.{Query}
 use Rattle.adjust_command.proofs.Lists.{for_sets}
 use Rattle.evaluate_command.specs.Ways.{criterion_query}
 

@@ -1,14 +1,12 @@
 -- The cells of an effect over counts, and the quantities there.
 use Rattle.std.specs.Prelude.{ℕ, ◌≡◌, List, [], ◌∷◌, ◌++◌, map, length, set, replicate, false, Result, Ok, slice_index}
-use Rattle.mixed_graph.specs.Bits.{has, members_below}
+use Rattle.mixed_graph.specs.Vocabulary.{has, members_below}
 use Rattle.quantity.specs.Kinds.{Pair}
 use Rattle.count_eval.specs.Rules.{Rule}
-use Rattle.count_rows.specs.Rows.{Table}
-use Rattle.count_table.specs.Cells.{cells_of}
-use Rattle.count_table.specs.Tables.{levels_in, HasLevels}
-use Rattle.count_eval.specs.Evaluated.{formula_value}
-use Rattle.count_eval.specs.Programs.{weights_in, is_used, cell_of}
-use Rattle.count_eval.specs.Stops.{Stop, after}
+use Rattle.count_rows.specs.Vocabulary.{Table}
+use Rattle.count_table.specs.Vocabulary.{cells_of, levels_in, HasLevels}
+use Rattle.count_eval.specs.Vocabulary.{formula_value, weights_in, is_used, cell_of, after}
+use Rattle.count_eval.specs.Stops.{Stop}
 use Rattle.evaluate_command.specs.Effects.{PlainEffect}
 
 -- how many levels a vertex has

@@ -1,11 +1,9 @@
 -- The command `evaluate`.
 use Rattle.std.specs.Prelude.{Bool, Option, Some}
-use Rattle.command_words.specs.Form.{Text}
+use Rattle.command_words.specs.Vocabulary.{Text}
 use Rattle.replies.specs.declared.format.Format.{Format}
-use Rattle.replies.specs.Command.{CommandForm, on_two_inputs_where, Remainder}
-use Rattle.told.specs.Forms.{plain_form}
-use Rattle.told.specs.Refusals.{target_refusal}
-use Rattle.told.specs.Telling.{Tells}
+use Rattle.replies.specs.Vocabulary.{CommandForm, on_two_inputs_where, Remainder}
+use Rattle.told.specs.Vocabulary.{plain_form, target_refusal, Tells}
 use Rattle.evaluate_command.specs.Effects.{PlainEffect, IsIdentified, Identifies}
 use Rattle.evaluate_command.specs.Telling.{evaluate_telling}
 use Rattle.evaluate_command.specs.First.{IsForDiagram}

@@ -1,29 +1,20 @@
 -- An effect that has a formula.
 use Rattle.std.specs.Prelude.{ℕ, ◌≡◌, ◌⊎◌, ◌≤◌, ◌<◌, true, Bool, IsTrue, List, Some, None, length}
-use Rattle.mixed_graph.specs.Bits.{has}
-use Rattle.mixed_graph.specs.Graphs.{MixedGraph, IsMixedGraph, IsAncestor}
-use Rattle.mixed_graph.specs.Sets.{Within, Apart}
-use Rattle.mixed_graph.specs.Shown.{graph_of}
+use Rattle.mixed_graph.specs.Vocabulary.{has, MixedGraph, IsMixedGraph, IsAncestor, Within, Apart, graph_of, union}
 use Rattle.dag_reader.specs.declared.graph.ReadGraph.{ReadGraph}
-use Rattle.targets.specs.Targets.{AreEffectSets, AreSets}
-use Rattle.diagram.specs.Sets.{Names, effect_lists, query_lists}
+use Rattle.targets.specs.Vocabulary.{AreEffectSets, AreSets}
 use Rattle.diagram.specs.declared.diagram.Diagram.{Diagram}
-use Rattle.mixed_graph.specs.Masks.{union}
-use Rattle.prob_expr.specs.Check.{fault_in}
-use Rattle.prob_expr.specs.Terms.{is_do_free}
-use Rattle.prob_expr.specs.Tree.{PlainFormula, PlainTarget}
-use Rattle.prob_expr.specs.Values.{EqualsEffect}
-use Rattle.prob_expr.specs.View.{formula_view, target_view}
-use Rattle.do_derivation.specs.Plans.{PlainDerivation}
-use Rattle.identification_theory.specs.Derivations.{IsDerived}
-use Rattle.identify.specs.Answers.{IsRightFormula}
-use Rattle.short_formulas.specs.Short.{IsOrShorter}
-use Rattle.conditional_id.specs.Conditionals.{IsConditionalBySteps}
-use Rattle.conditional_id.specs.TurnLaws.{IsRightGiven}
-use Rattle.adjustment.specs.Formulas.{adjustment_formula}
-use Rattle.adjust_command.specs.Verdicts.{IsVerdict}
+use Rattle.diagram.specs.Vocabulary.{Names, effect_lists, query_lists}
+use Rattle.prob_expr.specs.Vocabulary.{fault_in, is_do_free, PlainFormula, PlainTarget, EqualsEffect, formula_view, target_view}
+use Rattle.do_derivation.specs.Vocabulary.{PlainDerivation}
+use Rattle.identification_theory.specs.Vocabulary.{IsDerived}
+use Rattle.identify.specs.Vocabulary.{IsRightFormula}
+use Rattle.short_formulas.specs.Vocabulary.{IsOrShorter}
+use Rattle.conditional_id.specs.Vocabulary.{IsConditionalBySteps, IsRightGiven}
+use Rattle.adjustment.specs.Vocabulary.{adjustment_formula}
 use Rattle.adjust_command.specs.declared.criteria.Verdict.TheVariants.{Meets}
-use Rattle.identify_command.specs.Right.{AreTargetSets}
+use Rattle.adjust_command.specs.Vocabulary.{IsVerdict}
+use Rattle.identify_command.specs.Vocabulary.{AreTargetSets}
 use Rattle.prob_expr.specs.Mentioned.{mentioned}
 use Rattle.evaluate_command.specs.Ways.{Way, by_procedure, by_adjusting, by_condition}
 use Rattle.evaluate_command.specs.declared.identified.Identified.{Identified}

@@ -1,17 +1,15 @@
 -- Which answers are right for which no counts are read.
 use Rattle.std.specs.Prelude.{Bool, Some, Result, Ok, Err}
-use Rattle.mixed_graph.specs.Graphs.{MixedGraph}
-use Rattle.mixed_graph.specs.Shown.{graph_of}
-use Rattle.prob_expr.specs.View.{target_view}
+use Rattle.mixed_graph.specs.Vocabulary.{MixedGraph, graph_of}
+use Rattle.prob_expr.specs.Vocabulary.{target_view}
 use Rattle.targets.specs.declared.fault.TargetFault.{TargetFault}
-use Rattle.targets.specs.Targets.{EffectLists, AreEffectSets, IsEffectFault, Lists, AreSets, IsListFault}
+use Rattle.targets.specs.Vocabulary.{EffectLists, AreEffectSets, IsEffectFault, Lists, AreSets, IsListFault}
 use Rattle.diagram.specs.declared.diagram.Diagram.{Diagram}
-use Rattle.diagram.specs.Sets.{Names, effect_lists, query_lists}
-use Rattle.effect_answers.specs.Right.{IsEffectHedge}
-use Rattle.adjust_command.specs.Right.{IsAdjustFault}
-use Rattle.adjust_command.specs.Verdicts.{IsVerdict}
+use Rattle.diagram.specs.Vocabulary.{Names, effect_lists, query_lists}
+use Rattle.effect_answers.specs.Vocabulary.{IsEffectHedge}
 use Rattle.adjust_command.specs.declared.criteria.Verdict.TheVariants.{Breaks}
-use Rattle.identify_command.specs.Right.{IsJointHedge, AreTargetSets}
+use Rattle.adjust_command.specs.Vocabulary.{IsAdjustFault, IsVerdict}
+use Rattle.identify_command.specs.Vocabulary.{IsJointHedge, AreTargetSets}
 use Rattle.evaluate_command.specs.Ways.{Way, by_procedure, by_adjusting, by_condition, criterion_query}
 use Rattle.evaluate_command.specs.declared.answer.Answer.{Answer}
 use Rattle.evaluate_command.specs.declared.answer.Answer.TheVariants.{Hedge, Joint, NotAdmissible}

@@ -1,9 +1,9 @@
 -- What the first part of the command gives.
 use Rattle.std.specs.Prelude.{Result, Ok, Err}
 use Rattle.targets.specs.declared.fault.TargetFault.{TargetFault}
-use Rattle.targets.specs.Targets.{OrMemory}
-use Rattle.diagram.specs.Sets.{Names}
+use Rattle.targets.specs.Vocabulary.{OrMemory}
 use Rattle.diagram.specs.declared.diagram.Diagram.{Diagram}
+use Rattle.diagram.specs.Vocabulary.{Names}
 use Rattle.evaluate_command.specs.Effects.{effect_in, Identifies}
 use Rattle.evaluate_command.specs.First.{IsUnmet, IsFirstFault}
 use Rattle.evaluate_command.specs.Ways.{Way}

@@ -15,3 +15,4 @@ pub mod First
 pub mod Firsts
 pub mod Requests
 pub mod Command
+pub mod Vocabulary

@@ -1,15 +1,15 @@
 -- The lines that `evaluate` prints.
 use Rattle.std.specs.Prelude.{ℕ, List, [], ◌∷◌, ◌++◌, codes, Bool, true, false, if◌then◌else◌, Option, Some, None}
 use Rattle.std.specs.List.{flat_map}
-use Rattle.mixed_graph.specs.Bits.{has, members_below}
-use Rattle.mixed_graph.specs.Masks.{is_empty}
-use Rattle.prob_expr.specs.Tree.{PlainTarget}
-use Rattle.quantity.specs.Kinds.{Pair, Kind}
-use Rattle.count_rows.specs.Rows.{Table}
-use Rattle.count_eval.specs.Programs.{cell_of}
-use Rattle.count_answers.specs.Lines.{assignment, assignments}
+use Rattle.mixed_graph.specs.Vocabulary.{has, members_below, is_empty}
+use Rattle.prob_expr.specs.Vocabulary.{PlainTarget}
+use Rattle.quantity.specs.Kinds.{Pair}
+use Rattle.quantity.specs.Vocabulary.{Kind}
+use Rattle.count_rows.specs.Vocabulary.{Table}
+use Rattle.count_eval.specs.Vocabulary.{cell_of}
+use Rattle.count_answers.specs.Vocabulary.{assignment, assignments}
 use Rattle.implications.specs.declared.pairs.Implication.{Implication}
-use Rattle.implications_command.specs.Lines.{pair_line}
+use Rattle.implications_command.specs.Vocabulary.{pair_line}
 use Rattle.evaluate_command.specs.Cells.{CellValue}
 use Rattle.evaluate_command.specs.Listed.{plain_of}
 use Rattle.evaluate_command.specs.declared.answer.Valued.{Valued}

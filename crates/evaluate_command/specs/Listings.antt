@@ -1,7 +1,7 @@
 -- What is told of the values of an effect.
 use Rattle.std.specs.Prelude.{ℕ, true, false, List, ◌++◌}
 use Rattle.json.specs.Json.{Json}
-use Rattle.prob_expr.specs.View.{target_view}
+use Rattle.prob_expr.specs.Vocabulary.{target_view}
 use Rattle.quantity.specs.Exacts.{exact}
 use Rattle.quantity.specs.Intervals.{bounds}
 use Rattle.evaluate_command.specs.Lines.{cells_text, pinned_lines, broken_line}

@@ -1,17 +1,16 @@
 -- The members of the object of an effect's values.
 use Rattle.std.specs.Prelude.{ℕ, Bool, true, false, List, [], ◌∷◌, ◌++◌, Option, map, codes}
 use Rattle.json.specs.Json.{Json, string, boolean}
-use Rattle.mixed_graph.specs.Bits.{has, members_below}
-use Rattle.prob_expr.specs.Tree.{PlainTarget}
+use Rattle.mixed_graph.specs.Vocabulary.{has, members_below}
+use Rattle.prob_expr.specs.Vocabulary.{PlainTarget}
 use Rattle.quantity.specs.Kinds.{Pair}
-use Rattle.quantity.specs.Texts.{ratio_text, units_text}
-use Rattle.count_rows.specs.Rows.{Table}
-use Rattle.count_eval.specs.Programs.{cell_of}
-use Rattle.answer_json.specs.Progress.{array_of, object_of}
-use Rattle.answer_json.specs.Values.{set_json}
-use Rattle.count_json.specs.Cells.{cell_json}
+use Rattle.quantity.specs.Vocabulary.{ratio_text, units_text}
+use Rattle.count_rows.specs.Vocabulary.{Table}
+use Rattle.count_eval.specs.Vocabulary.{cell_of}
+use Rattle.answer_json.specs.Vocabulary.{array_of, object_of, set_json}
+use Rattle.count_json.specs.Vocabulary.{cell_json}
 use Rattle.implications.specs.declared.pairs.Implication.{Implication}
-use Rattle.implications_command.specs.Objects.{broken_members}
+use Rattle.implications_command.specs.Vocabulary.{broken_members}
 use Rattle.evaluate_command.specs.Cells.{CellValue}
 use Rattle.evaluate_command.specs.Listed.{plain_of}
 use Rattle.evaluate_command.specs.declared.answer.Valued.{Valued}

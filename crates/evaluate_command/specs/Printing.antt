@@ -1,14 +1,11 @@
 -- What the functions promise that evaluate a prepared formula at cells.
 use Rattle.std.specs.Prelude.{ℕ, ◌≡◌, false, List, All, ◌++◌, Result, Ok, Err}
-use Rattle.fractions.specs.Fractions.{Fraction}
+use Rattle.fractions.specs.Vocabulary.{Fraction}
 use Rattle.quantity.specs.Kinds.{Pair}
 use Rattle.count_eval.specs.Rules.{Rule}
-use Rattle.count_eval.specs.Answers.{IsEvaluationFault, CoversCounts, CoversWithZeros, CoversMatches}
-use Rattle.count_eval.specs.Evaluated.{formula_value}
-use Rattle.count_eval.specs.Programs.{weights_in, is_used, cell_of}
-use Rattle.count_eval.specs.Stops.{Stop}
-use Rattle.count_eval.specs.Preparations.{Preparation}
 use Rattle.count_eval.specs.declared.failure.EvalFault.{EvalFault}
+use Rattle.count_eval.specs.Vocabulary.{IsEvaluationFault, CoversCounts, CoversWithZeros, CoversMatches, formula_value, weights_in, is_used, cell_of, Preparation}
+use Rattle.count_eval.specs.Stops.{Stop}
 use Rattle.evaluate_command.specs.Cells.{CellValue, IsCell, values_at}
 
 -- the value of a prepared formula at a cell

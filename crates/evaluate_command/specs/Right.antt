@@ -1,32 +1,26 @@
 -- Which answers of `evaluate` are right over the bytes of counts, for an effect that has a formula.
 use Rattle.std.specs.Prelude.{ℕ, ◌≡◌, ◌≢◌, ◌<◌, ◌≤◌, Bool, true, false, List, All, length, Option, Some, Result, Ok, Err}
-use Rattle.fractions.specs.Fractions.{Fraction}
-use Rattle.mixed_graph.specs.Bits.{has}
-use Rattle.finite_models.specs.Models.{FiniteModel, Fits, IsPositiveModel}
-use Rattle.do_rules.specs.Rules.{AreThreeSets}
-use Rattle.adjustment.specs.Criteria.{IsAdmissible}
-use Rattle.adjustment.specs.Formulas.{adjustment_formula}
-use Rattle.weak_adjustment.specs.Weakly.{IsWeaklyPositive}
-use Rattle.prob_expr.specs.Values.{effect}
-use Rattle.prob_expr.specs.View.{target_view}
-use Rattle.identify_text.specs.Answers.{free_beside}
-use Rattle.quantity.specs.Exacts.{exact, Equals}
-use Rattle.quantity.specs.Intervals.{bounds, Covers}
+use Rattle.fractions.specs.Vocabulary.{Fraction}
+use Rattle.mixed_graph.specs.Vocabulary.{has}
+use Rattle.finite_models.specs.Vocabulary.{FiniteModel, Fits, IsPositiveModel}
+use Rattle.do_rules.specs.Vocabulary.{AreThreeSets}
+use Rattle.adjustment.specs.Vocabulary.{IsAdmissible, adjustment_formula}
+use Rattle.weak_adjustment.specs.Vocabulary.{IsWeaklyPositive}
+use Rattle.prob_expr.specs.Vocabulary.{effect, target_view}
+use Rattle.identify_text.specs.Vocabulary.{free_beside}
+use Rattle.quantity.specs.Exacts.{exact}
+use Rattle.quantity.specs.Vocabulary.{Equals, Covers}
+use Rattle.quantity.specs.Intervals.{bounds}
 use Rattle.quantity.specs.Kinds.{Pair}
-use Rattle.count_rows.specs.Records.{Field}
-use Rattle.count_rows.specs.Rows.{Table}
 use Rattle.count_rows.specs.declared.fault.CountFault.{CountFault}
+use Rattle.count_rows.specs.Vocabulary.{Field, Table}
 use Rattle.count_rows.specs.declared.fault.CountFault.TheVariants as counts
-use Rattle.count_table.specs.Reading.{text_fault}
-use Rattle.count_table.specs.Tables.{AreCounts}
-use Rattle.count_table.specs.Cells.{total}
-use Rattle.count_eval.specs.Answers.{CoversCounts, CoversWithZeros, IsEvaluationFault}
-use Rattle.count_eval.specs.Laws.{IsMatched}
-use Rattle.count_eval.specs.Programs.{weights_in, is_used, cell_of}
+use Rattle.count_table.specs.Vocabulary.{text_fault, AreCounts, total}
+use Rattle.count_eval.specs.declared.failure.EvalFault.{EvalFault}
+use Rattle.count_eval.specs.Vocabulary.{CoversCounts, CoversWithZeros, IsEvaluationFault, IsMatched, weights_in, is_used, cell_of}
 use Rattle.count_eval.specs.Rules.{Rule, rule as rule_of}
 use Rattle.count_eval.specs.Stops.{Stop}
-use Rattle.count_eval.specs.declared.failure.EvalFault.{EvalFault}
-use Rattle.count_answers.specs.Reads.{HoldsCounts}
+use Rattle.count_answers.specs.Vocabulary.{HoldsCounts}
 use Rattle.evaluate_command.specs.Breaks.{IsBreak}
 use Rattle.evaluate_command.specs.Cells.{CellValue, value_in, values_at, printed_cells}
 use Rattle.evaluate_command.specs.Effects.{PlainEffect, target_of, used_in}

@@ -1,11 +1,11 @@
 -- Why a formula has no value over counts, in words.
 use Rattle.std.specs.Prelude.{ℕ, Bool, true, false, List, [], ◌++◌, codes, Option, Some, None}
 use Rattle.std.specs.Fmt.{decimal}
-use Rattle.count_rows.specs.Rows.{Table}
-use Rattle.count_eval.specs.Programs.{cell_of}
+use Rattle.count_rows.specs.Vocabulary.{Table}
 use Rattle.count_eval.specs.declared.failure.EvalFault.{EvalFault}
 use Rattle.count_eval.specs.declared.failure.EvalFault.TheVariants.{NoSupport, TooWide, TooFine, NoMemory}
-use Rattle.count_answers.specs.Lines.{assignments}
+use Rattle.count_eval.specs.Vocabulary.{cell_of}
+use Rattle.count_answers.specs.Vocabulary.{assignments}
 
 -- want of memory is one of the faults
 abbrev pub is_stop_memory : EvalFault → Bool

@@ -1,14 +1,13 @@
 -- What is told of an answer of `evaluate`.
 use Rattle.std.specs.Prelude.{ℕ, List}
 use Rattle.json.specs.Json.{Json}
-use Rattle.prob_expr.specs.View.{target_view}
+use Rattle.prob_expr.specs.Vocabulary.{target_view}
 use Rattle.replies.specs.declared.outcome.Outcome.{Outcome}
 use Rattle.replies.specs.declared.outcome.Outcome.TheVariants.{Yes, No}
 use Rattle.told.specs.declared.form.Writing.{Writing}
 use Rattle.told.specs.Telling.{Telling}
-use Rattle.effect_answers.specs.HedgeTelling.{hedge_text, joint_text, hedge_object, joint_object}
-use Rattle.adjust_command.specs.Lines.{not_admissible_text}
-use Rattle.adjust_command.specs.Objects.{not_admissible_members}
+use Rattle.effect_answers.specs.Vocabulary.{hedge_text, joint_text, hedge_object, joint_object}
+use Rattle.adjust_command.specs.Vocabulary.{not_admissible_text, not_admissible_members}
 use Rattle.evaluate_command.specs.Listings.{values_lines, effect_object}
 use Rattle.evaluate_command.specs.declared.answer.Answer.{Answer}
 use Rattle.evaluate_command.specs.declared.answer.Answer.TheVariants.{Values, Hedge, Joint, NotAdmissible}

@@ -1,15 +1,15 @@
 -- What is told where there are no values over counts.
 use Rattle.std.specs.Prelude.{Bool, true, false, []}
-use Rattle.answer_text.specs.Lines.{line_of}
-use Rattle.answer_json.specs.Progress.{json_line}
-use Rattle.count_rows.specs.FaultTexts.{count_fault_text, count_size_text}
+use Rattle.answer_text.specs.Vocabulary.{line_of}
+use Rattle.answer_json.specs.Vocabulary.{json_line}
+use Rattle.count_rows.specs.Vocabulary.{count_fault_text, count_size_text}
 use Rattle.count_rows.specs.declared.fault.CountFault.TheVariants as counts
-use Rattle.count_json.specs.CountFaults.{count_fault_json, count_size_json}
-use Rattle.count_json.specs.Stops.{evaluation_fault_json}
+use Rattle.count_json.specs.Vocabulary.{count_fault_json, count_size_json, evaluation_fault_json}
 use Rattle.replies.specs.declared.outcome.Outcome.{Outcome}
 use Rattle.replies.specs.declared.outcome.Outcome.TheVariants.{Second, Evaluation}
-use Rattle.replies.specs.Told.{Told, refusal_of}
-use Rattle.told.specs.Telling.{Refusal}
+use Rattle.replies.specs.Vocabulary.{refusal_of}
+use Rattle.replies.specs.Told.{Told}
+use Rattle.told.specs.Vocabulary.{Refusal}
 use Rattle.evaluate_command.specs.Stopped.{is_stop_memory, stop_words}
 use Rattle.evaluate_command.specs.declared.faults.ValuesFault.{ValuesFault}
 use Rattle.evaluate_command.specs.declared.faults.ValuesFault.TheVariants.{TooLong, Counts, NoValue, NoMemory}

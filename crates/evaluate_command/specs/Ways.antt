@@ -1,7 +1,8 @@
 -- How a formula is found.
 use Rattle.std.specs.Prelude.{ℕ, ◌≡◌, Bool, true, false, List, [], ◌∷◌, Option, Some, None}
-use Rattle.command_words.specs.ListViews.{names_in}
-use Rattle.adjust_command.specs.Queries.{Query, by_set, by_back_door}
+use Rattle.command_words.specs.Vocabulary.{names_in}
+use Rattle.adjust_command.specs.Queries.{Query}
+use Rattle.adjust_command.specs.Vocabulary.{by_set, by_back_door}
 use Rattle.evaluate_command.specs.declared.way.Way.{Way as CodeWay}
 use Rattle.evaluate_command.specs.declared.way.Way.TheVariants as way
 

@@ -1,11 +1,10 @@
 //! The way by adjusting for a set.
 
 ghost use Rattle.std.specs.Prelude.{ℕ, ◌<◌, List, Some, IfOk};
-ghost use Rattle.mixed_graph.specs.Bits.{has};
-ghost use Rattle.mixed_graph.specs.Names.{texts};
-ghost use Rattle.do_rules.specs.Rules.{AreThreeSets};
-ghost use Rattle.targets.specs.Targets.{AreSets};
-ghost use Rattle.diagram.specs.Sets.{Names, lent, query_lists};
+ghost use Rattle.mixed_graph.specs.Vocabulary.{has, texts};
+ghost use Rattle.do_rules.specs.Vocabulary.{AreThreeSets};
+ghost use Rattle.targets.specs.Vocabulary.{AreSets};
+ghost use Rattle.diagram.specs.Vocabulary.{Names, lent, query_lists};
 ghost use Rattle.evaluate_command.specs.Firsts.{IsFirst};
 ghost use Rattle.evaluate_command.specs.Ways.{by_adjusting as way_by_adjusting};
 

@@ -1,7 +1,7 @@
 //! The pair by which no model has the counts.
 
 ghost use Rattle.std.specs.Prelude.{IfOk};
-ghost use Rattle.mixed_graph.specs.Shown.{graph_of};
+ghost use Rattle.mixed_graph.specs.Vocabulary.{graph_of};
 ghost use Rattle.evaluate_command.specs.Breaks.{IsBreak};
 
 use broken_pairs::first_broken;

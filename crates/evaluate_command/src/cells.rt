@@ -1,8 +1,8 @@
 //! The cells that are printed, and the quantities there.
 
 ghost use Rattle.std.specs.Prelude.{◌≡◌, ◌++◌, ◌∷◌, [], All, true, false, OnOk, IfOk, IfErr};
-ghost use Rattle.mixed_graph.specs.Bits.{has, members_below};
-ghost use Rattle.count_eval.specs.Programs.{is_used};
+ghost use Rattle.mixed_graph.specs.Vocabulary.{has, members_below};
+ghost use Rattle.count_eval.specs.Vocabulary.{is_used};
 ghost use Rattle.count_eval.specs.Rules.{rule};
 ghost use Rattle.evaluate_command.specs.Cells.{varied, cells_along, IsCell};
 ghost use Rattle.evaluate_command.specs.Listed.{plain_in};

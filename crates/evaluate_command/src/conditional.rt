@@ -1,11 +1,10 @@
 //! The way by the procedure for effects under a condition.
 
 ghost use Rattle.std.specs.Prelude.{ℕ, ◌<◌, List, Some, IfOk};
-ghost use Rattle.mixed_graph.specs.Bits.{has};
-ghost use Rattle.mixed_graph.specs.Names.{texts};
-ghost use Rattle.do_rules.specs.Rules.{AreThreeSets};
-ghost use Rattle.targets.specs.Targets.{AreListedSets};
-ghost use Rattle.diagram.specs.Sets.{Names, lent, query_lists};
+ghost use Rattle.mixed_graph.specs.Vocabulary.{has, texts};
+ghost use Rattle.do_rules.specs.Vocabulary.{AreThreeSets};
+ghost use Rattle.targets.specs.Vocabulary.{AreListedSets};
+ghost use Rattle.diagram.specs.Vocabulary.{Names, lent, query_lists};
 ghost use Rattle.evaluate_command.specs.Firsts.{IsFirst};
 ghost use Rattle.evaluate_command.specs.Ways.{by_condition as way_by_condition};
 

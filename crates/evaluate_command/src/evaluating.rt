@@ -1,7 +1,7 @@
 //! The values of an effect over a table of counts.
 
 ghost use Rattle.std.specs.Prelude.{◌≡◌, false, IfOk, IfErr};
-ghost use Rattle.mixed_graph.specs.Bits.{has, members_below};
+ghost use Rattle.mixed_graph.specs.Vocabulary.{has, members_below};
 ghost use Rattle.count_eval.specs.Rules.{rule};
 ghost use Rattle.evaluate_command.specs.Effects.{effect_in, used_in, IsIdentified};
 ghost use Rattle.evaluate_command.specs.Listed.{plain_in};

@@ -1,7 +1,7 @@
 //! Why there are no values over counts.
 
 ghost use Rattle.std.specs.Prelude.{◌≡◌, ◌++◌, OnOk, IfOk};
-ghost use Rattle.answer_text.specs.Lines.{line_of};
+ghost use Rattle.answer_text.specs.Vocabulary.{line_of};
 ghost use Rattle.evaluate_command.specs.declared.faults.ValuesFault.TheVariants.{NoMemory};
 ghost use Rattle.evaluate_command.specs.Stopped.{place_text, stop_words};
 

@@ -1,12 +1,10 @@
 //! What is known before counts are read: a formula, or the answer.
 
 ghost use Rattle.std.specs.Prelude.{Ok, Err, IfOk};
-ghost use Rattle.diagram.specs.Sets.{Names};
 ghost use Rattle.diagram.specs.declared.diagram.Diagram.{Diagram as Drawn};
-ghost use Rattle.replies.specs.Told.{told_of};
-ghost use Rattle.told.specs.Forms.{plain_form};
-ghost use Rattle.told.specs.Refusals.{target_refusal};
-ghost use Rattle.told.specs.Telling.{Tells};
+ghost use Rattle.diagram.specs.Vocabulary.{Names};
+ghost use Rattle.replies.specs.Vocabulary.{told_of};
+ghost use Rattle.told.specs.Vocabulary.{plain_form, target_refusal, Tells};
 ghost use Rattle.evaluate_command.specs.Telling.{evaluate_telling};
 ghost use Rattle.evaluate_command.specs.Firsts.{IsFirst, IsAnswered};
 ghost use Rattle.evaluate_command.specs.First.{IsForDiagram};

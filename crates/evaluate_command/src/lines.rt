@@ -2,10 +2,9 @@
 
 ghost use Rattle.std.specs.Prelude.{◌≡◌, ◌++◌, ◌∷◌, [], codes, map, if◌then◌else◌, OnOk, IfOk};
 ghost use Rattle.std.specs.List.{flat_map};
-ghost use Rattle.mixed_graph.specs.Bits.{has, members_below};
-ghost use Rattle.mixed_graph.specs.Masks.{is_empty};
-ghost use Rattle.prob_expr.specs.View.{target_view};
-ghost use Rattle.count_eval.specs.Programs.{cell_of};
+ghost use Rattle.mixed_graph.specs.Vocabulary.{has, members_below, is_empty};
+ghost use Rattle.prob_expr.specs.Vocabulary.{target_view};
+ghost use Rattle.count_eval.specs.Vocabulary.{cell_of};
 ghost use Rattle.evaluate_command.specs.Lines.{doing_text, given_text, effect_text, sign_of, value_line, cells_text, pinned_line, pinned_lines, broken_line};
 ghost use Rattle.evaluate_command.specs.Listed.{plain_of};
 ghost use Rattle.evaluate_command.specs.Listings.{cells_lines, values_lines};

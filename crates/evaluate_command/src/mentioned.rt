@@ -1,7 +1,7 @@
 //! The vertices whose levels are read.
 
 ghost use Rattle.std.specs.Prelude.{◌≡◌};
-ghost use Rattle.prob_expr.specs.View.{formula_view, target_view};
+ghost use Rattle.prob_expr.specs.Vocabulary.{formula_view, target_view};
 ghost use Rattle.evaluate_command.specs.Effects.{read_for};
 
 use crate::identified::Identified;

@@ -1,8 +1,8 @@
 //! The members of the object of an effect's values.
 
 ghost use Rattle.std.specs.Prelude.{◌≡◌, ◌++◌, map, OnOk, codes};
-ghost use Rattle.prob_expr.specs.View.{target_view};
-ghost use Rattle.answer_json.specs.Progress.{with_value, with_values, with_member, with_members, array_of};
+ghost use Rattle.prob_expr.specs.Vocabulary.{target_view};
+ghost use Rattle.answer_json.specs.Vocabulary.{with_value, with_values, with_member, with_members, array_of};
 ghost use Rattle.evaluate_command.specs.Objects.{cell_members, value_json, cells_json, effect_members, values_members};
 ghost use Rattle.evaluate_command.specs.Listed.{plain_of};
 ghost use Rattle.evaluate_command.specs.Listings.{effect_object};

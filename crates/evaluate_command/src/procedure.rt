@@ -1,10 +1,9 @@
 //! The way by the identification procedure.
 
 ghost use Rattle.std.specs.Prelude.{◌<◌, true, false, IfOk};
-ghost use Rattle.mixed_graph.specs.Bits.{has};
-ghost use Rattle.mixed_graph.specs.Sets.{Within, Apart};
-ghost use Rattle.targets.specs.Targets.{AreEffectSets};
-ghost use Rattle.diagram.specs.Sets.{Names, lent, effect_lists};
+ghost use Rattle.mixed_graph.specs.Vocabulary.{has, Within, Apart};
+ghost use Rattle.targets.specs.Vocabulary.{AreEffectSets};
+ghost use Rattle.diagram.specs.Vocabulary.{Names, lent, effect_lists};
 ghost use Rattle.evaluate_command.specs.Firsts.{IsFirst};
 ghost use Rattle.evaluate_command.specs.Ways.{by_procedure as way_by_procedure};
 

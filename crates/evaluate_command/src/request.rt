@@ -1,10 +1,8 @@
 //! What `evaluate` is asked.
 
 ghost use Rattle.std.specs.Prelude.{◌≡◌, List, IfOk, IsErrOf};
-ghost use Rattle.command_words.specs.Form.{Use};
-ghost use Rattle.command_words.specs.Gives.{HoldsCall};
+ghost use Rattle.command_words.specs.Vocabulary.{Use, HoldsCall, names_in};
 ghost use Rattle.std.specs.Prelude.{option_map};
-ghost use Rattle.command_words.specs.ListViews.{names_in};
 ghost use Rattle.evaluate_command.specs.Ways.{way_of, way_for};
 
 use crate::way::Way;

@@ -2,8 +2,8 @@
 
 ghost use Rattle.std.specs.Prelude.{◌≡◌, Bool, true, false, IfOk, OnOk, string_bytes};
 ghost use Rattle.json.specs.Json.{string};
-ghost use Rattle.quantity.specs.Texts.{units_text};
-ghost use Rattle.answer_json.specs.Progress.{with_member, with_members};
+ghost use Rattle.quantity.specs.Vocabulary.{units_text};
+ghost use Rattle.answer_json.specs.Vocabulary.{with_member, with_members};
 ghost use Rattle.evaluate_command.specs.Objects.{quantity_members};
 
 use answer_json::Object;

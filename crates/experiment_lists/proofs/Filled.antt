@@ -2,12 +2,10 @@
 use Rattle.std.proofs.Common.{◌≡◌, ℕ, Bool, true, false, not, ◌&&◌, List, [], ◌∷◌, length, None, refl, subst, arith}
 use Rattle.std.specs.List.{list_all}
 use Rattle.std.proofs.lemmas.Bool.{and_parts}
-use Rattle.mixed_graph.specs.Bits.{has}
-use Rattle.mixed_graph.specs.Sets.{Within}
-use Rattle.mixed_graph.specs.Masks.{is_below, is_empty}
+use Rattle.mixed_graph.specs.Vocabulary.{has, Within, is_below, is_empty}
 use Rattle.mixed_graph.proofs.MaskLaws.{below_from, not_empty}
-use Rattle.do_derivation.specs.Accepts.{are_sets}
-use Rattle.targets.specs.Targets.{first_fault}
+use Rattle.do_derivation.specs.Vocabulary.{are_sets}
+use Rattle.targets.specs.Vocabulary.{first_fault}
 use Rattle.targets.proofs.Queries.{set_within, neither}
 use Rattle.targets.proofs.RuleWalks.{some_in}
 use Rattle.experiment_lists.specs.Words.{Lists, is_filled}

@@ -3,8 +3,7 @@ use Rattle.std.proofs.Common.{◌≡◌, ◌+◌, ℕ, Bool, true, List, [], ◌
 use Rattle.std.proofs.Common.{refl, sym, ap, subst, ◌∙◌, append_assoc, length-append, arith, inl, inr, codes}
 use Rattle.std.specs.List.{list_all}
 use Rattle.std.specs.Global.{Vec}
-use Rattle.command_words.specs.Lists.{IsList}
-use Rattle.command_words.specs.ListViews.{names_in}
+use Rattle.command_words.specs.Vocabulary.{IsList, names_in}
 use Rattle.experiment_lists.specs.Words.{Lists, IsExperiment, AreJoinedBySemicolons, AreExperiments, is_filled, AreFilled}
 use Rattle.experiment_lists.specs.Parts.{outside_after, IsCut}
 use Rattle.experiment_lists.proofs.Quotes.{closed, undivided, divided, same_part}

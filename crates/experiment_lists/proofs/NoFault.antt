@@ -1,8 +1,8 @@
 -- Where no name of experiments is at fault, no fault is theirs.
 use Rattle.std.proofs.Common.{◌≡◌, List, ℕ, None, refl, subst}
 use Rattle.targets.specs.declared.fault.TargetFault.{TargetFault}
+use Rattle.targets.specs.Vocabulary.{IsNameFault}
 use Rattle.targets.specs.declared.fault.TargetFault.TheVariants as faults
-use Rattle.targets.specs.Targets.{IsNameFault}
 use Rattle.experiment_lists.specs.Sets.{experiments_fault, IsExperimentsFault}
 use Rattle.experiment_lists.specs.Words.{Lists}
 

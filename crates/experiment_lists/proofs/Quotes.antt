@@ -7,8 +7,7 @@ use Rattle.std.proofs.Math.Seq.{take-suc}
 use Rattle.std.proofs.lemmas.Str.{IsCharBoundary-after_ascii}
 use Rattle.std.specs.List.{list_all}
 use Rattle.std.proofs.lemmas.Bool.{and_parts}
-use Rattle.command_words.specs.Lists.{Item, bare, quoted, text_of, is_some_text, is_bare_byte, is_quoted_byte, is_item, more_text, list_text, IsItems}
-use Rattle.command_words.specs.Lists.{is_braced, unbraced}
+use Rattle.command_words.specs.Vocabulary.{Item, bare, quoted, text_of, is_some_text, is_bare_byte, is_quoted_byte, is_item, more_text, list_text, IsItems, is_braced, unbraced}
 use Rattle.command_words.proofs.ListLaw.{braces_around, no_braces}
 use Rattle.experiment_lists.specs.Words.{is_undivided_byte, is_undivided, IsExperiment}
 use Rattle.experiment_lists.specs.Parts.{after_byte, outside_after}

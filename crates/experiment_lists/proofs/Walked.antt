@@ -3,12 +3,12 @@ use Rattle.std.proofs.Common.{◌≡◌, ◌<◌, ◌+◌, map, get_or, drop, dr
 use Rattle.std.proofs.Common.{subst, ◌∙◌, append_assoc, arith}
 use Rattle.std.specs.Prelude.{suc}
 use Rattle.std.specs.Global.{Vec}
-use Rattle.command_words.specs.ListViews.{names_in}
+use Rattle.command_words.specs.Vocabulary.{names_in}
 use Rattle.mixed_graph.specs.declared.sets.VSet.{VSet}
-use Rattle.prob_expr.specs.Listed.{masks_of}
-use Rattle.mixed_graph.specs.Bits.{has}
+use Rattle.mixed_graph.specs.Vocabulary.{has}
+use Rattle.prob_expr.specs.Vocabulary.{masks_of}
 use Rattle.targets.specs.declared.fault.TargetFault.{TargetFault}
-use Rattle.targets.specs.Targets.{or_fault, first_fault, walked_in, IsListedSet, IsNameFault}
+use Rattle.targets.specs.Vocabulary.{or_fault, first_fault, walked_in, IsListedSet, IsNameFault}
 use Rattle.targets.proofs.Queries.{from_empty}
 use Rattle.targets.proofs.Walking.{fault_first}
 use Rattle.experiment_lists.specs.Sets.{experiments_fault, AreExperimentSets}

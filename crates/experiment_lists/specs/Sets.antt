@@ -1,8 +1,8 @@
 -- What the lists of experiments stand for: sets of vertices, or the first name at fault.
 use Rattle.std.specs.Prelude.{ℕ, ◌≡◌, false, List, [], ◌∷◌, Option, None}
-use Rattle.targets.specs.Targets.{NameFault, first_fault, or_fault, IsListedSet, IsNameFault}
 use Rattle.targets.specs.declared.fault.TargetFault.{TargetFault}
 use Rattle.targets.specs.declared.fault.TargetFault.TheVariants.{NoMemory}
+use Rattle.targets.specs.Vocabulary.{NameFault, first_fault, or_fault, IsListedSet, IsNameFault}
 
 -- the first name at fault of experiments in turn, each of which may share names with the others
 abbrev pub experiments_fault : (all observed : List (List ℕ)) → List (List (List ℕ)) → Option NameFault

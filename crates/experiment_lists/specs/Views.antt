@@ -1,7 +1,7 @@
 -- What the code's values stand for.
 use Rattle.std.specs.Prelude.{ℕ, List, map}
 use Rattle.std.specs.Global.{Vec}
-use Rattle.command_words.specs.ListViews.{names_in}
+use Rattle.command_words.specs.Vocabulary.{names_in}
 
 -- lists of names, as their bytes
 abbrev pub lists_in : Vec (Vec (Vec ℕ)) → List (List (List ℕ))

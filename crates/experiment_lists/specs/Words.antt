@@ -1,7 +1,7 @@
 -- Experiments in a word: one to eight lists of names, joined by `;`.
 use Rattle.std.specs.Prelude.{ℕ, ◌≡◌, ◌==◌, ◌≤◌, Bool, true, false, not, List, [], ◌∷◌, ◌++◌, length, Option, Some, None, codes}
 use Rattle.std.specs.List.{list_all}
-use Rattle.command_words.specs.Lists.{Item, bare, quoted, IsItems, unbraced}
+use Rattle.command_words.specs.Vocabulary.{Item, bare, quoted, IsItems, unbraced}
 
 -- lists of names, as their bytes
 abbrev pub Lists : Type 0

@@ -1,9 +1,9 @@
 //! The sets that experiments name.
 
 ghost use Rattle.std.specs.Prelude.{◌≡◌, None, IfOk, IfErr, OnOk, map};
-ghost use Rattle.prob_expr.specs.Listed.{masks_of};
-ghost use Rattle.targets.specs.Targets.{IsNameFault};
-ghost use Rattle.command_words.specs.ListViews.{names_in};
+ghost use Rattle.prob_expr.specs.Vocabulary.{masks_of};
+ghost use Rattle.targets.specs.Vocabulary.{IsNameFault};
+ghost use Rattle.command_words.specs.Vocabulary.{names_in};
 ghost use Rattle.experiment_lists.specs.Sets.{experiments_fault, AreExperimentSets};
 
 use mixed_graph::{Names, VSet};

@@ -1,7 +1,7 @@
 //! Experiments in a word: one to eight lists joined by `;`. A `;` between quotes belongs to a name.
 
 ghost use Rattle.std.specs.Prelude.{◌≡◌, ◌==◌, ◌&&◌, ◌≤◌, ◌<◌, ◌∷◌, ◌++◌, ℕ, Bool, List, Some, None, true, length, take, get_or, option_map, IfOk, IfSome, IfNone};
-ghost use Rattle.command_words.specs.ListViews.{names_in};
+ghost use Rattle.command_words.specs.Vocabulary.{names_in};
 ghost use Rattle.experiment_lists.specs.Words.{IsExperiment, AreExperiments, Lists};
 ghost use Rattle.experiment_lists.specs.Parts.{outside_after, after_byte, IsCut};
 ghost use Rattle.experiment_lists.specs.Views.{lists_in};

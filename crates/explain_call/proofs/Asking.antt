@@ -2,19 +2,16 @@
 use Rattle.std.proofs.Common.{ℕ, ◌≡◌, ◌<◌, Bool, true, false, not, refl, List, [], Option, Some, None, MatchOption}
 use Rattle.std.specs.Prelude.{IfSome, option_and_then}
 use Rattle.finite_models.proofs.Bools.{and_second}
-use Rattle.mixed_graph.specs.Bits.{has}
-use Rattle.mixed_graph.specs.Graphs.{MixedGraph}
+use Rattle.mixed_graph.specs.Vocabulary.{has, MixedGraph, union, minus, is_empty, is_inside}
 use Rattle.do_rules.specs.declared.rules.Rule.{Rule}
 use Rattle.do_rules.specs.declared.rules.Rule.TheVariants.{One, Two, Three}
-use Rattle.mixed_graph.specs.Masks.{union, minus, is_empty, is_inside}
 use Rattle.prob_expr.specs.Tree.{Tree, prob, sum, product, quotient, named}
 use Rattle.mixed_graph.proofs.MaskLaws.{inside_has}
 use Rattle.do_derivation.specs.Plans.{Move, Plan}
-use Rattle.do_derivation.specs.Shapes.{child}
-use Rattle.do_derivation.specs.Steps.{IsMade, Makes}
-use Rattle.do_derivation.specs.Table.{Row, row, on_term, if_so, if_made, is_new, is_part}
 use Rattle.do_derivation.specs.declared.faults.StepFault.{StepFault}
 use Rattle.do_derivation.specs.declared.faults.StepFault.TheVariants.{Sets}
+use Rattle.do_derivation.specs.Vocabulary.{child, IsMade, Makes, on_term, if_so, if_made, is_new, is_part}
+use Rattle.do_derivation.specs.Table.{Row, row}
 use Rattle.do_derivation.specs.declared.moves.SetMove.TheVariants as set_move
 use Rattle.do_derivation.specs.declared.moves.BareMove.TheVariants as bare_move
 use Rattle.do_derivation.proofs.TermSets.{IsTerm, new_from, minus_left}

@@ -3,8 +3,9 @@ use Rattle.std.proofs.Common.{ℕ, zero, suc, ◌≡◌, ◌<◌, ◌≤◌, ref
 use Rattle.std.proofs.Common.{MatchOption, Bor, arith}
 use Rattle.std.specs.Prelude.{IfSome}
 use Rattle.prob_expr.specs.declared.expr.Expr.{Expr}
-use Rattle.prob_expr.specs.View.{view, views}
-use Rattle.do_derivation.specs.Shapes.{factor_at}
+use Rattle.prob_expr.specs.Vocabulary.{views}
+use Rattle.prob_expr.specs.View.{view}
+use Rattle.do_derivation.specs.Vocabulary.{factor_at}
 use Rattle.do_derivation.proofs.Lists.{factor_some}
 
 no_factor : (es : List Expr) (i : ℕ) → length es ≤ i → factor_at (views es) i ≡ None

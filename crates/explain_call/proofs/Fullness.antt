@@ -4,20 +4,16 @@ use Rattle.std.proofs.Common.{◌++◌, length, Some, None, Option, MatchOption,
 use Rattle.std.proofs.lemmas.Bool.{and_from, false≢true}
 use Rattle.std.proofs.lemmas.Option.{none-some}
 use Rattle.finite_models.proofs.Bools.{and_first, and_second}
-use Rattle.mixed_graph.specs.Graphs.{MixedGraph}
-use Rattle.mixed_graph.specs.Masks.{union, minus, one, is_empty, is_inside}
-use Rattle.prob_expr.specs.Check.{are_two}
-use Rattle.prob_expr.specs.Tree.{Tree, prob, sum, product, quotient, named, Trees, no_trees, tree}
-use Rattle.do_derivation.specs.Plans.{Move, Plan, Plans, no_plans, plan}
-use Rattle.do_derivation.specs.Shapes.{chained, gathered, term_with, unchained, grouped, is_grouping, groups_of, as_one, picked, or_nothing, all_of}
-use Rattle.do_derivation.specs.Shapes.{each_below, none_empty, factor_at, count_factors, narrowed, unwrapped, has_product, flat, appended, child}
-use Rattle.do_derivation.specs.Shapes.{with_child, with_factor}
-use Rattle.do_derivation.specs.Steps.{IsMade, Makes, MakesAll}
-use Rattle.do_rules.specs.declared.rules.Rule.{Rule}
-use Rattle.do_rules.specs.declared.rules.Rule.TheVariants.{One, Two, Three}
-use Rattle.do_derivation.specs.Table.{Row, row, on_term, if_so, if_made, is_new, is_part}
+use Rattle.mixed_graph.specs.Vocabulary.{MixedGraph, union, minus, one, is_empty, is_inside}
+use Rattle.prob_expr.specs.Vocabulary.{are_two, Trees, no_trees}
+use Rattle.prob_expr.specs.Tree.{Tree, prob, sum, product, quotient, named, tree}
+use Rattle.do_derivation.specs.Plans.{Move, Plan, Plans, plan}
 use Rattle.do_derivation.specs.declared.faults.StepFault.{StepFault}
 use Rattle.do_derivation.specs.declared.faults.StepFault.TheVariants.{Sets, BadOrder, NoLemma, Shape}
+use Rattle.do_derivation.specs.Vocabulary.{no_plans, chained, gathered, term_with, unchained, grouped, is_grouping, groups_of, as_one, picked, or_nothing, all_of, each_below, none_empty, factor_at, count_factors, narrowed, unwrapped, has_product, flat, appended, child, with_child, with_factor, IsMade, Makes, MakesAll, on_term, if_so, if_made, is_new, is_part}
+use Rattle.do_rules.specs.declared.rules.Rule.{Rule}
+use Rattle.do_rules.specs.declared.rules.Rule.TheVariants.{One, Two, Three}
+use Rattle.do_derivation.specs.Table.{Row, row}
 use Rattle.do_derivation.specs.declared.moves.SetMove.TheVariants as set_move
 use Rattle.do_derivation.specs.declared.moves.BareMove.TheVariants as bare_move
 use Rattle.do_derivation.proofs.Children.{some_is}

@@ -2,13 +2,11 @@
 use Rattle.std.proofs.Common.{ℕ, ◌+◌, ◌≡◌, ◌<◌, Bool, sym, ap, ◌∙◌, subst, refl, List, [], ◌∷◌, ◌++◌, map, length, get_or, drop, Some, inl, inr}
 use Rattle.std.proofs.Common.{append_assoc, append-nil}
 use Rattle.std.proofs.lemmas.List.{at_drop_more}
-use Rattle.mixed_graph.specs.Graphs.{MixedGraph}
-use Rattle.do_derivation.specs.Accepts.{sets_of, start_of}
-use Rattle.do_derivation.specs.Plans.{PlainLemma}
-use Rattle.do_derivation.specs.View.{step_view, lemma_view}
+use Rattle.mixed_graph.specs.Vocabulary.{MixedGraph}
 use Rattle.do_derivation.specs.declared.faults.ApplyFault.{ApplyFault}
-use Rattle.do_derivation.specs.declared.faults.ApplyFault.TheVariants.{Step, NoMemory}
 use Rattle.do_derivation.specs.declared.steps.Lemma.{Lemma}
+use Rattle.do_derivation.specs.Vocabulary.{sets_of, start_of, PlainLemma, step_view, lemma_view}
+use Rattle.do_derivation.specs.declared.faults.ApplyFault.TheVariants.{Step, NoMemory}
 use Rattle.explain_call.specs.Moves.{moves_of}
 use Rattle.explain_call.specs.Trace.{Stops}
 use Rattle.explain_call.specs.Parts.{IsPart, LemmaParts, LemmasStop, UnlessNoMemory}

@@ -3,8 +3,7 @@ use Rattle.std.proofs.Common.{◌≡◌, List, [], ◌∷◌, Option, Some, refl
 use Rattle.std.specs.Prelude.{find}
 use Rattle.std.specs.Str.{bytes_eq}
 use Rattle.std.proofs.lemmas.Option.{same_Some}
-use Rattle.command_words.specs.Form.{Text, Use}
-use Rattle.command_words.specs.Gives.{HoldsCall}
+use Rattle.command_words.specs.Vocabulary.{Text, Use, HoldsCall}
 use Rattle.command_words.specs.declared.values.values.Values.{Values}
 use Rattle.explain_call.specs.Requests.{row_for, Request, steps, rule, formula, settled, kind_of, IsRequest, AsksNothing}
 use Rattle.explain_call.specs.declared.requests.Kind.{Kind}

@@ -1,6 +1,6 @@
 -- `clap` reads each row of the table by itself: what it makes of the row is computed.
 use Rattle.std.proofs.Common.{List, [], ◌∷◌, refl}
-use Rattle.command_words.specs.Readable.{IsReadable, AreReadable}
+use Rattle.command_words.specs.Vocabulary.{IsReadable, AreReadable}
 use Rattle.command_words.proofs.Alone.{each_named}
 use Rattle.command_words.proofs.Tables.{readable}
 use Rattle.explain_call.specs.Requests.{row_for, table}

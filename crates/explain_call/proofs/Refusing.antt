@@ -3,13 +3,13 @@ use Rattle.std.proofs.Common.{◌≡◌, Result, Ok, Err, IfOk, sym, subst}
 use Rattle.std.specs.Prelude.{OnOk}
 use Rattle.targets.specs.declared.fault.TargetFault.{TargetFault}
 use Rattle.targets.specs.declared.fault.TargetFault.TheVariants.{NoMemory}
-use Rattle.targets.specs.Targets.{OrMemory}
+use Rattle.targets.specs.Vocabulary.{OrMemory}
 use Rattle.targets.proofs.Faults.{not_memory}
 use Rattle.replies.specs.declared.outcome.Outcome.{Outcome}
 use Rattle.replies.specs.declared.outcome.Outcome.TheVariants.{Graph}
 use Rattle.replies.specs.declared.outcome.Reply.{Reply}
-use Rattle.replies.specs.Refusals.{target_told}
-use Rattle.replies.specs.Told.{Told, told_of}
+use Rattle.replies.specs.Vocabulary.{target_told, told_of}
+use Rattle.replies.specs.Told.{Told}
 
 -- where the line of a fault is an answer, the reply that refuses it is answered
 pub refused_lists : {E : Type 0} (is_fault : TargetFault → Type 0) (answer : Outcome → Told → Type 0) (fault : TargetFault) → OrMemory is_fault fault

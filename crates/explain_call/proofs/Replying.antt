@@ -2,7 +2,8 @@
 use Rattle.std.proofs.Common.{◌≡◌, Result, Ok, Err, IfOk, sym, subst}
 use Rattle.replies.specs.declared.outcome.Outcome.{Outcome}
 use Rattle.replies.specs.declared.outcome.Reply.{Reply}
-use Rattle.replies.specs.Told.{Told, told_of}
+use Rattle.replies.specs.Vocabulary.{told_of}
+use Rattle.replies.specs.Told.{Told}
 
 -- the answer with an outcome and what is told is that of the reply that has both
 pub replied : (answer : Outcome → Told → Type 0) (o : Outcome) (t : Told) → answer o t → (p : Reply) → p.outcome ≡ o → told_of p ≡ t

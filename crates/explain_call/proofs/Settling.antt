@@ -1,20 +1,21 @@
 -- From what is found under a condition to the answer of which kind it is.
 use Rattle.std.proofs.Common.{◌≡◌, Bool, Result, IfOk, subst}
-use Rattle.mixed_graph.specs.Graphs.{MixedGraph}
 use Rattle.mixed_graph.specs.declared.sets.VSet.{VSet}
-use Rattle.prob_expr.specs.Tree.{PlainTarget}
+use Rattle.mixed_graph.specs.Vocabulary.{MixedGraph}
+use Rattle.prob_expr.specs.Vocabulary.{PlainTarget}
 use Rattle.hedge.specs.declared.hedge.Hedge.{Hedge}
 use Rattle.counter_models.specs.declared.counter_pair.CounterPair.{CounterPair}
-use Rattle.conditional_id.specs.Answers.{IsRight, IsJointShown, IfJoint}
 use Rattle.conditional_id.specs.declared.answer.Conditional.{Conditional}
+use Rattle.conditional_id.specs.Vocabulary.{IsRight, IsJointShown, IfJoint}
 use Rattle.conditional_id.specs.declared.answer.Conditional.TheVariants as answers
-use Rattle.targets.specs.Targets.{Lists}
+use Rattle.targets.specs.Vocabulary.{Lists}
 use Rattle.replies.specs.declared.outcome.Outcome.{Outcome}
 use Rattle.replies.specs.declared.outcome.Outcome.TheVariants.{Yes, No}
 use Rattle.replies.specs.declared.outcome.Reply.{Reply}
-use Rattle.replies.specs.Told.{Told, told_of}
+use Rattle.replies.specs.Vocabulary.{told_of}
+use Rattle.replies.specs.Told.{Told}
 use Rattle.replies.proofs.Results.{mapped}
-use Rattle.identify_command.specs.Right.{AreTargetSets}
+use Rattle.identify_command.specs.Vocabulary.{AreTargetSets}
 use Rattle.explain_call.specs.Settled.{IsJoint, KindFor, KindIn}
 
 -- a joint effect that is answered

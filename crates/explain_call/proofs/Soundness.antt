@@ -2,14 +2,12 @@
 use Rattle.std.proofs.Common.{ℕ, ◌≡◌, true, not, ◌&&◌, refl, List}
 use Rattle.std.proofs.lemmas.Bool.{and_from}
 use Rattle.finite_models.proofs.Bools.{and_first, and_second}
-use Rattle.mixed_graph.specs.Graphs.{MixedGraph, IsMixedGraph}
-use Rattle.mixed_graph.specs.Masks.{is_empty, is_below}
-use Rattle.prob_expr.specs.Check.{are_two}
-use Rattle.prob_expr.specs.Terms.{are_terms, are_terms_each}
-use Rattle.prob_expr.specs.Tree.{Tree, prob, sum, product, quotient, named, Trees, no_trees, tree}
-use Rattle.expr_text.specs.Sound.{is_sound, are_sound}
+use Rattle.mixed_graph.specs.Vocabulary.{MixedGraph, IsMixedGraph, is_empty, is_below}
+use Rattle.prob_expr.specs.Vocabulary.{are_two, are_terms, are_terms_each, Trees, no_trees}
+use Rattle.prob_expr.specs.Tree.{Tree, prob, sum, product, quotient, named, tree}
+use Rattle.expr_text.specs.Vocabulary.{is_sound, are_sound}
 use Rattle.do_derivation.specs.Plans.{Plan}
-use Rattle.do_derivation.specs.Steps.{Makes}
+use Rattle.do_derivation.specs.Vocabulary.{Makes}
 use Rattle.do_derivation.proofs.Preserved.{step_keeps_terms}
 use Rattle.explain_call.specs.Full.{is_full, are_full}
 use Rattle.explain_call.proofs.Fullness.{step_full}

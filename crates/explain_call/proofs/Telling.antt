@@ -1,16 +1,14 @@
 -- From what was read, and what is told of it, to the answer.
 use Rattle.std.proofs.Common.{◌≡◌, ◌≤◌, ℕ, Bool, List, length, Result, Ok, Err, inl, inr, sym, subst}
 use Rattle.std.specs.Prelude.{IfOk, OnOk, codes}
-use Rattle.mixed_graph.specs.Graphs.{MixedGraph}
-use Rattle.prob_expr.specs.Tree.{PlainFormula, PlainTarget}
-use Rattle.do_derivation.specs.Plans.{PlainDerivation}
-use Rattle.certificate.specs.Plain.{PlainHedge, formula, hedge}
-use Rattle.certificate.specs.Faults.{Fails}
-use Rattle.certificate.specs.Reading.{certificate_in}
+use Rattle.mixed_graph.specs.Vocabulary.{MixedGraph}
+use Rattle.prob_expr.specs.Vocabulary.{PlainFormula, PlainTarget}
+use Rattle.do_derivation.specs.Vocabulary.{PlainDerivation}
 use Rattle.certificate.specs.declared.fault.CertFault.{CertFault}
+use Rattle.certificate.specs.Vocabulary.{PlainHedge, formula, hedge, Fails, certificate_in}
 use Rattle.certificate.specs.declared.fault.CertFault.TheVariants as certificates
 use Rattle.explain_call.specs.Steps as refusals
-use Rattle.check_command.specs.Refusals.{cert_fault_told}
+use Rattle.check_command.specs.Vocabulary.{cert_fault_told}
 use Rattle.check_command.proofs.Using.{unread}
 use Rattle.dag_reader.specs.Reads.{Reads}
 use Rattle.dag_reader.specs.declared.graph.ReadGraph.{ReadGraph}
@@ -19,14 +17,13 @@ use Rattle.dag_reader.specs.declared.faults.GraphFault.TheVariants.{NoMemory}
 use Rattle.replies.specs.declared.outcome.Outcome.{Outcome}
 use Rattle.replies.specs.declared.outcome.Outcome.TheVariants.{Yes, No, Words, Graph, Second, Evaluation, Read, Write, Memory}
 use Rattle.replies.specs.declared.outcome.Reply.{Reply}
-use Rattle.replies.specs.Told.{Told, told_of, answer_of}
+use Rattle.replies.specs.Vocabulary.{told_of, answer_of, HoldsDiagram, graph_told, faulty}
+use Rattle.replies.specs.Told.{Told}
 use Rattle.replies.proofs.Results.{mapped}
 use Rattle.diagram.specs.declared.diagram.Diagram.{Diagram}
-use Rattle.replies.specs.Observed.{HoldsDiagram}
 use Rattle.explain_call.specs.Requests.{Request}
 use Rattle.explain_call.specs.Steps.{StepsIn}
 use Rattle.explain_call.specs.Answers.{DiagramAnswer, FileAnswer}
-use Rattle.replies.specs.Refusals.{graph_told, faulty}
 use Rattle.explain_call.specs.Told.{TellsSteps}
 
 module _ (graphs : Bool) (q : MixedGraph) (names : List (List ℕ)) (bytes : List ℕ) where

@@ -2,14 +2,12 @@
 use Rattle.std.proofs.Common.{ℕ, ◌+◌, ◌≡◌, ◌<◌, Bool, true, sym, ap, ◌∙◌, subst, refl, List, [], ◌∷◌, ◌++◌, map, length, get_or, drop, inl, inr}
 use Rattle.std.proofs.Common.{append_assoc, append-nil}
 use Rattle.std.proofs.lemmas.List.{at_drop_more}
-use Rattle.mixed_graph.specs.Graphs.{MixedGraph, IsMixedGraph}
+use Rattle.mixed_graph.specs.Vocabulary.{MixedGraph, IsMixedGraph}
 use Rattle.prob_expr.specs.Tree.{Tree}
-use Rattle.expr_text.specs.Sound.{is_sound}
+use Rattle.expr_text.specs.Vocabulary.{is_sound}
 use Rattle.do_derivation.specs.Plans.{Plan}
-use Rattle.do_derivation.specs.Steps.{Makes}
-use Rattle.do_derivation.specs.Answers.{IsApplyFault}
-use Rattle.do_derivation.specs.View.{step_view}
 use Rattle.do_derivation.specs.declared.faults.ApplyFault.{ApplyFault}
+use Rattle.do_derivation.specs.Vocabulary.{Makes, IsApplyFault, step_view}
 use Rattle.do_derivation.specs.declared.steps.Step.{Step}
 use Rattle.explain_call.specs.ToldRules.{Tells}
 use Rattle.explain_call.specs.Trace.{made_line, Traces, Stops}

@@ -2,14 +2,12 @@
 use Rattle.std.proofs.Common.{ℕ, ◌≡◌, ◌<◌, true, map, None, Option, Result, Ok, Err, refl, ap, ◌∙◌, arith}
 use Rattle.std.specs.Prelude.{IfOk}
 use Rattle.std.specs.Global.{Vec}
-use Rattle.mixed_graph.specs.Bits.{has}
-use Rattle.mixed_graph.specs.Shown.{graph_of}
+use Rattle.mixed_graph.specs.Vocabulary.{has, graph_of}
 use Rattle.mixed_graph.proofs.MaskLaws.{has_none}
 use Rattle.dag_reader.specs.declared.graph.ReadGraph.{ReadGraph}
 use Rattle.dag_reader.specs.declared.marks.Role.{Role}
-use Rattle.dag_reader.specs.RoleSets.{AreRoleSets}
-use Rattle.dag_reader.specs.Rows.{count_up}
-use Rattle.dag_reader.specs.Written.{role_at, drawn_of, written}
+use Rattle.dag_reader.specs.Vocabulary.{AreRoleSets, count_up, role_at, drawn_of}
+use Rattle.dag_reader.specs.Written.{written}
 use Rattle.explain_call.specs.Graphs.{unmarked, graph_text}
 
 -- no vertex is in a set without a member

@@ -3,9 +3,8 @@ use Rattle.std.specs.Prelude.{ℕ, ◌⊎◌, List}
 use Rattle.diagram.specs.declared.diagram.Diagram.{Diagram}
 use Rattle.replies.specs.declared.outcome.Outcome.{Outcome}
 use Rattle.replies.specs.declared.outcome.Outcome.TheVariants.{Graph}
+use Rattle.replies.specs.Vocabulary.{HoldsDiagram, IsGraphRefusal}
 use Rattle.replies.specs.Told.{Told}
-use Rattle.replies.specs.Observed.{HoldsDiagram}
-use Rattle.replies.specs.Refusals.{IsGraphRefusal}
 use Rattle.explain_call.specs.Requests.{Request, steps, rule, formula, settled}
 use Rattle.explain_call.specs.Steps.{StepsAnswer}
 use Rattle.explain_call.specs.RuleGraphs.{RuleGraphAnswer}

@@ -2,10 +2,10 @@
 use Rattle.std.specs.Prelude.{ℕ, ◌≡◌, List, [], nat_le, if◌then◌else◌, codes}
 use Rattle.caller_memory.specs.declared.spans.Span.{Span}
 use Rattle.caller_memory.specs.declared.spans.Input.{Input}
-use Rattle.caller_memory.specs.Words.{texts}
+use Rattle.caller_memory.specs.Vocabulary.{texts}
 use Rattle.replies.specs.Outcomes as outcomes
 use Rattle.span_call.specs.declared.Sizes.{Sizes}
-use Rattle.span_call.specs.Rooms.{ShowsText}
+use Rattle.span_call.specs.Vocabulary.{ShowsText}
 use Rattle.explain_call.specs.declared.ending.Ending.{Ending}
 use Rattle.explain_call.specs.declared.ending.Ending.TheVariants.{Replied, NotUnderstood, NoInput, NoMemory}
 use Rattle.explain_call.specs.Ends.{Ends}

@@ -1,9 +1,9 @@
 -- How a call that explains ends.
 use Rattle.std.specs.Prelude.{ℕ, ◌≡◌, ◌⊎◌, true, List, [], is_none, Option, Some, None}
-use Rattle.command_words.specs.Form.{Text}
+use Rattle.command_words.specs.Vocabulary.{Text}
 use Rattle.caller_memory.specs.declared.spans.Input.{Input}
-use Rattle.caller_memory.specs.Parts.{place_named, content_named}
-use Rattle.replies.specs.Told.{told_of}
+use Rattle.caller_memory.specs.Vocabulary.{place_named, content_named}
+use Rattle.replies.specs.Vocabulary.{told_of}
 use Rattle.explain_call.specs.declared.ending.Ending.{Ending}
 use Rattle.explain_call.specs.declared.ending.Ending.TheVariants.{Replied, NotUnderstood, NoInput, NoMemory}
 use Rattle.explain_call.specs.Requests.{Request, file_of, second_of, Asks}

@@ -1,17 +1,16 @@
 -- The answer of `adjust`: the adjustment formula of a set in LaTeX, where the set meets the criterion, in the observed graph of a diagram.
 use Rattle.std.specs.Prelude.{ℕ, Bool, List, Some, codes}
-use Rattle.mixed_graph.specs.Graphs.{MixedGraph}
-use Rattle.mixed_graph.specs.Shown.{graph_of}
+use Rattle.mixed_graph.specs.Vocabulary.{MixedGraph, graph_of}
 use Rattle.diagram.specs.declared.diagram.Diagram.{Diagram}
+use Rattle.diagram.specs.Vocabulary.{Names, query_lists}
 use Rattle.replies.specs.Told.{Told}
 use Rattle.replies.specs.declared.outcome.Outcome.{Outcome}
-use Rattle.diagram.specs.Sets.{Names, query_lists}
-use Rattle.replies.specs.Observed.{AnswerForSets}
+use Rattle.replies.specs.Vocabulary.{AnswerForSets}
 use Rattle.answer_text.specs.declared.signs.Notation.TheVariants as notations
-use Rattle.identify_text.specs.Answers.{answer_in}
-use Rattle.prob_expr.specs.Tree.{effect_on}
-use Rattle.adjustment.specs.Formulas.{adjustment_formula}
-use Rattle.adjust_command.specs.Answers.{SetTexts, CriterionAnswer}
+use Rattle.identify_text.specs.Vocabulary.{answer_in}
+use Rattle.prob_expr.specs.Vocabulary.{effect_on}
+use Rattle.adjustment.specs.Vocabulary.{adjustment_formula}
+use Rattle.adjust_command.specs.Vocabulary.{SetTexts, CriterionAnswer}
 
 -- the effect and the adjustment formula of z in LaTeX
 abbrev pub formula_latex : List (List ℕ) → (x y z : ℕ) → List ℕ

@@ -1,8 +1,8 @@
 -- Expressions without an empty part: no sum is over nothing, and no product has fewer than two factors.
 use Rattle.std.specs.Prelude.{Bool, true, not, ◌&&◌}
-use Rattle.mixed_graph.specs.Masks.{is_empty}
-use Rattle.prob_expr.specs.Tree.{Tree, prob, sum, product, quotient, named, Trees, no_trees, tree}
-use Rattle.prob_expr.specs.Check.{are_two}
+use Rattle.mixed_graph.specs.Vocabulary.{is_empty}
+use Rattle.prob_expr.specs.Tree.{Tree, prob, sum, product, quotient, named, tree}
+use Rattle.prob_expr.specs.Vocabulary.{Trees, no_trees, are_two}
 
 abbrev mutual
   pub is_full : Tree → Bool

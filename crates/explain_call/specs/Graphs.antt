@@ -1,11 +1,10 @@
 -- The text of a graph whose vertices have no marks, and that of the graph in which a rule is asked.
 use Rattle.std.specs.Prelude.{ℕ, ◌≡◌, ◌&&◌, nat_lt, List, None, map}
-use Rattle.mixed_graph.specs.Bits.{has}
-use Rattle.mixed_graph.specs.Graphs.{MixedGraph}
-use Rattle.dag_reader.specs.Rows.{count_up, pairs_below}
-use Rattle.dag_reader.specs.Written.{Drawn, written}
+use Rattle.mixed_graph.specs.Vocabulary.{has, MixedGraph}
+use Rattle.dag_reader.specs.Vocabulary.{count_up, pairs_below, Drawn}
+use Rattle.dag_reader.specs.Written.{written}
 use Rattle.do_rules.specs.declared.rules.Rule.{Rule}
-use Rattle.do_rules.specs.Rules.{IsRuleGraph}
+use Rattle.do_rules.specs.Vocabulary.{IsRuleGraph}
 
 -- a graph as it is written, each vertex without a mark
 abbrev pub unmarked : List (List ℕ) → MixedGraph → Drawn

@@ -15,3 +15,4 @@ pub mod Questions
 pub mod ToldRules
 pub mod Trace
 pub mod Parts
+pub mod Vocabulary

@@ -1,6 +1,7 @@
 -- The moves of a step in turn, each at its place.
 use Rattle.std.specs.Prelude.{List, [], ◌∷◌, ◌++◌, map}
-use Rattle.do_derivation.specs.Plans.{Plan, Plans, no_plans, plan}
+use Rattle.do_derivation.specs.Plans.{Plan, Plans, plan}
+use Rattle.do_derivation.specs.Vocabulary.{no_plans}
 
 -- a move stands alone; those of a step on a child are on that child; those of several steps follow one another
 abbrev mutual

@@ -1,11 +1,12 @@
 -- A derivation explained: the expressions of its lemmas and of its main step, one after another.
 use Rattle.std.specs.Prelude.{ℕ, ◌+◌, ◌≡◌, ◌⊎◌, Bool, List, [], ◌∷◌, ◌++◌, Option, Some, None, codes, decimal}
-use Rattle.mixed_graph.specs.Graphs.{MixedGraph}
-use Rattle.prob_expr.specs.Tree.{Tree, PlainTarget, term_of}
-use Rattle.expr_text.specs.Write.{text_of}
-use Rattle.do_derivation.specs.Accepts.{start_of, sets_of}
-use Rattle.do_derivation.specs.Plans.{Plan, PlainLemma, PlainDerivation}
+use Rattle.mixed_graph.specs.Vocabulary.{MixedGraph}
+use Rattle.prob_expr.specs.Tree.{Tree}
+use Rattle.prob_expr.specs.Vocabulary.{PlainTarget, term_of}
+use Rattle.expr_text.specs.Vocabulary.{text_of}
 use Rattle.do_derivation.specs.declared.faults.ApplyFault.{ApplyFault}
+use Rattle.do_derivation.specs.Vocabulary.{start_of, sets_of, PlainLemma, PlainDerivation}
+use Rattle.do_derivation.specs.Plans.{Plan}
 use Rattle.do_derivation.specs.declared.faults.ApplyFault.TheVariants.{Step, NoMemory}
 use Rattle.explain_call.specs.Moves.{moves_of}
 use Rattle.explain_call.specs.Trace.{Traces, Stops}

@@ -1,15 +1,13 @@
 -- The rule for which a step asks, with its sets, as the code finds it from the step and the term alone. Words for code inside this crate; what
 -- a step asks is what its row of the table asks (Told).
 use Rattle.std.specs.Prelude.{ℕ, Option, Some, None, option_and_then}
-use Rattle.mixed_graph.specs.Bits.{has}
-use Rattle.mixed_graph.specs.Sets.{Within}
-use Rattle.mixed_graph.specs.Masks.{minus}
+use Rattle.mixed_graph.specs.Vocabulary.{has, Within, minus}
 use Rattle.prob_expr.specs.Tree.{Tree, prob, sum, product, quotient, named}
 use Rattle.do_rules.specs.declared.rules.Rule.{Rule}
 use Rattle.do_rules.specs.declared.rules.Rule.TheVariants.{One, Two, Three}
 use Rattle.do_derivation.specs.Plans.{Move, Plan}
-use Rattle.do_derivation.specs.Shapes.{child}
 use Rattle.do_derivation.specs.declared.moves.SetMove.{SetMove}
+use Rattle.do_derivation.specs.Vocabulary.{child}
 use Rattle.do_derivation.specs.declared.moves.SetMove.TheVariants as set_move
 use Rattle.explain_call.specs.declared.explaining.questions.Question.{Question}
 

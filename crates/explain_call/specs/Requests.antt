@@ -1,10 +1,8 @@
 -- What the words of a call that explains ask for, by a table of their own: `rule` has the words of the command of that name.
 use Rattle.std.specs.Prelude.{◌≡◌, Bool, List, [], ◌∷◌, Option, Some, None, codes, option_map}
-use Rattle.command_words.specs.Form.{Text, Row, Use, word_of, value_of, has_flag}
-use Rattle.command_words.specs.ListViews.{names_in}
+use Rattle.command_words.specs.Vocabulary.{Text, Row, Use, word_of, value_of, has_flag, names_in, AsksBy}
 use Rattle.command_words.specs.Values as values
-use Rattle.command_words.specs.Asks.{AsksBy}
-use Rattle.diagram.specs.Sets.{Names}
+use Rattle.diagram.specs.Vocabulary.{Names}
 use Rattle.separation_commands.specs.RuleRequests as of_rule
 use Rattle.explain_call.specs.declared.requests.Kind.{Kind}
 use Rattle.explain_call.specs.declared.requests.Kind.TheVariants as kind

@@ -1,16 +1,15 @@
 -- The answer of `rule`: the text of the graph in which a rule of the do-calculus is asked, in the observed graph of a diagram.
 use Rattle.std.specs.Prelude.{ℕ, ◌≡◌, List}
-use Rattle.mixed_graph.specs.Graphs.{MixedGraph}
+use Rattle.mixed_graph.specs.Vocabulary.{MixedGraph, graph_of}
 use Rattle.do_rules.specs.declared.rules.Rule.{Rule}
-use Rattle.mixed_graph.specs.Shown.{graph_of}
 use Rattle.diagram.specs.declared.diagram.Diagram.{Diagram}
+use Rattle.diagram.specs.Vocabulary.{rule_lists}
 use Rattle.targets.specs.declared.fault.TargetFault.{TargetFault}
-use Rattle.targets.specs.Targets.{RuleLists, AreRuleSets, IsRuleFault}
-use Rattle.replies.specs.Told.{Told, answer_of}
+use Rattle.targets.specs.Vocabulary.{RuleLists, AreRuleSets, IsRuleFault}
+use Rattle.replies.specs.Told.{Told}
 use Rattle.replies.specs.declared.outcome.Outcome.{Outcome}
 use Rattle.replies.specs.declared.outcome.Outcome.TheVariants.{Yes, Graph}
-use Rattle.replies.specs.Refusals.{target_told}
-use Rattle.diagram.specs.Sets.{rule_lists}
+use Rattle.replies.specs.Vocabulary.{answer_of, target_told}
 use Rattle.explain_call.specs.Graphs.{IsRuleGraphText}
 
 -- yes: the lists name these sets, and the text is that of the rule's graph

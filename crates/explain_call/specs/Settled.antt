@@ -1,21 +1,20 @@
 -- The answer of `settled`: of which kind the answer of `identify --given` is, in the observed graph of a diagram.
 use Rattle.std.specs.Prelude.{ℕ, ◌≡◌, ◌⊎◌, Bool, true, false, List, Some, codes}
-use Rattle.mixed_graph.specs.Graphs.{MixedGraph}
 use Rattle.mixed_graph.specs.declared.sets.VSet.{VSet}
-use Rattle.prob_expr.specs.Tree.{PlainTarget}
+use Rattle.mixed_graph.specs.Vocabulary.{MixedGraph, graph_of}
+use Rattle.prob_expr.specs.Vocabulary.{PlainTarget}
 use Rattle.hedge.specs.declared.hedge.Hedge.{Hedge}
 use Rattle.counter_models.specs.declared.counter_pair.CounterPair.{CounterPair}
-use Rattle.conditional_id.specs.Answers.{IsRightJoint, IsJointShown, SomeFormula}
-use Rattle.mixed_graph.specs.Shown.{graph_of}
+use Rattle.conditional_id.specs.Vocabulary.{IsRightJoint, IsJointShown, SomeFormula}
 use Rattle.diagram.specs.declared.diagram.Diagram.{Diagram}
+use Rattle.diagram.specs.Vocabulary.{Names, query_lists}
 use Rattle.targets.specs.declared.fault.TargetFault.{TargetFault}
-use Rattle.targets.specs.Targets.{Lists, IsListFault}
-use Rattle.replies.specs.Refusals.{target_told}
-use Rattle.replies.specs.Told.{Told, answer_of}
+use Rattle.targets.specs.Vocabulary.{Lists, IsListFault}
 use Rattle.replies.specs.declared.outcome.Outcome.{Outcome}
 use Rattle.replies.specs.declared.outcome.Outcome.TheVariants.{Yes, No, Graph}
-use Rattle.diagram.specs.Sets.{Names, query_lists}
-use Rattle.identify_command.specs.Right.{AreTargetSets}
+use Rattle.replies.specs.Vocabulary.{target_told, answer_of}
+use Rattle.replies.specs.Told.{Told}
+use Rattle.identify_command.specs.Vocabulary.{AreTargetSets}
 
 -- The observations of the target turn into a joint effect, which isn't identifiable: this is its hedge, with the two models that `identify` shows. No
 -- formula without interventions equals the target. Settled, exactly where no observation is left, or those that are left have an effect that is known,

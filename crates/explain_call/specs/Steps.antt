@@ -1,21 +1,19 @@
 -- What the steps of a certificate's derivation are answered.
 use Rattle.std.specs.Prelude.{ℕ, ◌≡◌, ◌<◌, ◌≤◌, ◌⊎◌, Bool, List, length, Err, codes}
-use Rattle.mixed_graph.specs.Graphs.{MixedGraph}
-use Rattle.prob_expr.specs.Tree.{PlainFormula, PlainTarget}
-use Rattle.do_derivation.specs.Plans.{PlainDerivation}
-use Rattle.do_derivation.specs.declared.faults.ApplyFault.TheVariants.{Step}
+use Rattle.mixed_graph.specs.Vocabulary.{MixedGraph, graph_of}
+use Rattle.prob_expr.specs.Vocabulary.{PlainFormula, PlainTarget}
 use Rattle.do_derivation.specs.declared.faults.StepFault.{StepFault}
-use Rattle.certificate.specs.Plain.{PlainHedge, formula, hedge}
-use Rattle.certificate.specs.Reading.{certificate_in}
+use Rattle.do_derivation.specs.Vocabulary.{PlainDerivation}
+use Rattle.do_derivation.specs.declared.faults.ApplyFault.TheVariants.{Step}
 use Rattle.certificate.specs.declared.fault.CertFault.{CertFault}
 use Rattle.certificate.specs.declared.fault.CertFault.TheVariants.{NoMemory}
-use Rattle.mixed_graph.specs.Shown.{graph_of}
+use Rattle.certificate.specs.Vocabulary.{PlainHedge, formula, hedge, certificate_in}
 use Rattle.diagram.specs.declared.diagram.Diagram.{Diagram}
-use Rattle.replies.specs.Told.{Told, answer_of}
+use Rattle.replies.specs.Told.{Told}
 use Rattle.replies.specs.declared.outcome.Outcome.{Outcome}
 use Rattle.replies.specs.declared.outcome.Outcome.TheVariants.{Yes, No, Second}
-use Rattle.check_command.specs.Refusals.{cert_size_told, cert_fault_told}
-use Rattle.check_command.specs.Right.{HoldsCertificate}
+use Rattle.replies.specs.Vocabulary.{answer_of}
+use Rattle.check_command.specs.Vocabulary.{cert_size_told, cert_fault_told, HoldsCertificate}
 use Rattle.explain_call.specs.Parts.{Explains, DerivationStops}
 
 -- the bytes are too many for a certificate, or their text has a fault: the line and the object say so

@@ -1,13 +1,14 @@
 -- What is told of a derivation.
 use Rattle.std.specs.Prelude.{ℕ, ◌≡◌, Bool, List, codes}
-use Rattle.mixed_graph.specs.Graphs.{MixedGraph}
-use Rattle.prob_expr.specs.Tree.{PlainTarget}
-use Rattle.do_derivation.specs.Plans.{PlainDerivation}
-use Rattle.do_derivation.specs.declared.faults.ApplyFault.TheVariants.{Step}
+use Rattle.mixed_graph.specs.Vocabulary.{MixedGraph}
+use Rattle.prob_expr.specs.Vocabulary.{PlainTarget}
 use Rattle.do_derivation.specs.declared.faults.StepFault.{StepFault}
-use Rattle.replies.specs.Told.{Told, answer_of}
+use Rattle.do_derivation.specs.Vocabulary.{PlainDerivation}
+use Rattle.do_derivation.specs.declared.faults.ApplyFault.TheVariants.{Step}
+use Rattle.replies.specs.Told.{Told}
 use Rattle.replies.specs.declared.outcome.Outcome.{Outcome}
 use Rattle.replies.specs.declared.outcome.Outcome.TheVariants.{Yes, No}
+use Rattle.replies.specs.Vocabulary.{answer_of}
 use Rattle.explain_call.specs.Parts.{Explains, DerivationStops}
 
 -- yes with its text, or no where a move is refused

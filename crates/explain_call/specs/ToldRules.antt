@@ -1,13 +1,13 @@
 -- What is told of a rule for which a step asks: its question, and the graph in which it is asked.
 use Rattle.std.specs.Prelude.{ℕ, ◌≡◌, Bool, true, false, List, [], ◌++◌, Option, Some, None, MatchOption, codes}
 use Rattle.std.specs.Fmt.{decimal}
-use Rattle.mixed_graph.specs.Graphs.{MixedGraph}
-use Rattle.answer_text.specs.Texts.{set_text}
+use Rattle.mixed_graph.specs.Vocabulary.{MixedGraph}
+use Rattle.answer_text.specs.Vocabulary.{set_text}
 use Rattle.prob_expr.specs.Tree.{Tree}
-use Rattle.do_rules.specs.Rules.{number_of}
 use Rattle.do_rules.specs.declared.rules.Rule.{Rule}
+use Rattle.do_rules.specs.Vocabulary.{number_of}
 use Rattle.do_derivation.specs.Plans.{Plan}
-use Rattle.do_derivation.specs.Shapes.{child}
+use Rattle.do_derivation.specs.Vocabulary.{child}
 use Rattle.do_derivation.specs.Table.{Row, row}
 use Rattle.explain_call.specs.Graphs.{IsRuleGraphText}
 use Rattle.explain_call.specs.Questions.{Asked}

@@ -1,13 +1,11 @@
 -- What the moves of a step make, one after another, as lines.
 use Rattle.std.specs.Prelude.{ℕ, ◌≡◌, ◌⊎◌, Bool, List, [], ◌∷◌, ◌++◌, codes}
-use Rattle.mixed_graph.specs.Graphs.{MixedGraph}
+use Rattle.mixed_graph.specs.Vocabulary.{MixedGraph}
 use Rattle.prob_expr.specs.Tree.{Tree}
-use Rattle.expr_text.specs.Write.{text_of}
+use Rattle.expr_text.specs.Vocabulary.{text_of}
 use Rattle.do_derivation.specs.Plans.{Plan}
-use Rattle.do_derivation.specs.Words.{move_word}
-use Rattle.do_derivation.specs.Steps.{Makes}
-use Rattle.do_derivation.specs.Answers.{IsApplyFault}
 use Rattle.do_derivation.specs.declared.faults.ApplyFault.{ApplyFault}
+use Rattle.do_derivation.specs.Vocabulary.{move_word, Makes, IsApplyFault}
 use Rattle.explain_call.specs.ToldRules.{Tells}
 
 -- the word of a move at its place, as certificates have it; several steps have none

@@ -1,7 +1,7 @@
 //! How a call ends.
 
 ghost use Rattle.std.specs.Prelude.{◌≡◌, ◌≤◌, IsNone, IfSome};
-ghost use Rattle.command_words.specs.Views.{texts_of};
+ghost use Rattle.command_words.specs.Vocabulary.{texts_of};
 ghost use Rattle.explain_call.specs.Requests.{request_of, second_of};
 ghost use Rattle.explain_call.specs.Ends.{HoldsSecond, LacksSecond, Ends};
 

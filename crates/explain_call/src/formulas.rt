@@ -1,10 +1,9 @@
 //! An adjustment formula in LaTeX.
 
 ghost use Rattle.std.specs.Prelude.{ℕ, ◌≡◌, ◌<◌, IfOk, length};
-ghost use Rattle.mixed_graph.specs.Bits.{has};
-ghost use Rattle.mixed_graph.specs.Shown.{graph_of};
-ghost use Rattle.do_rules.specs.Rules.{AreThreeSets};
-ghost use Rattle.replies.specs.Told.{told_of};
+ghost use Rattle.mixed_graph.specs.Vocabulary.{has, graph_of};
+ghost use Rattle.do_rules.specs.Vocabulary.{AreThreeSets};
+ghost use Rattle.replies.specs.Vocabulary.{told_of};
 ghost use Rattle.explain_call.specs.Formulas.{formula_latex, FormulaFor, FormulaAnswer};
 ghost use Rattle.explain_call.specs.Requests.{formula_of};
 

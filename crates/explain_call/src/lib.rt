@@ -3,7 +3,7 @@
 #![tactic(auto)]
 
 ghost use Rattle.std.specs.Prelude.{◌≤◌};
-ghost use Rattle.span_call.specs.Ends.{IsEnd};
+ghost use Rattle.span_call.specs.Vocabulary.{IsEnd};
 ghost use Rattle.explain_call.specs.Calls.{Explained};
 
 mod ending;

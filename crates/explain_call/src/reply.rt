@@ -1,7 +1,7 @@
 //! The answer of each question.
 
 ghost use Rattle.std.specs.Prelude.{IfOk};
-ghost use Rattle.replies.specs.Told.{told_of};
+ghost use Rattle.replies.specs.Vocabulary.{told_of};
 ghost use Rattle.explain_call.specs.Requests.{request_of};
 ghost use Rattle.explain_call.specs.Answers.{DiagramAnswer, FileAnswer};
 

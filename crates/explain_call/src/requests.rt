@@ -1,10 +1,7 @@
 // What the words ask for.
 
 ghost use Rattle.std.specs.Prelude.{List, ◌≡◌, Some, IfOk, IsErrOf, map, option_map};
-ghost use Rattle.command_words.specs.Form.{Use, row_named};
-ghost use Rattle.command_words.specs.Views.{row_of, texts_of};
-ghost use Rattle.command_words.specs.Gives.{HoldsCall};
-ghost use Rattle.command_words.specs.Readable.{AreReadable};
+ghost use Rattle.command_words.specs.Vocabulary.{Use, row_named, row_of, texts_of, HoldsCall, AreReadable};
 ghost use Rattle.explain_call.specs.Requests.{row_for, table, kind_of, IsRequest, AsksNothing, Asks, request_of};
 ghost use Rattle.explain_call.specs.Requests as asked;
 

@@ -1,10 +1,8 @@
 //! The graph in which a rule is asked.
 
 ghost use Rattle.std.specs.Prelude.{◌≡◌, IfOk};
-ghost use Rattle.mixed_graph.specs.Bits.{has};
-ghost use Rattle.mixed_graph.specs.Sets.{Within};
-ghost use Rattle.mixed_graph.specs.Shown.{graph_of};
-ghost use Rattle.replies.specs.Told.{told_of, answer_of};
+ghost use Rattle.mixed_graph.specs.Vocabulary.{has, Within, graph_of};
+ghost use Rattle.replies.specs.Vocabulary.{told_of, answer_of};
 ghost use Rattle.separation_commands.specs.RuleRequests.{request_of};
 ghost use Rattle.explain_call.specs.Graphs.{IsRuleGraphText};
 ghost use Rattle.explain_call.specs.RuleGraphs.{RuleGraphAnswer};

@@ -1,11 +1,10 @@
 //! Of which kind the answer under a condition is.
 
 ghost use Rattle.std.specs.Prelude.{◌<◌, IfOk};
-ghost use Rattle.mixed_graph.specs.Bits.{has};
-ghost use Rattle.mixed_graph.specs.Shown.{graph_of};
-ghost use Rattle.do_rules.specs.Rules.{AreThreeSets};
-ghost use Rattle.prob_expr.specs.View.{target_view};
-ghost use Rattle.replies.specs.Told.{told_of};
+ghost use Rattle.mixed_graph.specs.Vocabulary.{has, graph_of};
+ghost use Rattle.do_rules.specs.Vocabulary.{AreThreeSets};
+ghost use Rattle.prob_expr.specs.Vocabulary.{target_view};
+ghost use Rattle.replies.specs.Vocabulary.{told_of};
 ghost use Rattle.explain_call.specs.Requests.{settled_of};
 ghost use Rattle.explain_call.specs.Settled.{KindFor, SettledAnswer};
 

@@ -1,11 +1,11 @@
 //! The steps of a certificate's derivation.
 
 ghost use Rattle.std.specs.Prelude.{IfOk, length};
-ghost use Rattle.mixed_graph.specs.Shown.{graph_of};
-ghost use Rattle.prob_expr.specs.View.{target_view};
-ghost use Rattle.do_derivation.specs.View.{derivation_view};
-ghost use Rattle.replies.specs.Told.{told_of};
-ghost use Rattle.check_command.specs.Replies.{IsSoundTarget, IsSoundDerivation};
+ghost use Rattle.mixed_graph.specs.Vocabulary.{graph_of};
+ghost use Rattle.prob_expr.specs.Vocabulary.{target_view};
+ghost use Rattle.do_derivation.specs.Vocabulary.{derivation_view};
+ghost use Rattle.replies.specs.Vocabulary.{told_of};
+ghost use Rattle.check_command.specs.Vocabulary.{IsSoundTarget, IsSoundDerivation};
 ghost use Rattle.explain_call.specs.Steps.{StepsIn};
 ghost use Rattle.explain_call.specs.Told.{TellsSteps};
 

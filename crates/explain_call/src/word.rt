@@ -1,7 +1,7 @@
 //! Answers of one word.
 
 ghost use Rattle.std.specs.Prelude.{◌≡◌, IfOk};
-ghost use Rattle.replies.specs.Told.{told_of, answer_of};
+ghost use Rattle.replies.specs.Vocabulary.{told_of, answer_of};
 
 use replies::{Outcome, Reply};
 use std::alloc::{AllocError, Global};

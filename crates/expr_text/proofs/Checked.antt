@@ -2,11 +2,10 @@
 use Rattle.std.proofs.Common.{◌≡◌, ℕ, ◌+◌, ◌^◌, ◌<◌, ◌≤◌, Bool, true, false, cond, not, ltb, ◌&&◌, List, [], ◌∷◌, length, Option, Some, None, Result}
 use Rattle.std.proofs.Common.{Ok, Err, refl, arith}
 use Rattle.std.proofs.lemmas.Bool.{ltb-true, lt-ltb}
-use Rattle.prob_expr.specs.Tree.{Tree, prob, sum, product, quotient, named, Trees, no_trees, tree, PlainFormula}
-use Rattle.mixed_graph.specs.Masks.{is_empty, is_below}
-use Rattle.prob_expr.specs.TermSets.{are_term_sets}
-use Rattle.prob_expr.specs.Check.{◌>>=◌, next_node, are_two, check_tree, check_trees, fault_of, or_else, fault_in_defs, fault_in, cap}
+use Rattle.prob_expr.specs.Tree.{Tree, prob, sum, product, quotient, named, tree}
 use Rattle.prob_expr.specs.declared.checking.ExprFault.{ExprFault}
+use Rattle.prob_expr.specs.Vocabulary.{Trees, no_trees, PlainFormula, are_term_sets, ◌>>=◌, next_node, are_two, check_tree, check_trees, fault_of, or_else, fault_in_defs, fault_in, cap}
+use Rattle.mixed_graph.specs.Vocabulary.{is_empty, is_below}
 use Rattle.expr_text.specs.Sound.{is_sound, are_sound, is_numbered, are_numbered, all_sound}
 
 abbrev Checked : Type 0

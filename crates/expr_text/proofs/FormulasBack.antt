@@ -3,8 +3,8 @@ use Rattle.std.proofs.Common.{◌≡◌, ℕ, zero, suc, ◌+◌, ◌^◌, ◌<�
 use Rattle.std.proofs.Common.{Err, is_none, decimal, refl, sym, ap, ◌∙◌, append_assoc, append-nil, arith}
 use Rattle.std.proofs.lemmas.Bool.{eq-eqb}
 use Rattle.std.proofs.lemmas.List.{length-append}
-use Rattle.prob_expr.specs.Tree.{Tree, PlainFormula}
-use Rattle.prob_expr.specs.Check.{check_tree, fault_of, fault_in_defs, cap}
+use Rattle.prob_expr.specs.Tree.{Tree}
+use Rattle.prob_expr.specs.Vocabulary.{PlainFormula, check_tree, fault_of, fault_in_defs, cap}
 use Rattle.expr_text.specs.Read.{◌>>=◌, bad, trim, next_is, expect, repeat, inner_of, def_body, def_at, def_step, checked, formula_of}
 use Rattle.answer_text.specs.declared.signs.Notation.TheVariants.{Plain}
 use Rattle.expr_text.specs.Write.{text_of, nesting, defs_in, formula_text, nesting_all}

@@ -5,8 +5,8 @@ use Rattle.std.proofs.lemmas.Bool.{false≢true}
 use Rattle.std.specs.List.{prefix_len}
 use Rattle.std.proofs.lemmas.List.{take_at, drop_at}
 use Rattle.std.specs.List.{list_all}
-use Rattle.mixed_graph.specs.Names.{is_line_byte}
-use Rattle.answer_text.specs.Printing.{is_white, is_plain_byte, is_bare, begins_with_arrow, is_plain, printed}
+use Rattle.mixed_graph.specs.Vocabulary.{is_line_byte}
+use Rattle.answer_text.specs.Vocabulary.{is_white, is_plain_byte, is_bare, begins_with_arrow, is_plain, printed}
 use Rattle.expr_text.specs.Read.{trim, raw_name, bare, quoted, closed}
 use Rattle.expr_text.specs.Grammar.{EndsRun}
 use Rattle.expr_text.proofs.Within.{and_true}

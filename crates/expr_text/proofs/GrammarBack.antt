@@ -2,11 +2,10 @@
 use Rattle.std.proofs.Common.{◌≡◌, ℕ, zero, suc, ◌+◌, ◌≤◌, true, cond, eqb, List, [], ◌∷◌, ◌++◌, length, Some, None, Result, Ok, Err, ◌⊎◌, inl, inr}
 use Rattle.std.proofs.Common.{refl, sym, ap, subst, ◌∙◌, append_assoc, append-nil, length-append, arith, codes, decimal, is_none}
 use Rattle.std.proofs.lemmas.Bool.{eq-eqb}
-use Rattle.prob_expr.specs.Check.{fault_in}
-use Rattle.mixed_graph.specs.Masks.{union, one}
-use Rattle.prob_expr.specs.Tree.{Tree, prob, sum, product, quotient, named, trees_of, PlainFormula}
-use Rattle.mixed_graph.specs.Names.{name_of}
-use Rattle.answer_text.specs.Printing.{is_white}
+use Rattle.prob_expr.specs.Vocabulary.{fault_in, trees_of, PlainFormula}
+use Rattle.mixed_graph.specs.Vocabulary.{union, one, name_of}
+use Rattle.prob_expr.specs.Tree.{Tree, prob, sum, product, quotient, named}
+use Rattle.answer_text.specs.Vocabulary.{is_white}
 use Rattle.expr_text.specs.Read.{◌>>=◌, when, bad, trim, after, next_is, expect, name_at, name_step, names_at, repeat, given_at, doing_at, conds_at}
 use Rattle.expr_text.specs.Read.{term_at, named_at, in_parentheses, operand_at, sum_at, factor_at, factor_step, factors_at, bottom_at, operands_at}
 use Rattle.expr_text.specs.Read.{expr_with, inner_of, expr_of, def_body, def_at, def_step, checked, formula_of}

@@ -1,8 +1,8 @@
 -- What is read is of the grammar.
 use Rattle.std.proofs.Common.{◌≡◌, ℕ, zero, suc, ◌+◌, Bool, true, false, cond, eqb, List, [], ◌∷◌, ◌++◌, length, Option, Some, None, Result, Ok, Err}
 use Rattle.std.proofs.Common.{inl, inr, refl, sym, ap, subst, ◌∙◌, append_assoc, append-nil, arith, codes, eqb-true, ne_eqb, is_none, length-append}
-use Rattle.prob_expr.specs.Check.{fault_in}
-use Rattle.prob_expr.specs.Tree.{Tree, prob, sum, product, quotient, named, trees_of, PlainFormula}
+use Rattle.prob_expr.specs.Vocabulary.{fault_in, trees_of, PlainFormula}
+use Rattle.prob_expr.specs.Tree.{Tree, prob, sum, product, quotient, named}
 use Rattle.expr_text.specs.Read.{◌>>=◌, when, bad, trim, next_is, expect, name_at, name_step, names_at, repeat, number_at, given_at, doing_at}
 use Rattle.expr_text.specs.Read.{conds_at, term_at, named_at, in_parentheses, operand_at, sum_at, factor_at, factor_step, factors_at, bottom_at}
 use Rattle.expr_text.specs.Read.{operands_at, expr_with, inner_of, expr_of, def_body, def_at, def_step, checked, formula_of}

@@ -7,10 +7,8 @@ use Rattle.std.specs.Str.{bytes_eq}
 use Rattle.std.proofs.lemmas.Bool.{eq-eqb}
 use Rattle.std.proofs.lemmas.List.{length-append, take-append-drop}
 use Rattle.std.proofs.lemmas.Slice.Eq.{bytes_eq-Decides}
-use Rattle.mixed_graph.specs.Bits.{has}
-use Rattle.mixed_graph.specs.Names.{is_line_byte, is_named, index_of, name_of}
-use Rattle.answer_text.specs.Printing.{is_white, is_plain_byte, is_bare}
-use Rattle.mixed_graph.specs.Masks.{union, one}
+use Rattle.mixed_graph.specs.Vocabulary.{has, is_line_byte, is_named, index_of, name_of, union, one}
+use Rattle.answer_text.specs.Vocabulary.{is_white, is_plain_byte, is_bare}
 use Rattle.expr_text.specs.Read.{◌>>=◌, when, bad, after, trim, next_is, expect, closed, quoted, bare, raw_name, with_vertex, name_at}
 use Rattle.expr_text.specs.Grammar.{IsBlank, EndsRun, Token, Name, bare_name, quoted_name, Member}
 use Rattle.expr_text.proofs.Within.{and_true}

@@ -7,7 +7,7 @@ use Rattle.std.proofs.lemmas.List.Elements.{All-get_or}
 use Rattle.std.proofs.lemmas.List.Folds.{list_any_at}
 use Rattle.std.proofs.lemmas.List.Sums.{position_or_len_is}
 use Rattle.std.proofs.lemmas.Slice.Eq.{bytes_eq-Decides}
-use Rattle.mixed_graph.specs.Names.{IsName, AreNames, is_line_byte, is_named, index_of}
+use Rattle.mixed_graph.specs.Vocabulary.{IsName, AreNames, is_line_byte, is_named, index_of}
 
 -- not empty, and without a quotation mark or a line's end
 pub record IsKnown (name : List ℕ) : Type 0 where

@@ -5,13 +5,10 @@ use Rattle.std.specs.Prelude.{if◌then◌else◌}
 use Rattle.std.proofs.lemmas.List.{at_drop_more, at_drop_all, map-append}
 use Rattle.std.proofs.lemmas.Bool.{lt-ltb, eq-eqb, false≢true}
 use Rattle.std.proofs.Math.Nat.{pow-le-pow_right}
-use Rattle.mixed_graph.specs.Bits.{has, members_below}
-use Rattle.mixed_graph.specs.Names.{name_of}
+use Rattle.mixed_graph.specs.Vocabulary.{has, members_below, name_of, is_empty}
 use Rattle.mixed_graph.proofs.FirstMembers.{members-empty, members-some}
-use Rattle.answer_text.specs.Printing.{printed}
 use Rattle.answer_text.specs.declared.signs.Notation.TheVariants.{Plain}
-use Rattle.answer_text.specs.Texts.{names_in, member_names, conditions_in, term_text}
-use Rattle.mixed_graph.specs.Masks.{is_empty}
+use Rattle.answer_text.specs.Vocabulary.{printed, names_in, member_names, conditions_in, term_text}
 use Rattle.mixed_graph.proofs.MaskLaws.{below_has}
 
 -- the names of the members, where the first of these names has index k

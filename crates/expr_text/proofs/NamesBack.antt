@@ -5,9 +5,8 @@ use Rattle.std.specs.Int.{bit_at}
 use Rattle.std.proofs.lemmas.Nat.{or_disjoint, mod-pow-add, pow_pos}
 use Rattle.std.proofs.lemmas.Nat.Bits.{and_pow, bit_at-zero, bit_at-lt, bit_at_above}
 use Rattle.std.proofs.Math.Nat.{mod-eq_of_lt}
-use Rattle.mixed_graph.specs.Bits.{has}
-use Rattle.mixed_graph.specs.Names.{is_named, index_of}
-use Rattle.answer_text.specs.Printing.{is_plain_byte, printed}
+use Rattle.mixed_graph.specs.Vocabulary.{has, is_named, index_of}
+use Rattle.answer_text.specs.Vocabulary.{is_plain_byte, printed}
 use Rattle.expr_text.specs.Read.{◌>>=◌, when, bad, trim, next_is, with_vertex, name_at, name_step, names_at, repeat}
 use Rattle.expr_text.proofs.Known.{AreKnown}
 use Rattle.expr_text.proofs.Listed.{members, listed, more_listed, names_text, member_in, member_out, members_end}

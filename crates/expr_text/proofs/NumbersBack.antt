@@ -5,7 +5,7 @@ use Rattle.std.specs.List.{prefix_len}
 use Rattle.std.proofs.lemmas.Bool.{le-leb, lt-ltb}
 use Rattle.std.proofs.lemmas.Fmt.{decimal_by_steps, first_decimal, length-decimal-le, decimal_digit}
 use Rattle.std.proofs.lemmas.List.{take_at, drop_at, length-append}
-use Rattle.answer_text.specs.Printing.{is_white}
+use Rattle.answer_text.specs.Vocabulary.{is_white}
 use Rattle.expr_text.specs.Bytes.{is_digit}
 use Rattle.expr_text.specs.Read.{bad, number_of, is_number, number_in, number_at}
 use Rattle.expr_text.proofs.Fronts.{Stops, all_pass, prefix_len-stops, other_byte, trim_here}

@@ -1,9 +1,8 @@
 -- Sound trees whose numbers have 32 bits.
 use Rattle.std.proofs.Common.{◌≡◌, ℕ, ◌^◌, Bool, true, not, ◌&&◌, ltb, refl}
-use Rattle.prob_expr.specs.Tree.{Tree, prob, sum, product, quotient, named, Trees, no_trees, tree}
-use Rattle.mixed_graph.specs.Masks.{is_empty, is_below}
-use Rattle.prob_expr.specs.Terms.{is_term}
-use Rattle.prob_expr.specs.Check.{are_two}
+use Rattle.prob_expr.specs.Tree.{Tree, prob, sum, product, quotient, named, tree}
+use Rattle.prob_expr.specs.Vocabulary.{Trees, no_trees, is_term, are_two}
+use Rattle.mixed_graph.specs.Vocabulary.{is_empty, is_below}
 use Rattle.expr_text.specs.Sound.{is_sound, are_sound, is_numbered, are_numbered}
 use Rattle.expr_text.proofs.Within.{and_true}
 use Rattle.expr_text.proofs.Checked.{both}

@@ -4,9 +4,9 @@ use Rattle.std.proofs.Common.{refl, sym, ap, ◌∙◌, append_assoc, arith, eqb
 use Rattle.std.proofs.lemmas.Bool.{eqb-false}
 use Rattle.std.specs.List.{prefix_len}
 use Rattle.prob_expr.specs.Tree.{prob}
-use Rattle.mixed_graph.specs.Masks.{is_empty}
+use Rattle.mixed_graph.specs.Vocabulary.{is_empty}
 use Rattle.std.specs.List.{list_all}
-use Rattle.answer_text.specs.Printing.{is_plain_byte, is_bare, begins_with_arrow, is_plain, printed}
+use Rattle.answer_text.specs.Vocabulary.{is_plain_byte, is_bare, begins_with_arrow, is_plain, printed}
 use Rattle.expr_text.specs.Read.{◌>>=◌, when, after, trim, next_is, expect, names_at, given_at, doing_at, conds_at, term_at}
 use Rattle.expr_text.proofs.Known.{AreKnown, whole_run}
 use Rattle.expr_text.proofs.Listed.{listed, more_listed, names_text, conds_text}

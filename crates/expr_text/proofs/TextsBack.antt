@@ -4,12 +4,11 @@ use Rattle.std.proofs.Common.{sym, ap, ◌∙◌, append_assoc, append-nil, arit
 use Rattle.std.proofs.lemmas.List.{length-append}
 use Rattle.std.proofs.lemmas.Bool.{ltb-true}
 use Rattle.std.specs.List.{prefix_len}
-use Rattle.prob_expr.specs.Tree.{Tree, prob, sum, product, quotient, named, Trees, no_trees, tree, trees_of}
-use Rattle.mixed_graph.specs.Masks.{is_empty, is_below}
-use Rattle.mixed_graph.specs.Bits.{has}
-use Rattle.answer_text.specs.Printing.{is_white}
+use Rattle.prob_expr.specs.Tree.{Tree, prob, sum, product, quotient, named, tree}
+use Rattle.prob_expr.specs.Vocabulary.{Trees, no_trees, trees_of}
+use Rattle.mixed_graph.specs.Vocabulary.{is_empty, is_below, has}
 use Rattle.answer_text.specs.declared.signs.Notation.TheVariants.{Plain}
-use Rattle.answer_text.specs.Texts.{names_in, member_names}
+use Rattle.answer_text.specs.Vocabulary.{is_white, names_in, member_names}
 use Rattle.expr_text.specs.Bytes.{is_digit}
 use Rattle.expr_text.specs.Read.{◌>>=◌, Parse, when, bad, trim, next_is, expect, named_at, Inner, in_parentheses, operand_at, sum_at, factor_at}
 use Rattle.expr_text.specs.Read.{factor_step, repeat, factors_at, bottom_at, operands_at, expr_with, inner_of, expr_of}

@@ -1,10 +1,7 @@
 -- Sets of a term lie within the vertices.
 use Rattle.std.proofs.Common.{◌≡◌, ℕ, Bool, true, false, not, ◌&&◌, refl}
-use Rattle.mixed_graph.specs.Bits.{has}
-use Rattle.mixed_graph.specs.Sets.{Within}
-use Rattle.mixed_graph.specs.Masks.{is_empty, is_below, is_apart}
-use Rattle.prob_expr.specs.TermSets.{are_term_sets}
-use Rattle.prob_expr.specs.Terms.{is_term}
+use Rattle.mixed_graph.specs.Vocabulary.{has, Within, is_empty, is_below, is_apart}
+use Rattle.prob_expr.specs.Vocabulary.{are_term_sets, is_term}
 use Rattle.mixed_graph.proofs.MaskLaws.{below_has}
 
 -- where a conjunction is true both parts are

@@ -1,7 +1,7 @@
 -- The classes of bytes.
 use Rattle.std.specs.Prelude.{ℕ, Bool, ◌&&◌, nat_le}
-use Rattle.mixed_graph.specs.Names.{is_line_byte}
-use Rattle.answer_text.specs.Printing.{is_white, is_plain_byte}
+use Rattle.mixed_graph.specs.Vocabulary.{is_line_byte}
+use Rattle.answer_text.specs.Vocabulary.{is_white, is_plain_byte}
 use Rattle.expr_text.specs.declared.bytes.Class.{Class}
 use Rattle.expr_text.specs.declared.bytes.Class.TheVariants.{White, Plain, Line, Digit}
 

@@ -8,11 +8,10 @@
 -- Each relation is of the bytes from a part on, and the bytes behind it.
 use Rattle.std.specs.Prelude.{◌≡◌, ℕ, zero, suc, ◌+◌, ◌^◌, ◌<◌, Bool, true, false, List, [], ◌∷◌, ◌++◌, length, codes, decimal}
 use Rattle.std.specs.List.{list_all}
-use Rattle.mixed_graph.specs.Bits.{has}
-use Rattle.mixed_graph.specs.Names.{is_line_byte, name_of}
-use Rattle.answer_text.specs.Printing.{is_white, is_plain_byte, is_bare}
-use Rattle.mixed_graph.specs.Masks.{union, one}
-use Rattle.prob_expr.specs.Tree.{Tree, prob, sum, product, quotient, named, trees_of, PlainFormula}
+use Rattle.mixed_graph.specs.Vocabulary.{has, is_line_byte, name_of, union, one}
+use Rattle.answer_text.specs.Vocabulary.{is_white, is_plain_byte, is_bare}
+use Rattle.prob_expr.specs.Tree.{Tree, prob, sum, product, quotient, named}
+use Rattle.prob_expr.specs.Vocabulary.{trees_of, PlainFormula}
 use Rattle.expr_text.specs.Bytes.{is_digit}
 
 -- white space alone, or nothing

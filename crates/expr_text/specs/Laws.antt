@@ -1,8 +1,8 @@
 -- What is written is read again, and what is read is the grammar's.
 use Rattle.std.specs.Prelude.{◌≡◌, ◌↔◌, ℕ, ◌≤◌, ◌^◌, true, List, length, Ok, None}
-use Rattle.mixed_graph.specs.Names.{AreNames}
-use Rattle.prob_expr.specs.Tree.{Tree, PlainFormula}
-use Rattle.prob_expr.specs.Check.{fault_in}
+use Rattle.mixed_graph.specs.Vocabulary.{AreNames}
+use Rattle.prob_expr.specs.Tree.{Tree}
+use Rattle.prob_expr.specs.Vocabulary.{PlainFormula, fault_in}
 use Rattle.expr_text.specs.Grammar.{IsExprText, IsFormulaText}
 use Rattle.expr_text.specs.Read.{expr_of, formula_of}
 use Rattle.expr_text.specs.Sound.{is_sound, is_numbered}

@@ -5,3 +5,4 @@ pub mod Read
 pub mod Sound
 pub mod Text
 pub mod Write
+pub mod Vocabulary

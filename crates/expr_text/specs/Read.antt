@@ -3,12 +3,10 @@
 use Rattle.std.specs.Prelude.{◌≡◌, ℕ, zero, suc, ◌+◌, ◌-◌, ◌*◌, ◌^◌, Bool, false, not, ◌||◌, ◌&&◌, ◌==◌, is_none, nat_lt, List, [], ◌∷◌, ◌++◌, length}
 use Rattle.std.specs.Prelude.{take, drop, Option, Some, None, Result, Ok, Err, if◌then◌else◌, codes}
 use Rattle.std.specs.List.{prefix_len}
-use Rattle.prob_expr.specs.Tree.{Tree, prob, sum, product, quotient, named, trees_of, PlainFormula}
-use Rattle.prob_expr.specs.Check.{fault_in}
-use Rattle.mixed_graph.specs.Bits.{has}
-use Rattle.mixed_graph.specs.Names.{is_line_byte, is_named, index_of}
-use Rattle.answer_text.specs.Printing.{is_white, is_plain_byte}
-use Rattle.mixed_graph.specs.Masks.{union, one}
+use Rattle.prob_expr.specs.Tree.{Tree, prob, sum, product, quotient, named}
+use Rattle.prob_expr.specs.Vocabulary.{trees_of, PlainFormula, fault_in}
+use Rattle.mixed_graph.specs.Vocabulary.{has, is_line_byte, is_named, index_of, union, one}
+use Rattle.answer_text.specs.Vocabulary.{is_white, is_plain_byte}
 use Rattle.expr_text.specs.Bytes.{is_digit}
 use Rattle.expr_text.specs.declared.stop.ReadStop.{ReadStop}
 use Rattle.expr_text.specs.declared.stop.ReadStop.TheVariants.{Left, NoMemory}

@@ -1,9 +1,8 @@
 -- Trees that have a text.
 use Rattle.std.specs.Prelude.{ℕ, ◌^◌, Bool, true, not, ◌&&◌, ltb, List, [], ◌∷◌}
-use Rattle.prob_expr.specs.Tree.{Tree, prob, sum, product, quotient, named, Trees, no_trees, tree}
-use Rattle.mixed_graph.specs.Masks.{is_empty, is_below}
-use Rattle.prob_expr.specs.Terms.{is_term}
-use Rattle.prob_expr.specs.Check.{are_two}
+use Rattle.prob_expr.specs.Tree.{Tree, prob, sum, product, quotient, named, tree}
+use Rattle.prob_expr.specs.Vocabulary.{Trees, no_trees, is_term, are_two}
+use Rattle.mixed_graph.specs.Vocabulary.{is_empty, is_below}
 
 abbrev mutual
   -- each term is one over n vertices, each sum is over some of them, and each product has two factors or more

@@ -1,14 +1,14 @@
 -- The text of an expression, and of a formula, in either notation.
 use Rattle.std.specs.Prelude.{ℕ, suc, ◌+◌, max, List, [], ◌∷◌, ◌++◌, codes, decimal}
-use Rattle.mixed_graph.specs.Bits.{has}
+use Rattle.mixed_graph.specs.Vocabulary.{has}
 use Rattle.answer_text.specs.declared.signs.Notation.{Notation}
 use Rattle.answer_text.specs.declared.signs.Notation.TheVariants.{Plain, Latex}
 use Rattle.answer_text.specs.declared.signs.Sign.TheVariants.{Sum, Times, Open, Close}
-use Rattle.answer_text.specs.Notations.{sign_text, by_notation}
-use Rattle.answer_text.specs.Texts.{set_in, term_in}
+use Rattle.answer_text.specs.Vocabulary.{sign_text, by_notation, set_in, term_in}
 use Rattle.expr_text.specs.declared.writing.Place.{Place}
 use Rattle.expr_text.specs.declared.writing.Place.TheVariants.{First, Later}
-use Rattle.prob_expr.specs.Tree.{Tree, prob, sum, product, quotient, named, Trees, no_trees, tree, PlainFormula}
+use Rattle.prob_expr.specs.Tree.{Tree, prob, sum, product, quotient, named, tree}
+use Rattle.prob_expr.specs.Vocabulary.{Trees, no_trees, PlainFormula}
 
 -- a text in parentheses
 abbrev pub parenthesized : Notation → List ℕ → List ℕ

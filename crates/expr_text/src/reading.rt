@@ -1,7 +1,8 @@
 //! Expressions and formulas read from a text.
 
 ghost use Rattle.std.specs.Prelude.{◌≡◌, ◌<◌, ◌≤◌, ◌+◌, ◌-◌, ℕ, length, IfSome, IfOk, map, codes, []};
-ghost use Rattle.prob_expr.specs.View.{view, formula_view};
+ghost use Rattle.prob_expr.specs.View.{view};
+ghost use Rattle.prob_expr.specs.Vocabulary.{formula_view};
 ghost use Rattle.expr_text.specs.Read.{Gives, next_is, expect, names_at, given_at, doing_at, conds_at, term_at, named_at, in_parentheses, operand_at, sum_at, factor_at, factor_step, repeat, factors_at, bottom_at, operands_at, expr_with, inner_of, expr_of, def_body, def_at, def_step, checked, formula_of};
 ghost use Rattle.expr_text.specs.Text.{Faults, Reads};
 

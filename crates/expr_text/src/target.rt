@@ -1,8 +1,7 @@
 //! The text of a target.
 
 ghost use Rattle.std.specs.Prelude.{◌≡◌, ◌++◌, IfOk};
-ghost use Rattle.prob_expr.specs.Tree.{term_of};
-ghost use Rattle.prob_expr.specs.View.{target_view};
+ghost use Rattle.prob_expr.specs.Vocabulary.{term_of, target_view};
 ghost use Rattle.expr_text.specs.Write.{expr_in, text_of, latex_of};
 
 use answer_text::{Notation, Term, push_term_in};

@@ -1,10 +1,10 @@
 //! Expressions and formulas written.
 
 ghost use Rattle.std.specs.Prelude.{◌≡◌, ◌++◌, ◌+◌, OnOk, IfOk, codes, decimal, string_bytes, map};
-ghost use Rattle.mixed_graph.specs.Bits.{has};
-ghost use Rattle.answer_text.specs.Notations.{sign_text};
-ghost use Rattle.answer_text.specs.Texts.{set_in, term_in};
-ghost use Rattle.prob_expr.specs.View.{view, views, formula_view};
+ghost use Rattle.mixed_graph.specs.Vocabulary.{has};
+ghost use Rattle.answer_text.specs.Vocabulary.{sign_text, set_in, term_in};
+ghost use Rattle.prob_expr.specs.View.{view};
+ghost use Rattle.prob_expr.specs.Vocabulary.{views, formula_view};
 ghost use Rattle.expr_text.specs.Write.{parenthesized, factor_in, wrapped, quotient_in, name_of_def, expr_in, factors_in, defs_in, formula_in, text_of, formula_text, formula_latex};
 
 use answer_text::{Notation, Sign, Term, push_set_in, push_sign, push_term_in};

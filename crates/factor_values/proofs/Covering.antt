@@ -3,18 +3,15 @@ use Rattle.std.proofs.Common.{ℕ, suc, ◌+◌, ◌≡◌, Bool, true, false, c
 use Rattle.std.proofs.Common.{List, [], ◌∷◌, ◌++◌, length, get_or, Option, None, Result, Ok, append_assoc}
 use Rattle.std.proofs.lemmas.List.{length-append, get_or_at}
 use mathlib.Core.Path.{fun_ext}
-use Rattle.mixed_graph.specs.Bits.{has}
-use Rattle.fractions.specs.Fractions.{Fraction, mul, div}
-use Rattle.prob_expr.specs.Tree.{Tree, sum, product, quotient, named, Trees, no_trees, tree}
-use Rattle.prob_expr.specs.Values.{Weights, value, product_value, value_of, add_over}
-use Rattle.quantity.specs.Kinds.{Pair, Kind}
-use Rattle.quantity.specs.Lawful.{IsLawful}
-use Rattle.count_eval.specs.Evaluated.{evaluated, factors_evaluated, some_zero, formula_value, node_behind}
-use Rattle.count_eval.specs.Laws.{is_supported}
-use Rattle.count_eval.specs.Rules.{plain}
-use Rattle.count_eval.specs.Steps.{one_more, each_cell, whole}
-use Rattle.count_eval.specs.Stops.{Stop, after, placed}
-use Rattle.count_eval.specs.Supported.{has_value, have_values, all_over}
+use Rattle.mixed_graph.specs.Vocabulary.{has}
+use Rattle.fractions.specs.Vocabulary.{Fraction, mul, div}
+use Rattle.prob_expr.specs.Tree.{Tree, sum, product, quotient, named, tree}
+use Rattle.prob_expr.specs.Vocabulary.{Trees, no_trees, Weights, value, product_value, value_of, add_over}
+use Rattle.quantity.specs.Kinds.{Pair}
+use Rattle.quantity.specs.Vocabulary.{Kind, IsLawful}
+use Rattle.count_eval.specs.Evaluated.{evaluated}
+use Rattle.count_eval.specs.Vocabulary.{factors_evaluated, some_zero, formula_value, node_behind, is_supported, plain, one_more, each_cell, whole, after, placed, has_value, have_values, all_over}
+use Rattle.count_eval.specs.Stops.{Stop}
 use Rattle.count_eval.proofs.Covered.{Good, expr_good, formula_good, never_zero}
 use Rattle.factor_values.specs.Factors.{PlainFactor, PlainFactors, read_at, chance_of, factors_product, factors_value, product_supported, factors_supported}
 use Rattle.factor_values.specs.Laws.{FactorsAreCovered}

@@ -1,19 +1,18 @@
 -- Over weights that match a positive model the value is the model's.
 use Rattle.std.proofs.Common.{ℕ, ◌≡◌, ◌<◌, Bool, true, false, cond, refl, sym, subst, arith, List, [], ◌∷◌, All}
 use Rattle.std.proofs.lemmas.List.Elements.{All-head, All-tail}
-use Rattle.mixed_graph.specs.Bits.{has}
-use Rattle.mixed_graph.specs.Graphs.{MixedGraph, IsMixedGraph}
+use Rattle.mixed_graph.specs.Vocabulary.{has, MixedGraph, IsMixedGraph}
 use Rattle.mixed_graph.proofs.Masks.{has-zero}
-use Rattle.fractions.specs.Fractions.{Fraction, over, IsEqual}
+use Rattle.fractions.specs.Vocabulary.{Fraction, over, IsEqual}
 use Rattle.fractions.proofs.FractionLaws.{equal_refl, equal_sym, equal_trans, mul_equal, div_equal}
-use Rattle.finite_models.specs.Models.{FiniteModel, Fits, IsAssignment, IsPositiveModel}
+use Rattle.finite_models.specs.Vocabulary.{FiniteModel, Fits, IsAssignment, IsPositiveModel}
 use Rattle.prob_expr.specs.Tree.{sum, named}
-use Rattle.prob_expr.specs.Values.{Weights, weights_of, value_of, add_over}
+use Rattle.prob_expr.specs.Vocabulary.{Weights, weights_of, value_of, add_over}
 use Rattle.prob_expr.proofs.Boxes.{assignment_set, add_over_equal}
 use Rattle.prob_expr.proofs.ValueLaws.{values_are_positive}
-use Rattle.quantity.specs.Kinds.{Pair, Kind}
-use Rattle.quantity.specs.Lawful.{IsLawful}
-use Rattle.count_eval.specs.Laws.{IsMatched}
+use Rattle.quantity.specs.Kinds.{Pair}
+use Rattle.quantity.specs.Vocabulary.{Kind, IsLawful}
+use Rattle.count_eval.specs.Vocabulary.{IsMatched}
 use Rattle.count_eval.proofs.Matched.{matched_has_value, matched_sizes, same_value}
 use Rattle.factor_values.specs.Factors.{PlainFactor, PlainFactors, read_at, chance_of, factors_product, factors_value}
 use Rattle.factor_values.specs.Laws.{IsObservedFactor, AreObserved, MatchedCoversFactors}

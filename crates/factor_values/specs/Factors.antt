@@ -1,12 +1,11 @@
 -- A sum of a product of factors, over a probability. Each factor is a formula that reads some vertices at a second level: so are the effect of treatment on
 -- the treated and natural effects written, whose treatments have two levels at once.
 use Rattle.std.specs.Prelude.{ℕ, Bool, true, not, ◌&&◌, ◌==◌, if◌then◌else◌, List, [], ◌∷◌}
-use Rattle.mixed_graph.specs.Bits.{has}
-use Rattle.fractions.specs.Fractions.{Fraction, over, mul, div}
-use Rattle.prob_expr.specs.Tree.{prob, PlainFormula}
-use Rattle.prob_expr.specs.Values.{Weights, value_of, add_over}
-use Rattle.count_eval.specs.Laws.{is_supported}
-use Rattle.count_eval.specs.Supported.{all_over}
+use Rattle.mixed_graph.specs.Vocabulary.{has}
+use Rattle.fractions.specs.Vocabulary.{Fraction, over, mul, div}
+use Rattle.prob_expr.specs.Tree.{prob}
+use Rattle.prob_expr.specs.Vocabulary.{PlainFormula, Weights, value_of, add_over}
+use Rattle.count_eval.specs.Vocabulary.{is_supported, all_over}
 
 -- a formula, and the vertices that it reads at their second levels
 pub record PlainFactor : Type 0 where

@@ -1,13 +1,12 @@
 -- What the values of sums of products of factors have to do with fractions, and with models.
 use Rattle.std.specs.Prelude.{ℕ, ◌≡◌, Bool, true, Ok, All}
-use Rattle.mixed_graph.specs.Bits.{has}
-use Rattle.mixed_graph.specs.Graphs.{MixedGraph, IsMixedGraph}
-use Rattle.fractions.specs.Fractions.{Fraction, IsEqual}
-use Rattle.finite_models.specs.Models.{FiniteModel, Fits, IsAssignment, IsPositiveModel}
-use Rattle.prob_expr.specs.Terms.{is_do_free}
-use Rattle.prob_expr.specs.Values.{Weights, weights_of}
-use Rattle.quantity.specs.Kinds.{Pair, Kind}
-use Rattle.count_eval.specs.Laws.{IsUsed, AllUsed, IsMatched}
+use Rattle.mixed_graph.specs.Vocabulary.{has, MixedGraph, IsMixedGraph}
+use Rattle.fractions.specs.Vocabulary.{Fraction, IsEqual}
+use Rattle.finite_models.specs.Vocabulary.{FiniteModel, Fits, IsAssignment, IsPositiveModel}
+use Rattle.prob_expr.specs.Vocabulary.{is_do_free, Weights, weights_of}
+use Rattle.quantity.specs.Kinds.{Pair}
+use Rattle.quantity.specs.Vocabulary.{Kind}
+use Rattle.count_eval.specs.Vocabulary.{IsUsed, AllUsed, IsMatched}
 use Rattle.factor_values.specs.Factors.{PlainFactor, PlainFactors, factors_value, factors_supported}
 use Rattle.factor_values.specs.Outcomes.{factors_outcome}
 

@@ -1,3 +1,4 @@
 pub mod Factors
 pub mod Outcomes
 pub mod Laws
+pub mod Vocabulary

@@ -1,12 +1,11 @@
 -- The value of a sum of a product of factors in a kind of quantity, or why there is none.
 use Rattle.std.specs.Prelude.{ℕ, List, [], ◌∷◌, Option, None, Result, Ok}
-use Rattle.mixed_graph.specs.Bits.{has}
-use Rattle.prob_expr.specs.Values.{Weights}
-use Rattle.quantity.specs.Kinds.{Pair, Kind}
-use Rattle.count_eval.specs.Evaluated.{formula_value}
-use Rattle.count_eval.specs.Rules.{plain}
-use Rattle.count_eval.specs.Steps.{one_more, each_cell, whole}
-use Rattle.count_eval.specs.Stops.{Stop, after, placed}
+use Rattle.mixed_graph.specs.Vocabulary.{has}
+use Rattle.prob_expr.specs.Vocabulary.{Weights}
+use Rattle.quantity.specs.Kinds.{Pair}
+use Rattle.quantity.specs.Vocabulary.{Kind}
+use Rattle.count_eval.specs.Vocabulary.{formula_value, plain, one_more, each_cell, whole, after, placed}
+use Rattle.count_eval.specs.Stops.{Stop}
 use Rattle.factor_values.specs.Factors.{PlainFactor, PlainFactors, read_at, chance_of}
 
 -- the value of a factor at the levels that it reads

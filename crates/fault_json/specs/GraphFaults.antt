@@ -1,10 +1,10 @@
 -- The objects of the faults of graphs, by the stage at which they lie: that of the first or of the second input.
 use Rattle.std.specs.Prelude.{ℕ, List, [], codes}
 use Rattle.json.specs.Json.{Json, null}
-use Rattle.answer_json.specs.Faults.{bare_fault_json, text_fault_json, names_fault_json, placed_fault_json}
+use Rattle.answer_json.specs.Vocabulary.{bare_fault_json, text_fault_json, names_fault_json, placed_fault_json}
 use Rattle.dag_reader.specs.declared.faults.GraphFault.{GraphFault}
-use Rattle.dag_reader.specs.declared.faults.GraphFault.TheVariants.{NotUtf8, Token, Expected, NotADag, EdgeKind, Flag, Selected, SelfLoop, TooMany}
-use Rattle.dag_reader.specs.declared.faults.GraphFault.TheVariants.{RoleClash, Cycle, NoMemory}
+use Rattle.dag_reader.specs.declared.faults.GraphFault.TheVariants.{NotUtf8, NotADag, EdgeKind, SelfLoop, TooMany, RoleClash, Cycle, NoMemory}
+use Rattle.dag_reader.specs.declared.faults.GraphFault.TheVariants.{Token, Expected, Flag, Selected}
 
 -- a fault of a graph's text in words; want of memory has none
 unfoldable pub graph_message : GraphFault → List ℕ

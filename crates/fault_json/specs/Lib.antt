@@ -1,2 +1,3 @@
 pub mod GraphFaults
 pub mod TargetFaults
+pub mod Vocabulary

@@ -1,9 +1,10 @@
 -- The objects of the faults of listed names, by the stage at which they lie.
 use Rattle.std.specs.Prelude.{ℕ, List, [], ◌∷◌, codes}
 use Rattle.json.specs.Json.{Json, null}
-use Rattle.answer_json.specs.Faults.{bare_fault_json, text_fault_json, names_fault_json}
+use Rattle.answer_json.specs.Vocabulary.{bare_fault_json, text_fault_json, names_fault_json}
 use Rattle.targets.specs.declared.fault.TargetFault.{TargetFault}
-use Rattle.targets.specs.declared.fault.TargetFault.TheVariants.{Unknown, Latent, Twice, EmptyY, EmptyX, NotOneX, Bidirected, OtherNames, NoMemory}
+use Rattle.targets.specs.declared.fault.TargetFault.TheVariants.{EmptyY, EmptyX, NotOneX, Bidirected, OtherNames, NoMemory}
+use Rattle.targets.specs.declared.fault.TargetFault.TheVariants.{Unknown, Latent, Twice}
 
 -- a fault of listed names in words; want of memory has none
 unfoldable pub target_message : TargetFault → List ℕ

@@ -2,7 +2,7 @@
 
 ghost use Rattle.std.specs.Prelude.{◌≡◌, IfOk, OnOk};
 ghost use Rattle.std.specs.Str.{IsUtf8};
-ghost use Rattle.answer_json.specs.Progress.{json_line};
+ghost use Rattle.answer_json.specs.Vocabulary.{json_line};
 ghost use Rattle.fault_json.specs.GraphFaults.{graph_message, graph_fault_json, graph_size_json};
 
 use answer_json::{bare_fault, names_fault, placed_fault, text_fault};

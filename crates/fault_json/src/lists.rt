@@ -2,7 +2,7 @@
 
 ghost use Rattle.std.specs.Prelude.{◌≡◌, IfOk, OnOk};
 ghost use Rattle.std.specs.Str.{IsUtf8};
-ghost use Rattle.answer_json.specs.Progress.{json_line};
+ghost use Rattle.answer_json.specs.Vocabulary.{json_line};
 ghost use Rattle.fault_json.specs.TargetFaults.{target_message, target_fault_json};
 
 use answer_json::{bare_fault, pair_fault, text_fault};

@@ -3,8 +3,7 @@ use Rattle.std.proofs.Common.{ℕ, zero, suc, ◌+◌, ◌≡◌, ◌<◌, ◌�
 use Rattle.std.proofs.Common.{length, get_or, map, IsTrue, arith}
 use Rattle.std.proofs.lemmas.Bool.{false_from_ne_true, cases_eq, eqb-true, or_cases}
 use Rattle.std.proofs.lemmas.List.{get_or_past, get_or-set_same, get_or-set_other, length-map}
-use Rattle.mixed_graph.specs.Graphs.{MixedGraph, IsMixedGraph}
-use Rattle.mixed_graph.specs.Orders.{taken_by}
+use Rattle.mixed_graph.specs.Vocabulary.{MixedGraph, IsMixedGraph, taken_by}
 use Rattle.finite_models.specs.Sums.{sum_below, product_below}
 use Rattle.finite_models.specs.Models.{FiniteModel, Fits, IsAssignment, intervene, solution, agree, weight_of, world_weight, world_count, total}
 use Rattle.finite_models.specs.Data.{meaning, weights_of}

@@ -3,7 +3,7 @@ use Rattle.std.proofs.Common.{ℕ, ◌≡◌, ◌<◌, refl, sym, subst, ◌∙�
 use Rattle.std.proofs.lemmas.List.{get_or-map}
 use Rattle.finite_models.specs.Data.{meaning, value_by}
 use Rattle.finite_models.specs.Laws.{SoundDataFits}
-use Rattle.mixed_graph.specs.Graphs.{MixedGraph}
+use Rattle.mixed_graph.specs.Vocabulary.{MixedGraph}
 use Rattle.finite_models.proofs.DataReads.{reads_same, value_below}
 use Rattle.finite_models.specs.declared.model.Model.{Model}
 use Rattle.finite_models.specs.declared.model.Mechanism.{Mechanism}

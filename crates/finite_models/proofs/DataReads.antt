@@ -2,8 +2,7 @@
 use Rattle.std.proofs.Common.{ℕ, suc, ◌+◌, ◌*◌, ◌%◌, ◌≡◌, ◌<◌, Bool, true, false, cond, refl, ap, sym, List, [], ◌∷◌, length, get_or, map, sum, Some}
 use Rattle.std.proofs.Common.{None, IsTrue, arith}
 use Rattle.std.proofs.lemmas.Bool.{and_parts}
-use Rattle.mixed_graph.specs.Bits.{has}
-use Rattle.mixed_graph.specs.Graphs.{MixedGraph}
+use Rattle.mixed_graph.specs.Vocabulary.{has, MixedGraph}
 use Rattle.finite_models.specs.Sums.{sum_below}
 use Rattle.finite_models.specs.Data.{weights_of, children_of, hedge_bit, carried_bit, part_bit, value_by, place_in_table}
 use Rattle.finite_models.specs.Inputs.{MayRead, HasInputs, HasValues}

@@ -1,7 +1,6 @@
 -- Data of the right form that means a model that fits the graph is sound.
 use Rattle.std.proofs.Common.{ℕ, zero, suc, ◌≡◌, ◌<◌, ◌≤◌, subst, length, get_or, arith}
-use Rattle.mixed_graph.specs.Bits.{has}
-use Rattle.mixed_graph.specs.Graphs.{MixedGraph}
+use Rattle.mixed_graph.specs.Vocabulary.{has, MixedGraph}
 use Rattle.finite_models.specs.Sums.{sum_below}
 use Rattle.finite_models.specs.Data.{value_by, weights_of, children_of}
 use Rattle.finite_models.specs.Inputs.{HasInputs, HasValues, HasPartSize}

@@ -2,7 +2,7 @@
 use Rattle.std.specs.Prelude.{if◌then◌else◌}
 use Rattle.std.proofs.Common.{ℕ, zero, suc, ◌*◌, ◌≡◌, ◌<◌, ◌≤◌, Bool, true, false, cond, eqb, nat_lt, refl, sym, ap, ◌∙◌, subst}
 use Rattle.std.proofs.Common.{arith, rules, eqb-true, lt-ltb, IsTrue}
-use Rattle.mixed_graph.specs.Graphs.{MixedGraph, IsMixedGraph}
+use Rattle.mixed_graph.specs.Vocabulary.{MixedGraph, IsMixedGraph}
 use Rattle.finite_models.specs.Laws.{HasPositiveModel}
 use Rattle.finite_models.specs.Models.{FiniteModel, Fits, IsPositiveModel, agree, rounds, solution, world_weight}
 use Rattle.finite_models.specs.Sums.{sum_below, product_below, sum_over}

@@ -1,6 +1,6 @@
 -- The weight of an event on a set that is closed under parents, as a product of two factors.
 use Rattle.std.proofs.Common.{ℕ, zero, suc, ◌*◌, ◌≡◌, ◌<◌, Bool, true, false, cond, eqb, refl, sym, ap, ◌∙◌, ◌||◌, ◌&&◌, arith, eqb-true}
-use Rattle.mixed_graph.specs.Graphs.{MixedGraph}
+use Rattle.mixed_graph.specs.Vocabulary.{MixedGraph}
 use Rattle.finite_models.specs.Sums.{sum_over, product_below}
 use Rattle.finite_models.specs.Models.{FiniteModel, solution, agree, event_weight, world_weight}
 use Rattle.finite_models.proofs.Following.{Follows}

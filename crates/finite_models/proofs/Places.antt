@@ -1,7 +1,7 @@
 -- What stands at a place of a model's lists.
 use Rattle.std.proofs.Common.{◌≡◌, ℕ, ◌<◌, List, [], length, get_or, sym, ap, ◌∙◌}
 use Rattle.std.proofs.lemmas.List.{get_or-map}
-use Rattle.mixed_graph.specs.Graphs.{MixedGraph}
+use Rattle.mixed_graph.specs.Vocabulary.{MixedGraph}
 use Rattle.finite_models.specs.Data.{weights_of, children_of}
 use Rattle.finite_models.specs.Sound.{IsSoundCause, IsSoundAt}
 use Rattle.finite_models.specs.declared.model.Model.{Model}

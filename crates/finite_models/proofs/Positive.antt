@@ -1,6 +1,6 @@
 -- In a positive model every event has weight at least 1 under every intervention.
 use Rattle.std.proofs.Common.{ℕ, zero, suc, ◌≡◌, ◌-◌, ◌<◌, ◌≤◌, Bool, true, false, cond, refl, sym, ◌∙◌, arith}
-use Rattle.mixed_graph.specs.Graphs.{MixedGraph, IsMixedGraph}
+use Rattle.mixed_graph.specs.Vocabulary.{MixedGraph, IsMixedGraph}
 use Rattle.finite_models.specs.Sums.{sum_below, sum_over, set_at}
 use Rattle.finite_models.specs.Models.{FiniteModel, IsAssignment, IsSolution, IsPositiveModel, solution, agree, event_weight, world_weight, intervene}
 use Rattle.finite_models.specs.Models.{weight_of}

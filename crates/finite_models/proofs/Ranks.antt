@@ -1,7 +1,7 @@
 -- An acyclic graph can't fail to have a rank: the number of proper ancestors.
 use Rattle.std.proofs.Common.{ℕ, zero, suc, ◌+◌, ◌≡◌, ◌<◌, ◌≤◌, Bool, true, false, eqb, refl, sym, ap, ◌∙◌, ◌∷◌, [], ◌++◌, List, arith, eqb-true}
 use Rattle.std.proofs.lemmas.Bool.{false_from_ne_true}
-use Rattle.mixed_graph.specs.Graphs.{MixedGraph, IsMixedGraph, IsDirectedPath}
+use Rattle.mixed_graph.specs.Vocabulary.{MixedGraph, IsMixedGraph, IsDirectedPath}
 use Rattle.finite_models.specs.Sums.{sum_below}
 use Rattle.finite_models.proofs.Indicators.{number}
 use Rattle.finite_models.proofs.Solutions.{IsRanked}

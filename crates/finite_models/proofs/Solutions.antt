@@ -1,6 +1,6 @@
 -- The solution of a world.
 use Rattle.std.proofs.Common.{ℕ, zero, suc, ◌≡◌, ◌<◌, Bool, true, cond, eqb, refl, sym, ◌∙◌, arith, eqb-true, eq-eqb}
-use Rattle.mixed_graph.specs.Graphs.{MixedGraph}
+use Rattle.mixed_graph.specs.Vocabulary.{MixedGraph}
 use Rattle.finite_models.specs.Sums.{all_below}
 use Rattle.finite_models.specs.Models.{FiniteModel, IsAssignment, rounds, solution, IsSolution, agree}
 use Rattle.finite_models.proofs.Bools.{same_truth}

@@ -1,6 +1,6 @@
 -- A worked model, computed from the definitions: it fits its graph and is positive.
 use Rattle.std.proofs.Common.{ℕ, zero, suc, ◌≡◌, ◌<◌, ◌≤◌, Bool, true, false, ◌&&◌, cond, eqb, refl, sym, ◌∙◌, ap₂, IsTrue, arith, eqb-true}
-use Rattle.mixed_graph.specs.Graphs.{MixedGraph}
+use Rattle.mixed_graph.specs.Vocabulary.{MixedGraph}
 use Rattle.finite_models.specs.Models.{FiniteModel, Fits, IsAssignment, IsPositiveModel, event_weight, weight_of, total}
 use Rattle.finite_models.proofs.SumLaws.{eqb-refl}
 

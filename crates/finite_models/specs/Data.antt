@@ -1,7 +1,6 @@
 -- Models as data, and the models that they mean.
 use Rattle.std.specs.Prelude.{ℕ, ◌+◌, ◌*◌, ◌%◌, ◌/◌, Bool, true, false, if◌then◌else◌, List, [], Option, Some, None, map, get_or, length, slice_index, sum}
-use Rattle.mixed_graph.specs.Bits.{has}
-use Rattle.mixed_graph.specs.Graphs.{MixedGraph}
+use Rattle.mixed_graph.specs.Vocabulary.{has, MixedGraph}
 use Rattle.finite_models.specs.Sums.{sum_below}
 use Rattle.finite_models.specs.Tables.{table_index, table_value}
 use Rattle.finite_models.specs.Models.{FiniteModel}

@@ -1,6 +1,6 @@
 -- What keeps data from meaning a model that fits the graph, the first in order.
 use Rattle.std.specs.Prelude.{ℕ, ◌≡◌, ◌-◌, ◌^◌, min, length}
-use Rattle.mixed_graph.specs.Graphs.{MixedGraph}
+use Rattle.mixed_graph.specs.Vocabulary.{MixedGraph}
 use Rattle.finite_models.specs.Sound.{IsSoundAt, IsFirstWrong, AllRight}
 use Rattle.finite_models.specs.Inputs.{HasInputsAt, HasValuesAt, HasPartSizeAt}
 use Rattle.finite_models.specs.declared.model.Model.{Model}

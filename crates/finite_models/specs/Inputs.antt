@@ -1,7 +1,6 @@
 -- What a vertex's mechanism may read, and which values it may give.
 use Rattle.std.specs.Prelude.{◌≡◌, ℕ, ◌<◌, ◌&&◌, false, Option, Some, None, IsSome, EachIndex, length, slice_index, get_or, IsTrue}
-use Rattle.mixed_graph.specs.Bits.{has}
-use Rattle.mixed_graph.specs.Graphs.{MixedGraph}
+use Rattle.mixed_graph.specs.Vocabulary.{has, MixedGraph}
 use Rattle.finite_models.specs.Tables.{table_range}
 use Rattle.finite_models.specs.Data.{weights_of, children_of, has_hedge, has_carried}
 use Rattle.finite_models.specs.declared.model.Model.{Model}

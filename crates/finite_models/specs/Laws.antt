@@ -1,6 +1,6 @@
 -- Laws of the models that fit a graph.
 use Rattle.std.specs.Prelude.{ℕ, ◌≡◌, ◌<◌, ◌≤◌, Bool, false, EachIndex, length, slice_index}
-use Rattle.mixed_graph.specs.Graphs.{MixedGraph, IsMixedGraph}
+use Rattle.mixed_graph.specs.Vocabulary.{MixedGraph, IsMixedGraph}
 use Rattle.finite_models.specs.Models.{FiniteModel, Fits, IsAssignment, IsWorld, IsSolution, IsPositiveModel, solution, event_weight, intervene}
 use Rattle.finite_models.specs.Models.{weight_of, total}
 use Rattle.finite_models.specs.Data.{meaning}

@@ -11,3 +11,4 @@ pub mod Sound
 pub mod Sums
 pub mod Tables
 pub mod Worlds
+pub mod Vocabulary

@@ -1,7 +1,7 @@
 -- Finite causal models with hidden causes of whole-number weights (Pearl, Causality, chapters 1 and 3).
 use Rattle.std.specs.Prelude.{ℕ, zero, suc, ◌≡◌, ◌≢◌, ◌<◌, ◌≤◌, Bool, true, if◌then◌else◌, ◌==◌, ◌&&◌, ◌||◌, not, IsTrue}
-use Rattle.mixed_graph.specs.Graphs.{MixedGraph}
-use Rattle.fractions.specs.Fractions.{Fraction, over}
+use Rattle.mixed_graph.specs.Vocabulary.{MixedGraph}
+use Rattle.fractions.specs.Vocabulary.{Fraction, over}
 use Rattle.finite_models.specs.Sums.{sum_below, product_below, sum_over, all_below}
 
 -- Vertex v has the values below `size v`. Hidden cause j has the values below `values j`, value i with the weight `weight j i`, and serves the

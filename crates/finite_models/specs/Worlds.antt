@@ -1,6 +1,6 @@
 -- The worlds of a model, numbered: in mixed radix the digits of a number are the values of the hidden causes, that of the first cause varying fastest.
 use Rattle.std.specs.Prelude.{ℕ, ◌≡◌, ◌/◌, ◌%◌, ◌<◌, ◌≤◌, List, Option, Some, None, EachIndex, length, slice_index}
-use Rattle.mixed_graph.specs.Graphs.{MixedGraph}
+use Rattle.mixed_graph.specs.Vocabulary.{MixedGraph}
 use Rattle.finite_models.specs.Sums.{sum_below, product_below}
 use Rattle.finite_models.specs.Models.{Fits}
 use Rattle.finite_models.specs.Data.{weights_of, meaning}

@@ -1,9 +1,7 @@
 //! What a hidden cause of a sound model is.
 
 ghost use Rattle.std.specs.Prelude.{◌≡◌, ℕ, ◌<◌, ◌≤◌, ◌↔◌, IsTrue, IfSome, IfNone, length, slice_index};
-ghost use Rattle.mixed_graph.specs.Bits.{has};
-ghost use Rattle.mixed_graph.specs.Sets.{Within};
-ghost use Rattle.mixed_graph.specs.Shown.{graph_of};
+ghost use Rattle.mixed_graph.specs.Vocabulary.{has, Within, graph_of};
 ghost use Rattle.finite_models.specs.Sums.{sum_below};
 ghost use Rattle.finite_models.specs.Sound.{AreAllJoined, IsSoundCause, IsSoundAt, IsFirstWrong, AllRight};
 

@@ -1,7 +1,7 @@
 //! Whether a model fits a graph.
 
 ghost use Rattle.std.specs.Prelude.{◌≡◌, ℕ, ◌≤◌, ◌↔◌, IsOk, IfErr, EachIndex, length, slice_index};
-ghost use Rattle.mixed_graph.specs.Shown.{graph_of};
+ghost use Rattle.mixed_graph.specs.Vocabulary.{graph_of};
 ghost use Rattle.finite_models.specs.Models.{Fits};
 ghost use Rattle.finite_models.specs.Data.{meaning};
 ghost use Rattle.finite_models.specs.Faults.{cap, IsWellFormed, IsFirstModelFault};

@@ -1,8 +1,7 @@
 //! The vertices with a hedge bit or a carried bit, and what may read them.
 
 ghost use Rattle.std.specs.Prelude.{◌≡◌, ℕ, ◌<◌, ◌≤◌, ◌↔◌, EachIndex, IsTrue, IsSome, IfSome, IfNone, Option, length, slice_index};
-ghost use Rattle.mixed_graph.specs.Bits.{has};
-ghost use Rattle.mixed_graph.specs.Shown.{graph_of};
+ghost use Rattle.mixed_graph.specs.Vocabulary.{has, graph_of};
 ghost use Rattle.finite_models.specs.Data.{hedged, carries, has_hedge, has_carried};
 ghost use Rattle.finite_models.specs.Inputs.{IsBitCause, MayRead, HedgeMayRead, CarriedMayRead, HasInputs, HasInputsAt};
 ghost use Rattle.finite_models.specs.Sound.{IsFirstWrong, AllRight};

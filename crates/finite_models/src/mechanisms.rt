@@ -1,7 +1,7 @@
 //! What a mechanism of a sound model is.
 
 ghost use Rattle.std.specs.Prelude.{◌≡◌, ℕ, ◌<◌, ◌≤◌, ◌↔◌, IsTrue, IfSome, IfNone, length, slice_index};
-ghost use Rattle.mixed_graph.specs.Shown.{graph_of};
+ghost use Rattle.mixed_graph.specs.Vocabulary.{graph_of};
 ghost use Rattle.finite_models.specs.Inputs.{HasInputs, HasInputsAt, HasValues, HasValuesAt, parity_size};
 ghost use Rattle.finite_models.specs.Sound.{IsFirstWrong, AllRight};
 

@@ -1,8 +1,7 @@
 //! The place of a mechanism's output in its table.
 
 ghost use Rattle.std.specs.Prelude.{◌≡◌, ℕ, ◌+◌, ◌*◌, ◌^◌, ◌<◌, ◌≤◌, cond, length, slice_index};
-ghost use Rattle.mixed_graph.specs.Bits.{has};
-ghost use Rattle.mixed_graph.specs.Shown.{graph_of};
+ghost use Rattle.mixed_graph.specs.Vocabulary.{has, graph_of};
 ghost use Rattle.finite_models.specs.Models.{IsAssignment};
 ghost use Rattle.finite_models.specs.Tables.{radix, radix_range, table_value};
 ghost use Rattle.finite_models.specs.Data.{children_of, place_in_table};

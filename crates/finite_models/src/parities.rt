@@ -1,7 +1,7 @@
 //! The parities of which mechanisms of parts are made.
 
 ghost use Rattle.std.specs.Prelude.{◌≡◌, ℕ, ◌/◌, ◌%◌, ◌<◌, ◌≤◌, EachIndex, cond, map, sum, length, slice_index};
-ghost use Rattle.mixed_graph.specs.Bits.{has};
+ghost use Rattle.mixed_graph.specs.Vocabulary.{has};
 ghost use Rattle.finite_models.specs.Sums.{sum_below};
 ghost use Rattle.finite_models.specs.Data.{hedged, hedge_bit, carried_bit, part_bit, parity_value};
 ghost use Rattle.finite_models.specs.Worlds.{value_in_world, HaveWeight, HasCauses, HaveCauses};

@@ -1,9 +1,7 @@
 //! The solution of a model in a world, under an intervention.
 
 ghost use Rattle.std.specs.Prelude.{◌≡◌, ℕ, ◌<◌, length, slice_index};
-ghost use Rattle.mixed_graph.specs.Bits.{has};
-ghost use Rattle.mixed_graph.specs.Orders.{IsOrder};
-ghost use Rattle.mixed_graph.specs.Shown.{graph_of};
+ghost use Rattle.mixed_graph.specs.Vocabulary.{has, IsOrder, graph_of};
 ghost use Rattle.finite_models.specs.Models.{IsAssignment, intervene, solution};
 ghost use Rattle.finite_models.specs.Data.{meaning};
 ghost use Rattle.finite_models.specs.Worlds.{value_in_world, IsAcceptedModel};

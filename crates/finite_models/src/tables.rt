@@ -1,8 +1,7 @@
 //! How large the table of a mechanism is.
 
 ghost use Rattle.std.specs.Prelude.{◌≡◌, ℕ, ◌*◌, ◌+◌, ◌^◌, ◌<◌, ◌≤◌, ◌↔◌, IsTrue, EachIndex, cond, min, length, slice_index};
-ghost use Rattle.mixed_graph.specs.Bits.{has};
-ghost use Rattle.mixed_graph.specs.Shown.{graph_of};
+ghost use Rattle.mixed_graph.specs.Vocabulary.{has, graph_of};
 ghost use Rattle.finite_models.specs.Tables.{radix_range};
 ghost use Rattle.finite_models.specs.Data.{children_of, weights_of};
 ghost use Rattle.finite_models.specs.Inputs.{places_of};

@@ -1,8 +1,7 @@
 //! The weight of an event.
 
 ghost use Rattle.std.specs.Prelude.{◌≡◌, ℕ, ◌^◌, ◌<◌, ◌≤◌, ◌↔◌, IfOk, length, slice_index};
-ghost use Rattle.mixed_graph.specs.Bits.{has};
-ghost use Rattle.mixed_graph.specs.Shown.{graph_of};
+ghost use Rattle.mixed_graph.specs.Vocabulary.{has, graph_of};
 ghost use Rattle.finite_models.specs.Sums.{product_below};
 ghost use Rattle.finite_models.specs.Models.{IsAssignment, agree, weight_of, world_count, total};
 ghost use Rattle.finite_models.specs.Data.{meaning};

@@ -1,9 +1,9 @@
 -- An expression as a tree of objects.
 use Rattle.std.specs.Prelude.{ℕ, List, [], ◌∷◌, map, codes, decimal}
 use Rattle.json.specs.Json.{Json, number}
-use Rattle.prob_expr.specs.Tree.{Tree, prob, sum, product, quotient, named, Trees, no_trees, tree, PlainFormula}
-use Rattle.answer_json.specs.Progress.{array_of, object_of}
-use Rattle.answer_json.specs.Values.{set_json}
+use Rattle.prob_expr.specs.Tree.{Tree, prob, sum, product, quotient, named, tree}
+use Rattle.prob_expr.specs.Vocabulary.{Trees, no_trees, PlainFormula}
+use Rattle.answer_json.specs.Vocabulary.{array_of, object_of, set_json}
 
 -- P(of | do(doing), given)
 abbrev pub term_json : List (List ℕ) → (of doing given : ℕ) → Json

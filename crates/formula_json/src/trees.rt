@@ -1,9 +1,9 @@
 //! The tree of an expression.
 
 ghost use Rattle.std.specs.Prelude.{◌≡◌, map, OnOk, codes};
-ghost use Rattle.prob_expr.specs.View.{view, views, formula_view};
-ghost use Rattle.answer_json.specs.Progress.{with_value, with_values, with_member};
-ghost use Rattle.answer_json.specs.Values.{set_json};
+ghost use Rattle.prob_expr.specs.View.{view};
+ghost use Rattle.prob_expr.specs.Vocabulary.{views, formula_view};
+ghost use Rattle.answer_json.specs.Vocabulary.{with_value, with_values, with_member, set_json};
 ghost use Rattle.formula_json.specs.Trees.{term_json, named_json, product_json, tree_json, trees_json, definitions_json};
 
 use answer_json::Object;

@@ -1,8 +1,8 @@
 //! Rows that compare two graphs.
 
 ghost use Rattle.std.specs.Prelude.{◌≡◌, ◌≤◌, IfSome};
-ghost use Rattle.mixed_graph.specs.Shown.{graph_of};
-ghost use Rattle.markov_equivalence.specs.Skeletons.{HasArrowsAlone};
+ghost use Rattle.mixed_graph.specs.Vocabulary.{graph_of};
+ghost use Rattle.markov_equivalence.specs.Vocabulary.{HasArrowsAlone};
 
 use case_rows::{Members, all_below, number, pairs};
 use markov_equivalence::{Compared, Difference, Side, compare};

@@ -1,8 +1,7 @@
 //! What stands in a case, and texts in a line.
 
 ghost use Rattle.std.specs.Prelude.{length};
-ghost use Rattle.mixed_graph.specs.Bits.{has};
-ghost use Rattle.mixed_graph.specs.Sets.{Within};
+ghost use Rattle.mixed_graph.specs.Vocabulary.{has, Within};
 
 use anyhow::{Context, Result, bail};
 use mixed_graph::{Names, VSet};

@@ -1,8 +1,7 @@
 //! Answers that are hedges.
 
 ghost use Rattle.std.specs.Prelude.{IsTrue};
-ghost use Rattle.mixed_graph.specs.Bits.{has};
-ghost use Rattle.mixed_graph.specs.Sets.{Apart};
+ghost use Rattle.mixed_graph.specs.Vocabulary.{has, Apart};
 
 use crate::fields::text_in;
 use anyhow::{Result, bail};

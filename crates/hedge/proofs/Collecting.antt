@@ -5,9 +5,7 @@ use Rattle.std.proofs.lemmas.Bool.{cases_Bool, cases_eq, or_left, or_right, or_c
 use Rattle.std.proofs.lemmas.List.{take_more_set, get_or-set_other, get_or_append_left, append-nil}
 use Rattle.std.proofs.Math.Seq.{get_or-append_seam}
 use Rattle.std.proofs.lemmas.List.Elements.{All-nil, All-cons}
-use Rattle.mixed_graph.specs.Bits.{has}
-use Rattle.mixed_graph.specs.Graphs.{MixedGraph, IsMixedGraph}
-use Rattle.mixed_graph.specs.Orders.{taken_by, IsNext, IsOrder}
+use Rattle.mixed_graph.specs.Vocabulary.{has, MixedGraph, IsMixedGraph, taken_by, IsNext, IsOrder}
 use Rattle.mixed_graph.proofs.Masks.{has-zero, has-or, has-pow, same_from_has}
 use Rattle.hedge.specs.Linked.{IsLinked, IsDistrict, IsMaximalJoined, AreDistricts, IsInOne, AreApart, IsPartition, AreDistrictsOf}
 use Rattle.hedge.specs.Linked.IsLinked.{at, by}

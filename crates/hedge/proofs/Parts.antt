@@ -1,8 +1,7 @@
 -- Links and districts, and how they part a set.
 use Rattle.std.proofs.Common.{◌≡◌, ℕ, ◌^◌, Bool, true, ◌==◌, IsTrue, refl, sym, ◌∙◌, subst}
 use Rattle.std.proofs.lemmas.Bool.{eqb-true, eq-eqb}
-use Rattle.mixed_graph.specs.Bits.{has}
-use Rattle.mixed_graph.specs.Graphs.{MixedGraph, IsMixedGraph}
+use Rattle.mixed_graph.specs.Vocabulary.{has, MixedGraph, IsMixedGraph}
 use Rattle.mixed_graph.specs.Reached.{Reached}
 use Rattle.mixed_graph.proofs.Masks.{has-pow}
 use Rattle.hedge.specs.Linked.{IsLinked, IsSetOf, IsDistrict, IsJoinedSet, IsMaximalJoined}

@@ -1,8 +1,6 @@
 -- What keeps data from being a hedge, the first in order.
 use Rattle.std.specs.Prelude.{◌≡◌, ℕ, ◌<◌, ◌⊎◌, false, IsTrue, slice_index}
-use Rattle.mixed_graph.specs.Bits.{has}
-use Rattle.mixed_graph.specs.Sets.{Apart}
-use Rattle.mixed_graph.specs.Graphs.{MixedGraph}
+use Rattle.mixed_graph.specs.Vocabulary.{has, Apart, MixedGraph}
 use Rattle.hedge.specs.declared.hedge.Hedge.{Hedge}
 use Rattle.hedge.specs.declared.hedge.HedgeFault.{HedgeFault}
 use Rattle.hedge.specs.declared.hedge.HedgeFault.TheVariants.{Sets, BigMissesX, SmallMeetsX, Choice, Link, Root}

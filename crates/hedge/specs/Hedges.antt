@@ -1,8 +1,6 @@
 -- Hedges: what shows that an effect isn't identifiable (Shpitser and Pearl).
 use Rattle.std.specs.Prelude.{◌≡◌, ℕ, ◌<◌, ◌⊎◌, ◌↔◌, Bool, false, not, IsTrue, length, slice_index}
-use Rattle.mixed_graph.specs.Bits.{has, members_below}
-use Rattle.mixed_graph.specs.Sets.{Within, Apart}
-use Rattle.mixed_graph.specs.Graphs.{MixedGraph, IsAncestor, induced}
+use Rattle.mixed_graph.specs.Vocabulary.{has, members_below, Within, Apart, MixedGraph, IsAncestor, induced}
 use Rattle.hedge.specs.Linked.{IsInside}
 use Rattle.hedge.specs.declared.hedge.Hedge.{Hedge}
 

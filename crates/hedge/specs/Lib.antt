@@ -6,3 +6,4 @@ pub mod Linked
 pub mod Listed
 pub mod Nearest
 pub mod Spanning
+pub mod Vocabulary

@@ -1,8 +1,6 @@
 -- Sets joined by bidirected edges, and districts: the c-components of Tian and Pearl.
 use Rattle.std.specs.Prelude.{◌≡◌, ℕ, ◌^◌, Bool, false, List, [], ◌∷◌, length, ◌⊎◌, ◌==◌, bit_or, IsTrue}
-use Rattle.mixed_graph.specs.Bits.{has}
-use Rattle.mixed_graph.specs.Graphs.{MixedGraph}
-use Rattle.mixed_graph.specs.Orders.{IsOrder}
+use Rattle.mixed_graph.specs.Vocabulary.{has, MixedGraph, IsOrder}
 
 -- v comes to a member of s by bidirected edges inside a
 pub data IsLinked (g : MixedGraph) (a s : ℕ → Bool) : ℕ → Type 0 where

@@ -1,6 +1,6 @@
 -- Children on shortest directed paths toward a set.
 use Rattle.std.specs.Prelude.{◌≡◌, ℕ, ◌<◌, ◌≤◌, ◌⊎◌, Bool, false, List, IsTrue, length}
-use Rattle.mixed_graph.specs.Graphs.{MixedGraph, IsDirectedPath, IsAncestor, induced}
+use Rattle.mixed_graph.specs.Vocabulary.{MixedGraph, IsDirectedPath, IsAncestor, induced}
 
 -- `arrows` is the number of arrows of a shortest directed path from v to a member of s
 pub record IsDistance (g : MixedGraph) (s : ℕ → Bool) (v arrows : ℕ) : Type 0 where

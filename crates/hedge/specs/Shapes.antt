@@ -1,8 +1,6 @@
 -- What the sets of a hedge are, without its choice and its links.
 use Rattle.std.specs.Prelude.{◌≡◌, ℕ, ◌≤◌, false, IsTrue}
-use Rattle.mixed_graph.specs.Bits.{has}
-use Rattle.mixed_graph.specs.Sets.{Within, Apart}
-use Rattle.mixed_graph.specs.Graphs.{MixedGraph, IsMixedGraph, IsAncestor, induced}
+use Rattle.mixed_graph.specs.Vocabulary.{has, Within, Apart, MixedGraph, IsMixedGraph, IsAncestor, induced}
 use Rattle.hedge.specs.Linked.{IsInside, IsJoinedSet}
 use Rattle.hedge.specs.declared.hedge.Hedge.{Hedge}
 use Rattle.hedge.specs.Hedges.{Meets, Reaches, IsHedge}

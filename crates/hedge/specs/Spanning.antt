@@ -1,7 +1,6 @@
 -- A tree of links over a joined set: each vertex is joined to one that was found before it.
 use Rattle.std.specs.Prelude.{◌≡◌, ℕ, ◌<◌, ◌≤◌, ◌⊎◌, Bool, false, List, IsTrue, slice_index}
-use Rattle.mixed_graph.specs.Graphs.{MixedGraph}
-use Rattle.mixed_graph.specs.Orders.{taken_by}
+use Rattle.mixed_graph.specs.Vocabulary.{MixedGraph, taken_by}
 
 -- v is the lowest member of s
 pub record IsLowest (s : ℕ → Bool) (v : ℕ) : Type 0 where

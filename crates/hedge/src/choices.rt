@@ -1,8 +1,7 @@
 //! Whether the choices of children are right.
 
 ghost use Rattle.std.specs.Prelude.{◌≡◌, ℕ, ◌<◌, ◌↔◌, ◌&&◌, ◌||◌, not, IsTrue, IfSome, IfNone};
-ghost use Rattle.mixed_graph.specs.Bits.{has};
-ghost use Rattle.mixed_graph.specs.Shown.{graph_of};
+ghost use Rattle.mixed_graph.specs.Vocabulary.{has, graph_of};
 ghost use Rattle.hedge.specs.Hedges.{IsRightChoice};
 ghost use Rattle.hedge.specs.Faults.{IsLowestWrong};
 

@@ -1,9 +1,7 @@
 //! Whether data are a hedge (Shpitser and Pearl 2006).
 
 ghost use Rattle.std.specs.Prelude.{◌≡◌, ℕ, ◌<◌, ◌↔◌, IsTrue, IsOk, IfSome, IfNone, IfErr};
-ghost use Rattle.mixed_graph.specs.Bits.{has};
-ghost use Rattle.mixed_graph.specs.Sets.{Within};
-ghost use Rattle.mixed_graph.specs.Shown.{graph_of};
+ghost use Rattle.mixed_graph.specs.Vocabulary.{has, Within, graph_of};
 ghost use Rattle.hedge.specs.Linked.{IsInside};
 ghost use Rattle.hedge.specs.Hedges.{AreHedgeSets, Reaches, IsHedge};
 ghost use Rattle.hedge.specs.Faults.{IsLowestWrong, IsFirstHedgeFault};

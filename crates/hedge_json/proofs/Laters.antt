@@ -1,8 +1,9 @@
 -- Values that are written one after another: those of the numbers from 1 on, and four lists of them.
 use Rattle.std.proofs.Common.{◌≡◌, ℕ, zero, suc, ◌+◌, ◌<◌, ◌≤◌, nat_lt, cond, List, [], ◌∷◌, ◌++◌, map, refl, sym, ap, ◌∙◌, lt-ltb, arith}
-use Rattle.mixed_graph.specs.Bits.{members_below}
+use Rattle.mixed_graph.specs.Vocabulary.{members_below}
 use Rattle.json.specs.Json.{Json}
-use Rattle.answer_json.specs.Progress.{Progress, with_value, with_values}
+use Rattle.answer_json.specs.Progress.{Progress}
+use Rattle.answer_json.specs.Vocabulary.{with_value, with_values}
 use Rattle.answer_json.proofs.Arrays.{both_written, member_written}
 
 -- no number below 1 is later than 0

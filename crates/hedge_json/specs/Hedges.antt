@@ -1,11 +1,10 @@
 -- A hedge as an object.
 use Rattle.std.specs.Prelude.{ℕ, nat_lt, List, [], ◌∷◌, map, slice_index, codes}
 use Rattle.json.specs.Json.{Json}
-use Rattle.mixed_graph.specs.Bits.{members_below}
+use Rattle.mixed_graph.specs.Vocabulary.{members_below}
 use Rattle.hedge.specs.declared.hedge.Hedge.{Hedge}
-use Rattle.identify_text.specs.HedgeLines.{chooses}
-use Rattle.answer_json.specs.Progress.{array_of, object_of}
-use Rattle.answer_json.specs.Values.{set_json, vertex_json, pair_json}
+use Rattle.identify_text.specs.Vocabulary.{chooses}
+use Rattle.answer_json.specs.Vocabulary.{array_of, object_of, set_json, vertex_json, pair_json}
 
 -- the choice of vertex v
 abbrev pub choice_json : List (List ℕ) → Hedge → ℕ → Json

@@ -1,2 +1,3 @@
 pub mod Hedges
 pub mod Models
+pub mod Vocabulary

@@ -1,14 +1,13 @@
 -- The two models of a hedge as an object.
 use Rattle.std.specs.Prelude.{ℕ, ◌+◌, List, [], ◌∷◌, ◌++◌, Option, Some, None, map, codes, decimal, if◌then◌else◌}
 use Rattle.json.specs.Json.{Json, string, number}
-use Rattle.mixed_graph.specs.Bits.{has, members_below}
+use Rattle.mixed_graph.specs.Vocabulary.{has, members_below}
 use Rattle.finite_models.specs.declared.model.Cause.{Cause}
 use Rattle.finite_models.specs.declared.model.Part.{Part}
 use Rattle.finite_models.specs.declared.model.Mechanism.{Mechanism}
 use Rattle.finite_models.specs.declared.model.Mechanism.TheVariants.{Table, Parity}
 use Rattle.counter_models.specs.declared.counter_pair.CounterPair.{CounterPair}
-use Rattle.answer_json.specs.Progress.{array_of, object_of}
-use Rattle.answer_json.specs.Values.{set_json, vertex_json}
+use Rattle.answer_json.specs.Vocabulary.{array_of, object_of, set_json, vertex_json}
 use Rattle.hedge_json.specs.declared.bits.Bit.{Bit}
 use Rattle.hedge_json.specs.declared.bits.Bit.TheVariants.{HedgeBit, CarriedBit}
 

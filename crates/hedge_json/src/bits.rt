@@ -1,7 +1,7 @@
 //! The two bits of a vertex.
 
 ghost use Rattle.std.specs.Prelude.{◌≡◌, map, OnOk};
-ghost use Rattle.answer_json.specs.Progress.{with_value, with_values, with_members};
+ghost use Rattle.answer_json.specs.Vocabulary.{with_value, with_values, with_members};
 ghost use Rattle.hedge_json.specs.Models.{bit_json, bits_json, bit_members, letter};
 
 use answer_json::Object;

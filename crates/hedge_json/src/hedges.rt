@@ -1,8 +1,8 @@
 //! A hedge as an object.
 
 ghost use Rattle.std.specs.Prelude.{◌≡◌, ◌∷◌, [], if◌then◌else◌, OnOk, codes};
-ghost use Rattle.identify_text.specs.HedgeLines.{chooses};
-ghost use Rattle.answer_json.specs.Progress.{with_value, with_values, with_member, array_of};
+ghost use Rattle.identify_text.specs.Vocabulary.{chooses};
+ghost use Rattle.answer_json.specs.Vocabulary.{with_value, with_values, with_member, array_of};
 ghost use Rattle.hedge_json.specs.Hedges.{choice_json, choices_json, link_json, links_json, hedge_json};
 
 use answer_json::Object;

@@ -2,7 +2,7 @@
 
 ghost use Rattle.std.specs.Prelude.{◌≡◌, ◌+◌, ◌++◌, codes, decimal, map, OnOk, IfOk, string_bytes};
 ghost use Rattle.json.specs.Json.{string};
-ghost use Rattle.answer_json.specs.Progress.{with_value, with_values, with_member, array_of};
+ghost use Rattle.answer_json.specs.Vocabulary.{with_value, with_values, with_member, array_of};
 ghost use Rattle.hedge_json.specs.Models.{cause_json, vertex_values, bits_json, event_json, models_json};
 ghost use Rattle.hedge_json.specs.declared.bits.Bit.TheVariants.{CarriedBit};
 

@@ -1,7 +1,7 @@
 //! The bits of a vertex, and what each is the parity of.
 
 ghost use Rattle.std.specs.Prelude.{◌≡◌, ◌++◌, ◌∷◌, [], if◌then◌else◌, map, codes, OnOk};
-ghost use Rattle.answer_json.specs.Progress.{with_value, with_values, with_member, with_members, array_of};
+ghost use Rattle.answer_json.specs.Vocabulary.{with_value, with_values, with_member, with_members, array_of};
 ghost use Rattle.hedge_json.specs.declared.bits.Bit.TheVariants.{HedgeBit, CarriedBit};
 ghost use Rattle.hedge_json.specs.Models.{bit_json, bits_json, bit_members, cause_term, terms_json, part_values, mechanism_values, letter};
 

@@ -1,11 +1,10 @@
 //! An expression with the steps that led to it.
 
 ghost use Rattle.std.specs.Prelude.{IfOk, IfSome};
-ghost use Rattle.mixed_graph.specs.Shown.{graph_of};
-ghost use Rattle.prob_expr.specs.Listed.{masks_of};
+ghost use Rattle.mixed_graph.specs.Vocabulary.{graph_of};
+ghost use Rattle.prob_expr.specs.Vocabulary.{masks_of};
 ghost use Rattle.prob_expr.specs.View.{view};
-ghost use Rattle.do_derivation.specs.Steps.{Makes};
-ghost use Rattle.do_derivation.specs.View.{step_view};
+ghost use Rattle.do_derivation.specs.Vocabulary.{Makes, step_view};
 
 use crate::terms::are_terms;
 use do_derivation::{ApplyFault, Move, Step, apply};

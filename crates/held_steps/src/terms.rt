@@ -1,8 +1,8 @@
 //! Whether an expression is made of terms.
 
 ghost use Rattle.std.specs.Prelude.{◌≡◌, ◌≤◌};
-ghost use Rattle.prob_expr.specs.Terms.{are_terms, are_terms_each};
-ghost use Rattle.prob_expr.specs.View.{view, views};
+ghost use Rattle.prob_expr.specs.Vocabulary.{are_terms, are_terms_each, views};
+ghost use Rattle.prob_expr.specs.View.{view};
 
 use prob_expr::{Expr, are_term_sets};
 

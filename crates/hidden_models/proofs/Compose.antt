@@ -5,23 +5,17 @@ use Rattle.std.proofs.Common.{map, get_or, IsTrue, refl, sym, ap, ap₂, ◌∙�
 use Rattle.std.proofs.lemmas.Bool.{false_from_ne_true, not_from_false, lt-ltb, eq-eqb, ne_eqb}
 use Rattle.std.proofs.lemmas.List.{get_or-map}
 use Rattle.std.proofs.lemmas.Nat.{div-mul-add, mod-mul-add}
-use Rattle.mixed_graph.specs.Bits.{has, members_below}
-use Rattle.mixed_graph.specs.Graphs.{MixedGraph, IsMixedGraph}
 use Rattle.mixed_graph.specs.declared.sets.VSet.{VSet}
+use Rattle.mixed_graph.specs.Vocabulary.{has, members_below, MixedGraph, IsMixedGraph}
 use Rattle.mixed_graph.proofs.Masks.{positive_from_has, some_member}
-use Rattle.latent_projection.specs.Projection.{IsProjection}
-use Rattle.latent_projection.specs.Renumbering.{observed_below, IsObserved}
+use Rattle.latent_projection.specs.Vocabulary.{IsProjection, observed_below, IsObserved}
 use Rattle.latent_projection.proofs.Numbering.{IsMixedGraph-renumbered}
 use Rattle.latent_projection.proofs.Projected.{IsMixedGraph-projection}
 use Rattle.latent_projection.proofs.Treks.{clash}
-use Rattle.finite_models.specs.Data.{weights_of, children_of, meaning, value_by, place_in_table}
-use Rattle.finite_models.specs.Models.{FiniteModel, Fits, IsAssignment}
-use Rattle.finite_models.specs.Inputs.{places_of, HasInputs, HasPartSize}
-use Rattle.finite_models.specs.Tables.{radix, radix_range, table_value}
-use Rattle.finite_models.specs.Worlds.{values_of, IsAcceptedModel}
 use Rattle.finite_models.specs.declared.model.Model.{Model}
 use Rattle.finite_models.specs.declared.model.Mechanism.{Mechanism}
 use Rattle.finite_models.specs.declared.model.Mechanism.TheVariants.{Table, Parity}
+use Rattle.finite_models.specs.Vocabulary.{weights_of, children_of, meaning, value_by, place_in_table, FiniteModel, Fits, IsAssignment, places_of, HasInputs, HasPartSize, radix, radix_range, table_value, values_of, IsAcceptedModel}
 use Rattle.finite_models.proofs.Bools.{same_truth}
 use Rattle.finite_models.proofs.DataFits.{value_at}
 use Rattle.finite_models.proofs.Factors.{any_below_from, any_below_gives}

@@ -1,7 +1,7 @@
 -- A number in mixed radix over the members of a set, by their new numbers, is the one over all places.
 use Rattle.std.proofs.Common.{ℕ, zero, suc, ◌+◌, ◌*◌, ◌≡◌, ◌<◌, Bool, true, false, cond, refl, sym, subst, arith}
 use Rattle.mixed_graph.proofs.Members.{length-members-zero}
-use Rattle.finite_models.specs.Tables.{radix, radix_range}
+use Rattle.finite_models.specs.Vocabulary.{radix, radix_range}
 use Rattle.hidden_models.proofs.FoldingLaw.{position}
 use Rattle.hidden_models.proofs.Positions.{position_suc}
 

@@ -1,7 +1,7 @@
 -- A weight depends on its sets below the number of vertices, and on the assignment at their members alone.
 use Rattle.std.proofs.Common.{ℕ, zero, suc, ◌≡◌, ◌<◌, Bool, true, false, cond, refl, sym, ap, ◌∙◌}
-use Rattle.mixed_graph.specs.Graphs.{MixedGraph, IsMixedGraph}
-use Rattle.finite_models.specs.Models.{FiniteModel, rounds, solution, agree, intervene, weight_of, world_weight}
+use Rattle.mixed_graph.specs.Vocabulary.{MixedGraph, IsMixedGraph}
+use Rattle.finite_models.specs.Vocabulary.{FiniteModel, rounds, solution, agree, intervene, weight_of, world_weight}
 use Rattle.finite_models.proofs.Bools.{same_truth}
 use Rattle.finite_models.proofs.Following.{Follows}
 use Rattle.finite_models.proofs.SumLaws.{over-congr}

@@ -3,8 +3,7 @@ use Rattle.std.proofs.Common.{ℕ, zero, suc, ◌+◌, ◌*◌, ◌/◌, ◌%◌
 use Rattle.std.proofs.Common.{arith, eqb-true}
 use Rattle.std.proofs.lemmas.Bool.{cases_eq}
 use Rattle.std.proofs.lemmas.Nat.{div-mul-add, mod-mul-add}
-use Rattle.finite_models.specs.Sums.{set_at}
-use Rattle.finite_models.specs.Tables.{radix}
+use Rattle.finite_models.specs.Vocabulary.{set_at, radix}
 use Rattle.finite_models.proofs.SumLaws.{set_at-same, set_at-other}
 use Rattle.hidden_models.specs.Digits.{digits}
 

@@ -1,31 +1,22 @@
 -- Models of the observed graph whose causes serve two vertices at most fold models of the diagram as drawn; so two that tell an effect apart do so there.
 use Rattle.std.proofs.Common.{ℕ, List, ◌*◌, ◌≡◌, ◌<◌, ◌≤◌, Bool, true, false, not, cond, ◌||◌, refl, sym, ap, ap₂, ◌∙◌, arith, subst, length, lt-ltb, mul-pos}
 use Rattle.std.proofs.Math.Nat.{eq_of_mul-eq-mul_left}
-use Rattle.mixed_graph.specs.Bits.{has}
-use Rattle.mixed_graph.specs.Sets.{Apart}
-use Rattle.mixed_graph.specs.Graphs.{MixedGraph, IsMixedGraph}
-use Rattle.fractions.specs.Fractions.{over, IsEqual}
+use Rattle.mixed_graph.specs.Vocabulary.{has, Apart, MixedGraph, IsMixedGraph}
+use Rattle.fractions.specs.Vocabulary.{over, IsEqual}
 use Rattle.fractions.proofs.FractionLaws.{equal_sym, equal_trans}
-use Rattle.finite_models.specs.Agreement.{AgreeObserved, AgreeUnder}
-use Rattle.finite_models.specs.Models.{FiniteModel, Fits, IsAssignment, IsPositiveModel, event_weight, weight_of, total}
+use Rattle.finite_models.specs.Vocabulary.{AgreeObserved, AgreeUnder, FiniteModel, Fits, IsAssignment, IsPositiveModel, event_weight, weight_of, total, ServesTwo}
 use Rattle.finite_models.proofs.Bools.{and_first}
 use Rattle.finite_models.proofs.Following.{follows_of}
 use Rattle.finite_models.proofs.Positive.{positive_weight}
 use Rattle.finite_models.proofs.Weights.{weight_of-none}
-use Rattle.latent_projection.specs.Projection.{IsProjection}
-use Rattle.latent_projection.specs.Renumbering.{observed_below, renumbered_set, renumbered, IsObserved}
+use Rattle.latent_projection.specs.Vocabulary.{IsProjection, observed_below, renumbered_set, renumbered, IsObserved}
 use Rattle.latent_projection.proofs.Numbering.{IsMixedGraph-renumbered}
 use Rattle.latent_projection.proofs.Projected.{IsMixedGraph-projection}
-use Rattle.prob_expr.specs.Differences.{DifferOn, DifferOnTarget}
-use Rattle.prob_expr.specs.Experiments.{AgreeUnderAll}
-use Rattle.prob_expr.specs.Terms.{is_allowed, is_do_free}
-use Rattle.prob_expr.specs.Tree.{PlainFormula, PlainTarget}
-use Rattle.prob_expr.specs.Values.{weights_of, term_value, value_of, effect}
+use Rattle.prob_expr.specs.Vocabulary.{DifferOn, DifferOnTarget, AgreeUnderAll, is_allowed, is_do_free, PlainFormula, PlainTarget, weights_of, term_value, value_of, effect}
 use Rattle.prob_expr.proofs.Allowed.{experiments_fix_value}
 use Rattle.prob_expr.proofs.Observed.{observed_fixes_value}
 use Rattle.hidden_models.specs.Folding.{Folds, IsObservedPositive, set_before, values_after, values_before, drawn_weights, drawn_effect}
 use Rattle.hidden_models.specs.FoldingLaws.{EqualsAsDrawn}
-use Rattle.finite_models.specs.Served.{ServesTwo}
 use Rattle.hidden_models.specs.Unfolding.{SharesWorlds, IsFoldedFrom, AgreeAsDrawn, AgreeUnderAsDrawn, DifferOnAsDrawn, NotIdentifiableAsDrawn, NotIdentifiableOverAsDrawn}
 use Rattle.hidden_models.specs.UnfoldingLaws.{EachIsFolded, UnfoldedIsPositive, DifferenceIsDrawn, DifferenceOverIsDrawn, FormulaAsDrawnFixes}
 use Rattle.hidden_models.specs.UnfoldingLaws.{FormulaFailureIsDrawn}

@@ -4,22 +4,18 @@ use Rattle.std.proofs.Common.{ℕ, ◌*◌, ◌≡◌, ◌<◌, ◌≤◌, Bool,
 use Rattle.std.proofs.Math.Nat.{eq_of_mul-eq-mul_left}
 use Rattle.std.proofs.lemmas.Bool.{not_from_false, lt-ltb}
 use mathlib.Core.Path.{fun_ext}
-use Rattle.mixed_graph.specs.Bits.{has}
-use Rattle.mixed_graph.specs.Sets.{Apart}
-use Rattle.mixed_graph.specs.Graphs.{MixedGraph, IsMixedGraph}
-use Rattle.fractions.specs.Fractions.{over, IsEqual}
+use Rattle.mixed_graph.specs.Vocabulary.{has, Apart, MixedGraph, IsMixedGraph}
+use Rattle.fractions.specs.Vocabulary.{over, IsEqual}
 use Rattle.fractions.proofs.FractionLaws.{equal_sym, equal_trans}
-use Rattle.finite_models.specs.Models.{FiniteModel, Fits, IsAssignment, IsPositiveModel, event_weight, weight_of, total}
+use Rattle.finite_models.specs.Vocabulary.{FiniteModel, Fits, IsAssignment, IsPositiveModel, event_weight, weight_of, total}
 use Rattle.finite_models.proofs.Bools.{and_first}
 use Rattle.finite_models.proofs.Following.{follows_of}
 use Rattle.finite_models.proofs.Positive.{positive_weight}
 use Rattle.finite_models.proofs.Weights.{weight_of-none}
-use Rattle.latent_projection.specs.Renumbering.{observed_below, renumbered_set, IsObserved}
+use Rattle.latent_projection.specs.Vocabulary.{observed_below, renumbered_set, IsObserved}
 use Rattle.latent_projection.proofs.Numbering.{IsMixedGraph-renumbered}
 use Rattle.latent_projection.proofs.Projected.{IsMixedGraph-projection}
-use Rattle.prob_expr.specs.Tree.{PlainFormula, PlainTarget}
-use Rattle.prob_expr.specs.Values.{Weights, weights_of, term_value, value_of, effect}
-use Rattle.prob_expr.specs.Proportional.{AreProportional}
+use Rattle.prob_expr.specs.Vocabulary.{PlainFormula, PlainTarget, Weights, weights_of, term_value, value_of, effect, AreProportional}
 use Rattle.hidden_models.specs.Folding.{Folds, IsObservedPositive, IsMatchedAsDrawn, values_after, values_before, set_before, drawn_weights, drawn_effect}
 use Rattle.hidden_models.specs.FoldingLaws.{FoldedIsPositive, FoldedKeepsWeights, FoldedKeepsValues, FoldedKeepsEffects, RightIsRightAsDrawn}
 use Rattle.prob_expr.proofs.Alike.{Events, left_positive, term_alike, formula_alike, asks_any, all_ask_any}

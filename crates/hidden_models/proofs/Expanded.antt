@@ -2,19 +2,17 @@
 use Rattle.std.proofs.Common.{ℕ, ◌≡◌, ◌<◌, Bool, true, false, not, cond, ◌&&◌, ◌||◌, ◌==◌, ◌⊎◌, inl, inr, nat_lt, refl, sym, ap, ap₂, ◌∙◌, arith}
 use Rattle.std.proofs.Common.{subst, eqb-true, eq-eqb}
 use Rattle.std.proofs.lemmas.Bool.{or_cases, or_left, or_right, not_from_false, ltb-true, lt-ltb, false_from_ne_true}
-use Rattle.mixed_graph.specs.Graphs.{MixedGraph, IsMixedGraph}
-use Rattle.mixed_graph.specs.Sets.{Apart}
-use Rattle.finite_models.specs.Models.{FiniteModel, Fits, IsAssignment, solution, IsSolution, agree, intervene, weight_of, world_weight}
+use Rattle.mixed_graph.specs.Vocabulary.{MixedGraph, IsMixedGraph, Apart}
+use Rattle.finite_models.specs.Vocabulary.{FiniteModel, Fits, IsAssignment, solution, IsSolution, agree, intervene, weight_of, world_weight, ServesTwo}
 use Rattle.finite_models.proofs.Bools.{and_first, and_second, same_truth}
 use Rattle.finite_models.proofs.Following.{Follows, follows_of, follows_intervene}
 use Rattle.finite_models.proofs.Ranks.{with_rank}
 use Rattle.finite_models.proofs.SumLaws.{over-congr}
 use Rattle.finite_models.proofs.Solutions.{IsRanked, solution_is, unique, agree_gives, agree_from}
-use Rattle.latent_projection.specs.Renumbering.{observed_below, renumbered_set, renumbered}
+use Rattle.latent_projection.specs.Vocabulary.{observed_below, renumbered_set, renumbered}
 use Rattle.latent_projection.proofs.Numbering.{IsMixedGraph-renumbered}
 use Rattle.latent_projection.proofs.Treks.{clash}
 use Rattle.hidden_models.specs.Folding.{values_after}
-use Rattle.finite_models.specs.Served.{ServesTwo}
 use Rattle.hidden_models.proofs.FoldingLaw.{position, member}
 use Rattle.hidden_models.proofs.Positions.{position_lt, member_position, member_is}
 use Rattle.hidden_models.proofs.ReachingLaw.{observed_of}

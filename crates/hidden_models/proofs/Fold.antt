@@ -2,14 +2,13 @@
 use Rattle.std.proofs.Common.{ℕ, zero, suc, ◌≡◌, ◌<◌, ◌≤◌, Bool, true, false, not, cond, List, [], ◌∷◌, ◌⊎◌, inl, inr, refl, sym, ap, ◌∙◌, arith}
 use Rattle.std.proofs.lemmas.Bool.{cases_eq}
 use mathlib.Core.Path.{fun_ext}
-use Rattle.mixed_graph.specs.Graphs.{MixedGraph, IsMixedGraph, IsDirectedPath}
-use Rattle.mixed_graph.specs.Sets.{Apart}
-use Rattle.finite_models.specs.Models.{FiniteModel, IsAssignment, rounds, solution, IsSolution, agree, intervene, weight_of, world_weight}
+use Rattle.mixed_graph.specs.Vocabulary.{MixedGraph, IsMixedGraph, IsDirectedPath, Apart}
+use Rattle.finite_models.specs.Vocabulary.{FiniteModel, IsAssignment, rounds, solution, IsSolution, agree, intervene, weight_of, world_weight}
 use Rattle.finite_models.proofs.Following.{Follows, follows_intervene}
 use Rattle.finite_models.proofs.SumLaws.{over-congr_within}
 use Rattle.finite_models.proofs.Solutions.{IsRanked, solution_is, solution_within, unique, agree_same}
 use Rattle.finite_models.proofs.Ranks.{with_rank}
-use Rattle.latent_projection.specs.Projection.{AreBefore}
+use Rattle.latent_projection.specs.Vocabulary.{AreBefore}
 use Rattle.latent_projection.proofs.Treks.{Reaches, LeadsOn, IsTrek, fork, edge, ProjectsByTreks, clash, here, longer}
 use Rattle.hidden_models.proofs.FoldingLaw.{filled, fold, IsReached, TellsReached}
 

@@ -1,10 +1,9 @@
 -- The hidden mechanisms put into the observed ones, and the model on some vertices and causes.
 use Rattle.std.proofs.Common.{ℕ, ◌≡◌, ◌<◌, Bool, true, false, cond, not, ◌&&◌, length, get_or, nat_lt, refl}
 use Rattle.std.proofs.lemmas.Bool.{false_from_ne_true}
-use Rattle.mixed_graph.specs.Bits.{members_below}
-use Rattle.mixed_graph.specs.Graphs.{MixedGraph}
-use Rattle.finite_models.specs.Models.{FiniteModel, solution, intervene}
-use Rattle.latent_projection.specs.Projection.{LeadsThrough, IsProjection}
+use Rattle.mixed_graph.specs.Vocabulary.{members_below, MixedGraph}
+use Rattle.finite_models.specs.Vocabulary.{FiniteModel, solution, intervene}
+use Rattle.latent_projection.specs.Vocabulary.{LeadsThrough, IsProjection}
 use Rattle.latent_projection.proofs.Treks.{Reaches, LeadsOn, ProjectsByTreks, clash}
 use Rattle.latent_projection.proofs.LatentPaths.{trek_of, path_of}
 

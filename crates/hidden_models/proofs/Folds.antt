@@ -1,15 +1,13 @@
 -- The weights of a model and of the one without idle causes and hidden vertices are the same up to the totals.
 use Rattle.std.proofs.Common.{ℕ, ◌*◌, ◌≡◌, ◌<◌, Bool, true, false, not, cond, ◌||◌, refl, sym, ap, ◌∙◌, arith}
 use mathlib.Core.Path.{fun_ext}
-use Rattle.mixed_graph.specs.Bits.{members_below}
-use Rattle.mixed_graph.specs.Graphs.{MixedGraph, IsMixedGraph}
-use Rattle.finite_models.specs.Sums.{product_below, set_at, sum_over}
-use Rattle.finite_models.specs.Models.{FiniteModel, IsAssignment, solution, agree, intervene, weight_of, world_weight, total}
+use Rattle.mixed_graph.specs.Vocabulary.{members_below, MixedGraph, IsMixedGraph}
+use Rattle.finite_models.specs.Vocabulary.{product_below, set_at, sum_over, FiniteModel, IsAssignment, solution, agree, intervene, weight_of, world_weight, total}
 use Rattle.finite_models.proofs.Following.{Follows}
 use Rattle.finite_models.proofs.Indicators.{number, cond-number}
 use Rattle.finite_models.proofs.SumLaws.{set_at-other, product_below-congr, product_below-mul, over-congr, over-product, Ignores}
 use Rattle.finite_models.proofs.Solutions.{IsRanked, agree_same}
-use Rattle.latent_projection.specs.Renumbering.{renumbered}
+use Rattle.latent_projection.specs.Vocabulary.{renumbered}
 use Rattle.latent_projection.proofs.Treks.{clash}
 use Rattle.hidden_models.proofs.FoldingLaw.{position, member, kept, set_in, values_in, KeepsCauses}
 use Rattle.hidden_models.proofs.Positions.{member_position, spread, spread_at, compress, product_compress}

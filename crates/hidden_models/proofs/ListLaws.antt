@@ -4,7 +4,7 @@ use Rattle.std.proofs.Common.{ap, ◌∙◌, subst, arith}
 use Rattle.std.proofs.lemmas.Bool.{cases_lt}
 use Rattle.std.proofs.lemmas.List.{get_or_append_left}
 use Rattle.std.proofs.Math.Seq.{get_or-append_seam}
-use Rattle.mixed_graph.specs.Bits.{members_below}
+use Rattle.mixed_graph.specs.Vocabulary.{members_below}
 use Rattle.hidden_models.proofs.Positions.{member_is}
 use Rattle.hidden_models.specs.Lists.{AreListed}
 

@@ -1,15 +1,11 @@
 -- One entry of a table.
 use Rattle.std.proofs.Common.{ℕ, zero, suc, ◌+◌, ◌*◌, ◌/◌, ◌%◌, ◌≡◌, ◌<◌, ◌≤◌, Bool, List, length, get_or, min, refl, sym, ap, ap₂, ◌∙◌, subst, arith}
 use mathlib.Core.Path.{fun_ext}
-use Rattle.mixed_graph.specs.Bits.{has}
-use Rattle.mixed_graph.specs.Graphs.{MixedGraph, IsMixedGraph}
 use Rattle.mixed_graph.specs.declared.sets.VSet.{VSet}
-use Rattle.latent_projection.specs.Projection.{IsProjection}
-use Rattle.finite_models.specs.Data.{meaning}
-use Rattle.finite_models.specs.Sums.{sum_below}
-use Rattle.finite_models.specs.Tables.{radix_range}
-use Rattle.finite_models.specs.Worlds.{values_of, IsAcceptedModel}
+use Rattle.mixed_graph.specs.Vocabulary.{has, MixedGraph, IsMixedGraph}
+use Rattle.latent_projection.specs.Vocabulary.{IsProjection}
 use Rattle.finite_models.specs.declared.model.Model.{Model}
+use Rattle.finite_models.specs.Vocabulary.{meaning, sum_below, radix_range, values_of, IsAcceptedModel}
 use Rattle.finite_models.proofs.Digits.{positive_range}
 use Rattle.hidden_models.specs.Digits.{digits}
 use Rattle.hidden_models.specs.Reaching.{mask_at}

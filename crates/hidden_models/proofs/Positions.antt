@@ -4,9 +4,9 @@ use Rattle.std.proofs.Common.{ap, ◌∙◌, subst, arith, eqb-true, add-one}
 use Rattle.std.proofs.lemmas.Bool.{cases_lt}
 use Rattle.std.proofs.lemmas.List.{get_or_append_left}
 use Rattle.std.proofs.Math.Seq.{get_or-append_seam}
-use Rattle.mixed_graph.specs.Bits.{members_below}
+use Rattle.mixed_graph.specs.Vocabulary.{members_below}
 use Rattle.mixed_graph.proofs.Members.{one_if, length-members-suc, length-members-zero}
-use Rattle.finite_models.specs.Sums.{product_below, set_at, sum_over}
+use Rattle.finite_models.specs.Vocabulary.{product_below, set_at, sum_over}
 use Rattle.finite_models.proofs.SumLaws.{sum_below-congr, set_at-same, set_at-swap, along, over-congr_within}
 use Rattle.latent_projection.proofs.Numbering.{members-more, members-same, at_place}
 use Rattle.hidden_models.proofs.FoldingLaw.{position, member}

@@ -1,8 +1,8 @@
 -- Descendants along arrows out of hidden vertices alone are what is reached.
 use Rattle.std.proofs.Common.{ℕ, ◌≡◌, ◌<◌, Bool, true, false, ◌&&◌, List, [], ◌∷◌, sym}
 use Rattle.std.proofs.lemmas.Bool.{and_from}
-use Rattle.mixed_graph.specs.Graphs.{MixedGraph, IsMixedGraph, IsDirectedPath, IsDescendant, restricted}
-use Rattle.latent_projection.specs.Projection.{AreBefore}
+use Rattle.mixed_graph.specs.Vocabulary.{MixedGraph, IsMixedGraph, IsDirectedPath, IsDescendant, restricted}
+use Rattle.latent_projection.specs.Vocabulary.{AreBefore}
 use Rattle.latent_projection.proofs.Treks.{left_true, right_true}
 use Rattle.hidden_models.specs.Reaching.{IsReachedFrom}
 

@@ -2,16 +2,15 @@
 use Rattle.std.proofs.Common.{ℕ, zero, suc, ◌+◌, ◌≡◌, ◌<◌, ◌≤◌, Bool, true, false, not, eqb, ◌&&◌, ◌||◌, List, [], ◌∷◌, length, inl, inr, refl, sym}
 use Rattle.std.proofs.Common.{subst, arith}
 use Rattle.std.proofs.lemmas.Bool.{and_from, or_cases, or_left, or_right, eqb-true, eq-eqb, false_from_ne_true, not_from_false}
-use Rattle.mixed_graph.specs.Graphs.{MixedGraph, IsMixedGraph, IsDirectedPath}
+use Rattle.mixed_graph.specs.Vocabulary.{MixedGraph, IsMixedGraph, IsDirectedPath}
 use Rattle.mixed_graph.proofs.Paths.{end_below}
-use Rattle.finite_models.specs.Models.{FiniteModel, Fits}
-use Rattle.finite_models.specs.Sums.{sum_below}
+use Rattle.finite_models.specs.Vocabulary.{FiniteModel, Fits, sum_below}
 use Rattle.finite_models.proofs.Bools.{and_first, and_second}
 use Rattle.finite_models.proofs.Factors.{any_below, any_below_from, any_below_gives}
 use Rattle.finite_models.proofs.Indicators.{number}
 use Rattle.finite_models.proofs.Ranks.{with_rank}
 use Rattle.finite_models.proofs.Solutions.{IsRanked}
-use Rattle.latent_projection.specs.Projection.{AreBefore}
+use Rattle.latent_projection.specs.Vocabulary.{AreBefore}
 use Rattle.latent_projection.proofs.Treks.{Reaches, clash, here, longer}
 use Rattle.hidden_models.proofs.FoldingLaw.{fold, TellsReached, KeepsCauses}
 

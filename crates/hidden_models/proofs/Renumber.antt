@@ -1,15 +1,13 @@
 -- A model on some of the vertices with some of the causes, where the others matter to none of them.
 use Rattle.std.proofs.Common.{ℕ, zero, suc, ◌≡◌, ◌<◌, ◌≤◌, Bool, true, false, not, cond, ◌&&◌, nat_lt, refl, sym, ap, ◌∙◌}
 use Rattle.std.proofs.lemmas.Bool.{and_from, ltb-true, lt-ltb}
-use Rattle.mixed_graph.specs.Bits.{members_below}
-use Rattle.mixed_graph.specs.Graphs.{MixedGraph, IsMixedGraph}
-use Rattle.finite_models.specs.Sums.{set_at, sum_below}
-use Rattle.finite_models.specs.Models.{FiniteModel, Fits, IsAssignment, rounds, solution, agree, intervene}
+use Rattle.mixed_graph.specs.Vocabulary.{members_below, MixedGraph, IsMixedGraph}
+use Rattle.finite_models.specs.Vocabulary.{set_at, sum_below, FiniteModel, Fits, IsAssignment, rounds, solution, agree, intervene}
 use Rattle.finite_models.proofs.Bools.{and_first, and_second, same_truth}
 use Rattle.finite_models.proofs.Following.{Follows, follows_intervene}
 use Rattle.finite_models.proofs.SumLaws.{set_at-other}
 use Rattle.finite_models.proofs.Solutions.{IsRanked, solution_is, unique, agree_gives, agree_from}
-use Rattle.latent_projection.specs.Renumbering.{renumbered}
+use Rattle.latent_projection.specs.Vocabulary.{renumbered}
 use Rattle.latent_projection.proofs.Treks.{clash}
 use Rattle.hidden_models.proofs.FoldingLaw.{position, member, kept, set_in, values_in, KeepsCauses}
 use Rattle.hidden_models.proofs.Positions.{position_lt, member_position, member_is, IsMember, spread, spread_at}

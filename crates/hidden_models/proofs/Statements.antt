@@ -1,13 +1,13 @@
 -- What separations and rules say of models of the observed graph they say of the diagram as drawn.
 use Rattle.std.proofs.Common.{ℕ, ◌*◌, ◌≡◌, ◌<◌, ◌≤◌, Bool, false, ◌||◌, refl, sym, ap, ap₂, ◌∙◌, subst, arith, mul-pos}
 use Rattle.std.proofs.Math.Nat.{eq_of_mul-eq-mul_left}
-use Rattle.mixed_graph.specs.Graphs.{MixedGraph, IsMixedGraph}
-use Rattle.fractions.specs.Fractions.{over, IsEqual}
+use Rattle.mixed_graph.specs.Vocabulary.{MixedGraph, IsMixedGraph}
+use Rattle.fractions.specs.Vocabulary.{over, IsEqual}
 use Rattle.fractions.proofs.FractionLaws.{equal_sym, equal_trans}
-use Rattle.finite_models.specs.Models.{FiniteModel, Fits, IsAssignment, event_weight, weight_of, total}
+use Rattle.finite_models.specs.Vocabulary.{FiniteModel, Fits, IsAssignment, event_weight, weight_of, total}
 use Rattle.finite_models.proofs.Weights.{weight_of-none}
-use Rattle.latent_projection.specs.Renumbering.{IsObserved}
-use Rattle.do_rules.specs.Rules.{Side, side_value}
+use Rattle.latent_projection.specs.Vocabulary.{IsObserved}
+use Rattle.do_rules.specs.Vocabulary.{Side, side_value}
 use Rattle.hidden_models.specs.Folding.{Folds, IsObservedPositive, drawn_weights}
 use Rattle.hidden_models.specs.Statements.{seen_weight, drawn_side, IndependenceIsDrawn, DependenceIsDrawn, EquationIsDrawn, FailureIsDrawn}
 use Rattle.hidden_models.proofs.Drawing.{each_is_folded, unfolded_is_positive}

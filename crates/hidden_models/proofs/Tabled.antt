@@ -1,9 +1,7 @@
 -- A model whose mechanisms are tables with the values of another's has the same weights.
 use Rattle.std.proofs.Common.{ℕ, zero, suc, ◌*◌, ◌≡◌, ◌<◌, ◌≤◌, Bool, true, not, cond, List, sym, ap, ap₂, ◌∙◌, subst, arith, get_or}
-use Rattle.mixed_graph.specs.Graphs.{MixedGraph, IsMixedGraph}
-use Rattle.finite_models.specs.Sums.{product_below, sum_below, sum_over}
-use Rattle.finite_models.specs.Models.{FiniteModel, Fits, IsAssignment, solution, agree, intervene, weight_of, world_weight, total}
-use Rattle.finite_models.specs.Tables.{table_index, table_value}
+use Rattle.mixed_graph.specs.Vocabulary.{MixedGraph, IsMixedGraph}
+use Rattle.finite_models.specs.Vocabulary.{product_below, sum_below, sum_over, FiniteModel, Fits, IsAssignment, solution, agree, intervene, weight_of, world_weight, total, table_index, table_value}
 use Rattle.finite_models.proofs.Following.{Follows, follows_of, follows_intervene}
 use Rattle.finite_models.proofs.Ranks.{with_rank}
 use Rattle.finite_models.proofs.Solutions.{IsRanked, solution_is, solution_within, unique, agree_gives, agree_from}
@@ -11,7 +9,7 @@ use Rattle.finite_models.proofs.Bools.{same_truth}
 use Rattle.finite_models.proofs.SumLaws.{sum_below-congr, product_below-congr}
 use Rattle.finite_models.proofs.TableLaws.{table_reads}
 use Rattle.prob_expr.proofs.Boxes.{assignment_set, sum_over_equal}
-use Rattle.latent_projection.specs.Renumbering.{observed_below, renumbered_set}
+use Rattle.latent_projection.specs.Vocabulary.{observed_below, renumbered_set}
 use Rattle.hidden_models.specs.Folding.{Folds, values_after}
 use Rattle.hidden_models.proofs.Positions.{member_is}
 

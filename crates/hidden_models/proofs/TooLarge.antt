@@ -1,13 +1,11 @@
 -- Tables that are too large, by the new numbers of their vertices.
 use Rattle.std.proofs.Common.{ℕ, ◌≡◌, ◌<◌, ◌≤◌, Bool, List, length, get_or, inl, inr, sym, ap, subst, arith}
 use Rattle.std.proofs.lemmas.Bool.{cases_lt}
-use Rattle.mixed_graph.specs.Graphs.{MixedGraph, IsMixedGraph}
 use Rattle.mixed_graph.specs.declared.sets.VSet.{VSet}
-use Rattle.latent_projection.specs.Projection.{IsProjection}
-use Rattle.latent_projection.specs.Renumbering.{observed_below}
-use Rattle.finite_models.specs.Sound.{IsFirstWrong, AllRight}
-use Rattle.finite_models.specs.Worlds.{IsAcceptedModel}
+use Rattle.mixed_graph.specs.Vocabulary.{MixedGraph, IsMixedGraph}
+use Rattle.latent_projection.specs.Vocabulary.{IsProjection, observed_below}
 use Rattle.finite_models.specs.declared.model.Model.{Model}
+use Rattle.finite_models.specs.Vocabulary.{IsFirstWrong, AllRight, IsAcceptedModel}
 use Rattle.hidden_models.specs.Folded.{IsSmallEnough, IsFirstTooLarge}
 use Rattle.hidden_models.specs.Reaching.{AreReached}
 use Rattle.hidden_models.specs.Tables.{entries}

@@ -2,16 +2,13 @@
 use Rattle.std.proofs.Common.{[], ℕ, zero, suc, ◌≡◌, ◌<◌, ◌≤◌, ◌+◌, ◌*◌, ◌/◌, ◌%◌, Bool, true, false, not, cond, ◌&&◌, ◌||◌, ◌==◌, ◌⊎◌, inl, inr}
 use Rattle.std.proofs.Common.{refl, sym, ap, ap₂, ◌∙◌, arith, ne_eqb, eqb-true, eq-eqb}
 use Rattle.std.proofs.lemmas.Bool.{cases_eq, or_cases, or_left, or_right}
-use Rattle.mixed_graph.specs.Graphs.{MixedGraph, IsMixedGraph}
-use Rattle.finite_models.specs.Sums.{sum_below}
-use Rattle.finite_models.specs.Tables.{radix_range, table_index, table_range}
-use Rattle.finite_models.specs.Models.{FiniteModel, Fits, IsAssignment}
+use Rattle.mixed_graph.specs.Vocabulary.{MixedGraph, IsMixedGraph}
+use Rattle.finite_models.specs.Vocabulary.{sum_below, radix_range, table_index, table_range, FiniteModel, Fits, IsAssignment, ServesTwo}
 use Rattle.finite_models.proofs.Digits.{positive_range}
 use Rattle.finite_models.proofs.TableLaws.{radix-congr, table_index-lt}
-use Rattle.latent_projection.specs.Removal.{through, without}
+use Rattle.latent_projection.specs.Vocabulary.{through, without}
 use Rattle.latent_projection.proofs.Treks.{clash, left_true, right_true}
 use Rattle.hidden_models.specs.Digits.{digits}
-use Rattle.finite_models.specs.Served.{ServesTwo}
 use Rattle.hidden_models.proofs.DigitLaws.{digits-lt}
 
 -- a cause with these two ends stays where it is

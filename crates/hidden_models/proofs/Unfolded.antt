@@ -2,18 +2,16 @@
 use Rattle.std.proofs.Common.{ℕ, ◌≡◌, ◌<◌, Bool, true, false, cond, ◌&&◌, ◌==◌, ◌⊎◌, inl, inr, refl, sym, ap, ap₂, ◌∙◌, arith, eqb-true, eq-eqb, ne_eqb}
 use Rattle.std.proofs.lemmas.Bool.{or_cases}
 use Rattle.std.proofs.lemmas.Nat.{div-mul-add, mod-mul-add}
-use Rattle.mixed_graph.specs.Graphs.{MixedGraph, IsMixedGraph}
-use Rattle.finite_models.specs.Tables.{radix, radix_range}
-use Rattle.finite_models.specs.Models.{FiniteModel, Fits, IsAssignment, solution, IsSolution, agree, intervene, weight_of, sum_worlds, world_weight}
+use Rattle.mixed_graph.specs.Vocabulary.{MixedGraph, IsMixedGraph}
+use Rattle.finite_models.specs.Vocabulary.{radix, radix_range, FiniteModel, Fits, IsAssignment, solution, IsSolution, agree, intervene, weight_of, sum_worlds, world_weight, ServesTwo}
 use Rattle.finite_models.proofs.Following.{Follows, follows_of, follows_intervene}
 use Rattle.finite_models.proofs.Ranks.{with_rank}
 use Rattle.finite_models.proofs.SumLaws.{over-congr_within}
 use Rattle.finite_models.proofs.Solutions.{IsRanked, solution_is, solution_within, unique, agree_same}
 use Rattle.finite_models.proofs.TableLaws.{radix-lt}
-use Rattle.latent_projection.specs.Removal.{without}
+use Rattle.latent_projection.specs.Vocabulary.{without}
 use Rattle.latent_projection.proofs.Treks.{clash, left_true, right_true}
 use Rattle.hidden_models.specs.Digits.{digits}
-use Rattle.finite_models.specs.Served.{ServesTwo}
 use Rattle.hidden_models.proofs.DigitLaws.{digits_radix}
 use Rattle.hidden_models.proofs.Unfold.{serves_at, code, codes, parent_in, cause_in, seen, heard, put_back, arrow_of, fits_back, same_code, no_self}
 

@@ -1,16 +1,13 @@
 -- A model of the latent projection comes from one of the graph: its hidden vertices are put back one after the other.
 use Rattle.std.proofs.Common.{ℕ, zero, suc, ◌≡◌, ◌<◌, ◌≤◌, Bool, true, false, not, cond, ◌&&◌, ◌==◌, List, [], ◌∷◌, refl, sym, ap, ◌∙◌, arith, eq-eqb, ne_eqb, subst}
 use Rattle.std.proofs.lemmas.Bool.{and_from, false_from_ne_true}
-use Rattle.mixed_graph.specs.Graphs.{MixedGraph, IsMixedGraph, IsDirectedPath}
-use Rattle.mixed_graph.specs.Sets.{Apart}
-use Rattle.finite_models.specs.Models.{FiniteModel, Fits, IsAssignment, solution, intervene, weight_of, total}
+use Rattle.mixed_graph.specs.Vocabulary.{MixedGraph, IsMixedGraph, IsDirectedPath, Apart}
+use Rattle.finite_models.specs.Vocabulary.{FiniteModel, Fits, IsAssignment, solution, intervene, weight_of, total, ServesTwo}
 use Rattle.finite_models.proofs.Ranks.{with_rank}
-use Rattle.latent_projection.specs.Projection.{AreBefore}
-use Rattle.latent_projection.specs.Removal.{without}
+use Rattle.latent_projection.specs.Vocabulary.{AreBefore, without}
 use Rattle.latent_projection.proofs.Treks.{LeadsOn, IsTrek, fork, edge, ProjectsByTreks, clash, left_true, right_true}
 use Rattle.latent_projection.proofs.Removals.{graph_without}
 use Rattle.latent_projection.proofs.Removing.{led_down, led_up, trek_down, trek_up}
-use Rattle.finite_models.specs.Served.{ServesTwo}
 use Rattle.hidden_models.proofs.Unfold.{arrow_of, both_of, codes, put_back, two_put_back, fits_back}
 use Rattle.hidden_models.proofs.Unfolded.{back_at, two_weight, back_weighs, back_two}
 

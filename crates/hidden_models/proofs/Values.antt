@@ -1,9 +1,9 @@
 -- The value of a formula depends on the values of the vertices alone, where the weights of events do.
 use Rattle.std.proofs.Common.{ℕ, suc, ◌≡◌, ◌<◌, Bool, true, false, cond, eqb, nat_lt, refl, ap₂, ◌||◌, List, [], ◌∷◌, lt-ltb, ltb-true}
-use Rattle.mixed_graph.specs.Bits.{has}
-use Rattle.fractions.specs.Fractions.{Fraction, over, mul, div}
-use Rattle.prob_expr.specs.Tree.{Tree, prob, sum, product, quotient, named, Trees, no_trees, tree, PlainFormula}
-use Rattle.prob_expr.specs.Values.{Weights, value, product_value, values_from, value_of}
+use Rattle.mixed_graph.specs.Vocabulary.{has}
+use Rattle.fractions.specs.Vocabulary.{Fraction, over, mul, div}
+use Rattle.prob_expr.specs.Tree.{Tree, prob, sum, product, quotient, named, tree}
+use Rattle.prob_expr.specs.Vocabulary.{Trees, no_trees, PlainFormula, Weights, value, product_value, values_from, value_of}
 use Rattle.prob_expr.proofs.FreeLaws.{sum_reads}
 
 -- the vertices have the same values

@@ -1,8 +1,7 @@
 -- Values of causes.
 use Rattle.std.proofs.Common.{ℕ, ◌<◌, Bool, not, List, length, arith}
-use Rattle.mixed_graph.specs.Graphs.{MixedGraph}
-use Rattle.finite_models.specs.Models.{FiniteModel, Fits, IsAssignment, intervene}
-use Rattle.finite_models.specs.Worlds.{values_of}
+use Rattle.mixed_graph.specs.Vocabulary.{MixedGraph}
+use Rattle.finite_models.specs.Vocabulary.{FiniteModel, Fits, IsAssignment, intervene, values_of}
 use Rattle.finite_models.specs.declared.model.Cause.{Cause}
 use Rattle.finite_models.proofs.Following.{follows_of, follows_intervene}
 use Rattle.finite_models.proofs.Solutions.{solution_within}

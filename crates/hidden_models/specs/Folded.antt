@@ -1,16 +1,13 @@
 -- The folded model of a model of a diagram with hidden vertices, as data.
 use Rattle.std.specs.Prelude.{ℕ, ◌≡◌, ◌<◌, ◌≤◌, ◌↔◌, Bool, List, length, slice_index, IsTrue}
-use Rattle.mixed_graph.specs.Bits.{has, members_below}
-use Rattle.mixed_graph.specs.Graphs.{MixedGraph}
 use Rattle.mixed_graph.specs.declared.sets.VSet.{VSet}
-use Rattle.latent_projection.specs.Renumbering.{observed_below, renumbered_set, IsObserved}
-use Rattle.finite_models.specs.Data.{weights_of, children_of}
-use Rattle.finite_models.specs.Tables.{table_range}
-use Rattle.finite_models.specs.Worlds.{values_of}
+use Rattle.mixed_graph.specs.Vocabulary.{has, members_below, MixedGraph}
+use Rattle.latent_projection.specs.Vocabulary.{observed_below, renumbered_set, IsObserved}
 use Rattle.finite_models.specs.declared.model.Model.{Model}
-use Rattle.finite_models.specs.declared.model.Cause.{Cause}
 use Rattle.finite_models.specs.declared.model.Mechanism.{Mechanism}
 use Rattle.finite_models.specs.declared.model.Mechanism.TheVariants.{Table, Parity}
+use Rattle.finite_models.specs.Vocabulary.{weights_of, children_of, table_range, values_of}
+use Rattle.finite_models.specs.declared.model.Cause.{Cause}
 use Rattle.hidden_models.specs.Lists.{AreListed}
 use Rattle.hidden_models.specs.Reaching.{IsReachedFrom, mask_at}
 use Rattle.hidden_models.specs.Tables.{IsTableFor}

@@ -1,13 +1,10 @@
 -- A model of a diagram with hidden vertices, and the models of its observed graph that give every observed probability the same value.
 use Rattle.std.specs.Prelude.{ℕ, ◌*◌, ◌≡◌, ◌<◌, ◌≤◌, Bool, not, ◌&&◌, if◌then◌else◌, length, slice_index}
-use Rattle.mixed_graph.specs.Bits.{has}
-use Rattle.mixed_graph.specs.Sets.{Apart}
-use Rattle.fractions.specs.Fractions.{Fraction}
-use Rattle.finite_models.specs.Models.{FiniteModel, IsAssignment, event_weight, weight_of, total, probability}
-use Rattle.latent_projection.specs.Renumbering.{observed_below, renumbered_set}
-use Rattle.prob_expr.specs.Tree.{PlainTarget}
-use Rattle.prob_expr.specs.Values.{Weights}
-use Rattle.prob_expr.specs.Proportional.{AreProportional}
+use Rattle.mixed_graph.specs.Vocabulary.{has, Apart}
+use Rattle.fractions.specs.Vocabulary.{Fraction}
+use Rattle.finite_models.specs.Vocabulary.{FiniteModel, IsAssignment, event_weight, weight_of, total, probability}
+use Rattle.latent_projection.specs.Vocabulary.{observed_below, renumbered_set}
+use Rattle.prob_expr.specs.Vocabulary.{PlainTarget, Weights, AreProportional}
 
 -- the number of the observed vertex v among the observed ones: how many of them are below it
 abbrev pub new_number : (ℕ → Bool) → ℕ → ℕ

@@ -1,11 +1,10 @@
 -- What is true of the models of a diagram with hidden vertices.
 use Rattle.std.specs.Prelude.{ℕ, ◌*◌, ◌≡◌, Bool}
-use Rattle.mixed_graph.specs.Graphs.{MixedGraph, IsMixedGraph}
-use Rattle.fractions.specs.Fractions.{IsEqual}
-use Rattle.finite_models.specs.Models.{FiniteModel, Fits, IsAssignment, IsPositiveModel, weight_of, total}
-use Rattle.latent_projection.specs.Renumbering.{IsObserved}
-use Rattle.prob_expr.specs.Tree.{PlainFormula, PlainTarget}
-use Rattle.prob_expr.specs.Values.{weights_of, value_of, effect, EqualsEffect}
+use Rattle.mixed_graph.specs.Vocabulary.{MixedGraph, IsMixedGraph}
+use Rattle.fractions.specs.Vocabulary.{IsEqual}
+use Rattle.finite_models.specs.Vocabulary.{FiniteModel, Fits, IsAssignment, IsPositiveModel, weight_of, total}
+use Rattle.latent_projection.specs.Vocabulary.{IsObserved}
+use Rattle.prob_expr.specs.Vocabulary.{PlainFormula, PlainTarget, weights_of, value_of, effect, EqualsEffect}
 use Rattle.hidden_models.specs.Folding.{Folds, IsObservedPositive, values_after, drawn_weights, drawn_effect}
 
 -- a model of the observed graph q that folds m

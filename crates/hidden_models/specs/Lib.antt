@@ -10,3 +10,4 @@ pub mod FoldingLaws
 pub mod Statements
 pub mod Unfolding
 pub mod UnfoldingLaws
+pub mod Vocabulary

@@ -1,9 +1,7 @@
 -- What folding a model needs of its graph.
 use Rattle.std.specs.Prelude.{ℕ, Bool}
-use Rattle.mixed_graph.specs.Graphs.{MixedGraph}
-use Rattle.mixed_graph.specs.Orders.{IsOrder}
-use Rattle.mixed_graph.specs.Shown.{graph_of}
-use Rattle.latent_projection.specs.Projection.{IsProjection}
+use Rattle.mixed_graph.specs.Vocabulary.{MixedGraph, IsOrder, graph_of}
+use Rattle.latent_projection.specs.Vocabulary.{IsProjection}
 use Rattle.finite_models.specs.declared.model.Model.{Model}
 use Rattle.hidden_models.specs.Reaching.{AreReached}
 use Rattle.hidden_models.specs.declared.parts.Parts.{Parts}

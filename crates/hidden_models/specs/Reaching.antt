@@ -1,10 +1,9 @@
 -- The observed vertices that a cause reaches.
 use Rattle.std.specs.Prelude.{ℕ, ◌≡◌, ◌<◌, ◌^◌, ◌↔◌, Bool, not, false, ◌==◌, List, length, map, slice_index, IsTrue}
-use Rattle.mixed_graph.specs.Bits.{has}
-use Rattle.mixed_graph.specs.Graphs.{MixedGraph, IsDirectedPath}
 use Rattle.mixed_graph.specs.declared.sets.VSet.{VSet}
-use Rattle.latent_projection.specs.Projection.{AreBefore}
-use Rattle.finite_models.specs.Data.{children_of}
+use Rattle.mixed_graph.specs.Vocabulary.{has, MixedGraph, IsDirectedPath}
+use Rattle.latent_projection.specs.Vocabulary.{AreBefore}
+use Rattle.finite_models.specs.Vocabulary.{children_of}
 use Rattle.finite_models.specs.declared.model.Cause.{Cause}
 use Rattle.hidden_models.specs.Lists.{AreListed}
 

@@ -1,10 +1,10 @@
 -- What separations and rules say of the diagram as drawn. Their sets are sets of observed vertices, in their new numbers.
 use Rattle.std.specs.Prelude.{ℕ, ◌*◌, ◌≡◌, ◌≢◌, Bool, false, ◌||◌}
-use Rattle.mixed_graph.specs.Graphs.{MixedGraph, IsMixedGraph}
-use Rattle.fractions.specs.Fractions.{Fraction, over, IsEqual}
-use Rattle.finite_models.specs.Models.{FiniteModel, Fits, IsAssignment}
-use Rattle.latent_projection.specs.Renumbering.{IsObserved}
-use Rattle.do_rules.specs.Rules.{AreIndependent, AreDependent, Side, AreEqualSides, DifferSomewhere}
+use Rattle.mixed_graph.specs.Vocabulary.{MixedGraph, IsMixedGraph}
+use Rattle.fractions.specs.Vocabulary.{Fraction, over, IsEqual}
+use Rattle.finite_models.specs.Vocabulary.{FiniteModel, Fits, IsAssignment}
+use Rattle.latent_projection.specs.Vocabulary.{IsObserved}
+use Rattle.do_rules.specs.Vocabulary.{AreIndependent, AreDependent, Side, AreEqualSides, DifferSomewhere}
 use Rattle.hidden_models.specs.Folding.{IsObservedPositive, drawn_weights}
 
 -- the weight of an event in a model of the diagram as drawn

@@ -1,15 +1,11 @@
 -- The tables of a folded model, in the old numbers of vertices and causes.
 use Rattle.std.specs.Prelude.{ℕ, ◌≡◌, ◌<◌, ◌*◌, ◌/◌, ◌%◌, Bool, List, length, slice_index}
-use Rattle.mixed_graph.specs.Bits.{has}
-use Rattle.mixed_graph.specs.Graphs.{MixedGraph}
 use Rattle.mixed_graph.specs.declared.sets.VSet.{VSet}
-use Rattle.finite_models.specs.Data.{meaning}
-use Rattle.finite_models.specs.Models.{FiniteModel}
-use Rattle.finite_models.specs.Tables.{radix_range}
-use Rattle.finite_models.specs.Worlds.{values_of}
+use Rattle.mixed_graph.specs.Vocabulary.{has, MixedGraph}
 use Rattle.finite_models.specs.declared.model.Model.{Model}
 use Rattle.finite_models.specs.declared.model.Mechanism.{Mechanism}
 use Rattle.finite_models.specs.declared.model.Mechanism.TheVariants.{Table, Parity}
+use Rattle.finite_models.specs.Vocabulary.{meaning, FiniteModel, radix_range, values_of}
 use Rattle.hidden_models.specs.Digits.{digits}
 use Rattle.hidden_models.specs.Reaching.{mask_at}
 use Rattle.hidden_models.specs.Values.{filled}

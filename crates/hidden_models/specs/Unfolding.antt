@@ -1,12 +1,9 @@
 -- Models of the diagram as drawn that a model of the observed graph folds, and what one or two of them show.
 use Rattle.std.specs.Prelude.{ℕ, ◌*◌, ◌≡◌, ◌<◌, Bool, true, false, List}
-use Rattle.mixed_graph.specs.Bits.{has}
-use Rattle.mixed_graph.specs.Graphs.{MixedGraph}
-use Rattle.fractions.specs.Fractions.{IsEqual}
-use Rattle.finite_models.specs.Models.{FiniteModel, Fits, IsAssignment, solution, intervene, total}
-use Rattle.prob_expr.specs.Terms.{is_allowed, is_do_free, is_listed}
-use Rattle.prob_expr.specs.Tree.{PlainFormula, PlainTarget}
-use Rattle.prob_expr.specs.Values.{term_value, value_of}
+use Rattle.mixed_graph.specs.Vocabulary.{has, MixedGraph}
+use Rattle.fractions.specs.Vocabulary.{IsEqual}
+use Rattle.finite_models.specs.Vocabulary.{FiniteModel, Fits, IsAssignment, solution, intervene, total}
+use Rattle.prob_expr.specs.Vocabulary.{is_allowed, is_do_free, is_listed, PlainFormula, PlainTarget, term_value, value_of}
 use Rattle.hidden_models.specs.Folding.{Folds, IsObservedPositive, new_number, set_before, values_before, values_after, drawn_weights, drawn_effect}
 use Rattle.hidden_models.specs.FoldingLaws.{EqualsAsDrawn}
 

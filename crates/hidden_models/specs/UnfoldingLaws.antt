@@ -1,19 +1,12 @@
 -- What is true of models of the diagram as drawn that a model of the observed graph folds.
 use Rattle.std.specs.Prelude.{ℕ, ◌≡◌, Bool, true, List}
-use Rattle.mixed_graph.specs.Graphs.{MixedGraph, IsMixedGraph}
-use Rattle.finite_models.specs.Models.{FiniteModel, Fits, IsAssignment, IsPositiveModel}
-use Rattle.finite_models.specs.Agreement.{AgreeObserved}
-use Rattle.latent_projection.specs.Renumbering.{IsObserved}
-use Rattle.prob_expr.specs.Differences.{DifferOnTarget}
-use Rattle.prob_expr.specs.Experiments.{AgreeUnderAll}
-use Rattle.prob_expr.specs.Failing.{FailsSomewhere}
-use Rattle.fractions.specs.Fractions.{IsEqual}
-use Rattle.prob_expr.specs.Terms.{is_do_free}
-use Rattle.prob_expr.specs.Tree.{PlainFormula, PlainTarget}
-use Rattle.prob_expr.specs.Values.{effect}
+use Rattle.mixed_graph.specs.Vocabulary.{MixedGraph, IsMixedGraph}
+use Rattle.finite_models.specs.Vocabulary.{FiniteModel, Fits, IsAssignment, IsPositiveModel, AgreeObserved, ServesTwo}
+use Rattle.latent_projection.specs.Vocabulary.{IsObserved}
+use Rattle.prob_expr.specs.Vocabulary.{DifferOnTarget, AgreeUnderAll, FailsSomewhere, is_do_free, PlainFormula, PlainTarget, effect}
+use Rattle.fractions.specs.Vocabulary.{IsEqual}
 use Rattle.hidden_models.specs.FoldingLaws.{EqualsAsDrawn}
 use Rattle.hidden_models.specs.Folding.{Folds, IsObservedPositive}
-use Rattle.finite_models.specs.Served.{ServesTwo}
 use Rattle.hidden_models.specs.Unfolding.{IsFoldedFrom, NotIdentifiableAsDrawn, NotIdentifiableOverAsDrawn, FailsSomewhereAsDrawn}
 
 -- every model of the observed graph each of whose causes serves one vertex or two folds a model of the diagram as drawn, and shares its worlds with it

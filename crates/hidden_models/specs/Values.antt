@@ -1,7 +1,6 @@
 -- Values of causes and of hidden vertices.
 use Rattle.std.specs.Prelude.{ℕ, ◌≡◌, Bool, not, List, length, slice_index}
-use Rattle.finite_models.specs.Models.{FiniteModel, IsAssignment, solution, intervene}
-use Rattle.finite_models.specs.Worlds.{values_of}
+use Rattle.finite_models.specs.Vocabulary.{FiniteModel, IsAssignment, solution, intervene, values_of}
 use Rattle.finite_models.specs.declared.model.Cause.{Cause}
 
 -- a value of each cause

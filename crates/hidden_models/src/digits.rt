@@ -1,9 +1,8 @@
 //! Numbers as the digits of values.
 
 ghost use Rattle.std.specs.Prelude.{◌≡◌, ℕ, ◌/◌, ◌%◌, ◌<◌, ◌≤◌, cond, length, slice_index, IfOk};
-ghost use Rattle.mixed_graph.specs.Bits.{has};
-ghost use Rattle.mixed_graph.specs.Shown.{graph_of};
-ghost use Rattle.finite_models.specs.Worlds.{values_of};
+ghost use Rattle.mixed_graph.specs.Vocabulary.{has, graph_of};
+ghost use Rattle.finite_models.specs.Vocabulary.{values_of};
 ghost use Rattle.hidden_models.specs.Digits.{digits};
 ghost use Rattle.hidden_models.specs.Reaching.{mask_at};
 

@@ -1,9 +1,8 @@
 //! The entries of a folded mechanism's table.
 
 ghost use Rattle.std.specs.Prelude.{◌≡◌, ℕ, ◌<◌, ◌≤◌, IfOk, length};
-ghost use Rattle.mixed_graph.specs.Bits.{has};
-ghost use Rattle.mixed_graph.specs.Shown.{graph_of};
-ghost use Rattle.finite_models.specs.Worlds.{IsAcceptedModel};
+ghost use Rattle.mixed_graph.specs.Vocabulary.{has, graph_of};
+ghost use Rattle.finite_models.specs.Vocabulary.{IsAcceptedModel};
 ghost use Rattle.hidden_models.specs.Parts.{AreParts};
 ghost use Rattle.hidden_models.specs.Tables.{entries, entry_at, AreEntries};
 

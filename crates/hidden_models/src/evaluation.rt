@@ -1,13 +1,8 @@
 //! The output of a folded mechanism.
 
 ghost use Rattle.std.specs.Prelude.{◌≡◌, ℕ, ◌+◌, ◌*◌, ◌^◌, ◌<◌, length, slice_index};
-ghost use Rattle.mixed_graph.specs.Bits.{has};
-ghost use Rattle.mixed_graph.specs.Shown.{graph_of};
-ghost use Rattle.finite_models.specs.Models.{IsAssignment};
-ghost use Rattle.finite_models.specs.Tables.{radix, radix_range, table_value};
-ghost use Rattle.finite_models.specs.Data.{children_of, place_in_table};
-ghost use Rattle.finite_models.specs.Inputs.{places_of};
-ghost use Rattle.finite_models.specs.Worlds.{values_of};
+ghost use Rattle.mixed_graph.specs.Vocabulary.{has, graph_of};
+ghost use Rattle.finite_models.specs.Vocabulary.{IsAssignment, radix, radix_range, table_value, children_of, place_in_table, places_of, values_of};
 ghost use Rattle.hidden_models.specs.Values.{IsWorldOf};
 
 use finite_models::{Model, parents_place, with_digit};

@@ -1,12 +1,8 @@
 //! The values of hidden vertices where the observed ones are set.
 
 ghost use Rattle.std.specs.Prelude.{◌≡◌, ℕ, ◌<◌, length, slice_index};
-ghost use Rattle.mixed_graph.specs.Bits.{has};
-ghost use Rattle.mixed_graph.specs.Orders.{IsOrder};
-ghost use Rattle.mixed_graph.specs.Shown.{graph_of};
-ghost use Rattle.finite_models.specs.Models.{IsAssignment};
-ghost use Rattle.finite_models.specs.Data.{meaning};
-ghost use Rattle.finite_models.specs.Worlds.{IsAcceptedModel};
+ghost use Rattle.mixed_graph.specs.Vocabulary.{has, IsOrder, graph_of};
+ghost use Rattle.finite_models.specs.Vocabulary.{IsAssignment, meaning, IsAcceptedModel};
 ghost use Rattle.hidden_models.specs.Values.{IsWorldOf, filled};
 
 use crate::evaluation::output;

@@ -1,13 +1,9 @@
 //! A model folded to one of the observed graph.
 
 ghost use Rattle.std.specs.Prelude.{◌≡◌, ℕ, ◌<◌, ◌≤◌, not, IfOk, IfErr, IfSome, IfNone, All, OnOk, length, slice_index};
-ghost use Rattle.mixed_graph.specs.Bits.{has, members_below};
-ghost use Rattle.mixed_graph.specs.Graphs.{MixedGraph};
-ghost use Rattle.mixed_graph.specs.Shown.{graph_of};
-ghost use Rattle.latent_projection.specs.Renumbering.{observed_below, IsObserved};
-ghost use Rattle.finite_models.specs.Data.{meaning};
-ghost use Rattle.finite_models.specs.Sound.{IsFirstWrong, AllRight};
-ghost use Rattle.finite_models.specs.Worlds.{IsAcceptedModel};
+ghost use Rattle.mixed_graph.specs.Vocabulary.{has, members_below, MixedGraph, graph_of};
+ghost use Rattle.latent_projection.specs.Vocabulary.{observed_below, IsObserved};
+ghost use Rattle.finite_models.specs.Vocabulary.{meaning, IsFirstWrong, AllRight, IsAcceptedModel};
 ghost use Rattle.hidden_models.specs.Folding.{Folds};
 ghost use Rattle.hidden_models.specs.Folded.{IsCauseOf, AreFoldedCauses, IsTable, IsSmallEnough, IsFoldFault, IsFoldedData};
 ghost use Rattle.hidden_models.specs.Lists.{AreListed};

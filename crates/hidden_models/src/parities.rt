@@ -1,8 +1,7 @@
 //! The value of a vertex with parts.
 
 ghost use Rattle.std.specs.Prelude.{◌≡◌, ◌%◌, ◌<◌, ◌≤◌, EachIndex, map, sum, length, slice_index};
-ghost use Rattle.finite_models.specs.Data.{part_bit, parity_value};
-ghost use Rattle.finite_models.specs.Worlds.{HasCauses, HaveCauses};
+ghost use Rattle.finite_models.specs.Vocabulary.{part_bit, parity_value, HasCauses, HaveCauses};
 ghost use Rattle.hidden_models.specs.Values.{IsWorldOf};
 
 use finite_models::{Model, Part, carried_parity, hedge_parity};

@@ -1,10 +1,8 @@
 //! How large the table of a folded mechanism is.
 
 ghost use Rattle.std.specs.Prelude.{◌≡◌, ℕ, ◌*◌, ◌+◌, ◌^◌, ◌<◌, ◌≤◌, cond, min, length, slice_index};
-ghost use Rattle.mixed_graph.specs.Bits.{has};
-ghost use Rattle.mixed_graph.specs.Shown.{graph_of};
-ghost use Rattle.finite_models.specs.Tables.{radix_range};
-ghost use Rattle.finite_models.specs.Data.{weights_of};
+ghost use Rattle.mixed_graph.specs.Vocabulary.{has, graph_of};
+ghost use Rattle.finite_models.specs.Vocabulary.{radix_range, weights_of};
 ghost use Rattle.hidden_models.specs.Reaching.{mask_at};
 ghost use Rattle.hidden_models.specs.Tables.{entries};
 

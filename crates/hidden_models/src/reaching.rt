@@ -1,10 +1,8 @@
 //! The causes that reach an observed vertex, and those that they reach.
 
 ghost use Rattle.std.specs.Prelude.{◌≡◌, ℕ, ◌<◌, ◌≤◌, ◌^◌, ◌↔◌, not, IsTrue, IfOk, length};
-ghost use Rattle.mixed_graph.specs.Bits.{has, members_below};
-ghost use Rattle.mixed_graph.specs.Sets.{Within};
-ghost use Rattle.mixed_graph.specs.Shown.{graph_of};
-ghost use Rattle.finite_models.specs.Data.{children_of};
+ghost use Rattle.mixed_graph.specs.Vocabulary.{has, members_below, Within, graph_of};
+ghost use Rattle.finite_models.specs.Vocabulary.{children_of};
 ghost use Rattle.hidden_models.specs.Reaching.{IsReachedFrom, AreReached, has_some};
 
 use finite_models::Cause;

@@ -2,16 +2,14 @@
 use Rattle.std.proofs.Common.{ℕ, ◌+◌, ◌≡◌, ◌<◌, ◌≤◌, Bool, true, false, cond, leb, not, refl, sym, ap, ap₂, subst, ◌∙◌, ◌||◌, ◌&&◌, ◌⊎◌, inl, inr}
 use Rattle.std.proofs.Common.{List, [], ◌∷◌, ◌++◌, length, arith, length-append, le-leb}
 use Rattle.std.specs.Prelude.{Option, Some, None}
-use Rattle.hedge.specs.Linked.{AreDistricts}
-use Rattle.do_derivation.specs.Accepts.{Define, are_sets, sets_of}
-use Rattle.do_derivation.specs.Plans.{Move, PlainLemma, Plan, Plans, no_plans, plan}
-use Rattle.do_derivation.specs.Shapes.{chained, count_factors, flat, grouped, groups_of, has_product, is_grouping, is_list_of, unwrapped}
-use Rattle.do_derivation.specs.Steps.{IsMade, Makes, MakesAll}
-use Rattle.do_derivation.specs.Table.{Row, if_made, is_new}
-use Rattle.do_rules.specs.declared.rules.Rule.TheVariants.{Three}
-use Rattle.do_rules.proofs.RuleGraphs.{asked_of_three}
+use Rattle.hedge.specs.Vocabulary.{AreDistricts}
 use Rattle.do_derivation.specs.declared.faults.StepFault.TheVariants.{BadOrder, Grouping, Sets, Shape}
 use Rattle.do_derivation.specs.declared.faults.StepFault.{StepFault}
+use Rattle.do_derivation.specs.Vocabulary.{Define, are_sets, sets_of, PlainLemma, no_plans, chained, count_factors, flat, grouped, groups_of, has_product, is_grouping, is_list_of, unwrapped, IsMade, Makes, MakesAll, if_made, is_new}
+use Rattle.do_derivation.specs.Plans.{Move, Plan, Plans, plan}
+use Rattle.do_derivation.specs.Table.{Row}
+use Rattle.do_rules.specs.declared.rules.Rule.TheVariants.{Three}
+use Rattle.do_rules.proofs.RuleGraphs.{asked_of_three}
 use Rattle.do_derivation.specs.declared.moves.SetMove.TheVariants as set_move
 use Rattle.do_derivation.specs.declared.moves.BareMove.TheVariants as bare_move
 use Rattle.identification_theory.proofs.Assembly.{starts, listed, each_unchained, each_homed, cited_two, sets-append, length-sets, define-two}
@@ -31,10 +29,9 @@ use Rattle.identification_theory.specs.Depth.{are_lemmas_within, are_plans_withi
 use Rattle.identification_theory.specs.Procedure.AreFactored.{none, next}
 use Rattle.identification_theory.specs.Procedure.{AreAncestorsIn, AreFactored, IsTarget, Source, product_of, sum_if}
 use Rattle.mixed_graph.proofs.Masks.{has-and, has-or, has-zero, same_from_has}
-use Rattle.mixed_graph.specs.Bits.{has}
-use Rattle.mixed_graph.specs.Graphs.{IsAncestor, IsMixedGraph, MixedGraph, induced}
-use Rattle.mixed_graph.specs.Masks.{all, is_below, is_empty, union, minus, one, common}
-use Rattle.prob_expr.specs.Tree.{Tree, Trees, named, no_trees, prob, product, quotient, sum, tree}
+use Rattle.mixed_graph.specs.Vocabulary.{has, IsAncestor, IsMixedGraph, MixedGraph, induced, all, is_below, is_empty, union, minus, one, common}
+use Rattle.prob_expr.specs.Tree.{Tree, named, prob, product, quotient, sum, tree}
+use Rattle.prob_expr.specs.Vocabulary.{Trees, no_trees}
 use Rattle.identification_theory.specs.Derivations.{AreAllSteps, single, with_set, Lists, no_more, more, at_each, at_zero, in_order, home, home_list}
 use Rattle.identification_theory.specs.Derivations.{home_lists, group_lists, unchain_steps, unchain_lists, unwrap_steps, main_steps}
 

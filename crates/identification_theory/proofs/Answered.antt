@@ -21,11 +21,9 @@ use Rattle.identification_theory.specs.AnswerLaws.{FormulaNamesAncestors, Formul
 use Rattle.identification_theory.specs.AnswerLaws.{OneDerivation, DerivationIsAccepted, OneStop, NeverBoth, StopIsHedge}
 use Rattle.identification_theory.specs.Names.{FormulaNamesOnly}
 use Rattle.mixed_graph.proofs.Masks.{has-zero}
-use Rattle.mixed_graph.specs.Bits.{has}
-use Rattle.mixed_graph.specs.Graphs.{IsAncestor, IsMixedGraph, MixedGraph}
-use Rattle.mixed_graph.specs.Masks.{is_apart, is_below}
-use Rattle.prob_expr.specs.Terms.{is_term}
-use Rattle.hedge.specs.Hedges.{Meets}
+use Rattle.mixed_graph.specs.Vocabulary.{has, IsAncestor, IsMixedGraph, MixedGraph, is_apart, is_below}
+use Rattle.prob_expr.specs.Vocabulary.{is_term}
+use Rattle.hedge.specs.Vocabulary.{Meets}
 
 observed_term : (g : MixedGraph) (x y : ℕ) → IsTarget g x y → is_term g.vertices y 0 0 ≡ true
 observed_term g x y t = is_term_from g.vertices y 0 0 (below g.vertices y t.y_low) zero_low zero_low (not_empty y t.some t.some_in) (off y) (off y) (off 0)

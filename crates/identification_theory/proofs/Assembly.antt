@@ -2,12 +2,9 @@
 use Rattle.std.proofs.Common.{ℕ, zero, suc, ◌+◌, ◌≡◌, ◌<◌, Bool, true, false, cond, eqb, not, refl, sym, ap, subst, ◌∙◌, ◌||◌, ◌&&◌, ◌⊎◌, inl, inr}
 use Rattle.std.proofs.Common.{List, [], ◌∷◌, ◌++◌, length, arith, eq-eqb, length-append}
 use Rattle.std.specs.Prelude.{Option, Some, None}
-use Rattle.do_derivation.specs.Accepts.{Define, sets_of}
-use Rattle.do_derivation.specs.Plans.{Move, PlainLemma, Plan}
-use Rattle.do_derivation.specs.Shapes.{as_one, chained, gathered, is_list_of, term_with, unchained}
-use Rattle.do_derivation.specs.Steps.{IsMade, Makes, MakesAll}
-use Rattle.do_derivation.specs.Table.{if_made}
 use Rattle.do_derivation.specs.declared.faults.StepFault.TheVariants.{Shape}
+use Rattle.do_derivation.specs.Vocabulary.{Define, sets_of, PlainLemma, as_one, chained, gathered, is_list_of, term_with, unchained, IsMade, Makes, MakesAll, if_made}
+use Rattle.do_derivation.specs.Plans.{Move, Plan}
 use Rattle.do_derivation.specs.declared.moves.BareMove.TheVariants as bare_move
 use Rattle.identification_theory.proofs.Bodies.{IsCited, EachMade}
 use Rattle.identification_theory.proofs.Body.{is_list, IsSite, HoldsParents, next_parents, order_in}
@@ -20,10 +17,9 @@ use Rattle.identification_theory.proofs.Separations.{IsPlace}
 use Rattle.identification_theory.proofs.Sets.{alone, apart, empty-has, has-minus, one-is}
 use Rattle.identification_theory.specs.Procedure.{Source}
 use Rattle.mixed_graph.proofs.Masks.{has-and, has-or, has-zero, same_from_has}
-use Rattle.mixed_graph.specs.Bits.{has}
-use Rattle.mixed_graph.specs.Graphs.{IsMixedGraph, MixedGraph}
-use Rattle.mixed_graph.specs.Masks.{all, is_apart, is_empty, union, minus, one, common}
-use Rattle.prob_expr.specs.Tree.{Tree, Trees, no_trees, prob, product, tree}
+use Rattle.mixed_graph.specs.Vocabulary.{has, IsMixedGraph, MixedGraph, all, is_apart, is_empty, union, minus, one, common}
+use Rattle.prob_expr.specs.Tree.{Tree, prob, product, tree}
+use Rattle.prob_expr.specs.Vocabulary.{Trees, no_trees}
 use Rattle.identification_theory.specs.Derivations.{more, in_order, home, home_list, home_lists, unchain_steps, unchain_lists}
 
 -- ---- the start of each factor

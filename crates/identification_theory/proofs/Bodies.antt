@@ -2,11 +2,10 @@
 use Rattle.std.proofs.Common.{ℕ, suc, ◌≡◌, ◌<◌, Bool, true, false, cond, eqb, ltb, not, refl, sym, ap, subst, ◌∙◌, ◌||◌, ◌&&◌, ◌⊎◌, inl, inr, List}
 use Rattle.std.proofs.Common.{length, get_or, arith, eqb-true, eq-eqb, lt-ltb}
 use Rattle.std.specs.Prelude.{Some, MatchOption}
-use Rattle.do_derivation.specs.Plans.{Move, Plan, Plans, no_plans, plan}
-use Rattle.do_derivation.specs.Shapes.{count_factors, factor_at, appended, with_factor}
-use Rattle.do_derivation.specs.Steps.{Makes, MakesAll}
-use Rattle.do_derivation.specs.Table.{Row, if_so, is_new}
+use Rattle.do_derivation.specs.Plans.{Move, Plan, Plans, plan}
 use Rattle.do_derivation.specs.declared.faults.StepFault.TheVariants.{NoLemma, Sets, Shape}
+use Rattle.do_derivation.specs.Vocabulary.{no_plans, count_factors, factor_at, appended, with_factor, Makes, MakesAll, if_so, is_new}
+use Rattle.do_derivation.specs.Table.{Row}
 use Rattle.do_derivation.specs.declared.moves.SetMove.TheVariants as set_move
 use Rattle.do_derivation.specs.declared.moves.BareMove.TheVariants as bare_move
 use Rattle.identification_theory.proofs.Bools.{and_l, and_r, both_true, clash, not_e, not_i, or_e}
@@ -14,10 +13,9 @@ use Rattle.identification_theory.proofs.Places.{made_if}
 use Rattle.identification_theory.proofs.Sets.{all-is, apart, below, empty-has, has-minus, one-is}
 use Rattle.identification_theory.specs.Procedure.{Source, conditional, marginal}
 use Rattle.mixed_graph.proofs.Masks.{has-or, has-zero, same_from_has}
-use Rattle.mixed_graph.specs.Bits.{has}
-use Rattle.mixed_graph.specs.Graphs.{MixedGraph}
-use Rattle.mixed_graph.specs.Masks.{all, is_apart, is_below, is_empty, union, minus, one}
-use Rattle.prob_expr.specs.Tree.{Tree, Trees, named, no_trees, prob, product, quotient, sum, tree}
+use Rattle.mixed_graph.specs.Vocabulary.{has, MixedGraph, all, is_apart, is_below, is_empty, union, minus, one}
+use Rattle.prob_expr.specs.Tree.{Tree, named, prob, product, quotient, sum, tree}
+use Rattle.prob_expr.specs.Vocabulary.{Trees, no_trees}
 use Rattle.identification_theory.specs.Derivations.{single, Lists, no_more, more, at_place, at_each, universe, marginal_steps, source_steps}
 
 -- ---- lists of steps

@@ -1,13 +1,11 @@
 -- The whole body of a factor.
 use Rattle.std.proofs.Common.{ℕ, suc, ◌≡◌, ◌<◌, Bool, true, false, cond, eqb, leb, not, refl, sym, ap, subst, ◌∙◌, ◌||◌, ◌&&◌, ◌⊎◌, inl, inr, List}
 use Rattle.std.proofs.Common.{[], ◌∷◌, length, arith, eqb-true, eq-eqb, le-leb}
-use Rattle.hedge.specs.Linked.IsLinked.{at, by}
-use Rattle.hedge.specs.Linked.{IsLinked}
-use Rattle.do_derivation.specs.Plans.{Plans, no_plans}
-use Rattle.do_derivation.specs.Shapes.{as_one, chained, is_list_of}
-use Rattle.do_derivation.specs.Steps.{MakesAll}
-use Rattle.do_derivation.specs.Table.{Row}
+use Rattle.hedge.specs.Vocabulary.{at, by, IsLinked}
+use Rattle.do_derivation.specs.Plans.{Plans}
 use Rattle.do_derivation.specs.declared.faults.StepFault.TheVariants.{BadOrder}
+use Rattle.do_derivation.specs.Vocabulary.{no_plans, as_one, chained, is_list_of, MakesAll}
+use Rattle.do_derivation.specs.Table.{Row}
 use Rattle.identification_theory.proofs.Bodies.{IsCited, IsLow, source_made, EachMade, each_made}
 use Rattle.identification_theory.proofs.Bools.{and_l, and_r, both_true, clash, decide, not_i, or_e, or_l, or_r}
 use Rattle.identification_theory.proofs.Nesting.{steps_more, each_at, place_deep, are_lists_to}
@@ -19,10 +17,9 @@ use Rattle.identification_theory.specs.Depth.{are_plans_within}
 use Rattle.identification_theory.specs.Procedure.AreFactors.{none, skip, take}
 use Rattle.identification_theory.specs.Procedure.{AreFactors, IsBody, IsParent, IsPillow, Source, conditional}
 use Rattle.mixed_graph.proofs.Masks.{has-and, has-or, has-zero, same_from_has}
-use Rattle.mixed_graph.specs.Bits.{has}
-use Rattle.mixed_graph.specs.Graphs.{IsMixedGraph, MixedGraph, induced}
-use Rattle.mixed_graph.specs.Masks.{all, is_empty, union, minus, one, common}
-use Rattle.prob_expr.specs.Tree.{Tree, Trees, no_trees, prob, product, tree}
+use Rattle.mixed_graph.specs.Vocabulary.{has, IsMixedGraph, MixedGraph, induced, all, is_empty, union, minus, one, common}
+use Rattle.prob_expr.specs.Tree.{Tree, prob, product, tree}
+use Rattle.prob_expr.specs.Vocabulary.{Trees, no_trees}
 use Rattle.identification_theory.specs.Derivations.{ArePlaceLists, AreBodySteps, Lists, no_more, more, in_order, universe, source_steps, place_list, body_steps}
 
 -- a district t of a, where a holds what leads to it from the universe

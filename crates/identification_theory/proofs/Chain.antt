@@ -1,20 +1,18 @@
 -- The chain of all vertices, each factor brought to its district.
 use Rattle.std.proofs.Common.{ℕ, ◌≡◌, ◌<◌, Bool, true, false, not, refl, sym, ap, ap₂, ◌∙◌, ◌||◌, ◌&&◌, List, arith}
-use Rattle.do_derivation.specs.Plans.{Move, Plan, Plans, no_plans}
-use Rattle.do_derivation.specs.Steps.{Makes, MakesAll}
-use Rattle.do_derivation.specs.Table.{Row, is_new, is_part}
+use Rattle.do_derivation.specs.Plans.{Move, Plan, Plans}
+use Rattle.do_derivation.specs.declared.faults.StepFault.TheVariants.{Sets}
+use Rattle.do_derivation.specs.Vocabulary.{no_plans, Makes, MakesAll, is_new, is_part}
+use Rattle.do_derivation.specs.Table.{Row}
 use Rattle.do_rules.specs.declared.rules.Rule.TheVariants.{Two, Three}
 use Rattle.do_rules.proofs.RuleGraphs.{asked_of_two, asked_of_three}
-use Rattle.do_derivation.specs.declared.faults.StepFault.TheVariants.{Sets}
 use Rattle.do_derivation.specs.declared.moves.SetMove.TheVariants as set_move
 use Rattle.identification_theory.proofs.Bools.{and_l, and_r, both_true, clash, not_i, or_l, or_r}
 use Rattle.identification_theory.proofs.Places.{made_with, made_if, part, cut_three}
 use Rattle.identification_theory.proofs.Separations.{IsPlace, later_not_above, later_removed, earlier_exchanged}
 use Rattle.identification_theory.proofs.Sets.{all-is, apart, below, empty-has, has-minus, one-is}
 use Rattle.mixed_graph.proofs.Masks.{has-and, has-or, same_from_has}
-use Rattle.mixed_graph.specs.Bits.{has}
-use Rattle.mixed_graph.specs.Graphs.{IsMixedGraph, MixedGraph}
-use Rattle.mixed_graph.specs.Masks.{all, is_apart, is_below, is_empty, union, minus, one, common}
+use Rattle.mixed_graph.specs.Vocabulary.{has, IsMixedGraph, MixedGraph, all, is_apart, is_below, is_empty, union, minus, one, common}
 use Rattle.prob_expr.specs.Tree.{prob}
 use Rattle.identification_theory.specs.Derivations.{with_set}
 

@@ -1,13 +1,13 @@
 -- The formula of identification nests little, whatever the graph.
 use Rattle.std.proofs.Common.{ℕ, zero, suc, ◌+◌, ◌≡◌, Bool, true, false, cond, refl, ◌&&◌, List, [], ◌∷◌, ◌++◌, length, arith}
-use Rattle.do_derivation.specs.Shapes.{as_one, flat, appended}
+use Rattle.do_derivation.specs.Vocabulary.{as_one, flat, appended}
 use Rattle.identification_theory.proofs.Bools.{and_l, and_r, both_true}
 use Rattle.identification_theory.specs.Procedure.IsFactor.{whole, summed, further}
 use Rattle.identification_theory.specs.Procedure.{AreFactored, AreFactors, IsBody, IsComposed, IsFactor, Source, conditional, marginal, product_of, sum_if}
 use Rattle.identification_theory.specs.AnswerDepth.{are_defs_within, are_trees_within, is_tree_within}
-use Rattle.mixed_graph.specs.Graphs.{MixedGraph}
-use Rattle.mixed_graph.specs.Masks.{is_empty, union, minus, one}
-use Rattle.prob_expr.specs.Tree.{PlainFormula, Tree, Trees, named, no_trees, prob, product, quotient, sum, tree}
+use Rattle.mixed_graph.specs.Vocabulary.{MixedGraph, is_empty, union, minus, one}
+use Rattle.prob_expr.specs.Tree.{Tree, named, prob, product, quotient, sum, tree}
+use Rattle.prob_expr.specs.Vocabulary.{PlainFormula, Trees, no_trees}
 
 mutual
   -- a tree of at most d nodes in depth has at most d + 1

@@ -1,9 +1,8 @@
 -- The derivation that the procedure makes, step by step: the chain's factors are grouped only where some district has two members.
 use Rattle.std.proofs.Common.{ℕ, ◌≡◌, ◌<◌, Bool, true, false, cond, refl, sym, subst, ◌∙◌, ◌||◌, inl, inr, List, [], ◌∷◌, arith}
-use Rattle.hedge.specs.Linked.{AreDistricts}
-use Rattle.do_derivation.specs.Accepts.{sets_of}
-use Rattle.do_derivation.specs.Plans.{PlainDerivation, Move, Plan, Plans, plan}
-use Rattle.do_derivation.specs.Steps.{MakesAll}
+use Rattle.hedge.specs.Vocabulary.{AreDistricts}
+use Rattle.do_derivation.specs.Vocabulary.{sets_of, PlainDerivation, MakesAll}
+use Rattle.do_derivation.specs.Plans.{Move, Plan, Plans, plan}
 use Rattle.identification_theory.proofs.Accepted.{Whole, whole, unwrap_deep, homes_deep, rest_made, rest_deep, main_made, main_deep, d_low, y_in}
 use Rattle.identification_theory.proofs.Assembly.{starts, all_cited}
 use Rattle.identification_theory.proofs.Bodies.{EachMade}
@@ -16,10 +15,9 @@ use Rattle.identification_theory.specs.Depth.{are_plans_within}
 use Rattle.identification_theory.specs.Laws.{IsAcceptedFor}
 use Rattle.identification_theory.specs.Procedure.{IsComposed, IsTarget, product_of}
 use Rattle.mixed_graph.proofs.Masks.{has-zero}
-use Rattle.mixed_graph.specs.Bits.{has}
-use Rattle.mixed_graph.specs.Graphs.{IsMixedGraph, MixedGraph}
-use Rattle.mixed_graph.specs.Masks.{all, minus}
-use Rattle.prob_expr.specs.Tree.{PlainFormula, Trees, prob}
+use Rattle.mixed_graph.specs.Vocabulary.{has, IsMixedGraph, MixedGraph, all, minus}
+use Rattle.prob_expr.specs.Tree.{prob}
+use Rattle.prob_expr.specs.Vocabulary.{PlainFormula, Trees}
 use Rattle.identification_theory.specs.Derivations.{group_lists, unchain_lists, IsComposedAndDerived, Lists, at_each, in_order, home_lists, unwrap_steps}
 use Rattle.identification_theory.specs.Derivations.{two_or_more, has_pair, district_steps, main_steps}
 

@@ -1,16 +1,14 @@
 -- The steps of a factor, and the lemmas that they cite.
 use Rattle.std.proofs.Common.{ℕ, zero, suc, ◌+◌, ◌≡◌, ◌<◌, Bool, true, false, not, refl, sym, ap, ap₂, subst, ◌∙◌, ◌||◌, ◌&&◌, ◌⊎◌, inl, inr, List}
 use Rattle.std.proofs.Common.{[], ◌∷◌, ◌++◌, length, arith, length-append}
-use Rattle.hedge.specs.Linked.IsLinked.{at, by}
-use Rattle.hedge.specs.Linked.{IsDistrict, IsLinked}
-use Rattle.do_derivation.specs.Accepts.{Define, are_sets, sets_of}
-use Rattle.do_derivation.specs.Plans.{Move, PlainLemma, Plan, Plans, no_plans, plan}
-use Rattle.do_derivation.specs.Steps.{Makes, MakesAll}
-use Rattle.do_derivation.specs.Table.{Row, is_part}
-use Rattle.do_rules.specs.Rules.{IsBlockedFor}
-use Rattle.do_rules.specs.declared.rules.Rule.TheVariants.{Three}
-use Rattle.do_rules.proofs.RuleGraphs.{asked_of_three}
+use Rattle.hedge.specs.Vocabulary.{at, by, IsDistrict, IsLinked}
 use Rattle.do_derivation.specs.declared.faults.StepFault.TheVariants.{Sets}
+use Rattle.do_derivation.specs.Vocabulary.{Define, are_sets, sets_of, PlainLemma, no_plans, Makes, MakesAll, is_part}
+use Rattle.do_derivation.specs.Plans.{Move, Plan, Plans, plan}
+use Rattle.do_derivation.specs.Table.{Row}
+use Rattle.do_rules.specs.declared.rules.Rule.TheVariants.{Three}
+use Rattle.do_rules.specs.Vocabulary.{IsBlockedFor, cut_into}
+use Rattle.do_rules.proofs.RuleGraphs.{asked_of_three}
 use Rattle.do_derivation.specs.declared.moves.SetMove.TheVariants as set_move
 use Rattle.identification_theory.proofs.Bodies.{IsCited, widen_made}
 use Rattle.identification_theory.proofs.Body.{IsSite, IsHeld, universe_in, body_made}
@@ -24,11 +22,8 @@ use Rattle.identification_theory.specs.Depth.{are_lemmas_within, are_plans_withi
 use Rattle.identification_theory.specs.Procedure.IsFactor.{whole, summed, further}
 use Rattle.identification_theory.specs.Procedure.{AreAncestorsIn, IsFactor, Source}
 use Rattle.mixed_graph.proofs.Masks.{has-or, has-zero, same_from_has}
-use Rattle.mixed_graph.specs.Bits.{has}
-use Rattle.mixed_graph.specs.Graphs.{IsAncestor, IsDirectedPath, IsMixedGraph, MixedGraph, induced}
-use Rattle.mixed_graph.specs.Masks.{all, is_below, is_empty, union, minus}
+use Rattle.mixed_graph.specs.Vocabulary.{has, IsAncestor, IsDirectedPath, IsMixedGraph, MixedGraph, induced, all, is_below, is_empty, union, minus}
 use Rattle.prob_expr.specs.Tree.{Tree, prob, sum}
-use Rattle.do_rules.specs.Cuts.{cut_into}
 use Rattle.identification_theory.specs.Derivations.{AreFactorSteps, at_zero, universe, cut_steps}
 
 -- c lies in a, which holds what leads to it from the universe

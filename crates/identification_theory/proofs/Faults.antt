@@ -2,13 +2,12 @@
 use Rattle.std.specs.Prelude.{Option, Some, None, Ok}
 use Rattle.std.proofs.lemmas.Bool.{lt-ltb}
 use Rattle.std.proofs.Common.{ℕ, ◌+◌, ◌≡◌, ◌≤◌, true, not, List, [], ◌∷◌, length, ltb, refl, subst, arith}
-use Rattle.do_derivation.specs.Shapes.{count_factors}
+use Rattle.do_derivation.specs.Vocabulary.{count_factors}
 use Rattle.identification_theory.proofs.Bools.{and_l, and_r, not_e}
 use Rattle.identification_theory.proofs.Formed.{IsFormed, AreFormed, AllFormed, IsFormedFormula}
-use Rattle.prob_expr.specs.Check.{cap, next_node, are_two, check_tree, check_trees, fault_in_defs, fault_in}
-use Rattle.mixed_graph.specs.Masks.{is_empty}
-use Rattle.prob_expr.specs.TermSets.{are_term_sets}
-use Rattle.prob_expr.specs.Tree.{PlainFormula, Tree, Trees, named, no_trees, prob, product, quotient, sum, tree}
+use Rattle.prob_expr.specs.Vocabulary.{cap, next_node, are_two, check_tree, check_trees, fault_in_defs, fault_in, are_term_sets, PlainFormula, Trees, no_trees}
+use Rattle.mixed_graph.specs.Vocabulary.{is_empty}
+use Rattle.prob_expr.specs.Tree.{Tree, named, prob, product, quotient, sum, tree}
 
 two_of : (ts : Trees) → 2 ≤ count_factors ts → are_two ts ≡ true
 two_of no_trees h = absurd (omega (arith, h))

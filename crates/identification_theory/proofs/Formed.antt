@@ -1,8 +1,8 @@
 -- Each part of the formula of identification has its form.
 use Rattle.std.proofs.Common.{ℕ, suc, ◌+◌, ◌≡◌, ◌<◌, ◌≤◌, Bool, true, false, cond, not, refl, sym, subst, ◌⊎◌, inl, inr, List, [], ◌∷◌, ◌++◌, length}
 use Rattle.std.proofs.Common.{arith, length-append}
-use Rattle.hedge.specs.Linked.IsLinked.{at}
-use Rattle.do_derivation.specs.Shapes.{as_one, count_factors, flat, appended}
+use Rattle.hedge.specs.Vocabulary.{at}
+use Rattle.do_derivation.specs.Vocabulary.{as_one, count_factors, flat, appended}
 use Rattle.identification_theory.proofs.Accepted.{first_stage, d_low}
 use Rattle.identification_theory.proofs.Body.{IsSite}
 use Rattle.identification_theory.proofs.Bools.{and_l, clash}
@@ -15,11 +15,9 @@ use Rattle.identification_theory.specs.Procedure.{AreFactored, AreFactors, IsBod
 use Rattle.identification_theory.specs.Procedure.{product_of, sum_if}
 use Rattle.identification_theory.proofs.Names.{pillow_in}
 use Rattle.mixed_graph.proofs.Masks.{has-zero}
-use Rattle.mixed_graph.specs.Bits.{has}
-use Rattle.mixed_graph.specs.Graphs.{IsMixedGraph, MixedGraph}
-use Rattle.mixed_graph.specs.Masks.{is_apart, is_below, is_empty, union, minus, one}
-use Rattle.prob_expr.specs.Terms.{is_term}
-use Rattle.prob_expr.specs.Tree.{PlainFormula, Tree, Trees, named, no_trees, prob, product, quotient, sum, tree}
+use Rattle.mixed_graph.specs.Vocabulary.{has, IsMixedGraph, MixedGraph, is_apart, is_below, is_empty, union, minus, one}
+use Rattle.prob_expr.specs.Vocabulary.{is_term, PlainFormula, Trees, no_trees}
+use Rattle.prob_expr.specs.Tree.{Tree, named, prob, product, quotient, sum, tree}
 
 -- Terms are terms below n, sums are over something below n, products have two factors at least, and definitions below k are named.
 abbrev mutual

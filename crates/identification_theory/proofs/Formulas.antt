@@ -1,13 +1,15 @@
 -- The law of this crate, with the case of an empty x.
 use Rattle.std.proofs.Common.{ℕ, ◌≡◌, refl, sym, subst, inl, inr, List, []}
-use Rattle.do_derivation.specs.Plans.{Plan, PlainDerivation, no_plans}
+use Rattle.do_derivation.specs.Plans.{Plan}
+use Rattle.do_derivation.specs.Vocabulary.{PlainDerivation, no_plans}
 use Rattle.identification_theory.proofs.Derivation.{procedure}
 use Rattle.identification_theory.proofs.Orders.{IsOrderFrom, order_of}
 use Rattle.identification_theory.specs.Derivations.{IsDerivedBy}
 use Rattle.identification_theory.specs.Laws.{IsAcceptedFor, FormulaIsAccepted}
 use Rattle.identification_theory.specs.Procedure.{IsIdentifiedBy, IsTarget}
-use Rattle.mixed_graph.specs.Graphs.{IsMixedGraph, MixedGraph}
-use Rattle.prob_expr.specs.Tree.{PlainFormula, prob}
+use Rattle.mixed_graph.specs.Vocabulary.{IsMixedGraph, MixedGraph}
+use Rattle.prob_expr.specs.Tree.{prob}
+use Rattle.prob_expr.specs.Vocabulary.{PlainFormula}
 
 -- P(y) is P(y | do(nothing)) without a step
 pub observed_accepted : (g : MixedGraph) (x y : ℕ) (f : PlainFormula) (d : PlainDerivation) → x ≡ 0 → f ≡ record { defs = []; main = prob y 0 0 } → d

@@ -1,13 +1,12 @@
 -- The formula of identification has no intervention.
 use Rattle.std.proofs.Common.{ℕ, suc, ◌+◌, ◌≡◌, Bool, true, false, cond, refl, ◌||◌, List, [], ◌∷◌, ◌++◌, length}
-use Rattle.do_derivation.specs.Shapes.{as_one, flat, appended}
+use Rattle.do_derivation.specs.Vocabulary.{as_one, flat, appended}
 use Rattle.identification_theory.proofs.Bools.{and_l, and_r, both_true}
 use Rattle.identification_theory.specs.Procedure.IsFactor.{whole, summed, further}
 use Rattle.identification_theory.specs.Procedure.{AreFactored, AreFactors, IsBody, IsComposed, IsFactor, Source, conditional, marginal, product_of, sum_if}
-use Rattle.mixed_graph.specs.Graphs.{MixedGraph}
-use Rattle.mixed_graph.specs.Masks.{is_empty, union, minus, one}
-use Rattle.prob_expr.specs.Terms.{all_under, are_under, is_do_free, is_listed, is_under}
-use Rattle.prob_expr.specs.Tree.{PlainFormula, Tree, Trees, named, no_trees, prob, product, quotient, sum, tree}
+use Rattle.mixed_graph.specs.Vocabulary.{MixedGraph, is_empty, union, minus, one}
+use Rattle.prob_expr.specs.Vocabulary.{all_under, are_under, is_do_free, is_listed, is_under, PlainFormula, Trees, no_trees}
+use Rattle.prob_expr.specs.Tree.{Tree, named, prob, product, quotient, sum, tree}
 
 module _ (ok : List ℕ) where
   -- an experiment is none, or a listed one

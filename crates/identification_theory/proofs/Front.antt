@@ -1,9 +1,9 @@
 -- Separations by an invariant of open walks.
 use Rattle.std.proofs.Common.{ℕ, ◌≡◌, Bool, true, false, refl, ◌⊎◌, inl, inr, List, [], ◌∷◌, arith}
-use Rattle.m_separation.specs.Walks.{ArePassedFrom, IsJoined, IsPassed, IsSeparated, IsWalk, Step, heads_first, heads_second, last}
 use Rattle.m_separation.specs.declared.marks.Mark.TheVariants.{Both, Into, Out}
 use Rattle.m_separation.specs.declared.marks.Mark.{Mark}
-use Rattle.mixed_graph.specs.Graphs.{IsAncestor, IsDirectedPath, MixedGraph}
+use Rattle.m_separation.specs.Vocabulary.{ArePassedFrom, IsJoined, IsPassed, IsSeparated, IsWalk, Step, heads_first, heads_second, last}
+use Rattle.mixed_graph.specs.Vocabulary.{IsAncestor, IsDirectedPath, MixedGraph}
 
 -- a fact of each place of an open walk: R h u where the walk came to u with an arrowhead at u (h) or without
 pub record HoldsAlongWalks (g : MixedGraph) (X Y W : ℕ → Bool) (R : Bool → ℕ → Type 0) : Type 0 where

@@ -2,21 +2,17 @@
 use Rattle.std.proofs.Common.{ℕ, zero, suc, ◌+◌, ◌≡◌, ◌<◌, ◌≤◌, Bool, true, false, cond, eqb, ltb, leb, refl, sym, ap, ap₂, subst, ◌∙◌, ◌||◌, ◌&&◌}
 use Rattle.std.proofs.Common.{◌⊎◌, inl, inr, List, [], ◌∷◌, ◌++◌, length, get_or, arith, eqb-true, eq-eqb, lt-ltb, le-leb, ne_eqb}
 use Rattle.std.specs.Prelude.{Some}
-use Rattle.hedge.specs.Linked.AreDistricts.{none, skip, take}
-use Rattle.hedge.specs.Linked.IsLinked.{at, by}
-use Rattle.hedge.specs.Linked.{AreDistricts, IsDistrict, IsLinked}
-use Rattle.do_derivation.specs.Shapes.{all_of, as_one, chained, count_factors, each_below, factor_at, groups_of, is_grouping, appended, none_empty}
-use Rattle.do_derivation.specs.Shapes.{or_nothing, picked, times_in}
-use Rattle.finite_models.specs.Sums.{all_below}
+use Rattle.hedge.specs.Vocabulary.{none, skip, take, at, by, AreDistricts, IsDistrict, IsLinked}
+use Rattle.do_derivation.specs.Vocabulary.{all_of, as_one, chained, count_factors, each_below, factor_at, groups_of, is_grouping, appended, none_empty, or_nothing, picked, times_in}
+use Rattle.finite_models.specs.Vocabulary.{all_below}
 use Rattle.identification_theory.proofs.Bodies.{count-snoc, factor-joined, joined-snoc, snoc}
 use Rattle.identification_theory.proofs.Bools.{and_l, and_r, both_true, clash, decide, or_e, or_l, or_r}
 use Rattle.identification_theory.proofs.Orders.{IsOrderFrom}
 use Rattle.identification_theory.proofs.Sets.{all-is, one-is, one-self}
 use Rattle.mixed_graph.proofs.Masks.{has-and, has-or, has-zero, same_from_has}
-use Rattle.mixed_graph.specs.Bits.{has}
-use Rattle.mixed_graph.specs.Graphs.{IsMixedGraph, MixedGraph}
-use Rattle.mixed_graph.specs.Masks.{all, union, minus, one, common}
-use Rattle.prob_expr.specs.Tree.{Tree, Trees, no_trees, prob, tree}
+use Rattle.mixed_graph.specs.Vocabulary.{has, IsMixedGraph, MixedGraph, all, union, minus, one, common}
+use Rattle.prob_expr.specs.Tree.{Tree, prob, tree}
+use Rattle.prob_expr.specs.Vocabulary.{Trees, no_trees}
 use Rattle.identification_theory.specs.Derivations.{in_order, home, places, group_lists}
 
 add-zero_left : (n : ℕ) → 0 + n ≡ n

@@ -1,8 +1,7 @@
 -- The formula of identification names ancestors of y alone.
 use Rattle.std.proofs.Common.{ℕ, suc, ◌+◌, ◌≡◌, ◌<◌, Bool, true, false, cond, eqb, not, refl, ◌&&◌, ◌⊎◌, inl, inr, List, [], ◌∷◌, ◌++◌, length, eqb-true}
-use Rattle.hedge.specs.Linked.IsLinked.{at, by}
-use Rattle.hedge.specs.Linked.{IsLinked}
-use Rattle.do_derivation.specs.Shapes.{as_one, flat, appended}
+use Rattle.hedge.specs.Vocabulary.{at, by, IsLinked}
+use Rattle.do_derivation.specs.Vocabulary.{as_one, flat, appended}
 use Rattle.identification_theory.proofs.Accepted.{first_stage}
 use Rattle.identification_theory.proofs.Body.{IsSite}
 use Rattle.identification_theory.proofs.Bools.{and_l, clash, or_e}
@@ -16,10 +15,9 @@ use Rattle.identification_theory.specs.Procedure.{AreAncestorsIn, AreFactored, A
 use Rattle.identification_theory.specs.Procedure.{Source, conditional, marginal, product_of, sum_if}
 use Rattle.identification_theory.specs.Names.{AllNameOnly, AreAll, EachNamesOnly, FormulaNamesOnly, NamesOnly}
 use Rattle.mixed_graph.proofs.Masks.{has-and, has-or, has-zero}
-use Rattle.mixed_graph.specs.Bits.{has}
-use Rattle.mixed_graph.specs.Graphs.{IsAncestor, IsDirectedPath, IsMixedGraph, MixedGraph, induced}
-use Rattle.mixed_graph.specs.Masks.{all, is_empty, union, minus, one, common}
-use Rattle.prob_expr.specs.Tree.{PlainFormula, Tree, Trees, named, no_trees, prob, product, quotient, sum, tree}
+use Rattle.mixed_graph.specs.Vocabulary.{has, IsAncestor, IsDirectedPath, IsMixedGraph, MixedGraph, induced, all, is_empty, union, minus, one, common}
+use Rattle.prob_expr.specs.Tree.{Tree, named, prob, product, quotient, sum, tree}
+use Rattle.prob_expr.specs.Vocabulary.{PlainFormula, Trees, no_trees}
 
 module _ (g : MixedGraph) (is_graph : IsMixedGraph g) (o : List ℕ) (order : IsOrderFrom g 0 o) (z : ℕ → Type 0) where
   less : (a b : ℕ) → AreAll z a → AreAll z (minus a b)

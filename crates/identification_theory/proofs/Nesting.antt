@@ -1,12 +1,13 @@
 -- The steps of identification nest little, whatever the graph.
 use Rattle.std.proofs.Common.{ℕ, zero, suc, ◌≡◌, Bool, true, false, cond, refl, ◌&&◌, List, [], ◌∷◌, ◌++◌, arith}
-use Rattle.do_derivation.specs.Plans.{Move, PlainLemma, Plan, Plans, no_plans, plan}
+use Rattle.do_derivation.specs.Plans.{Move, Plan, Plans, plan}
+use Rattle.do_derivation.specs.Vocabulary.{PlainLemma, no_plans}
 use Rattle.do_derivation.specs.declared.moves.SetMove.TheVariants as set_move
 use Rattle.do_derivation.specs.declared.moves.BareMove.TheVariants as bare_move
 use Rattle.identification_theory.proofs.Bools.{and_l, and_r, both_true}
 use Rattle.identification_theory.specs.Depth.{are_lemmas_within, are_plans_within, is_plan_within}
 use Rattle.identification_theory.specs.Procedure.{Source}
-use Rattle.mixed_graph.specs.Masks.{is_empty, union, minus, one, common}
+use Rattle.mixed_graph.specs.Vocabulary.{is_empty, union, minus, one, common}
 use Rattle.identification_theory.specs.Derivations.{single, with_set, Lists, no_more, more, at_place, at_each, marginal_steps, source_steps, place_list}
 
 mutual

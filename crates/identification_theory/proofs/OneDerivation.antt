@@ -1,16 +1,15 @@
 -- The derivation of the procedure's formula is fixed, and so the one that is accepted.
 use Rattle.std.proofs.Common.{ℕ, suc, ◌+◌, ◌≡◌, refl, sym, ap, ap₂, subst, ◌∙◌, List, ◌∷◌, ◌++◌, length}
-use Rattle.do_derivation.specs.Plans.{Plan, Plans, PlainLemma, PlainDerivation}
+use Rattle.do_derivation.specs.Plans.{Plan, Plans}
+use Rattle.do_derivation.specs.Vocabulary.{PlainLemma, PlainDerivation}
 use Rattle.identification_theory.proofs.Bools.{clash}
 use Rattle.identification_theory.specs.Derivations.{Lists, more, ArePlaceLists, body_steps, AreBodySteps, cut_steps, in_order, universe, source_steps}
 use Rattle.identification_theory.specs.Derivations.{place_list, AreFactorSteps, AreAllSteps, district_steps, main_steps, IsComposedAndDerived}
 use Rattle.identification_theory.specs.Derivations.AreFactorSteps.{whole, summed, further}
 use Rattle.identification_theory.specs.Procedure.{AreAncestorsIn, Source}
 use Rattle.identification_theory.proofs.Unique.{one_set, parts_one}
-use Rattle.mixed_graph.specs.Bits.{has}
-use Rattle.mixed_graph.specs.Graphs.{MixedGraph}
-use Rattle.mixed_graph.specs.Masks.{union, minus, one}
-use Rattle.prob_expr.specs.Tree.{PlainFormula}
+use Rattle.mixed_graph.specs.Vocabulary.{has, MixedGraph, union, minus, one}
+use Rattle.prob_expr.specs.Vocabulary.{PlainFormula}
 
 module _ (g : MixedGraph) (o : List ℕ) where
   places_one : (from : Source) (a t p : ℕ) (o2 : List ℕ) (ls ms : Lists) → ArePlaceLists g from a t p o2 ls → ArePlaceLists g from a t p o2 ms → ls ≡ ms

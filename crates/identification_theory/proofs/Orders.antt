@@ -5,10 +5,7 @@ use mathlib.Core.Path.{fun_ext}
 use Rattle.identification_theory.proofs.Bools.{clash, decide, or_e}
 use Rattle.std.proofs.lemmas.Bool.{cases_order, eqb-true}
 use Rattle.mixed_graph.proofs.Masks.{has-or, has-zero, has-ones, has-pow, same_from_has}
-use Rattle.mixed_graph.specs.Bits.{has}
-use Rattle.mixed_graph.specs.Graphs.{MixedGraph}
-use Rattle.mixed_graph.specs.Orders.{taken_by, IsNext, IsOrder}
-use Rattle.mixed_graph.specs.Masks.{union, one, all}
+use Rattle.mixed_graph.specs.Vocabulary.{has, MixedGraph, taken_by, IsNext, IsOrder, union, one, all}
 
 -- the list orders the vertices outside p: each once, after its parents
 abbrev pub IsOrderFrom : MixedGraph → ℕ → List ℕ → Type 0

@@ -2,23 +2,20 @@
 use Rattle.std.proofs.Common.{ℕ, ◌≡◌, ◌<◌, Bool, true, false, cond, not, refl, sym, ap, ◌∙◌, ◌||◌, ◌&&◌, ◌⊎◌, List, arith}
 use mathlib.Core.Path.{ap₂}
 use Rattle.do_derivation.specs.Plans.{Move, Plan, Plans, plan}
-use Rattle.do_derivation.specs.Steps.{IsMade, Makes, MakesAll}
-use Rattle.do_derivation.specs.Table.{Row, if_so, is_part}
 use Rattle.do_derivation.specs.declared.faults.StepFault.TheVariants.{Sets}
 use Rattle.do_derivation.specs.declared.faults.StepFault.{StepFault}
+use Rattle.do_derivation.specs.Vocabulary.{IsMade, Makes, MakesAll, if_so, is_part}
+use Rattle.do_derivation.specs.Table.{Row}
 use Rattle.do_derivation.specs.declared.moves.SetMove.TheVariants as set_move
-use Rattle.do_rules.specs.Rules.{IsFarPart}
 use Rattle.do_rules.specs.declared.rules.Rule.TheVariants.{One, Two, Three}
+use Rattle.do_rules.specs.Vocabulary.{IsFarPart, cut_into}
 use Rattle.do_rules.proofs.RuleGraphs.{asked_of_one, asked_of_two, asked_of_three}
 use Rattle.identification_theory.proofs.Bools.{and_l, and_r, both_true, not_e, not_i, clash}
 use Rattle.identification_theory.proofs.Separations.{IsPlace, later_not_above, later_removed, earlier_exchanged, rest_apart}
 use Rattle.identification_theory.proofs.Sets.{all-is, empty-has, has-minus, inside, one-is}
 use Rattle.mixed_graph.proofs.Masks.{has-and, has-or, same_from_has}
-use Rattle.mixed_graph.specs.Bits.{has}
-use Rattle.mixed_graph.specs.Graphs.{IsAncestor, IsMixedGraph, MixedGraph}
-use Rattle.mixed_graph.specs.Masks.{all, is_empty, is_inside, union, minus, one, common}
+use Rattle.mixed_graph.specs.Vocabulary.{has, IsAncestor, IsMixedGraph, MixedGraph, all, is_empty, is_inside, union, minus, one, common}
 use Rattle.prob_expr.specs.Tree.{Tree, prob}
-use Rattle.do_rules.specs.Cuts.{cut_into}
 use Rattle.identification_theory.specs.Derivations.{with_set, place_list}
 
 pub made_with : (g : MixedGraph) (ls : List ℕ) (z : ℕ) (s : Plan) (l : Plans) (e m e' : Tree) → (is_empty z ≡ true → m ≡ e)

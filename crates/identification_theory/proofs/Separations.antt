@@ -2,11 +2,11 @@
 use Rattle.std.proofs.Common.{ℕ, ◌≡◌, Bool, true, false, eqb, not, refl, ◌||◌, ◌&&◌, ◌⊎◌, inl, inr, arith, eqb-true, eq-eqb}
 use Rattle.identification_theory.proofs.Bools.{and_l, and_r, both_true, or_l, or_r, or_e, not_e, clash, decide}
 use Rattle.identification_theory.proofs.Front.{separated_by, closed_above, front}
-use Rattle.m_separation.specs.Walks.{IsJoined, IsPassed, IsSeparated, heads_first, heads_second}
 use Rattle.m_separation.specs.declared.marks.Mark.TheVariants.{Both, Into, Out}
 use Rattle.m_separation.specs.declared.marks.Mark.{Mark}
-use Rattle.mixed_graph.specs.Graphs.{IsAncestor, MixedGraph}
-use Rattle.do_rules.specs.Cuts.{cut_into, cut_out}
+use Rattle.m_separation.specs.Vocabulary.{IsJoined, IsPassed, IsSeparated, heads_first, heads_second}
+use Rattle.mixed_graph.specs.Vocabulary.{IsAncestor, MixedGraph}
+use Rattle.do_rules.specs.Vocabulary.{cut_into, cut_out}
 
 -- A place v in a factor: in U, A holds its members' parents; T is a district of A (it is linked to no other member of A); v is in T.
 pub record IsPlace (g : MixedGraph) (Prior U A T : ℕ → Bool) (v : ℕ) : Type 0 where

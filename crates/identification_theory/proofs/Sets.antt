@@ -6,8 +6,7 @@ use Rattle.std.proofs.lemmas.Nat.Bits.{bit_at-lt, bit_at_and, bit_at_xor}
 use Rattle.std.proofs.lemmas.Nat.{and_le_r, pow_pos}
 use Rattle.identification_theory.proofs.Bools.{and_l, and_r, clash, decide}
 use Rattle.mixed_graph.proofs.Masks.{below_two, has-and, has-zero, has-pow, has-ones, same_from_has, zero_from_empty}
-use Rattle.mixed_graph.specs.Bits.{has}
-use Rattle.mixed_graph.specs.Masks.{minus, one, all, is_empty, is_apart, is_inside, is_below}
+use Rattle.mixed_graph.specs.Vocabulary.{has, minus, one, all, is_empty, is_apart, is_inside, is_below}
 
 -- the members of a difference are those of the first set that aren't in the second
 pub has-minus : (a b v : ℕ) → has (minus a b) v ≡ (has a v && not (has b v))

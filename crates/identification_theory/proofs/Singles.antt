@@ -1,12 +1,10 @@
 -- Where each district has one member the chain's factors need no grouping.
 use Rattle.std.proofs.Common.{ℕ, ◌≡◌, ◌<◌, Bool, true, false, leb, refl, sym, ap, ap₂, subst, ◌∙◌, ◌&&◌, ◌⊎◌, inl, inr, List, [], ◌∷◌, length, arith, le-leb}
-use Rattle.hedge.specs.Linked.IsLinked.{at}
-use Rattle.hedge.specs.Linked.{AreDistricts}
+use Rattle.hedge.specs.Vocabulary.{at, AreDistricts}
 use Rattle.do_derivation.specs.Plans.{Move, Plan, plan}
-use Rattle.do_derivation.specs.Shapes.{chained, is_list_of}
-use Rattle.do_derivation.specs.Steps.{MakesAll}
-use Rattle.do_derivation.specs.Table.{Row}
 use Rattle.do_derivation.specs.declared.faults.StepFault.TheVariants.{BadOrder}
+use Rattle.do_derivation.specs.Vocabulary.{chained, is_list_of, MakesAll}
+use Rattle.do_derivation.specs.Table.{Row}
 use Rattle.identification_theory.proofs.Accepted.{unwrap_made, product_is, in_all, chain_made}
 use Rattle.identification_theory.proofs.Assembly.{starts}
 use Rattle.identification_theory.proofs.Bodies.{EachMade, each_made}
@@ -19,10 +17,9 @@ use Rattle.identification_theory.proofs.Places.{made_if}
 use Rattle.identification_theory.proofs.Sets.{one-is, one-self}
 use Rattle.identification_theory.specs.Procedure.{product_of}
 use Rattle.mixed_graph.proofs.Masks.{has-and, has-zero, same_from_has}
-use Rattle.mixed_graph.specs.Bits.{has}
-use Rattle.mixed_graph.specs.Graphs.{IsMixedGraph, MixedGraph}
-use Rattle.mixed_graph.specs.Masks.{all, union, minus, one, common}
-use Rattle.prob_expr.specs.Tree.{Trees, prob, product, tree}
+use Rattle.mixed_graph.specs.Vocabulary.{has, IsMixedGraph, MixedGraph, all, union, minus, one, common}
+use Rattle.prob_expr.specs.Tree.{prob, product, tree}
+use Rattle.prob_expr.specs.Vocabulary.{Trees}
 use Rattle.identification_theory.specs.Derivations.{single, Lists, at_each, in_order, home, home_lists, unwrap_steps}
 
 -- each set has one member

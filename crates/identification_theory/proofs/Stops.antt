@@ -1,10 +1,7 @@
 -- Where a factor stops there is a hedge.
 use Rattle.std.proofs.Common.{ℕ, zero, suc, ◌≡◌, ◌<◌, Bool, true, false, eqb, not, refl, sym, ◌∙◌, ◌||◌, ◌&&◌, ◌⊎◌, inl, inr, List, [], ◌∷◌, arith}
 use Rattle.std.proofs.Common.{eqb-true, eq-eqb}
-use Rattle.hedge.specs.Linked.IsLinked.{at, by}
-use Rattle.hedge.specs.Linked.{AreDistricts, IsDistrict, IsJoinedSet, IsLinked, IsSetOf}
-use Rattle.hedge.specs.Hedges.{Meets, Reaches, outside}
-use Rattle.hedge.specs.Shapes.{LeadsInto, AreSetsOfHedge}
+use Rattle.hedge.specs.Vocabulary.{at, by, AreDistricts, IsDistrict, IsJoinedSet, IsLinked, IsSetOf, Meets, Reaches, outside, LeadsInto, AreSetsOfHedge}
 use Rattle.identification_theory.proofs.Accepted.{d_low, d_off, d_closed}
 use Rattle.identification_theory.specs.AnswerLaws.{AreRoots}
 use Rattle.identification_theory.proofs.Body.{HoldsParents, next_parents}
@@ -15,9 +12,7 @@ use Rattle.identification_theory.proofs.Sets.{all-is, empty-has, has-minus, not_
 use Rattle.identification_theory.specs.Procedure.IsStopped.{here, later}
 use Rattle.identification_theory.specs.Procedure.{AreAncestorsIn, IsStopped, IsTarget}
 use Rattle.mixed_graph.proofs.Masks.{has-or, has-zero, same_from_has}
-use Rattle.mixed_graph.specs.Bits.{has}
-use Rattle.mixed_graph.specs.Graphs.{IsAncestor, IsDirectedPath, IsMixedGraph, MixedGraph, induced}
-use Rattle.mixed_graph.specs.Masks.{all, is_empty, union, minus, one}
+use Rattle.mixed_graph.specs.Vocabulary.{has, IsAncestor, IsDirectedPath, IsMixedGraph, MixedGraph, induced, all, is_empty, union, minus, one}
 
 pub ne_of : (i n : ℕ) → eqb i n ≡ false → i ≡ n → ⊥
 ne_of i n e s = grind (arith, s, e)

@@ -1,17 +1,16 @@
 -- Identification makes one formula, or stops at one place, never both.
 use Rattle.std.proofs.Common.{ℕ, suc, ◌+◌, ◌≡◌, Bool, true, false, refl, sym, ap, ap₂, subst, ◌∙◌, ◌⊎◌, inl, inr, List, ◌∷◌, ◌++◌, length, arith}
-use Rattle.hedge.specs.Linked.{AreDistricts, IsSetOf}
-use Rattle.do_derivation.specs.Shapes.{as_one}
+use Rattle.hedge.specs.Vocabulary.{AreDistricts, IsSetOf}
+use Rattle.do_derivation.specs.Vocabulary.{as_one}
 use Rattle.identification_theory.proofs.Bools.{clash}
 use Rattle.identification_theory.specs.Procedure.IsFactor.{whole, summed, further}
 use Rattle.identification_theory.specs.Procedure.IsStopped.{here, later}
 use Rattle.identification_theory.specs.Procedure.{AreAncestorsIn, AreFactored, AreFactors, IsBody, IsComposed, IsFactor, IsStopped, IsUnidentifiedBy}
 use Rattle.identification_theory.specs.Procedure.{Source, Split, StopsAt, conditional, product_of, sum_if}
 use Rattle.mixed_graph.proofs.Masks.{same_from_has}
-use Rattle.mixed_graph.specs.Bits.{has}
-use Rattle.mixed_graph.specs.Graphs.{MixedGraph}
-use Rattle.mixed_graph.specs.Masks.{union, minus, one}
-use Rattle.prob_expr.specs.Tree.{PlainFormula, Tree, Trees, sum, tree}
+use Rattle.mixed_graph.specs.Vocabulary.{has, MixedGraph, union, minus, one}
+use Rattle.prob_expr.specs.Tree.{Tree, sum, tree}
+use Rattle.prob_expr.specs.Vocabulary.{PlainFormula, Trees}
 
 -- masks of the same vertices are the same number
 pub one_set : (a b : ℕ) (P : ℕ → Type 0) → IsSetOf a P → IsSetOf b P → a ≡ b

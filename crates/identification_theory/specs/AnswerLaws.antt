@@ -1,12 +1,9 @@
 -- What is proved of the procedure's answers.
 use Rattle.std.specs.Prelude.{ℕ, ◌≡◌, None, IsTrue}
-use Rattle.mixed_graph.specs.Bits.{has}
-use Rattle.mixed_graph.specs.Graphs.{MixedGraph, IsMixedGraph, IsAncestor}
-use Rattle.hedge.specs.Linked.{IsSetOf}
-use Rattle.hedge.specs.Shapes.{AreSetsOfHedge}
-use Rattle.prob_expr.specs.Check.{fault_in}
-use Rattle.prob_expr.specs.Tree.{PlainFormula}
-use Rattle.do_derivation.specs.Plans.{PlainDerivation}
+use Rattle.mixed_graph.specs.Vocabulary.{has, MixedGraph, IsMixedGraph, IsAncestor}
+use Rattle.hedge.specs.Vocabulary.{IsSetOf, AreSetsOfHedge}
+use Rattle.prob_expr.specs.Vocabulary.{fault_in, PlainFormula}
+use Rattle.do_derivation.specs.Vocabulary.{PlainDerivation}
 use Rattle.identification_theory.specs.Derivations.{IsDerived}
 use Rattle.identification_theory.specs.Laws.{IsAcceptedFor}
 use Rattle.identification_theory.specs.Procedure.{IsTarget, IsIdentified, IsUnidentified}

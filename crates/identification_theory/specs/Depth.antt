@@ -1,6 +1,7 @@
 -- How deep the steps of a derivation nest.
 use Rattle.std.specs.Prelude.{ℕ, zero, suc, Bool, true, false, ◌&&◌, List, [], ◌∷◌}
-use Rattle.do_derivation.specs.Plans.{Plan, Plans, no_plans, plan, PlainLemma}
+use Rattle.do_derivation.specs.Plans.{Plan, Plans, plan}
+use Rattle.do_derivation.specs.Vocabulary.{no_plans, PlainLemma}
 
 abbrev mutual
   -- at most d steps lie in each other, from the outermost to an innermost

@@ -1,13 +1,11 @@
 -- The derivation of the formula that the identification procedure answers: the steps of the do-calculus that turn P(y | do(x)) into it.
 use Rattle.std.specs.Prelude.{ℕ, suc, ◌+◌, ◌≡◌, ◌≢◌, ◌⊎◌, Bool, true, false, ◌||◌, List, [], ◌∷◌, ◌++◌, length, IsTrue, if◌then◌else◌}
-use Rattle.mixed_graph.specs.Bits.{has}
-use Rattle.mixed_graph.specs.Graphs.{MixedGraph}
-use Rattle.mixed_graph.specs.Orders.{IsOrder}
-use Rattle.hedge.specs.Linked.{IsDistrict}
-use Rattle.mixed_graph.specs.Masks.{union, minus, one, all, is_empty, common}
-use Rattle.prob_expr.specs.Tree.{prob, Trees, PlainFormula}
-use Rattle.do_derivation.specs.Plans.{Move, Plan, Plans, no_plans, plan, PlainLemma, PlainDerivation}
-use Rattle.do_derivation.specs.Shapes.{has_product}
+use Rattle.mixed_graph.specs.Vocabulary.{has, MixedGraph, IsOrder, union, minus, one, all, is_empty, common}
+use Rattle.hedge.specs.Vocabulary.{IsDistrict}
+use Rattle.prob_expr.specs.Tree.{prob}
+use Rattle.prob_expr.specs.Vocabulary.{Trees, PlainFormula}
+use Rattle.do_derivation.specs.Plans.{Move, Plan, Plans, plan}
+use Rattle.do_derivation.specs.Vocabulary.{no_plans, PlainLemma, PlainDerivation, has_product}
 use Rattle.do_derivation.specs.declared.moves.SetMove.TheVariants as set_move
 use Rattle.do_derivation.specs.declared.moves.BareMove.TheVariants as bare_move
 use Rattle.identification_theory.specs.Procedure.{AreAncestorsIn, IsPillow, Source, IsComposed}

@@ -1,8 +1,8 @@
 -- What is proved of the derivations of the procedure's formulas.
 use Rattle.std.specs.Prelude.{ℕ, [], IsTrue}
-use Rattle.mixed_graph.specs.Graphs.{MixedGraph, IsMixedGraph}
-use Rattle.prob_expr.specs.Tree.{PlainFormula}
-use Rattle.do_derivation.specs.Plans.{PlainDerivation}
+use Rattle.mixed_graph.specs.Vocabulary.{MixedGraph, IsMixedGraph}
+use Rattle.prob_expr.specs.Vocabulary.{PlainFormula}
+use Rattle.do_derivation.specs.Vocabulary.{PlainDerivation}
 use Rattle.do_derivation.specs.Accepts.{Accepts}
 use Rattle.identification_theory.specs.Depth.{is_plan_within, are_lemmas_within}
 use Rattle.identification_theory.specs.Derivations.{IsDerived}

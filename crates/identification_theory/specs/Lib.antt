@@ -5,3 +5,4 @@ pub mod Procedure
 pub mod AnswerDepth
 pub mod AnswerLaws
 pub mod Names
+pub mod Vocabulary

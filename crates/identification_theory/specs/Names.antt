@@ -1,7 +1,8 @@
 -- Which vertices a formula names.
 use Rattle.std.specs.Prelude.{ℕ, List, [], ◌∷◌, IsTrue}
-use Rattle.mixed_graph.specs.Bits.{has}
-use Rattle.prob_expr.specs.Tree.{Tree, prob, sum, product, quotient, named, Trees, no_trees, tree, PlainFormula}
+use Rattle.mixed_graph.specs.Vocabulary.{has}
+use Rattle.prob_expr.specs.Tree.{Tree, prob, sum, product, quotient, named, tree}
+use Rattle.prob_expr.specs.Vocabulary.{Trees, no_trees, PlainFormula}
 
 -- P holds of each member of the set
 abbrev pub AreAll : (ℕ → Type 0) → ℕ → Type 0

@@ -1,12 +1,10 @@
 -- The identification of an effect P(y | do(x)): the procedure ID of Shpitser and Pearl (2006), on the districts (c-components) of Tian and Pearl (2002).
 use Rattle.std.specs.Prelude.{ℕ, suc, ◌+◌, ◌≡◌, ◌≢◌, ◌<◌, ◌⊎◌, false, if◌then◌else◌, List, [], ◌∷◌, ◌++◌, length, ◌==◌, IsTrue}
-use Rattle.mixed_graph.specs.Bits.{has}
-use Rattle.mixed_graph.specs.Graphs.{MixedGraph, IsAncestor, induced}
-use Rattle.mixed_graph.specs.Orders.{IsOrder}
-use Rattle.hedge.specs.Linked.{IsLinked, IsSetOf, IsDistrict, AreDistricts}
-use Rattle.mixed_graph.specs.Masks.{union, minus, one, all, is_empty, common}
-use Rattle.prob_expr.specs.Tree.{Tree, prob, sum, product, quotient, named, Trees, no_trees, tree, PlainFormula}
-use Rattle.do_derivation.specs.Shapes.{as_one, flat}
+use Rattle.mixed_graph.specs.Vocabulary.{has, MixedGraph, IsAncestor, induced, IsOrder, union, minus, one, all, is_empty, common}
+use Rattle.hedge.specs.Vocabulary.{IsLinked, IsSetOf, IsDistrict, AreDistricts}
+use Rattle.prob_expr.specs.Tree.{Tree, prob, sum, product, quotient, named, tree}
+use Rattle.prob_expr.specs.Vocabulary.{Trees, no_trees, PlainFormula}
+use Rattle.do_derivation.specs.Vocabulary.{as_one, flat}
 
 -- a is the set of the ancestors of s in the graph induced on u
 abbrev pub AreAncestorsIn : MixedGraph → (u s a : ℕ) → Type 0

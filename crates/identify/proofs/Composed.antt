@@ -1,14 +1,12 @@
 -- What is assembled of the factors of the procedure is its formula with its derivation.
 use Rattle.std.proofs.Common.{ℕ, ◌≡◌, ◌≤◌, ◌*◌, List, length, sym, ap, subst, arith}
 use Rattle.std.proofs.lemmas.List.{length-map}
-use Rattle.mixed_graph.specs.Graphs.{MixedGraph}
-use Rattle.hedge.specs.Linked.{AreDistricts}
-use Rattle.mixed_graph.specs.Masks.{minus, all}
-use Rattle.prob_expr.specs.Tree.{PlainFormula}
-use Rattle.prob_expr.specs.View.{view, views}
-use Rattle.do_derivation.specs.Plans.{PlainDerivation}
-use Rattle.identification_theory.specs.Procedure.{AreAncestorsIn, AreFactored, IsComposed}
-use Rattle.identification_theory.specs.Derivations.{AreAllSteps, IsComposedAndDerived}
+use Rattle.mixed_graph.specs.Vocabulary.{MixedGraph, minus, all}
+use Rattle.hedge.specs.Vocabulary.{AreDistricts}
+use Rattle.prob_expr.specs.Vocabulary.{PlainFormula, views}
+use Rattle.prob_expr.specs.View.{view}
+use Rattle.do_derivation.specs.Vocabulary.{PlainDerivation}
+use Rattle.identification_theory.specs.Vocabulary.{AreAncestorsIn, AreFactored, IsComposed, AreAllSteps, IsComposedAndDerived}
 use Rattle.identify.specs.declared.wanted.Wanted.{Wanted}
 use Rattle.identify.specs.declared.wanted.Wanted.TheVariants.{Derivation}
 use Rattle.identify.specs.Factored.{AreFactorsOf, AreAssembled}

@@ -1,21 +1,14 @@
 -- A factor that doesn't stop is there, and so is the formula of all factors.
 use Rattle.std.specs.Prelude.{Option, Some, None, IfSome, IfNone}
 use Rattle.std.proofs.Common.{ℕ, suc, ◌+◌, ◌≡◌, ◌≢◌, ◌≤◌, ◌↔◌, Bool, true, false, List, [], ◌∷◌, ◌++◌, length, IsTrue, inl, inr, refl, ap, ◌∙◌, subst, not}
-use Rattle.mixed_graph.specs.Bits.{has}
-use Rattle.mixed_graph.specs.Graphs.{MixedGraph, IsMixedGraph}
-use Rattle.mixed_graph.specs.Masks.{all, minus}
-use Rattle.mixed_graph.specs.Orders.{IsOrder}
-use Rattle.mixed_graph.specs.Sets.{Apart}
-use Rattle.finite_models.specs.Data.{meaning}
-use Rattle.hedge.specs.Linked.{IsDistrict, AreDistricts, AreDistrictsOf}
-use Rattle.hedge.specs.Shapes.{AreSetsOfHedge}
-use Rattle.hedge.specs.Hedges.{IsHedge}
+use Rattle.mixed_graph.specs.Vocabulary.{has, MixedGraph, IsMixedGraph, all, minus, IsOrder, Apart}
+use Rattle.finite_models.specs.Vocabulary.{meaning}
 use Rattle.hedge.specs.declared.hedge.Hedge.{Hedge}
-use Rattle.prob_expr.specs.Tree.{Tree, Trees, no_trees, tree, sum, prob, PlainFormula, effect_on}
-use Rattle.prob_expr.specs.Differences.{DifferOnTarget}
+use Rattle.hedge.specs.Vocabulary.{IsDistrict, AreDistricts, AreDistrictsOf, AreSetsOfHedge, IsHedge}
+use Rattle.prob_expr.specs.Tree.{Tree, tree, sum, prob}
+use Rattle.prob_expr.specs.Vocabulary.{Trees, no_trees, PlainFormula, effect_on, DifferOnTarget}
 use Rattle.prob_expr.proofs.Excluded.{unequal_weights, difference_excludes_formula}
-use Rattle.identification_theory.specs.Procedure.{AreAncestorsIn, Source, IsFactor, IsStopped, AreFactored, StopsAt, product_of, sum_if, IsTarget, IsIdentified}
-use Rattle.identification_theory.specs.AnswerLaws.{AreRoots}
+use Rattle.identification_theory.specs.Vocabulary.{AreAncestorsIn, Source, IsFactor, IsStopped, AreFactored, StopsAt, product_of, sum_if, IsTarget, IsIdentified, AreRoots}
 use Rattle.identification_theory.proofs.Answered.{stop_is_hedge}
 use Rattle.identification_theory.proofs.Formulas.{formula_is_accepted}
 use Rattle.counter_models.proofs.HedgePair.{pair as pair_of, is_pair}

@@ -2,10 +2,8 @@
 use Rattle.std.proofs.Common.{zero, suc, arith, length-take, ◌≡◌, ℕ, ◌+◌, ◌<◌, true, false, cond, List, [], ◌∷◌, ◌++◌, length, get_or, set, take}
 use Rattle.std.proofs.Common.{drop, refl, ap, ◌∙◌, append_assoc}
 use Rattle.std.proofs.lemmas.List.{get_or-take, at_drop_more, take_more_set}
-use Rattle.mixed_graph.specs.Bits.{has}
-use Rattle.mixed_graph.specs.Graphs.{MixedGraph}
-use Rattle.mixed_graph.specs.Orders.{IsOrder}
-use Rattle.identification_theory.specs.Derivations.{in_order}
+use Rattle.mixed_graph.specs.Vocabulary.{has, MixedGraph, IsOrder}
+use Rattle.identification_theory.specs.Vocabulary.{in_order}
 
 pub in_order_skip : (t : ℕ) (order : List ℕ) (i : ℕ) → i < length order → has t (get_or order i 0) ≡ false → in_order t (drop i order)
     ≡ in_order t (drop (i + 1) order)

@@ -3,18 +3,15 @@ use Rattle.std.proofs.Common.{ℕ, ◌+◌, ◌*◌, ◌≡◌, ◌<◌, ◌≤�
 use Rattle.std.proofs.Common.{append_assoc, length-append, arith}
 use Rattle.std.specs.Prelude.{Result, Ok, Err, IfOk, IfErr}
 use Rattle.std.proofs.lemmas.List.{append-nil, map-append, length-map, get_or-map, take-append-drop, at_drop_more, at_drop_all, map_more}
-use Rattle.mixed_graph.specs.Graphs.{MixedGraph}
 use Rattle.mixed_graph.specs.declared.sets.VSet.{VSet}
-use Rattle.hedge.specs.Linked.{IsMaximalJoined}
-use Rattle.hedge.specs.Listed.{first_masks}
-use Rattle.prob_expr.specs.Tree.{Tree, Trees, no_trees, tree}
-use Rattle.prob_expr.specs.View.{view, views}
-use Rattle.do_derivation.specs.Plans.{PlainLemma}
-use Rattle.do_derivation.specs.Shapes.{appended}
-use Rattle.do_derivation.specs.View.{lemma_view, steps_view}
+use Rattle.mixed_graph.specs.Vocabulary.{MixedGraph}
+use Rattle.hedge.specs.Vocabulary.{IsMaximalJoined, first_masks}
+use Rattle.prob_expr.specs.Tree.{Tree, tree}
+use Rattle.prob_expr.specs.Vocabulary.{Trees, no_trees, views}
+use Rattle.prob_expr.specs.View.{view}
+use Rattle.do_derivation.specs.Vocabulary.{PlainLemma, appended, lemma_view, steps_view}
 use Rattle.do_derivation.proofs.Lists.{joined-nothing, joined_more}
-use Rattle.identification_theory.specs.Procedure.{AreFactored, StopsAt}
-use Rattle.identification_theory.specs.Derivations.{Lists, no_more, more, AreAllSteps}
+use Rattle.identification_theory.specs.Vocabulary.{AreFactored, StopsAt, Lists, no_more, more, AreAllSteps}
 use Rattle.identify.specs.declared.wanted.Wanted.{Wanted}
 use Rattle.identify.specs.declared.wanted.Wanted.TheVariants.{Derivation}
 use Rattle.identify.specs.Factors.{IsFactorOf, IsFactorFault}

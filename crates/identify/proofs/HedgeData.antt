@@ -1,17 +1,12 @@
 -- The data of the hedge at which the procedure stops is a hedge.
 use Rattle.std.proofs.Common.{ℕ, zero, suc, ◌≡◌, ◌<◌, ◌≤◌, ◌⊎◌, Bool, true, false, ◌&&◌, ◌==◌, length, get_or, inl, inr, refl, sym, subst, ◌∙◌, arith}
 use Rattle.std.proofs.lemmas.Bool.{cases_Bool, cases_order, and_parts, or_cases, eqb-true}
-use Rattle.mixed_graph.specs.Bits.{has, members_below}
 use Rattle.mixed_graph.specs.declared.sets.VSet.{VSet}
-use Rattle.mixed_graph.specs.Graphs.{MixedGraph, IsMixedGraph}
-use Rattle.mixed_graph.specs.Orders.{taken_by}
+use Rattle.mixed_graph.specs.Vocabulary.{has, members_below, MixedGraph, IsMixedGraph, taken_by}
 use Rattle.mixed_graph.proofs.Members.{one_if, length-members-suc, length-members-zero, length-members-more, length-members-none}
-use Rattle.hedge.specs.Nearest.{IsChoiceOf}
-use Rattle.hedge.specs.Spanning.{IsNextLink, AreLinks}
-use Rattle.hedge.proofs.Trees.{place_of_taken, taken_own}
-use Rattle.hedge.specs.Hedges.{size_of, IsChildInside, IsRightChoice, IsPlaced, AreRightLinks, IsHedge}
-use Rattle.hedge.specs.Shapes.{AreSetsOfHedge}
 use Rattle.hedge.specs.declared.hedge.Hedge.{Hedge}
+use Rattle.hedge.specs.Vocabulary.{IsChoiceOf, IsNextLink, AreLinks, size_of, IsChildInside, IsRightChoice, IsPlaced, AreRightLinks, IsHedge, AreSetsOfHedge}
+use Rattle.hedge.proofs.Trees.{place_of_taken, taken_own}
 use Rattle.identify.specs.Hedged.{IsHedgeOf}
 
 clash : (b : Bool) → b ≡ true → b ≡ false → ⊥

@@ -2,18 +2,16 @@
 use Rattle.std.proofs.Common.{ℕ, zero, suc, ◌+◌, ◌≡◌, ◌≢◌, ◌<◌, ◌≤◌, ◌⊎◌, Bool, true, false, not, ◌&&◌, ◌||◌, ◌==◌, List, [], ◌∷◌, length, IsTrue}
 use Rattle.std.proofs.Common.{inl, inr, refl, sym, ◌∙◌, subst, arith}
 use Rattle.std.proofs.lemmas.Bool.{eqb-true, eq-eqb, ne_eqb, and_parts}
-use Rattle.mixed_graph.specs.Bits.{has, members_below}
-use Rattle.mixed_graph.specs.Graphs.{MixedGraph, IsMixedGraph}
-use Rattle.mixed_graph.specs.Masks.{union, one, common}
+use Rattle.mixed_graph.specs.Vocabulary.{has, members_below, MixedGraph, IsMixedGraph, union, one, common}
 use Rattle.mixed_graph.proofs.Members.{length-members-lt}
-use Rattle.finite_models.specs.Packed.{mask_of}
+use Rattle.finite_models.specs.Vocabulary.{mask_of}
 use Rattle.finite_models.proofs.Factors.{any_below, any_below_from, any_below_gives}
 use Rattle.counter_models.proofs.Terms.{has-set}
-use Rattle.hedge.specs.Linked.{IsLinked}
-use Rattle.hedge.specs.Linked.IsLinked.{at, by}
-use Rattle.prob_expr.specs.Tree.{Tree, Trees, no_trees, tree}
-use Rattle.do_derivation.specs.Shapes.{as_one}
-use Rattle.identification_theory.specs.Procedure.{IsPillow, IsParent, IsNear, Source, conditional, AreFactors, IsBody}
+use Rattle.hedge.specs.Vocabulary.{IsLinked, at, by}
+use Rattle.prob_expr.specs.Tree.{Tree, tree}
+use Rattle.prob_expr.specs.Vocabulary.{Trees, no_trees}
+use Rattle.do_derivation.specs.Vocabulary.{as_one}
+use Rattle.identification_theory.specs.Vocabulary.{IsPillow, IsParent, IsNear, Source, conditional, AreFactors, IsBody}
 use Rattle.identification_theory.proofs.Bools.{both_true, or_l, or_r, or_e, not_e, not_i, clash}
 use Rattle.identify.proofs.Shrinking.{members_lt}
 

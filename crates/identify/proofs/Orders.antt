@@ -1,9 +1,8 @@
 -- The vertices that an order lists are an order.
 use Rattle.std.proofs.Common.{ℕ, zero, suc, ◌≡◌, ◌≤◌, List, [], ◌∷◌, ◌++◌, length, take, get_or, refl, sym, ap, subst, ◌∙◌, arith}
 use Rattle.std.proofs.Math.Seq.{take-suc}
-use Rattle.mixed_graph.specs.Graphs.{MixedGraph}
-use Rattle.mixed_graph.specs.Orders.{IsOrder}
-use Rattle.hedge.specs.Linked.{AreDistricts, AreDistrictsOf}
+use Rattle.mixed_graph.specs.Vocabulary.{MixedGraph, IsOrder}
+use Rattle.hedge.specs.Vocabulary.{AreDistricts, AreDistrictsOf}
 use Rattle.hedge.proofs.Collecting.{entries, order_of_entries}
 use Rattle.identification_theory.proofs.Orders.{one_order}
 

@@ -1,13 +1,11 @@
 -- The pillow from a district and the parents of its members.
 use Rattle.std.proofs.Common.{◌≡◌, ◌≢◌, ℕ, ◌^◌, true, not, ◌&&◌, ◌||◌, ◌==◌, ◌⊎◌, IsTrue, inl, inr, refl, sym, ◌∙◌, arith}
 use Rattle.std.proofs.lemmas.Bool.{and_parts, and_from, or_cases, or_left, or_right, ne_eqb}
-use Rattle.mixed_graph.specs.Bits.{has}
-use Rattle.mixed_graph.specs.Graphs.{MixedGraph, IsMixedGraph}
+use Rattle.mixed_graph.specs.Vocabulary.{has, MixedGraph, IsMixedGraph}
 use Rattle.mixed_graph.proofs.Masks.{has-pow}
-use Rattle.hedge.specs.Linked.{IsSetOf, IsDistrict}
-use Rattle.hedge.specs.Linked.IsLinked.{at}
+use Rattle.hedge.specs.Vocabulary.{IsSetOf, IsDistrict, at}
 use Rattle.hedge.proofs.Parts.{link_through}
-use Rattle.identification_theory.specs.Procedure.{IsParent, IsNear, IsPillow}
+use Rattle.identification_theory.specs.Vocabulary.{IsParent, IsNear, IsPillow}
 
 other_than : (u v : ℕ) → not (u == v) ≡ true → u ≢ v
 other_than u v n e = absurd (let q : (u == v) ≡ true = (rw e (same v)) in grind (arith, n, q))

@@ -2,17 +2,14 @@
 use Rattle.std.proofs.Common.{◌≡◌, ℕ, suc, ◌∷◌, cond, ◌+◌, ◌<◌, ◌≤◌, true, false, List, [], ◌++◌, length, get_or, drop, refl, sym, ap, ◌∙◌, subst}
 use Rattle.std.specs.Global.{Vec}
 use Rattle.std.proofs.lemmas.List.{at_drop_more, at_drop_all}
-use Rattle.mixed_graph.specs.Bits.{has}
-use Rattle.mixed_graph.specs.Graphs.{MixedGraph}
-use Rattle.mixed_graph.specs.Masks.{union, one}
-use Rattle.prob_expr.specs.Tree.{Trees, no_trees, tree}
-use Rattle.prob_expr.specs.View.{views}
+use Rattle.mixed_graph.specs.Vocabulary.{has, MixedGraph, union, one}
+use Rattle.prob_expr.specs.Tree.{tree}
 use Rattle.prob_expr.specs.declared.expr.Expr.{Expr}
-use Rattle.do_derivation.specs.Shapes.{appended}
+use Rattle.prob_expr.specs.Vocabulary.{Trees, no_trees, views}
+use Rattle.do_derivation.specs.Vocabulary.{appended}
 use Rattle.do_derivation.specs.declared.steps.Step.{Step}
 use Rattle.do_derivation.proofs.Lists.{joined_more, joined-nothing}
-use Rattle.identification_theory.specs.Procedure.{Source, conditional, AreFactors}
-use Rattle.identification_theory.specs.Derivations.{Lists, no_more, more, ArePlaceLists, universe, place_list, source_steps, in_order}
+use Rattle.identification_theory.specs.Vocabulary.{Source, conditional, AreFactors, Lists, no_more, more, ArePlaceLists, universe, place_list, source_steps, in_order}
 use Rattle.identify.specs.declared.factors.place.VertexFactor.{VertexFactor}
 use Rattle.identify.specs.declared.wanted.Wanted.{Wanted}
 use Rattle.identify.specs.declared.wanted.Wanted.TheVariants.{Derivation}

@@ -1,18 +1,16 @@
 -- The rounds of a factor, one after the other.
 use Rattle.std.proofs.Common.{◌≡◌, ◌≢◌, ℕ, ◌+◌, ◌^◌, ◌<◌, List, [], ◌∷◌, ◌++◌, map, sym, ap, ◌∙◌, subst, append_assoc, add-one}
 use Rattle.std.proofs.lemmas.List.{map-append, append-nil}
-use Rattle.mixed_graph.specs.Graphs.{MixedGraph, IsMixedGraph}
 use Rattle.mixed_graph.specs.declared.sets.VSet.{VSet}
-use Rattle.hedge.specs.Linked.{IsDistrict, IsInside}
-use Rattle.mixed_graph.specs.Masks.{minus}
+use Rattle.mixed_graph.specs.Vocabulary.{MixedGraph, IsMixedGraph, minus}
+use Rattle.hedge.specs.Vocabulary.{IsDistrict, IsInside}
 use Rattle.prob_expr.specs.Tree.{Tree, sum}
 use Rattle.prob_expr.specs.View.{view}
 use Rattle.prob_expr.specs.declared.expr.Expr.{Expr}
-use Rattle.do_derivation.specs.Plans.{Plan, Plans, PlainLemma}
-use Rattle.do_derivation.specs.View.{steps_view, lemma_view}
+use Rattle.do_derivation.specs.Plans.{Plan, Plans}
 use Rattle.do_derivation.specs.declared.steps.Lemma.{Lemma}
-use Rattle.identification_theory.specs.Procedure.{AreAncestorsIn, Source, IsFactor, IsStopped}
-use Rattle.identification_theory.specs.Derivations.{cut_steps, AreFactorSteps}
+use Rattle.do_derivation.specs.Vocabulary.{PlainLemma, steps_view, lemma_view}
+use Rattle.identification_theory.specs.Vocabulary.{AreAncestorsIn, Source, IsFactor, IsStopped, cut_steps, AreFactorSteps}
 use Rattle.identify.specs.declared.factors.body.Body.{Body}
 use Rattle.identify.specs.declared.wanted.Wanted.{Wanted}
 use Rattle.identify.specs.declared.wanted.Wanted.TheVariants.{Derivation}

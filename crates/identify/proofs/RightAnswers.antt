@@ -1,29 +1,20 @@
 -- What the procedure answers is a right answer.
 use Rattle.std.proofs.Common.{ℕ, ◌^◌, ◌≡◌, ◌<◌, ◌≤◌, ◌↔◌, true, refl, sym, subst, List, [], length, IsTrue, arith}
 use Rattle.std.specs.Prelude.{Result, Ok, Err, IfOk}
-use Rattle.mixed_graph.specs.Bits.{has}
-use Rattle.mixed_graph.specs.Graphs.{MixedGraph, IsMixedGraph}
-use Rattle.mixed_graph.specs.Orders.{IsOrder}
-use Rattle.mixed_graph.specs.Sets.{Within, Apart}
 use Rattle.mixed_graph.specs.declared.sets.VSet.{VSet}
+use Rattle.mixed_graph.specs.Vocabulary.{has, MixedGraph, IsMixedGraph, IsOrder, Within, Apart, all, is_apart, is_below, is_empty, minus}
 use Rattle.mixed_graph.proofs.Masks.{has-zero, some_member}
-use Rattle.hedge.specs.Linked.{AreDistricts}
-use Rattle.mixed_graph.specs.Masks.{all, is_apart, is_below, is_empty, minus}
-use Rattle.prob_expr.specs.Terms.{is_term}
-use Rattle.prob_expr.specs.Tree.{PlainFormula, effect_on}
-use Rattle.prob_expr.specs.View.{formula_view}
-use Rattle.do_derivation.specs.Plans.{PlainDerivation}
-use Rattle.do_derivation.specs.View.{derivation_view}
+use Rattle.hedge.specs.declared.hedge.Hedge.{Hedge as HedgeData}
+use Rattle.hedge.specs.Vocabulary.{AreDistricts, IsHedge}
+use Rattle.prob_expr.specs.Vocabulary.{is_term, PlainFormula, effect_on, formula_view}
+use Rattle.do_derivation.specs.Vocabulary.{PlainDerivation, derivation_view}
 use Rattle.do_derivation.proofs.Accepted.{accepted_is_effect}
 use Rattle.identification_theory.proofs.Bools.{both_true, clash, not_i}
 use Rattle.identification_theory.proofs.Sets.{below, apart, not_empty}
-use Rattle.identification_theory.specs.Derivations.{IsDerived}
-use Rattle.identification_theory.specs.Procedure.{AreAncestorsIn, IsTarget, IsUnidentified, Split, StopsAt}
-use Rattle.hedge.specs.Hedges.{IsHedge}
-use Rattle.hedge.specs.declared.hedge.Hedge.{Hedge as HedgeData}
+use Rattle.identification_theory.specs.Vocabulary.{IsDerived, AreAncestorsIn, IsTarget, IsUnidentified, Split, StopsAt}
 use Rattle.hedge.proofs.Shaping.{sets_form_hedge}
-use Rattle.counter_models.specs.Pairs.{IsPairOf}
 use Rattle.counter_models.specs.declared.counter_pair.CounterPair.{CounterPair}
+use Rattle.counter_models.specs.Vocabulary.{IsPairOf}
 use Rattle.counter_models.proofs.Excluded.{no_formula}
 use Rattle.identify.specs.declared.wanted.Wanted.TheVariants.{Derivation}
 use Rattle.identify.specs.Answers.{IsAnswerOf, IsStopHedge, IsRight, IsRightFormula, IsRightHedge, IfFormula, IfHedge, is_hedge, AreShallowSteps}

@@ -1,17 +1,13 @@
 -- What the procedure answers where a formula alone is wanted is a right answer.
 use Rattle.std.proofs.Common.{ℕ, ◌≤◌, ◌↔◌, refl, IsTrue, arith}
 use Rattle.std.specs.Prelude.{Result, IfOk}
-use Rattle.mixed_graph.specs.Bits.{has}
-use Rattle.mixed_graph.specs.Graphs.{MixedGraph, IsMixedGraph}
-use Rattle.mixed_graph.specs.Sets.{Apart}
-use Rattle.prob_expr.specs.Tree.{PlainFormula}
-use Rattle.prob_expr.specs.View.{formula_view}
-use Rattle.do_derivation.specs.Plans.{PlainDerivation}
+use Rattle.mixed_graph.specs.Vocabulary.{has, MixedGraph, IsMixedGraph, Apart}
+use Rattle.prob_expr.specs.Vocabulary.{PlainFormula, formula_view}
+use Rattle.do_derivation.specs.Vocabulary.{PlainDerivation}
 use Rattle.identification_theory.proofs.Formulas.{formula_is_accepted}
-use Rattle.identification_theory.specs.Derivations.{IsDerived}
-use Rattle.identification_theory.specs.Procedure.{IsTarget}
-use Rattle.hedge.specs.Hedges.{IsHedge}
+use Rattle.identification_theory.specs.Vocabulary.{IsDerived, IsTarget}
 use Rattle.hedge.specs.declared.hedge.Hedge.{Hedge as HedgeData}
+use Rattle.hedge.specs.Vocabulary.{IsHedge}
 use Rattle.counter_models.specs.declared.counter_pair.CounterPair.{CounterPair}
 use Rattle.identify.specs.Answers.{IsFormulaAnswerOf, IsStopHedge, IsRightAlone, IfFormulaAlone, IfHedgeAlone, is_hedge_alone}
 use Rattle.identify.specs.declared.answer.FormulaAnswer.{FormulaAnswer}

@@ -1,9 +1,8 @@
 -- The members of a set without a child in it, child by child.
 use Rattle.std.proofs.Common.{ℕ, ◌+◌, ◌≡◌, ◌<◌, ◌≤◌, Bool, true, false, not, ◌&&◌, inl, inr, refl, sym, ◌∙◌, subst, arith}
 use Rattle.std.proofs.lemmas.Bool.{cases_eq, and_parts, and_from}
-use Rattle.mixed_graph.specs.Bits.{has}
-use Rattle.mixed_graph.specs.Graphs.{MixedGraph, IsMixedGraph}
-use Rattle.identification_theory.specs.AnswerLaws.{AreRoots}
+use Rattle.mixed_graph.specs.Vocabulary.{has, MixedGraph, IsMixedGraph}
+use Rattle.identification_theory.specs.Vocabulary.{AreRoots}
 
 -- the members of c without a child below k in c
 pub record AreRootsBelow (g : MixedGraph) (c roots k : ℕ) : Type 0 where

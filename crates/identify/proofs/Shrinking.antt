@@ -2,17 +2,13 @@
 use Rattle.std.proofs.Common.{◌≡◌, ◌≢◌, ℕ, zero, suc, ◌^◌, ◌<◌, ◌≤◌, Bool, true, false, not, ◌&&◌, ◌==◌, List, [], ◌∷◌, length, IsTrue, inl, inr}
 use Rattle.std.proofs.Common.{refl, sym, ap, ◌∙◌, subst, arith, ltb-true}
 use Rattle.std.proofs.lemmas.Bool.{cases_eq, eqb-true, and_parts}
-use Rattle.mixed_graph.specs.Bits.{has, members_below}
-use Rattle.mixed_graph.specs.Graphs.{MixedGraph, IsMixedGraph, IsDirectedPath, induced}
-use Rattle.mixed_graph.specs.Sets.{Within}
+use Rattle.mixed_graph.specs.Vocabulary.{has, members_below, MixedGraph, IsMixedGraph, IsDirectedPath, induced, Within, minus}
 use Rattle.mixed_graph.proofs.Masks.{has-pow, below_64, has-zero, same_from_has, some_member, le_from_subset}
 use Rattle.mixed_graph.proofs.Members.{one_if, length-members-suc, length-members-zero, length-members-none}
-use Rattle.mixed_graph.specs.Masks.{minus}
 use Rattle.mixed_graph.proofs.MaskLaws.{has_minus, below_from}
-use Rattle.hedge.specs.Linked.{IsLinked, IsDistrict, IsInside, IsJoinedSet}
-use Rattle.hedge.specs.Linked.IsLinked.{at, by}
+use Rattle.hedge.specs.Vocabulary.{IsLinked, IsDistrict, IsInside, IsJoinedSet, at, by}
 use Rattle.hedge.proofs.Parts.{link_in, link_through}
-use Rattle.identification_theory.specs.Procedure.{AreAncestorsIn}
+use Rattle.identification_theory.specs.Vocabulary.{AreAncestorsIn}
 
 -- how many members a mask of vertices has
 abbrev pub size : ℕ → ℕ

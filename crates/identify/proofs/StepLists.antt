@@ -2,25 +2,23 @@
 use Rattle.std.proofs.Common.{ℕ, suc, ◌≡◌, ◌≤◌, Bool, true, false, cond, leb, refl, sym, ap, ap₂, ◌∙◌, List, [], ◌∷◌, length, take, map, All, arith, le-leb}
 use Rattle.std.proofs.lemmas.List.{take-map}
 use Rattle.std.proofs.lemmas.List.Elements.{All-nil, All-cons}
-use Rattle.mixed_graph.specs.Bits.{has}
-use Rattle.std.specs.Global.{Vec}
 use Rattle.mixed_graph.specs.declared.sets.VSet.{VSet}
-use Rattle.do_derivation.specs.Plans.{Move, Plan, Plans, no_plans, plan}
-use Rattle.do_derivation.specs.Shapes.{flat}
-use Rattle.do_derivation.specs.View.{step_view, steps_view}
-use Rattle.do_derivation.specs.declared.steps.Step.{Make, Step}
-use Rattle.do_derivation.proofs.StepViews.{step-Make}
+use Rattle.mixed_graph.specs.Vocabulary.{has, minus, all, is_empty, common}
+use Rattle.std.specs.Global.{Vec}
+use Rattle.do_derivation.specs.Plans.{Move, Plan, Plans, plan}
+use Rattle.do_derivation.specs.declared.steps.Step.{Make}
 use Rattle.do_derivation.specs.declared.moves.Move.TheVariants.{WithSet}
+use Rattle.do_derivation.specs.Vocabulary.{no_plans, flat, step_view, steps_view}
+use Rattle.do_derivation.specs.declared.steps.Step.{Step}
+use Rattle.do_derivation.proofs.StepViews.{step-Make}
 use Rattle.do_derivation.specs.declared.moves.SetMove.TheVariants as set_move
 use Rattle.do_derivation.specs.declared.moves.BareMove.TheVariants as bare_move
-use Rattle.hedge.specs.Listed.{first_masks}
-use Rattle.mixed_graph.specs.Masks.{minus, all, is_empty, common}
-use Rattle.prob_expr.specs.Tree.{Trees, product}
-use Rattle.prob_expr.specs.View.{view, views}
+use Rattle.hedge.specs.Vocabulary.{first_masks}
+use Rattle.prob_expr.specs.Tree.{product}
 use Rattle.prob_expr.specs.declared.expr.Expr.{Expr}
-use Rattle.identification_theory.specs.Procedure.{product_of}
-use Rattle.identification_theory.specs.Derivations.{Lists, single, with_set, at_place, at_each, at_zero, in_order, two_or_more, unchain_steps}
-use Rattle.identification_theory.specs.Derivations.{unwrap_steps, home_list, home_lists, group_steps, district_steps, main_steps}
+use Rattle.prob_expr.specs.Vocabulary.{Trees, views}
+use Rattle.prob_expr.specs.View.{view}
+use Rattle.identification_theory.specs.Vocabulary.{product_of, Lists, single, with_set, at_place, at_each, at_zero, in_order, two_or_more, unchain_steps, unwrap_steps, home_list, home_lists, group_steps, district_steps, main_steps}
 use Rattle.identify.specs.Lists.{lists_view}
 
 -- ---- the sets of districts

@@ -1,12 +1,13 @@
 -- Lists of steps that grow at their end, read with what comes after them.
 use Rattle.std.proofs.Common.{◌≡◌, ℕ, suc, ◌+◌, Bool, true, false, cond, List, [], ◌∷◌, ◌++◌, length, refl, ap, ◌∙◌, append-nil, arith, rules}
 use Rattle.std.specs.Global.{Box, Vec}
-use Rattle.mixed_graph.specs.Masks.{is_empty}
 use Rattle.mixed_graph.specs.declared.sets.VSet.{VSet}
-use Rattle.do_derivation.specs.Plans.{Plan, Plans, PlainLemma, no_plans, plan}
-use Rattle.do_derivation.specs.View.{step_view, steps_view, lemma_view}
-use Rattle.do_derivation.specs.declared.steps.Step.{Step, the_lemmas, At, Then}
-use Rattle.identification_theory.specs.Derivations.{Lists, at_each, at_place, more, with_set}
+use Rattle.mixed_graph.specs.Vocabulary.{is_empty}
+use Rattle.do_derivation.specs.Plans.{Plan, Plans, plan}
+use Rattle.do_derivation.specs.declared.steps.Step.{the_lemmas, At, Then}
+use Rattle.do_derivation.specs.Vocabulary.{PlainLemma, no_plans, step_view, steps_view, lemma_view}
+use Rattle.do_derivation.specs.declared.steps.Step.{Step}
+use Rattle.identification_theory.specs.Vocabulary.{Lists, at_each, at_place, more, with_set}
 use Rattle.identify.specs.Lists.{onto, lists_onto, lists_view}
 
 -- a step at a place is seen as the plan of that step, at the same place

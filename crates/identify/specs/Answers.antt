@@ -1,27 +1,14 @@
 -- Right answers to the question for P(y | do(x)): the two halves of the theorem of Shpitser and Pearl (2006).
 use Rattle.std.specs.Prelude.{ℕ, ◌≡◌, Bool, true, false, [], IsTrue, None}
-use Rattle.mixed_graph.specs.Bits.{has}
-use Rattle.mixed_graph.specs.Graphs.{MixedGraph, IsAncestor}
-use Rattle.prob_expr.specs.Check.{fault_in}
-use Rattle.prob_expr.specs.Differences.{HasNoFormula}
-use Rattle.prob_expr.specs.Terms.{is_do_free}
-use Rattle.prob_expr.specs.Tree.{effect_on, PlainFormula}
-use Rattle.prob_expr.specs.Values.{EqualsEffect}
-use Rattle.prob_expr.specs.View.{formula_view}
+use Rattle.mixed_graph.specs.Vocabulary.{has, MixedGraph, IsAncestor}
+use Rattle.prob_expr.specs.Vocabulary.{fault_in, HasNoFormula, is_do_free, effect_on, PlainFormula, EqualsEffect, formula_view}
 use Rattle.do_derivation.specs.Accepts.{Accepts}
-use Rattle.do_derivation.specs.Plans.{PlainDerivation}
-use Rattle.do_derivation.specs.View.{derivation_view}
-use Rattle.identification_theory.specs.Depth.{is_plan_within, are_lemmas_within}
-use Rattle.identification_theory.specs.Derivations.{IsDerived}
-use Rattle.identification_theory.specs.Procedure.{IsIdentified, IsUnidentified}
-use Rattle.identification_theory.specs.AnswerDepth.{is_tree_within, are_defs_within}
-use Rattle.identification_theory.specs.Names.{FormulaNamesOnly}
-use Rattle.hedge.specs.Hedges.{IsHedge}
-use Rattle.hedge.specs.Shapes.{FormHedge}
+use Rattle.do_derivation.specs.Vocabulary.{PlainDerivation, derivation_view}
+use Rattle.identification_theory.specs.Vocabulary.{is_plan_within, are_lemmas_within, IsDerived, IsIdentified, IsUnidentified, is_tree_within, are_defs_within, FormulaNamesOnly}
 use Rattle.hedge.specs.declared.hedge.Hedge.{Hedge}
-use Rattle.counter_models.specs.Events.{AreCounterModels}
-use Rattle.counter_models.specs.Pairs.{IsPairOf}
+use Rattle.hedge.specs.Vocabulary.{IsHedge, FormHedge}
 use Rattle.counter_models.specs.declared.counter_pair.CounterPair.{CounterPair}
+use Rattle.counter_models.specs.Vocabulary.{AreCounterModels, IsPairOf}
 use Rattle.identify.specs.Hedged.{IsHedgeOf}
 use Rattle.identify.specs.declared.answer.Answer.{Answer}
 use Rattle.identify.specs.declared.answer.Answer.TheVariants as answers

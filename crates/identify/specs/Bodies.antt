@@ -1,11 +1,10 @@
 -- The factors of the vertices of a district, and that of the district, as the code gives them.
 use Rattle.std.specs.Prelude.{ℕ, ◌≡◌, List}
-use Rattle.mixed_graph.specs.Graphs.{MixedGraph}
-use Rattle.mixed_graph.specs.Masks.{union, one, common}
-use Rattle.prob_expr.specs.View.{view, views}
-use Rattle.do_derivation.specs.View.{steps_view}
-use Rattle.identification_theory.specs.Procedure.{IsPillow, Source, conditional, AreFactors, IsBody}
-use Rattle.identification_theory.specs.Derivations.{universe, source_steps, place_list, ArePlaceLists, AreBodySteps}
+use Rattle.mixed_graph.specs.Vocabulary.{MixedGraph, union, one, common}
+use Rattle.prob_expr.specs.View.{view}
+use Rattle.prob_expr.specs.Vocabulary.{views}
+use Rattle.do_derivation.specs.Vocabulary.{steps_view}
+use Rattle.identification_theory.specs.Vocabulary.{IsPillow, Source, conditional, AreFactors, IsBody, universe, source_steps, place_list, ArePlaceLists, AreBodySteps}
 use Rattle.identify.specs.declared.factors.place.VertexFactor.{VertexFactor}
 use Rattle.identify.specs.declared.factors.body.Places.{Places}
 use Rattle.identify.specs.declared.factors.body.Body.{Body}

@@ -1,18 +1,14 @@
 -- What there is of an effect, whether or not anybody makes it: a formula, or two models.
 use Rattle.std.specs.Prelude.{ℕ, ◌≡◌, true, List, [], ◌∷◌}
-use Rattle.mixed_graph.specs.Graphs.{MixedGraph}
-use Rattle.mixed_graph.specs.Masks.{all}
-use Rattle.finite_models.specs.Agreement.{AgreeObserved}
-use Rattle.finite_models.specs.Models.{FiniteModel, Fits, IsPositiveModel}
-use Rattle.mixed_graph.specs.Bits.{has}
+use Rattle.mixed_graph.specs.Vocabulary.{MixedGraph, all, has}
+use Rattle.finite_models.specs.Vocabulary.{AgreeObserved, FiniteModel, Fits, IsPositiveModel}
 use Rattle.hedge.specs.declared.hedge.Hedge.{Hedge}
-use Rattle.prob_expr.specs.Terms.{is_do_free}
-use Rattle.prob_expr.specs.Tree.{Tree, PlainFormula, effect_on}
-use Rattle.prob_expr.specs.Values.{EqualsEffect}
-use Rattle.do_derivation.specs.Plans.{PlainDerivation}
-use Rattle.identification_theory.specs.Procedure.{AreAncestorsIn, Source, IsFactor, IsStopped}
-use Rattle.counter_models.specs.ParityLaws.{DifferAtEach}
+use Rattle.prob_expr.specs.Vocabulary.{is_do_free, PlainFormula, effect_on, EqualsEffect}
+use Rattle.prob_expr.specs.Tree.{Tree}
+use Rattle.do_derivation.specs.Vocabulary.{PlainDerivation}
+use Rattle.identification_theory.specs.Vocabulary.{AreAncestorsIn, Source, IsFactor, IsStopped}
 use Rattle.counter_models.specs.declared.counter_pair.CounterPair.{CounterPair}
+use Rattle.counter_models.specs.Vocabulary.{DifferAtEach}
 use Rattle.identify.specs.Answers.{IsRightFormula, IsRightHedge}
 
 -- ---- the effect

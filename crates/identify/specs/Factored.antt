@@ -1,14 +1,12 @@
 -- What the factors of the districts have to be, and where one stops.
 use Rattle.std.specs.Prelude.{ℕ, ◌≡◌, ◌≤◌, ◌*◌, List, [], ◌∷◌, ◌++◌, length, map, Result, Ok, Err}
-use Rattle.mixed_graph.specs.Graphs.{MixedGraph}
-use Rattle.mixed_graph.specs.Masks.{minus}
-use Rattle.prob_expr.specs.Tree.{PlainFormula}
-use Rattle.prob_expr.specs.View.{view, views}
-use Rattle.do_derivation.specs.Plans.{Plan, PlainDerivation}
-use Rattle.do_derivation.specs.View.{lemma_view}
-use Rattle.identification_theory.specs.Procedure.{AreFactored, StopsAt, product_of, sum_if}
-use Rattle.identification_theory.specs.Derivations.{AreAllSteps, district_steps, main_steps}
 use Rattle.mixed_graph.specs.declared.sets.VSet.{VSet}
+use Rattle.mixed_graph.specs.Vocabulary.{MixedGraph, minus}
+use Rattle.prob_expr.specs.Vocabulary.{PlainFormula, views}
+use Rattle.prob_expr.specs.View.{view}
+use Rattle.do_derivation.specs.Plans.{Plan}
+use Rattle.do_derivation.specs.Vocabulary.{PlainDerivation, lemma_view}
+use Rattle.identification_theory.specs.Vocabulary.{AreFactored, StopsAt, product_of, sum_if, AreAllSteps, district_steps, main_steps}
 use Rattle.identify.specs.declared.factors.district_factor.Factor.{Factor}
 use Rattle.identify.specs.declared.factors.district_factor.FactorFault.{FactorFault}
 use Rattle.identify.specs.declared.factors.district_factor.FactorFault.TheVariants as faults

@@ -1,11 +1,9 @@
 -- The factor of a district, as the code gives it.
 use Rattle.std.specs.Prelude.{ℕ, ◌≡◌, List, map}
-use Rattle.mixed_graph.specs.Graphs.{MixedGraph}
-use Rattle.mixed_graph.specs.Masks.{all}
+use Rattle.mixed_graph.specs.Vocabulary.{MixedGraph, all}
 use Rattle.prob_expr.specs.View.{view}
-use Rattle.do_derivation.specs.View.{steps_view, lemma_view}
-use Rattle.identification_theory.specs.Procedure.{AreAncestorsIn, Source, IsFactor, IsStopped}
-use Rattle.identification_theory.specs.Derivations.{AreFactorSteps}
+use Rattle.do_derivation.specs.Vocabulary.{steps_view, lemma_view}
+use Rattle.identification_theory.specs.Vocabulary.{AreAncestorsIn, Source, IsFactor, IsStopped, AreFactorSteps}
 use Rattle.identify.specs.declared.factors.district_factor.Factor.{Factor}
 use Rattle.identify.specs.declared.factors.district_factor.FactorFault.{FactorFault}
 use Rattle.identify.specs.declared.factors.district_factor.FactorFault.TheVariants.{Stopped, NoMemory}

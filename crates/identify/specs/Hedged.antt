@@ -1,11 +1,9 @@
 -- The hedge at which the identification procedure stops, as data (Shpitser and Pearl 2006).
 use Rattle.std.specs.Prelude.{◌≡◌, ℕ, ◌<◌, false, IsTrue, slice_index}
-use Rattle.mixed_graph.specs.Bits.{has}
-use Rattle.mixed_graph.specs.Graphs.{MixedGraph}
-use Rattle.hedge.specs.Nearest.{IsChoiceOf}
-use Rattle.hedge.specs.Spanning.{AreLinks}
+use Rattle.mixed_graph.specs.Vocabulary.{has, MixedGraph}
 use Rattle.hedge.specs.declared.hedge.Hedge.{Hedge}
-use Rattle.identification_theory.specs.AnswerLaws.{AreRoots}
+use Rattle.hedge.specs.Vocabulary.{IsChoiceOf, AreLinks}
+use Rattle.identification_theory.specs.Vocabulary.{AreRoots}
 
 -- The roots are the members of small without a child in small. A member of small chooses its nearest child toward the roots inside small, any other
 -- vertex that toward small inside big. The links go over small first, and then over big.

@@ -7,3 +7,4 @@ pub mod Lists
 pub mod Parts
 pub mod Rounds
 pub mod Deciding
+pub mod Vocabulary

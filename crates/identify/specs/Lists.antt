@@ -2,9 +2,9 @@
 use Rattle.std.specs.Prelude.{List, [], ◌∷◌}
 use Rattle.std.specs.Global.{Vec}
 use Rattle.do_derivation.specs.Plans.{Plans, plan}
-use Rattle.do_derivation.specs.View.{step_view, steps_view}
+use Rattle.do_derivation.specs.Vocabulary.{step_view, steps_view}
 use Rattle.do_derivation.specs.declared.steps.Step.{Step}
-use Rattle.identification_theory.specs.Derivations.{Lists, no_more, more}
+use Rattle.identification_theory.specs.Vocabulary.{Lists, no_more, more}
 
 -- the plans of the steps, and then the rest
 abbrev pub onto : List Step → Plans → Plans

@@ -1,13 +1,11 @@
 -- What one round toward a factor comes to.
 use Rattle.std.specs.Prelude.{ℕ, ◌≡◌, ◌≢◌, List, []}
-use Rattle.mixed_graph.specs.Graphs.{MixedGraph}
-use Rattle.hedge.specs.Linked.{IsDistrict}
-use Rattle.mixed_graph.specs.Masks.{minus}
+use Rattle.mixed_graph.specs.Vocabulary.{MixedGraph, minus}
+use Rattle.hedge.specs.Vocabulary.{IsDistrict}
 use Rattle.prob_expr.specs.Tree.{sum}
 use Rattle.prob_expr.specs.View.{view}
-use Rattle.do_derivation.specs.View.{steps_view}
-use Rattle.identification_theory.specs.Procedure.{AreAncestorsIn, Source, IsFactor, IsStopped}
-use Rattle.identification_theory.specs.Derivations.{cut_steps, AreFactorSteps}
+use Rattle.do_derivation.specs.Vocabulary.{steps_view}
+use Rattle.identification_theory.specs.Vocabulary.{AreAncestorsIn, Source, IsFactor, IsStopped, cut_steps, AreFactorSteps}
 use Rattle.identify.specs.declared.factors.body.Body.{Body}
 use Rattle.identify.specs.declared.factors.district_factor.FactorFault.{FactorFault}
 use Rattle.identify.specs.declared.factors.district_factor.FactorFault.TheVariants.{Stopped, NoMemory}

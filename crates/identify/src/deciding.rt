@@ -1,13 +1,9 @@
 //! Whether there is a formula: the procedure without its formulas, which asks for no memory.
 
 ghost use Rattle.std.specs.Prelude.{◌≡◌, ◌<◌, ◌↔◌, ℕ, true, false, List, All, IsTrue, IfSome, IfNone};
-ghost use Rattle.mixed_graph.specs.Bits.{has};
-ghost use Rattle.mixed_graph.specs.Sets.{Within, Apart};
-ghost use Rattle.mixed_graph.specs.Shown.{graph_of};
-ghost use Rattle.hedge.specs.Hedges.{IsHedge};
-ghost use Rattle.hedge.specs.Linked.{IsJoinedSet, IsMaximalJoined};
-ghost use Rattle.hedge.specs.Listed.{first_masks};
-ghost use Rattle.identification_theory.specs.Procedure.{StopsAt};
+ghost use Rattle.mixed_graph.specs.Vocabulary.{has, Within, Apart, graph_of};
+ghost use Rattle.hedge.specs.Vocabulary.{IsHedge, IsJoinedSet, IsMaximalJoined, first_masks};
+ghost use Rattle.identification_theory.specs.Vocabulary.{StopsAt};
 ghost use Rattle.identify.specs.Deciding.{IsStoppedFrom, HasFactor, AreFactorable, HasRightFormula, HasModels, HasRightHedge, IsIdentifiable, IsNotIdentifiable};
 ghost use Rattle.identify.specs.Hedged.{IsHedgeOf};
 

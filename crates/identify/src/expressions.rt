@@ -1,8 +1,9 @@
 //! The product of the factors of the districts.
 
 ghost use Rattle.std.specs.Prelude.{◌≡◌, IfOk};
-ghost use Rattle.prob_expr.specs.View.{view, views};
-ghost use Rattle.identification_theory.specs.Procedure.{product_of};
+ghost use Rattle.prob_expr.specs.View.{view};
+ghost use Rattle.prob_expr.specs.Vocabulary.{views};
+ghost use Rattle.identification_theory.specs.Vocabulary.{product_of};
 
 use do_derivation::flat;
 use prob_expr::Expr;

@@ -1,13 +1,9 @@
 //! The factors of all districts, one after the other, until one stops.
 
 ghost use Rattle.std.specs.Prelude.{◌≡◌, ◌+◌, ◌*◌, ◌<◌, ◌^◌, ℕ, IsTrue, IfErr, OnOk, MatchResult, ◌++◌, [], ◌∷◌, length, All};
-ghost use Rattle.mixed_graph.specs.Bits.{has};
-ghost use Rattle.mixed_graph.specs.Orders.{IsOrder};
-ghost use Rattle.mixed_graph.specs.Sets.{Within};
-ghost use Rattle.mixed_graph.specs.Shown.{graph_of};
-ghost use Rattle.hedge.specs.Linked.{IsMaximalJoined};
-ghost use Rattle.hedge.specs.Listed.{first_masks};
-ghost use Rattle.do_derivation.specs.View.{listed};
+ghost use Rattle.mixed_graph.specs.Vocabulary.{has, IsOrder, Within, graph_of};
+ghost use Rattle.hedge.specs.Vocabulary.{IsMaximalJoined, first_masks};
+ghost use Rattle.do_derivation.specs.Vocabulary.{listed};
 ghost use Rattle.identify.specs.Factored.{AreFactorsOf, IsStopOf, IsAdded, IsStopFor, AreWithMore, stop_for};
 
 use crate::answer::{Factors, Stop};

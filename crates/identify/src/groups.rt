@@ -1,10 +1,10 @@
 //! The factors of each district brought together: the groups of the chain, each one term again.
 
 ghost use Rattle.std.specs.Prelude.{◌≡◌, ℕ, ◌<◌, ◌≤◌, IfOk, OnOk, All, length};
-ghost use Rattle.hedge.specs.Listed.{first_masks};
+ghost use Rattle.hedge.specs.Vocabulary.{first_masks};
 ghost use Rattle.do_derivation.specs.Plans.{Plans};
-ghost use Rattle.do_derivation.specs.View.{steps_view, listed, numbers_of};
-ghost use Rattle.identification_theory.specs.Derivations.{in_order, places, group_lists, two_or_more, has_pair, unchain_steps, unchain_lists, group_steps};
+ghost use Rattle.do_derivation.specs.Vocabulary.{steps_view, listed, numbers_of};
+ghost use Rattle.identification_theory.specs.Vocabulary.{in_order, places, group_lists, two_or_more, has_pair, unchain_steps, unchain_lists, group_steps};
 ghost use Rattle.identify.specs.Lists.{onto, lists_view};
 
 use crate::factors::{members_in, push_each};

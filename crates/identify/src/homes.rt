@@ -1,10 +1,10 @@
 //! The chain of all vertices of the effect, each brought to its district.
 
 ghost use Rattle.std.specs.Prelude.{◌≡◌, ◌+◌, ℕ, ◌<◌, ◌≤◌, IfOk, OnOk, cond, All, length};
-ghost use Rattle.mixed_graph.specs.Bits.{has};
-ghost use Rattle.hedge.specs.Listed.{first_masks};
-ghost use Rattle.do_derivation.specs.View.{steps_view, listed};
-ghost use Rattle.identification_theory.specs.Derivations.{in_order, home, home_list, home_lists, Lists, more};
+ghost use Rattle.mixed_graph.specs.Vocabulary.{has};
+ghost use Rattle.hedge.specs.Vocabulary.{first_masks};
+ghost use Rattle.do_derivation.specs.Vocabulary.{steps_view, listed};
+ghost use Rattle.identification_theory.specs.Vocabulary.{in_order, home, home_list, home_lists, Lists, more};
 ghost use Rattle.identify.specs.Lists.{lists_onto, lists_view};
 
 use crate::factors::push_with;

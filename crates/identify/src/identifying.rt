@@ -1,27 +1,16 @@
 //! Identification of an effect from a graph.
 
 ghost use Rattle.std.specs.Prelude.{◌≡◌, ℕ, ◌<◌, ◌≤◌, ◌↔◌, [], true, length, IsTrue, IfOk, None};
-ghost use Rattle.mixed_graph.specs.Bits.{has};
-ghost use Rattle.mixed_graph.specs.Graphs.{IsAncestor};
-ghost use Rattle.mixed_graph.specs.Orders.{IsOrder};
-ghost use Rattle.mixed_graph.specs.Sets.{Within, Apart};
-ghost use Rattle.mixed_graph.specs.Shown.{graph_of};
-ghost use Rattle.hedge.specs.Hedges.{IsHedge};
+ghost use Rattle.mixed_graph.specs.Vocabulary.{has, IsAncestor, IsOrder, Within, Apart, graph_of, minus, all};
 ghost use Rattle.hedge.specs.declared.hedge.Hedge.{Hedge as HedgeData};
-ghost use Rattle.prob_expr.specs.Check.{fault_in};
-ghost use Rattle.mixed_graph.specs.Masks.{minus, all};
-ghost use Rattle.prob_expr.specs.Terms.{is_do_free};
-ghost use Rattle.prob_expr.specs.Tree.{prob, effect_on};
-ghost use Rattle.prob_expr.specs.Values.{EqualsEffect};
-ghost use Rattle.prob_expr.specs.View.{formula_view};
+ghost use Rattle.hedge.specs.Vocabulary.{IsHedge};
+ghost use Rattle.prob_expr.specs.Vocabulary.{fault_in, is_do_free, effect_on, EqualsEffect, formula_view};
+ghost use Rattle.prob_expr.specs.Tree.{prob};
 ghost use Rattle.do_derivation.specs.Accepts.{Accepts};
-ghost use Rattle.do_derivation.specs.Plans.{Plan, no_plans};
-ghost use Rattle.do_derivation.specs.View.{derivation_view, listed};
-ghost use Rattle.identification_theory.specs.Derivations.{IsDerived};
-ghost use Rattle.identification_theory.specs.Procedure.{AreAncestorsIn, IsIdentified, IsUnidentified};
-ghost use Rattle.identification_theory.specs.Names.{FormulaNamesOnly};
-ghost use Rattle.counter_models.specs.Events.{AreCounterModels};
-ghost use Rattle.counter_models.specs.Pairs.{IsPairOf};
+ghost use Rattle.do_derivation.specs.Plans.{Plan};
+ghost use Rattle.do_derivation.specs.Vocabulary.{no_plans, derivation_view, listed};
+ghost use Rattle.identification_theory.specs.Vocabulary.{IsDerived, AreAncestorsIn, IsIdentified, IsUnidentified, FormulaNamesOnly};
+ghost use Rattle.counter_models.specs.Vocabulary.{AreCounterModels, IsPairOf};
 ghost use Rattle.identify.specs.Hedged.{IsHedgeOf};
 ghost use Rattle.identify.specs.Answers.{IsAnswerOf, IsRight, IfFormula, IfHedge, is_hedge, AreShallowSteps, IsShallowFormula};
 ghost use Rattle.identify.specs.Answers.{IsFormulaAnswerOf, IsRightAlone, IfFormulaAlone, IfHedgeAlone, is_hedge_alone};

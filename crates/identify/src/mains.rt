@@ -1,15 +1,12 @@
 //! The steps of main, from P(y | do(x)) to the formula's main expression.
 
 ghost use Rattle.std.specs.Prelude.{◌≡◌, ℕ, ◌<◌, ◌≤◌, IfOk, OnOk, length, All};
-ghost use Rattle.mixed_graph.specs.Orders.{IsOrder};
-ghost use Rattle.mixed_graph.specs.Shown.{graph_of};
-ghost use Rattle.hedge.specs.Listed.{first_masks};
-ghost use Rattle.prob_expr.specs.Tree.{Trees};
-ghost use Rattle.prob_expr.specs.View.{views, formula_view};
-ghost use Rattle.do_derivation.specs.Plans.{Plans, no_plans};
-ghost use Rattle.do_derivation.specs.Shapes.{has_product};
-ghost use Rattle.do_derivation.specs.View.{steps_view, listed, derivation_view};
-ghost use Rattle.identification_theory.specs.Derivations.{unwrap_steps, district_steps, main_steps};
+ghost use Rattle.mixed_graph.specs.Vocabulary.{IsOrder, graph_of};
+ghost use Rattle.hedge.specs.Vocabulary.{first_masks};
+ghost use Rattle.prob_expr.specs.Vocabulary.{Trees, views, formula_view};
+ghost use Rattle.do_derivation.specs.Plans.{Plans};
+ghost use Rattle.do_derivation.specs.Vocabulary.{no_plans, has_product, steps_view, listed, derivation_view};
+ghost use Rattle.identification_theory.specs.Vocabulary.{unwrap_steps, district_steps, main_steps};
 ghost use Rattle.identify.specs.Lists.{onto, lists_view};
 ghost use Rattle.identify.specs.Factored.{AreAssembled};
 

@@ -1,15 +1,10 @@
 //! The hedge at which the procedure stops, and its two models.
 
 ghost use Rattle.std.specs.Prelude.{◌≡◌, ℕ, ◌<◌, false, if◌then◌else◌, IsTrue, IfOk, slice_index};
-ghost use Rattle.mixed_graph.specs.Bits.{has};
-ghost use Rattle.mixed_graph.specs.Sets.{Within, Apart};
-ghost use Rattle.mixed_graph.specs.Shown.{graph_of};
-ghost use Rattle.hedge.specs.Linked.{IsInside, IsJoinedSet};
-ghost use Rattle.hedge.specs.Nearest.{IsChoiceOf};
-ghost use Rattle.hedge.specs.Hedges.{IsHedge};
-ghost use Rattle.hedge.specs.Shapes.{AreSetsOfHedge};
-ghost use Rattle.identification_theory.specs.AnswerLaws.{AreRoots};
-ghost use Rattle.counter_models.specs.Pairs.{IsPairOf};
+ghost use Rattle.mixed_graph.specs.Vocabulary.{has, Within, Apart, graph_of};
+ghost use Rattle.hedge.specs.Vocabulary.{IsInside, IsJoinedSet, IsChoiceOf, IsHedge, AreSetsOfHedge};
+ghost use Rattle.identification_theory.specs.Vocabulary.{AreRoots};
+ghost use Rattle.counter_models.specs.Vocabulary.{IsPairOf};
 ghost use Rattle.identify.specs.Hedged.{IsHedgeOf};
 
 use counter_models::{CounterPair, build};

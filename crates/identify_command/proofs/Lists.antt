@@ -1,10 +1,10 @@
 -- What the sets of a target have.
 use Rattle.std.proofs.Common.{◌≡◌, ◌<◌, ℕ, zero, suc, true, length, ap, ◌∙◌, arith}
-use Rattle.mixed_graph.specs.Bits.{has}
-use Rattle.do_rules.specs.Rules.{AreThreeSets}
-use Rattle.prob_expr.specs.Tree.{PlainTarget}
+use Rattle.mixed_graph.specs.Vocabulary.{has}
+use Rattle.do_rules.specs.Vocabulary.{AreThreeSets}
+use Rattle.prob_expr.specs.Vocabulary.{PlainTarget}
 use Rattle.mixed_graph.proofs.MaskLaws.{has_none}
-use Rattle.targets.specs.Targets.{Lists}
+use Rattle.targets.specs.Vocabulary.{Lists}
 use Rattle.targets.proofs.Disjoint.{disjoint_listed_sets}
 use Rattle.replies.proofs.OneTarget.{one_set}
 use Rattle.identify_command.specs.Right.{AreTargetSets}

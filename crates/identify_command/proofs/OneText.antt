@@ -1,31 +1,25 @@
 -- One thing is told of the formula of an effect, but for a short one, and so it is of a hedge.
 use Rattle.std.proofs.Common.{◌≡◌, ◌≤◌, ℕ, Bool, false, List, Ok, refl, sym, ap, ◌∙◌, subst, arith}
-use Rattle.mixed_graph.specs.Graphs.{MixedGraph, IsMixedGraph}
-use Rattle.mixed_graph.specs.Masks.{union}
-use Rattle.prob_expr.specs.Tree.{PlainFormula, PlainTarget, effect_on}
-use Rattle.prob_expr.specs.View.{target_view, formula_view}
-use Rattle.do_derivation.specs.Plans.{PlainDerivation}
-use Rattle.identification_theory.specs.Derivations.{IsDerived}
+use Rattle.mixed_graph.specs.Vocabulary.{MixedGraph, IsMixedGraph, union}
+use Rattle.prob_expr.specs.Vocabulary.{PlainFormula, PlainTarget, effect_on, target_view, formula_view}
+use Rattle.do_derivation.specs.Vocabulary.{PlainDerivation}
+use Rattle.identification_theory.specs.Vocabulary.{IsDerived}
 use Rattle.identification_theory.proofs.Answered.{one_formula, one_derivation, derived_is_identified}
-use Rattle.conditional_id.specs.Conditionals.{IsConditionalBySteps}
-use Rattle.conditional_id.specs.Answers.{IsJointEffect}
-use Rattle.short_formulas.specs.Short.{IsOrShorter}
+use Rattle.conditional_id.specs.Vocabulary.{IsConditionalBySteps, IsJointEffect}
+use Rattle.short_formulas.specs.Vocabulary.{IsOrShorter}
 use Rattle.conditional_id.proofs.Answered.{one_conditional, one_conditional_derivation, derived_is_conditional, one_turned}
 use Rattle.targets.specs.declared.query.EffectSets.{EffectSets}
-use Rattle.targets.specs.Targets.{EffectLists, AreEffectSets, Lists}
-use Rattle.answer_json.specs.Progress.{object_of, json_line}
+use Rattle.targets.specs.Vocabulary.{EffectLists, AreEffectSets, Lists}
+use Rattle.answer_json.specs.Vocabulary.{object_of, json_line}
 use Rattle.replies.proofs.OneTarget.{one_set}
 use Rattle.replies.specs.declared.outcome.Outcome.TheVariants.{Yes}
-use Rattle.replies.specs.Outcomes.{code_of}
-use Rattle.replies.specs.Told.{answer_of, text_in}
+use Rattle.replies.specs.Vocabulary.{code_of, answer_of, text_in}
 use Rattle.told.specs.declared.form.Writing.{Writing}
 use Rattle.told.specs.declared.form.Writing.TheVariants.{Certificate}
-use Rattle.told.specs.Refusals.{target_refusal}
-use Rattle.told.specs.Telling.{told_in}
+use Rattle.told.specs.Vocabulary.{target_refusal, told_in}
 use Rattle.effect_answers.specs.declared.formulas.EffectFormula.{EffectFormula}
 use Rattle.effect_answers.specs.declared.hedges.EffectHedge.{EffectHedge}
-use Rattle.effect_answers.specs.HedgeTelling.{joint_text, joint_object}
-use Rattle.effect_answers.specs.Right.{IsKept}
+use Rattle.effect_answers.specs.Vocabulary.{joint_text, joint_object, IsKept}
 use Rattle.effect_answers.proofs.OneNo.{one_hedge_text, one_joint_text, one_joint_object}
 use Rattle.effect_answers.proofs.Telling.{one_certificate, one_formula_text, one_formula_object}
 use Rattle.identify_command.specs.declared.form.Form.{Form}

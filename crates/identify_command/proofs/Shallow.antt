@@ -1,9 +1,9 @@
 -- The certificate of a formula that nests little is read back.
 use Rattle.std.proofs.Common.{arith}
-use Rattle.prob_expr.specs.Tree.{PlainFormula}
-use Rattle.do_derivation.specs.Plans.{PlainDerivation}
-use Rattle.short_formulas.specs.Short.{IsReadable}
-use Rattle.certificate_json.specs.Writable.{IsFormulaShallow}
+use Rattle.prob_expr.specs.Vocabulary.{PlainFormula}
+use Rattle.do_derivation.specs.Vocabulary.{PlainDerivation}
+use Rattle.short_formulas.specs.Vocabulary.{IsReadable}
+use Rattle.certificate_json.specs.Vocabulary.{IsFormulaShallow}
 use Rattle.effect_answers.proofs.Shallow.{tree_nests, defs_nest, step_nests, lemmas_shallow}
 
 -- what is readable is read back

@@ -1,6 +1,6 @@
 -- The command `identify`.
-use Rattle.replies.specs.Command.{CommandForm}
-use Rattle.told.specs.Commands.{told_on_file}
+use Rattle.replies.specs.Vocabulary.{CommandForm}
+use Rattle.told.specs.Vocabulary.{told_on_file}
 use Rattle.identify_command.specs.Forms.{is_certified, told_form}
 use Rattle.identify_command.specs.Right.{IsIdentifyAnswer}
 use Rattle.identify_command.specs.Telling.{identify_telling}

@@ -5,7 +5,7 @@ use Rattle.told.specs.declared.form.Writing.{Writing}
 use Rattle.told.specs.declared.form.Writing.TheVariants.{Plain, Latex, Certificate}
 use Rattle.identify_command.specs.declared.form.Form.{Form}
 use Rattle.replies.specs.declared.format.Format.{Format}
-use Rattle.replies.specs.Told.{format_of}
+use Rattle.replies.specs.Vocabulary.{format_of}
 
 -- how an answer is written, by the flags for a certificate and for LaTeX, of which one stands at most, and that for LaTeX not beside that for JSON
 abbrev pub IsWriting : (certificate latex json : Bool) → Writing → Type 0

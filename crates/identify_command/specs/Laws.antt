@@ -1,10 +1,10 @@
 -- That the form of an answer doesn't change its outcome.
 use Rattle.std.specs.Prelude.{ℕ, Bool, List}
-use Rattle.diagram.specs.Sets.{Names}
-use Rattle.replies.specs.OneOutcome.{OneOutcome, IsAnswerOn}
+use Rattle.diagram.specs.Vocabulary.{Names}
+use Rattle.replies.specs.OneOutcome.{OneOutcome}
+use Rattle.replies.specs.Vocabulary.{IsAnswerOn}
 use Rattle.told.specs.declared.form.Form.{Form}
-use Rattle.told.specs.Refusals.{target_refusal}
-use Rattle.told.specs.Telling.{Tells}
+use Rattle.told.specs.Vocabulary.{target_refusal, Tells}
 use Rattle.identify_command.specs.Right.{IsIdentifyAnswer}
 use Rattle.identify_command.specs.Telling.{identify_telling}
 

@@ -4,3 +4,4 @@ pub mod Right
 pub mod Requests
 pub mod Command
 pub mod Laws
+pub mod Vocabulary

@@ -1,9 +1,8 @@
 -- What `identify` is asked for.
 use Rattle.std.specs.Prelude.{◌≡◌, List, Some, [], ◌∷◌, codes, option_map}
-use Rattle.command_words.specs.Form.{Text, Row, Use, word_of, value_of, has_flag}
+use Rattle.command_words.specs.Vocabulary.{Text, Row, Use, word_of, value_of, has_flag, names_in}
 use Rattle.command_words.specs.Values as values
-use Rattle.diagram.specs.Sets.{Names}
-use Rattle.command_words.specs.ListViews.{names_in}
+use Rattle.diagram.specs.Vocabulary.{Names}
 use Rattle.identify_command.specs.declared.form.Form.{Form}
 use Rattle.identify_command.specs.Forms.{IsForm}
 use Rattle.identify_command.specs.declared.request.Request.{Request as CodeRequest}

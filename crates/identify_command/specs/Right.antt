@@ -1,30 +1,22 @@
 -- Which answers of `identify` are right: whether P(y | do(x), given) can be computed from observations, in the observed graph of a diagram.
 use Rattle.std.specs.Prelude.{ℕ, ◌≡◌, ◌↔◌, Bool, true, IsTrue, [], ◌∷◌, Some, None, Result, Ok, Err}
-use Rattle.mixed_graph.specs.Graphs.{MixedGraph}
-use Rattle.mixed_graph.specs.Shown.{graph_of}
-use Rattle.finite_models.specs.Data.{meaning}
-use Rattle.prob_expr.specs.Differences.{DifferOnTarget, HasNoFormula}
-use Rattle.prob_expr.specs.Tree.{PlainTarget, effect_on}
-use Rattle.prob_expr.specs.View.{target_view, formula_view}
-use Rattle.do_derivation.specs.Plans.{PlainDerivation}
-use Rattle.identification_theory.specs.Derivations.{IsDerived}
-use Rattle.identify.specs.Answers.{IsRightFormula}
-use Rattle.conditional_id.specs.Conditionals.{IsConditionalBySteps}
-use Rattle.conditional_id.specs.TurnLaws.{IsRightGiven}
-use Rattle.conditional_id.specs.Settled.{IsSettled}
-use Rattle.conditional_id.specs.HedgeLaws.{AreModelsOf}
-use Rattle.conditional_id.specs.Answers.{IsJointEffect}
-use Rattle.short_formulas.specs.Short.{IsOrShorter}
+use Rattle.mixed_graph.specs.Vocabulary.{MixedGraph, graph_of}
+use Rattle.finite_models.specs.Vocabulary.{meaning}
+use Rattle.prob_expr.specs.Vocabulary.{DifferOnTarget, HasNoFormula, PlainTarget, effect_on, target_view, formula_view}
+use Rattle.do_derivation.specs.Vocabulary.{PlainDerivation}
+use Rattle.identification_theory.specs.Vocabulary.{IsDerived}
+use Rattle.identify.specs.Vocabulary.{IsRightFormula}
+use Rattle.conditional_id.specs.Vocabulary.{IsConditionalBySteps, IsRightGiven, IsSettled, AreModelsOf, IsJointEffect}
+use Rattle.short_formulas.specs.Vocabulary.{IsOrShorter}
 use Rattle.certificate.specs.Plain as plain
 use Rattle.targets.specs.declared.fault.TargetFault.{TargetFault}
 use Rattle.targets.specs.declared.query.EffectSets.{EffectSets}
-use Rattle.targets.specs.Targets.{EffectLists, AreEffectSets, IsEffectFault, Lists, AreListedSets, IsListFault}
+use Rattle.targets.specs.Vocabulary.{EffectLists, AreEffectSets, IsEffectFault, Lists, AreListedSets, IsListFault}
 use Rattle.diagram.specs.declared.diagram.Diagram.{Diagram}
-use Rattle.diagram.specs.Sets.{Names, effect_lists, query_lists}
+use Rattle.diagram.specs.Vocabulary.{Names, effect_lists, query_lists}
 use Rattle.effect_answers.specs.declared.formulas.EffectFormula.{EffectFormula}
 use Rattle.effect_answers.specs.declared.hedges.EffectHedge.{EffectHedge}
-use Rattle.effect_answers.specs.Certificates.{IsReadBack}
-use Rattle.effect_answers.specs.Right.{IsKept, IsEffectHedge}
+use Rattle.effect_answers.specs.Vocabulary.{IsReadBack, IsKept, IsEffectHedge}
 use Rattle.identify_command.specs.declared.answer.Answer.{Answer}
 use Rattle.identify_command.specs.declared.answer.Answer.TheVariants.{Formula, Hedge, Joint}
 

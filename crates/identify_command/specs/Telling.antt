@@ -1,13 +1,12 @@
 -- What is told of an answer of `identify`.
 use Rattle.std.specs.Prelude.{ℕ, List}
 use Rattle.json.specs.Json.{Json}
-use Rattle.prob_expr.specs.View.{target_view}
+use Rattle.prob_expr.specs.Vocabulary.{target_view}
 use Rattle.replies.specs.declared.outcome.Outcome.{Outcome}
 use Rattle.replies.specs.declared.outcome.Outcome.TheVariants.{Yes, No}
 use Rattle.told.specs.declared.form.Writing.{Writing}
 use Rattle.told.specs.Telling.{Telling}
-use Rattle.effect_answers.specs.FormulaTelling.{formula_text, formula_object}
-use Rattle.effect_answers.specs.HedgeTelling.{hedge_text, joint_text, hedge_object, joint_object}
+use Rattle.effect_answers.specs.Vocabulary.{formula_text, formula_object, hedge_text, joint_text, hedge_object, joint_object}
 use Rattle.identify_command.specs.declared.answer.Answer.{Answer}
 use Rattle.identify_command.specs.declared.answer.Answer.TheVariants.{Formula, Hedge, Joint}
 

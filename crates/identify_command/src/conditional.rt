@@ -1,13 +1,11 @@
 //! Answers where something is given.
 
 ghost use Rattle.std.specs.Prelude.{◌<◌, Some, IfOk, IfErr};
-ghost use Rattle.mixed_graph.specs.Bits.{has};
-ghost use Rattle.mixed_graph.specs.Names.{texts};
-ghost use Rattle.mixed_graph.specs.Shown.{graph_of};
-ghost use Rattle.do_rules.specs.Rules.{AreThreeSets};
-ghost use Rattle.prob_expr.specs.View.{target_view};
-ghost use Rattle.targets.specs.Targets.{OrMemory, IsListFault};
-ghost use Rattle.diagram.specs.Sets.{query_lists};
+ghost use Rattle.mixed_graph.specs.Vocabulary.{has, texts, graph_of};
+ghost use Rattle.do_rules.specs.Vocabulary.{AreThreeSets};
+ghost use Rattle.prob_expr.specs.Vocabulary.{target_view};
+ghost use Rattle.targets.specs.Vocabulary.{OrMemory, IsListFault};
+ghost use Rattle.diagram.specs.Vocabulary.{query_lists};
 ghost use Rattle.identify_command.specs.Forms.{is_certified};
 ghost use Rattle.identify_command.specs.Requests.{request_of};
 ghost use Rattle.identify_command.specs.Right.{DecidesTarget, IsForTarget};

@@ -1,14 +1,11 @@
 //! The answer of `identify`.
 
 ghost use Rattle.std.specs.Prelude.{◌<◌, false, IfOk, IfErr};
-ghost use Rattle.mixed_graph.specs.Bits.{has};
-ghost use Rattle.mixed_graph.specs.Sets.{Within, Apart};
-ghost use Rattle.mixed_graph.specs.Shown.{graph_of};
-ghost use Rattle.targets.specs.Targets.{OrMemory, IsEffectFault};
-ghost use Rattle.diagram.specs.Sets.{effect_lists};
-ghost use Rattle.replies.specs.Told.{told_of};
-ghost use Rattle.told.specs.Refusals.{target_refusal};
-ghost use Rattle.told.specs.Telling.{Tells};
+ghost use Rattle.mixed_graph.specs.Vocabulary.{has, Within, Apart, graph_of};
+ghost use Rattle.targets.specs.Vocabulary.{OrMemory, IsEffectFault};
+ghost use Rattle.diagram.specs.Vocabulary.{effect_lists};
+ghost use Rattle.replies.specs.Vocabulary.{told_of};
+ghost use Rattle.told.specs.Vocabulary.{target_refusal, Tells};
 ghost use Rattle.identify_command.specs.Forms.{is_certified, told_form};
 ghost use Rattle.identify_command.specs.Requests.{request_of};
 ghost use Rattle.identify_command.specs.Right.{DecidesEffect, IsForEffect, IsAnswerFor, IsFaultFor, IsIdentifyAnswer, asked_of};

@@ -1,8 +1,7 @@
 //! What `identify` is asked.
 
 ghost use Rattle.std.specs.Prelude.{◌≡◌, List, IfOk, IsErrOf};
-ghost use Rattle.command_words.specs.Form.{Use};
-ghost use Rattle.command_words.specs.Gives.{HoldsCall};
+ghost use Rattle.command_words.specs.Vocabulary.{Use, HoldsCall};
 ghost use Rattle.std.specs.Prelude.{IfSome, IfNone};
 ghost use Rattle.identify_command.specs.Forms.{IsWriting};
 ghost use Rattle.told.specs.declared.form.Writing as asked;

@@ -1,11 +1,11 @@
 -- The printed answer of an effect that has a formula.
 use Rattle.std.specs.Prelude.{ℕ, List, [], ◌++◌, if◌then◌else◌, codes}
 use Rattle.answer_text.specs.declared.signs.Notation.{Notation}
-use Rattle.answer_text.specs.Texts.{set_text}
-use Rattle.mixed_graph.specs.Masks.{is_empty, union, minus}
-use Rattle.prob_expr.specs.Tree.{Tree, term_of, effect_on, PlainFormula, PlainTarget}
-use Rattle.prob_expr.specs.Free.{free_of}
-use Rattle.expr_text.specs.Write.{expr_in, formula_in}
+use Rattle.answer_text.specs.Vocabulary.{set_text}
+use Rattle.mixed_graph.specs.Vocabulary.{is_empty, union, minus}
+use Rattle.prob_expr.specs.Tree.{Tree}
+use Rattle.prob_expr.specs.Vocabulary.{term_of, effect_on, PlainFormula, PlainTarget, free_of}
+use Rattle.expr_text.specs.Vocabulary.{expr_in, formula_in}
 
 -- the effect of x on y as a term: P(y | do(x)), or P(y) for an empty x
 abbrev pub effect_term : (x y : ℕ) → Tree

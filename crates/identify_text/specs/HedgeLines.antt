@@ -1,9 +1,9 @@
 -- The lines of a hedge: its sets, its choices and its links.
 use Rattle.std.specs.Prelude.{ℕ, Bool, ◌&&◌, nat_lt, List, ◌++◌, slice_index, codes}
 use Rattle.std.specs.List.{flat_map}
-use Rattle.mixed_graph.specs.Bits.{has, members_below}
-use Rattle.answer_text.specs.Texts.{set_text}
-use Rattle.expr_text.specs.Write.{text_of}
+use Rattle.mixed_graph.specs.Vocabulary.{has, members_below}
+use Rattle.answer_text.specs.Vocabulary.{set_text}
+use Rattle.expr_text.specs.Vocabulary.{text_of}
 use Rattle.hedge.specs.declared.hedge.Hedge.{Hedge}
 use Rattle.identify_text.specs.Answers.{effect_term}
 use Rattle.identify_text.specs.ModelLines.{vertex_text}

@@ -1,10 +1,8 @@
 -- The lines of a model whose vertices are parities: its causes, and the bits of its vertices.
 use Rattle.std.specs.Prelude.{ℕ, ◌+◌, if◌then◌else◌, List, [], ◌∷◌, ◌++◌, Option, Some, None, map, codes, decimal}
 use Rattle.std.specs.List.{flat_map, join_by}
-use Rattle.mixed_graph.specs.Bits.{has, members_below}
-use Rattle.mixed_graph.specs.Names.{name_of}
-use Rattle.answer_text.specs.Printing.{printed}
-use Rattle.answer_text.specs.Texts.{set_text}
+use Rattle.mixed_graph.specs.Vocabulary.{has, members_below, name_of}
+use Rattle.answer_text.specs.Vocabulary.{printed, set_text}
 use Rattle.finite_models.specs.declared.model.Cause.{Cause}
 use Rattle.finite_models.specs.declared.model.Part.{Part}
 use Rattle.finite_models.specs.declared.model.Mechanism.{Mechanism}

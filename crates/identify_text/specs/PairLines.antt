@@ -1,7 +1,7 @@
 -- The printed answer of an effect that has no formula: a hedge, and the two models that it gives.
 use Rattle.std.specs.Prelude.{ℕ, ◌+◌, List, ◌++◌, codes, decimal}
-use Rattle.prob_expr.specs.Tree.{PlainTarget, term_of}
-use Rattle.expr_text.specs.Write.{text_of}
+use Rattle.prob_expr.specs.Vocabulary.{PlainTarget, term_of}
+use Rattle.expr_text.specs.Vocabulary.{text_of}
 use Rattle.hedge.specs.declared.hedge.Hedge.{Hedge}
 use Rattle.counter_models.specs.declared.counter_pair.CounterPair.{CounterPair}
 use Rattle.identify_text.specs.declared.bits.Bit.TheVariants.{Carried}

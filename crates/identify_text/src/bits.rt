@@ -1,8 +1,7 @@
 //! The two bits of a vertex as text.
 
 ghost use Rattle.std.specs.Prelude.{◌≡◌, ◌++◌, [], if◌then◌else◌, codes, drop, OnOk};
-ghost use Rattle.mixed_graph.specs.Bits.{has};
-ghost use Rattle.mixed_graph.specs.Names.{name_of};
+ghost use Rattle.mixed_graph.specs.Vocabulary.{has, name_of};
 ghost use Rattle.identify_text.specs.ModelLines.{letter, bit_text, bits_of, added};
 
 use answer_text::names::push_name;

@@ -1,9 +1,9 @@
 //! The text of a formula with its target.
 
 ghost use Rattle.std.specs.Prelude.{◌≡◌, ◌++◌, OnOk, IfOk};
-ghost use Rattle.mixed_graph.specs.Masks.{union, minus};
-ghost use Rattle.prob_expr.specs.View.{formula_view, target_view};
-ghost use Rattle.expr_text.specs.Write.{text_of};
+ghost use Rattle.mixed_graph.specs.Vocabulary.{union, minus};
+ghost use Rattle.prob_expr.specs.Vocabulary.{formula_view, target_view};
+ghost use Rattle.expr_text.specs.Vocabulary.{text_of};
 ghost use Rattle.identify_text.specs.Answers.{effect_term, free_beside, free_line, answer_in};
 
 use answer_text::{Notation, push_set};

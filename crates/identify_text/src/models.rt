@@ -1,7 +1,7 @@
 //! The texts of causes, weights and sizes.
 
 ghost use Rattle.std.specs.Prelude.{◌≡◌, ◌++◌, codes, decimal, OnOk};
-ghost use Rattle.answer_text.specs.Texts.{set_text};
+ghost use Rattle.answer_text.specs.Vocabulary.{set_text};
 ghost use Rattle.identify_text.specs.ModelLines.{weights_text, cause_line, cause_lines, vertex_lines};
 
 use crate::parts::push_mechanism;

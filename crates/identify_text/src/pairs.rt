@@ -1,7 +1,7 @@
 //! The text of the two models of a hedge.
 
 ghost use Rattle.std.specs.Prelude.{◌≡◌, ◌+◌, ◌++◌, decimal, OnOk, IfOk};
-ghost use Rattle.prob_expr.specs.View.{target_view};
+ghost use Rattle.prob_expr.specs.Vocabulary.{target_view};
 ghost use Rattle.identify_text.specs.PairLines.{event_line, models_text, hedge_answer, joint_answer};
 
 use crate::bits::{Bit, add_bits, push_sum};

@@ -2,10 +2,9 @@
 use Rattle.std.proofs.Common.{ℕ, ◌≡◌, ◌<◌, Bool, true, false, not, ◌&&◌, ◌||◌, ◌==◌, ◌↔◌, ◌⊎◌, inl, inr, refl, sym, subst, eqb-true, IsTrue}
 use Rattle.std.proofs.lemmas.Bool.{or_left, or_right, and_from, both_ways, not_from_false}
 use mathlib.Core.Path.{fun_ext}
-use Rattle.mixed_graph.specs.Bits.{has}
-use Rattle.mixed_graph.specs.Graphs.{MixedGraph, IsMixedGraph}
+use Rattle.mixed_graph.specs.Vocabulary.{has, MixedGraph, IsMixedGraph}
 use Rattle.mixed_graph.specs.Reached.{Reached}
-use Rattle.m_separation.specs.Walks.{HasOpenWalk, IsSeparated, last}
+use Rattle.m_separation.specs.Vocabulary.{HasOpenWalk, IsSeparated, last}
 use Rattle.do_rules.proofs.Reach.{Linked, here, by_both, by_child, by_parent}
 use Rattle.implications.specs.Separable.{only, IsSeparable, AreOtherAncestors}
 use Rattle.implications.specs.Links.{is_link, IsSide, IsNextTo, AreAbove, IsCut}

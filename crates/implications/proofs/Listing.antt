@@ -6,10 +6,8 @@ use Rattle.std.proofs.lemmas.Bool.{cases_eq, false_from_ne_true, eqb-true}
 use Rattle.std.proofs.lemmas.List.{get_or_append_left}
 use Rattle.std.proofs.lemmas.List.Elements.{All-push, All-weaker}
 use Rattle.std.proofs.lemmas.List.Quantifiers.{Any-push, all_pairs_push}
-use Rattle.mixed_graph.specs.Bits.{has}
-use Rattle.mixed_graph.specs.Graphs.{MixedGraph, IsMixedGraph}
-use Rattle.mixed_graph.specs.Sets.{Within}
-use Rattle.do_rules.specs.Rules.{AreThreeSets, AreIndependent}
+use Rattle.mixed_graph.specs.Vocabulary.{has, MixedGraph, IsMixedGraph, Within}
+use Rattle.do_rules.specs.Vocabulary.{AreThreeSets, AreIndependent}
 use Rattle.do_rules.proofs.Failing.{independence_is_separation}
 use Rattle.do_rules.proofs.Holds.{independent_holds}
 use Rattle.implications.specs.declared.pairs.Implication.{Implication}

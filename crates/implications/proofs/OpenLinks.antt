@@ -1,11 +1,11 @@
 -- Links from one end of a pair to the other make an open walk, which needs no refutation.
 use Rattle.std.proofs.Common.{ℕ, ◌≡◌, ◌<◌, Bool, true, false, not, ◌&&◌, ◌||◌, ◌⊎◌, inl, inr, refl, List, [], ◌∷◌, eqb-true, eq-eqb}
 use Rattle.std.proofs.lemmas.Bool.{or_cases, and_parts, both_ways}
-use Rattle.mixed_graph.specs.Graphs.{MixedGraph, IsMixedGraph, IsDirectedPath, IsAncestor}
+use Rattle.mixed_graph.specs.Vocabulary.{MixedGraph, IsMixedGraph, IsDirectedPath, IsAncestor}
 use Rattle.mixed_graph.specs.Reached.{Reached}
-use Rattle.m_separation.specs.Walks.{Step, IsJoined, IsWalk, last, heads_first, heads_second, IsPassed, ArePassedFrom, ArePassed, HasOpenWalk}
 use Rattle.m_separation.specs.declared.marks.Mark.{Mark}
 use Rattle.m_separation.specs.declared.marks.Mark.TheVariants.{Both, Into, Out}
+use Rattle.m_separation.specs.Vocabulary.{Step, IsJoined, IsWalk, last, heads_first, heads_second, IsPassed, ArePassedFrom, ArePassed, HasOpenWalk}
 use Rattle.do_rules.proofs.Reach.{AllOutside, meets_or_not, IsReadyAt, IsReady, Comes}
 use Rattle.implications.specs.Separable.{only}
 use Rattle.implications.specs.Links.{is_link, AreAbove}

@@ -1,10 +1,10 @@
 -- The edges of an open walk between two vertices are links, and their other ancestors separate them where any set does.
 use Rattle.std.proofs.Common.{ℕ, ◌≡◌, ◌<◌, Bool, true, false, ◌||◌, List, [], ◌∷◌, ◌⊎◌, inl, inr, refl, arith, eqb, eqb-true, eq-eqb}
 use Rattle.std.proofs.lemmas.Bool.{cases_eq, or_cases, or_left, or_right}
-use Rattle.mixed_graph.specs.Graphs.{MixedGraph, IsMixedGraph, IsDirectedPath, IsAncestor}
-use Rattle.m_separation.specs.Walks.{Step, IsJoined, IsWalk, last, heads_first, heads_second, IsPassed, ArePassedFrom, ArePassed, IsSeparated}
+use Rattle.mixed_graph.specs.Vocabulary.{MixedGraph, IsMixedGraph, IsDirectedPath, IsAncestor}
 use Rattle.m_separation.specs.declared.marks.Mark.{Mark}
 use Rattle.m_separation.specs.declared.marks.Mark.TheVariants.{Out, Into, Both}
+use Rattle.m_separation.specs.Vocabulary.{Step, IsJoined, IsWalk, last, heads_first, heads_second, IsPassed, ArePassedFrom, ArePassed, IsSeparated}
 use Rattle.do_rules.proofs.Reach.{Linked, here, by_both, by_child, by_parent, reach}
 use Rattle.implications.specs.Separable.{only, AreOtherAncestors}
 use Rattle.implications.specs.Laws.{OtherAncestorsSeparate}

@@ -2,9 +2,8 @@
 use Rattle.std.proofs.Common.{ℕ, ◌≡◌, ◌<◌, Bool, true, false, not, ◌&&◌, ◌||◌, ◌==◌, ◌↔◌, refl, sym, ap, ◌∙◌, subst, arith, eqb, eq-eqb, IsTrue}
 use Rattle.std.proofs.lemmas.Bool.{ne_eqb, and_parts, and_from, or_from, or_left, or_right, both_ways, false_from_ne_true, not_from_false}
 use mathlib.Core.Path.{fun_ext}
-use Rattle.mixed_graph.specs.Graphs.{MixedGraph, IsAncestor}
-use Rattle.mixed_graph.specs.Sets.{Within}
-use Rattle.m_separation.specs.Walks.{IsSeparated}
+use Rattle.mixed_graph.specs.Vocabulary.{MixedGraph, IsAncestor, Within}
+use Rattle.m_separation.specs.Vocabulary.{IsSeparated}
 use Rattle.implications.specs.Separable.{only, IsSeparatingSet, IsOtherAncestor, AreOtherAncestors}
 
 abbrev pub pair_of : ℕ → ℕ → ℕ → Bool

@@ -3,9 +3,8 @@ use Rattle.std.proofs.Common.{ℕ, ◌+◌, ◌≡◌, ◌≢◌, ◌<◌, ◌�
 use Rattle.std.proofs.Common.{eqb, ltb, IsTrue}
 use Rattle.std.proofs.lemmas.Bool.{cases_eq, cases_order, lt-ltb, le-ltb, ne_eqb, eq-eqb, and_parts, both_ways}
 use mathlib.Core.Path.{fun_ext}
-use Rattle.mixed_graph.specs.Graphs.{MixedGraph}
-use Rattle.mixed_graph.specs.Sets.{Within}
-use Rattle.m_separation.specs.Walks.{HasOpenWalk, IsSeparated}
+use Rattle.mixed_graph.specs.Vocabulary.{MixedGraph, Within}
+use Rattle.m_separation.specs.Vocabulary.{HasOpenWalk, IsSeparated}
 use Rattle.implications.specs.Separable.{only, IsSeparatingSet, rest_at, IsThinned}
 use Rattle.implications.specs.Steps.{IsStep}
 

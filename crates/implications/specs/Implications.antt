@@ -1,8 +1,7 @@
 -- The testable implications of a graph (Pearl, Causality, section 1.2).
 use Rattle.std.specs.Prelude.{ℕ, ◌≡◌, ◌<◌, List, ◌⊎◌, All}
 use Rattle.std.specs.List.{AllPairs, Any}
-use Rattle.mixed_graph.specs.Bits.{has}
-use Rattle.mixed_graph.specs.Graphs.{MixedGraph}
+use Rattle.mixed_graph.specs.Vocabulary.{has, MixedGraph}
 use Rattle.implications.specs.declared.pairs.Implication.{Implication}
 use Rattle.implications.specs.Separable.{IsSeparable, IsGivenSet}
 

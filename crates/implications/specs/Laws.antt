@@ -1,7 +1,7 @@
 -- Laws of the pairs that some set separates.
 use Rattle.std.specs.Prelude.{ℕ, Bool, ◌↔◌}
-use Rattle.mixed_graph.specs.Graphs.{MixedGraph, IsMixedGraph}
-use Rattle.m_separation.specs.Walks.{IsSeparated}
+use Rattle.mixed_graph.specs.Vocabulary.{MixedGraph, IsMixedGraph}
+use Rattle.m_separation.specs.Vocabulary.{IsSeparated}
 use Rattle.implications.specs.Separable.{only, IsSeparable, AreIndependentGivenSome, AreOtherAncestors}
 
 -- where any set separates two vertices, their other ancestors do

@@ -3,3 +3,4 @@ pub mod Laws
 pub mod Links
 pub mod Separable
 pub mod Steps
+pub mod Vocabulary

@@ -1,7 +1,6 @@
 -- Links, along which separation inside the ancestors of a pair is a search that meets each vertex once. Words for code inside this crate.
 use Rattle.std.specs.Prelude.{ℕ, Bool, ◌==◌, ◌&&◌, ◌||◌, ◌↔◌, not, IsTrue}
-use Rattle.mixed_graph.specs.Bits.{has}
-use Rattle.mixed_graph.specs.Graphs.{MixedGraph, IsAncestor}
+use Rattle.mixed_graph.specs.Vocabulary.{has, MixedGraph, IsAncestor}
 use Rattle.mixed_graph.specs.Reached.{Reached}
 use Rattle.implications.specs.Separable.{only, IsSeparatingSet}
 use Rattle.implications.specs.declared.sets.Pair.{Pair}

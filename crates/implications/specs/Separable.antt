@@ -1,9 +1,8 @@
 -- Pairs of vertices that some set separates (Pearl, Causality, chapter 1; Verma and Pearl, 1990).
 use Rattle.std.specs.Prelude.{ℕ, ◌≡◌, ◌≢◌, ◌<◌, Bool, false, ◌==◌, ◌&&◌, ◌||◌, ◌↔◌, nat_lt, IsTrue}
-use Rattle.mixed_graph.specs.Graphs.{MixedGraph, IsAncestor}
-use Rattle.mixed_graph.specs.Sets.{Within}
-use Rattle.m_separation.specs.Walks.{HasOpenWalk, IsSeparated}
-use Rattle.do_rules.specs.Rules.{AreIndependent}
+use Rattle.mixed_graph.specs.Vocabulary.{MixedGraph, IsAncestor, Within}
+use Rattle.m_separation.specs.Vocabulary.{HasOpenWalk, IsSeparated}
+use Rattle.do_rules.specs.Vocabulary.{AreIndependent}
 
 -- the vertex a alone
 abbrev pub only : ℕ → ℕ → Bool

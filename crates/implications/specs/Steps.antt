@@ -1,8 +1,8 @@
 -- Words for the two walks, inside this crate.
 use Rattle.std.specs.Prelude.{ℕ, ◌≡◌, ◌≢◌, ◌<◌, Bool, false, ◌==◌, ◌&&◌, not, List, ◌⊎◌, All, IsTrue}
 use Rattle.std.specs.List.{AllPairs, Any}
-use Rattle.mixed_graph.specs.Graphs.{MixedGraph}
-use Rattle.m_separation.specs.Walks.{HasOpenWalk, IsSeparated}
+use Rattle.mixed_graph.specs.Vocabulary.{MixedGraph}
+use Rattle.m_separation.specs.Vocabulary.{HasOpenWalk, IsSeparated}
 use Rattle.implications.specs.declared.pairs.Implication.{Implication}
 use Rattle.implications.specs.Separable.{only, IsSeparable}
 use Rattle.implications.specs.Implications.{IsImplication, IsOf, IsBefore}

@@ -2,9 +2,8 @@
 
 ghost use Rattle.std.specs.Prelude.{◌≡◌, ℕ, ◌<◌, ◌&&◌, ◌==◌, ◌↔◌, not, IsTrue};
 ghost use Rattle.std.specs.Bool.{OnTrue, OnFalse};
-ghost use Rattle.mixed_graph.specs.Bits.{has};
+ghost use Rattle.mixed_graph.specs.Vocabulary.{has, graph_of};
 ghost use Rattle.mixed_graph.specs.Reached.{Reached};
-ghost use Rattle.mixed_graph.specs.Shown.{graph_of};
 ghost use Rattle.implications.specs.Links.{is_link, IsSide, IsNextTo};
 
 use mixed_graph::{Graph, VSet, joined};

@@ -1,9 +1,8 @@
 //! The pairs that some set separates.
 
 ghost use Rattle.std.specs.Prelude.{ℕ, ◌+◌, ◌<◌, IfOk, OnOk, All};
-ghost use Rattle.mixed_graph.specs.Bits.{has};
-ghost use Rattle.mixed_graph.specs.Shown.{graph_of};
-ghost use Rattle.do_rules.specs.Rules.{AreIndependent};
+ghost use Rattle.mixed_graph.specs.Vocabulary.{has, graph_of};
+ghost use Rattle.do_rules.specs.Vocabulary.{AreIndependent};
 ghost use Rattle.std.specs.List.{Any};
 ghost use Rattle.implications.specs.Separable.{only, AreIndependentGivenSome};
 ghost use Rattle.implications.specs.Implications.{AreImplications, IsOf};

@@ -2,8 +2,7 @@
 
 ghost use Rattle.std.specs.Prelude.{◌≡◌, ℕ, ◌<◌, ◌||◌, ◌⊎◌, IfSome, IfNone};
 ghost use Rattle.std.specs.Bool.{OnTrue, OnFalse};
-ghost use Rattle.mixed_graph.specs.Bits.{has};
-ghost use Rattle.mixed_graph.specs.Shown.{graph_of};
+ghost use Rattle.mixed_graph.specs.Vocabulary.{has, graph_of};
 ghost use Rattle.implications.specs.Separable.{IsSeparable, IsThinned, IsGivenSet, IsSeparatingSet};
 ghost use Rattle.implications.specs.Links.{IsNextTo, AreAbove, IsCut};
 ghost use Rattle.implications.specs.Steps.{IsStep};

@@ -2,23 +2,18 @@
 use Rattle.std.proofs.Common.{◌≡◌, ◌<◌, ℕ, List, [], ◌∷◌, length, Option, Some, None, Result, Ok, Err, refl, sym, ◌∙◌, subst, arith}
 use Rattle.std.specs.Prelude.{All}
 use Rattle.std.proofs.lemmas.Option.{none-some}
-use Rattle.mixed_graph.specs.Bits.{has}
-use Rattle.mixed_graph.specs.Graphs.{MixedGraph}
-use Rattle.mixed_graph.specs.Shown.{graph_of}
+use Rattle.mixed_graph.specs.Vocabulary.{has, MixedGraph, graph_of}
 use Rattle.implications.specs.declared.pairs.Implication.{Implication}
-use Rattle.implications.specs.Separable.{IsSeparable}
-use Rattle.implications.specs.Implications.{IsImplication}
+use Rattle.implications.specs.Vocabulary.{IsSeparable, IsImplication}
 use Rattle.dag_reader.specs.declared.graph.ReadGraph.{ReadGraph}
 use Rattle.targets.specs.declared.fault.TargetFault.{TargetFault}
 use Rattle.diagram.specs.declared.diagram.Diagram.{Diagram}
 use Rattle.diagram.proofs.OneDiagram.{AreSameDiagrams, same_drawing}
-use Rattle.command_words.specs.Form.{Text}
-use Rattle.count_rows.specs.Records.{Field}
-use Rattle.count_rows.specs.Rows.{Table}
-use Rattle.count_table.specs.Reading.{text_fault}
-use Rattle.count_answers.specs.Reads.{HoldsCounts}
-use Rattle.told.specs.Refusals.{target_refusal}
-use Rattle.told.specs.Telling.{outcome_in}
+use Rattle.command_words.specs.Vocabulary.{Text}
+use Rattle.count_rows.specs.Vocabulary.{Field, Table}
+use Rattle.count_table.specs.Vocabulary.{text_fault}
+use Rattle.count_answers.specs.Vocabulary.{HoldsCounts}
+use Rattle.told.specs.Vocabulary.{target_refusal, outcome_in}
 use Rattle.implications_command.specs.CountsFaults.{counts_refusal}
 use Rattle.implications_command.specs.Pairs.{ArePairs, pairs_of, pairs_in}
 use Rattle.implications_command.specs.Right.{HasNoPairs, Lists, IsForGraph, IsCountsFault, IsForCounts}

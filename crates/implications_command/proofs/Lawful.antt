@@ -1,8 +1,8 @@
 -- The command's words ask for one request, and its right answers end alike.
 use Rattle.std.proofs.Common.{◌≡◌, List, sym, ◌∙◌}
 use Rattle.std.proofs.lemmas.Option.{same_Some}
-use Rattle.command_words.specs.Form.{Use}
-use Rattle.replies.specs.Outcomes.{IsAnswered}
+use Rattle.command_words.specs.Vocabulary.{Use}
+use Rattle.replies.specs.Vocabulary.{IsAnswered}
 use Rattle.replies.proofs.Commands.{IsLawful}
 use Rattle.told.proofs.ToldOnBoth.{lawful_told_on_both}
 use Rattle.implications_command.specs.Command.{implications_command}

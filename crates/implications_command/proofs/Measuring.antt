@@ -4,15 +4,14 @@ use Rattle.std.specs.Prelude.{All, IfSome, option_map}
 use Rattle.std.specs.List.{find}
 use Rattle.std.proofs.lemmas.List.{map-append, take_more}
 use Rattle.std.proofs.lemmas.List.Elements.{All-push, All-head, All-tail}
-use Rattle.mixed_graph.specs.Graphs.{MixedGraph}
-use Rattle.count_rows.specs.Rows.{Table}
-use Rattle.count_table.specs.Cells.{total}
-use Rattle.count_eval.specs.Programs.{weights_in, is_used}
-use Rattle.natural_bounds.specs.Bounds.{HasNoModel}
+use Rattle.mixed_graph.specs.Vocabulary.{MixedGraph}
+use Rattle.count_rows.specs.Vocabulary.{Table}
+use Rattle.count_table.specs.Vocabulary.{total}
+use Rattle.count_eval.specs.Vocabulary.{weights_in, is_used}
+use Rattle.natural_bounds.specs.Vocabulary.{HasNoModel}
 use Rattle.implications.specs.declared.pairs.Implication.{Implication}
-use Rattle.implied_differences.specs.Differences.{IsLargest}
-use Rattle.implied_differences.specs.Laws.{IsZeroIfMatched}
-use Rattle.broken_pairs.specs.Broken.{is_apart}
+use Rattle.implied_differences.specs.Vocabulary.{IsLargest, IsZeroIfMatched}
+use Rattle.broken_pairs.specs.Vocabulary.{is_apart}
 use Rattle.broken_pairs.proofs.Apart.{not_zero}
 use Rattle.implications_command.specs.Differences.{AreMeasured}
 use Rattle.implications_command.specs.Right.{IsRefuted}

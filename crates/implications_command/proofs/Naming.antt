@@ -2,12 +2,10 @@
 use Rattle.std.proofs.Common.{ℕ, ◌≡◌, ◌<◌, ◌≤◌, true, ◌||◌, All, length, inl, inr, sym, subst, arith}
 use Rattle.std.proofs.lemmas.Bool.{or_cases, eqb-true}
 use Rattle.std.proofs.lemmas.List.Elements.{All-weaker}
-use Rattle.mixed_graph.specs.Bits.{has}
-use Rattle.mixed_graph.specs.Graphs.{MixedGraph}
+use Rattle.mixed_graph.specs.Vocabulary.{has, MixedGraph}
 use Rattle.implications.specs.declared.pairs.Implication.{Implication}
-use Rattle.implications.specs.Implications.{IsImplication}
-use Rattle.implications.specs.Separable.{only}
-use Rattle.implied_differences.specs.Differences.{whole_of}
+use Rattle.implications.specs.Vocabulary.{IsImplication, only}
+use Rattle.implied_differences.specs.Vocabulary.{whole_of}
 use Rattle.implications_command.specs.Pairs.{PlainPairs, ArePairs, IsNamed}
 
 named_below : (g : MixedGraph) (n : ℕ) → g.vertices ≤ n → (i : Implication) → IsImplication g i → IsNamed n i

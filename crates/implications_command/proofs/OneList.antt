@@ -6,15 +6,12 @@ use Rattle.std.specs.Prelude.{All}
 use Rattle.std.proofs.lemmas.Bool.{ltb-true, false_from_ne_true, true_from_ne_false, or_cases, or_left, or_right, false≢true}
 use Rattle.std.proofs.lemmas.List.Elements.{All-head, All-tail}
 use Rattle.finite_models.proofs.Bools.{same_truth}
-use Rattle.mixed_graph.specs.Bits.{has}
-use Rattle.mixed_graph.specs.Graphs.{MixedGraph}
+use Rattle.mixed_graph.specs.Vocabulary.{has, MixedGraph, union, one}
 use Rattle.mixed_graph.proofs.Masks.{same_from_has}
-use Rattle.m_separation.specs.Walks.{IsSeparated}
-use Rattle.mixed_graph.specs.Masks.{union, one}
+use Rattle.m_separation.specs.Vocabulary.{IsSeparated}
 use Rattle.mixed_graph.proofs.MaskLaws.{has_join, has_none}
 use Rattle.implications.specs.declared.pairs.Implication.{Implication}
-use Rattle.implications.specs.Separable.{only, rest_at, IsThinned, IsGivenSet}
-use Rattle.implications.specs.Implications.{IsImplication, AreImplications}
+use Rattle.implications.specs.Vocabulary.{only, rest_at, IsThinned, IsGivenSet, IsImplication, AreImplications}
 use Rattle.implications_command.specs.Used.{used_for, used_in}
 
 -- ---- the set of a pair

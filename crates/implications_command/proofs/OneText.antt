@@ -11,40 +11,31 @@ use Rattle.std.proofs.lemmas.Option.{same_Some}
 use Rattle.std.proofs.lemmas.List.Elements.{All-nil, All-cons, All-head, All-tail}
 use Rattle.std.proofs.lemmas.List.Folds.{flat_map-map}
 use Rattle.std.proofs.lemmas.Simd.{map-map}
-use Rattle.mixed_graph.specs.Bits.{has}
-use Rattle.mixed_graph.specs.Graphs.{MixedGraph}
-use Rattle.mixed_graph.specs.Shown.{graph_of}
+use Rattle.mixed_graph.specs.Vocabulary.{has, MixedGraph, graph_of, name_of}
 use Rattle.dag_reader.specs.declared.graph.ReadGraph.{ReadGraph}
-use Rattle.implications.specs.Implications.{AreImplications}
-use Rattle.mixed_graph.specs.Names.{name_of}
-use Rattle.answer_text.specs.Printing.{printed}
-use Rattle.command_words.specs.Form.{Text}
-use Rattle.count_rows.specs.Records.{Field}
-use Rattle.count_rows.specs.Rows.{Table}
-use Rattle.count_table.specs.Axes.{Axes, HasCell, cell_at, place_at}
-use Rattle.count_table.specs.Cells.{IsCell}
-use Rattle.count_table.specs.Tables.{levels_in}
-use Rattle.count_table.proofs.Placing.{same_place}
-use Rattle.count_eval.specs.Programs.{cell_of}
-use Rattle.count_answers.specs.Lines.{printed_level, with_commas}
-use Rattle.count_answers.specs.Reads.{HoldsCounts}
-use Rattle.count_answers.proofs.OneReading.{AreAlike, one_table}
-use Rattle.count_rows.specs.declared.fault.CountFault.{CountFault}
-use Rattle.count_table.specs.Reading.{text_fault}
 use Rattle.implications.specs.declared.pairs.Implication.{Implication}
-use Rattle.broken_pairs.specs.Broken.{is_apart}
+use Rattle.implications.specs.Vocabulary.{AreImplications}
+use Rattle.answer_text.specs.Vocabulary.{printed}
+use Rattle.command_words.specs.Vocabulary.{Text}
+use Rattle.count_rows.specs.declared.fault.CountFault.{CountFault}
+use Rattle.count_rows.specs.Vocabulary.{Field, Table}
+use Rattle.count_table.specs.Axes.{Axes}
+use Rattle.count_table.specs.Vocabulary.{HasCell, cell_at, place_at, IsCell, levels_in, text_fault}
+use Rattle.count_table.proofs.Placing.{same_place}
+use Rattle.count_eval.specs.Vocabulary.{cell_of}
+use Rattle.count_answers.specs.Vocabulary.{printed_level, with_commas, HoldsCounts}
+use Rattle.count_answers.proofs.OneReading.{AreAlike, one_table}
+use Rattle.broken_pairs.specs.Vocabulary.{is_apart}
 use Rattle.implied_differences.specs.declared.largest.Difference.{Difference}
-use Rattle.implied_differences.specs.Differences.{IsLargest, axes_in, whole_of, first_of_pair, second_of_pair, distance, difference}
+use Rattle.implied_differences.specs.Differences.{difference}
+use Rattle.implied_differences.specs.Vocabulary.{IsLargest, axes_in, whole_of, first_of_pair, second_of_pair, distance}
 use Rattle.json.specs.Json.{Json, string}
-use Rattle.answer_json.specs.Progress.{json_line, array_of, object_of}
-use Rattle.answer_json.specs.Values.{text_json, vertex_json, set_json}
+use Rattle.answer_json.specs.Vocabulary.{json_line, array_of, object_of, text_json, vertex_json, set_json}
 use Rattle.replies.specs.declared.format.Format.{Format}
-use Rattle.replies.specs.Told.{Told, answer_of, text_in}
 use Rattle.replies.specs.declared.outcome.Outcome.{Outcome}
-use Rattle.replies.specs.Outcomes.{code_of}
-use Rattle.told.specs.Forms.{plain_form}
-use Rattle.told.specs.Refusals.{target_refusal}
-use Rattle.told.specs.Telling.{Tells, told_in}
+use Rattle.replies.specs.Vocabulary.{answer_of, text_in, code_of}
+use Rattle.replies.specs.Told.{Told}
+use Rattle.told.specs.Vocabulary.{plain_form, target_refusal, Tells, told_in}
 use Rattle.told.proofs.OneTold.{one_told}
 use Rattle.targets.specs.declared.fault.TargetFault.{TargetFault}
 use Rattle.implications_command.specs.CountsFaults.{counts_refusal}

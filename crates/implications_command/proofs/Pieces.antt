@@ -1,7 +1,7 @@
 -- Texts that are written piece by piece.
 use Rattle.std.proofs.Common.{◌≡◌, ℕ, List, [], ◌∷◌, ◌++◌, map, sym, ap, ◌∙◌, append_assoc}
-use Rattle.answer_text.specs.Texts.{comma_before}
-use Rattle.count_answers.specs.Lines.{with_commas}
+use Rattle.answer_text.specs.Vocabulary.{comma_before}
+use Rattle.count_answers.specs.Vocabulary.{with_commas}
 use Rattle.count_answers.proofs.Texts.{commas_first}
 
 pub two_pieces : (old a b s t : List ℕ) → s ≡ old ++ a → t ≡ s ++ b → t ≡ old ++ (a ++ b)

@@ -2,12 +2,10 @@
 use Rattle.std.proofs.Common.{◌≡◌, ◌<◌, ℕ, zero, suc, List, [], ◌∷◌, length, get_or, inl, inr, refl, sym, ap₂, ◌∙◌, subst, arith}
 use Rattle.std.specs.Prelude.{All}
 use Rattle.std.specs.List.{Any, AllPairs}
-use Rattle.mixed_graph.specs.Bits.{has}
-use Rattle.mixed_graph.specs.Graphs.{MixedGraph}
+use Rattle.mixed_graph.specs.Vocabulary.{has, MixedGraph}
 use Rattle.mixed_graph.proofs.Masks.{same_from_has}
 use Rattle.implications.specs.declared.pairs.Implication.{Implication}
-use Rattle.implications.specs.Separable.{IsGivenSet}
-use Rattle.implications.specs.Implications.{IsImplication, IsOf, IsBefore, AreImplications}
+use Rattle.implications.specs.Vocabulary.{IsGivenSet, IsImplication, IsOf, IsBefore, AreImplications}
 use Rattle.implications_command.proofs.OneList.{one_given}
 
 -- implications of one pair are the same

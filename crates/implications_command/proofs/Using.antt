@@ -4,16 +4,14 @@ use Rattle.std.proofs.Common.{◌∙◌, subst, arith}
 use Rattle.std.proofs.lemmas.Bool.{or_cases, or_left, or_right, false≢true, cases_lt, eq-eqb, lt-ltb}
 use Rattle.std.proofs.lemmas.List.{at_drop_more, at_drop_all}
 use Rattle.std.proofs.lemmas.List.Elements.{All-nil, All-cons, All-weaker}
-use Rattle.mixed_graph.specs.Bits.{has, members_below}
-use Rattle.mixed_graph.specs.Sets.{Within}
-use Rattle.mixed_graph.specs.Masks.{union, one}
+use Rattle.mixed_graph.specs.Vocabulary.{has, members_below, Within, union, one}
 use Rattle.mixed_graph.proofs.MaskLaws.{has_join, has_one, has_none, join_assoc, join-zero, filled_has}
-use Rattle.count_rows.specs.Rows.{Table}
-use Rattle.count_table.specs.Tables.{AreCounts}
-use Rattle.count_eval.specs.Programs.{is_used}
+use Rattle.count_rows.specs.Vocabulary.{Table}
+use Rattle.count_table.specs.Vocabulary.{AreCounts}
+use Rattle.count_eval.specs.Vocabulary.{is_used}
 use Rattle.count_table.proofs.Choosing.{size_in, sizes-pos, members_hold}
 use Rattle.implications.specs.declared.pairs.Implication.{Implication}
-use Rattle.implied_differences.specs.Differences.{whole_of, IsReadable}
+use Rattle.implied_differences.specs.Vocabulary.{whole_of, IsReadable}
 use Rattle.implications_command.specs.Pairs.{PlainPairs, ArePairs, IsNamed}
 use Rattle.implications_command.specs.Used.{used_for, used_in}
 use Rattle.implications_command.proofs.Naming.{all_named, all_low, whole_below}

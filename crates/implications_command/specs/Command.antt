@@ -1,13 +1,11 @@
 -- The command `implications`.
 use Rattle.std.specs.Prelude.{List, Option}
-use Rattle.command_words.specs.Form.{Text}
+use Rattle.command_words.specs.Vocabulary.{Text}
 use Rattle.diagram.specs.declared.diagram.Diagram.{Diagram}
 use Rattle.replies.specs.declared.format.Format.{Format}
-use Rattle.replies.specs.Command.{CommandForm, Remainder}
+use Rattle.replies.specs.Vocabulary.{CommandForm, Remainder}
 use Rattle.implications.specs.declared.pairs.Implication.{Implication}
-use Rattle.told.specs.Forms.{plain_form}
-use Rattle.told.specs.Telling.{Tells}
-use Rattle.told.specs.TwoInputs.{told_on_two_inputs}
+use Rattle.told.specs.Vocabulary.{plain_form, Tells, told_on_two_inputs}
 use Rattle.implications_command.specs.CountsFaults.{counts_refusal}
 use Rattle.implications_command.specs.Pairs.{ArePairs, pairs_in}
 use Rattle.implications_command.specs.Requests.{Request, IsRequest}

@@ -1,12 +1,11 @@
 -- The largest differences of pairs.
 use Rattle.std.specs.Prelude.{◌≡◌, List, Option, All, map, option_map}
 use Rattle.std.specs.List.{find}
-use Rattle.mixed_graph.specs.Graphs.{MixedGraph}
-use Rattle.count_rows.specs.Rows.{Table}
+use Rattle.mixed_graph.specs.Vocabulary.{MixedGraph}
+use Rattle.count_rows.specs.Vocabulary.{Table}
 use Rattle.implications.specs.declared.pairs.Implication.{Implication}
-use Rattle.implied_differences.specs.Differences.{IsLargest}
-use Rattle.implied_differences.specs.Laws.{IsZeroIfMatched}
-use Rattle.broken_pairs.specs.Broken.{is_apart}
+use Rattle.implied_differences.specs.Vocabulary.{IsLargest, IsZeroIfMatched}
+use Rattle.broken_pairs.specs.Vocabulary.{is_apart}
 use Rattle.implications_command.specs.declared.differences.Measured.{Measured}
 
 -- these are the pairs, each with its largest difference, which is 0 in a model that has the counts

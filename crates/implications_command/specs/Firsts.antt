@@ -1,12 +1,10 @@
 -- What is known before counts are read.
 use Rattle.std.specs.Prelude.{Some}
-use Rattle.command_words.specs.Form.{Text}
+use Rattle.command_words.specs.Vocabulary.{Text}
 use Rattle.replies.specs.declared.format.Format.{Format}
-use Rattle.replies.specs.Told.{told_of}
+use Rattle.replies.specs.Vocabulary.{told_of}
 use Rattle.dag_reader.specs.declared.graph.ReadGraph.{ReadGraph}
-use Rattle.told.specs.Forms.{plain_form}
-use Rattle.told.specs.Refusals.{target_refusal}
-use Rattle.told.specs.Telling.{Tells}
+use Rattle.told.specs.Vocabulary.{plain_form, target_refusal, Tells}
 use Rattle.implications_command.specs.Pairs.{ArePairs, pairs_in}
 use Rattle.implications_command.specs.Right.{IsForGraph}
 use Rattle.implications_command.specs.Telling.{implications_telling}

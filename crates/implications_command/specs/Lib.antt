@@ -9,3 +9,4 @@ pub mod CountsFaults
 pub mod Firsts
 pub mod Requests
 pub mod Command
+pub mod Vocabulary

@@ -2,13 +2,11 @@
 use Rattle.std.specs.Prelude.{ℕ, ℤ, List, ◌∷◌, ◌++◌, codes}
 use Rattle.std.specs.List.{flat_map}
 use Rattle.std.specs.Fmt.{signed_decimal}
-use Rattle.mixed_graph.specs.Bits.{has, members_below}
-use Rattle.mixed_graph.specs.Names.{name_of}
-use Rattle.answer_text.specs.Printing.{printed}
-use Rattle.answer_text.specs.Texts.{set_text}
-use Rattle.count_rows.specs.Rows.{Table}
-use Rattle.count_eval.specs.Programs.{cell_of}
-use Rattle.count_answers.specs.Lines.{assignments}
+use Rattle.mixed_graph.specs.Vocabulary.{has, members_below, name_of}
+use Rattle.answer_text.specs.Vocabulary.{printed, set_text}
+use Rattle.count_rows.specs.Vocabulary.{Table}
+use Rattle.count_eval.specs.Vocabulary.{cell_of}
+use Rattle.count_answers.specs.Vocabulary.{assignments}
 use Rattle.implications.specs.declared.pairs.Implication.{Implication}
 use Rattle.implied_differences.specs.declared.largest.Difference.{Difference}
 use Rattle.implications_command.specs.declared.differences.Measured.{Measured}

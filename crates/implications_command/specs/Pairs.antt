@@ -1,15 +1,11 @@
 -- The pairs of a graph that some set separates.
 use Rattle.std.specs.Prelude.{ℕ, ◌≡◌, ◌<◌, ◌≤◌, List, length, All}
 use Rattle.std.specs.List.{Any}
-use Rattle.mixed_graph.specs.Bits.{has}
-use Rattle.mixed_graph.specs.Graphs.{MixedGraph, IsMixedGraph}
-use Rattle.mixed_graph.specs.Sets.{Within}
-use Rattle.mixed_graph.specs.Shown.{graph_of}
-use Rattle.do_rules.specs.Rules.{AreIndependent}
+use Rattle.mixed_graph.specs.Vocabulary.{has, MixedGraph, IsMixedGraph, Within, graph_of}
+use Rattle.do_rules.specs.Vocabulary.{AreIndependent}
 use Rattle.dag_reader.specs.declared.graph.ReadGraph.{ReadGraph}
 use Rattle.implications.specs.declared.pairs.Implication.{Implication}
-use Rattle.implications.specs.Implications.{AreImplications, IsOf}
-use Rattle.implications.specs.Separable.{only, AreIndependentGivenSome}
+use Rattle.implications.specs.Vocabulary.{AreImplications, IsOf, only, AreIndependentGivenSome}
 
 -- pairs of vertices of a graph, each with a set; the vertices have these names
 pub record PlainPairs : Type 0 where

@@ -1,9 +1,8 @@
 -- What `implications` is asked for.
 use Rattle.std.specs.Prelude.{◌≡◌, List, Option, Some, None, [], ◌∷◌, codes, option_map}
-use Rattle.command_words.specs.Form.{Text, Row, Use, word_of, value_of, has_flag}
-use Rattle.command_words.specs.Values.{AreTwoInputs}
+use Rattle.command_words.specs.Vocabulary.{Text, Row, Use, word_of, value_of, has_flag, AreTwoInputs}
 use Rattle.replies.specs.declared.format.Format.{Format}
-use Rattle.replies.specs.Told.{format_of}
+use Rattle.replies.specs.Vocabulary.{format_of}
 use Rattle.implications_command.specs.declared.request.Request.{Request as CodeRequest}
 
 -- `implications FILE [COUNTS] [--count NAME] [--json]`

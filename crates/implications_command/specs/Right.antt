@@ -1,20 +1,17 @@
 -- Which answers of `implications` are right: the pairs of observed vertices that some set separates, and how far counts are from each.
 use Rattle.std.specs.Prelude.{ℕ, ◌≡◌, ◌≢◌, ◌<◌, ◌≤◌, List, length, Option, Some, None, Result, Ok, Err, IfSome}
-use Rattle.command_words.specs.Form.{Text}
-use Rattle.mixed_graph.specs.Graphs.{MixedGraph}
-use Rattle.mixed_graph.specs.Shown.{graph_of}
+use Rattle.command_words.specs.Vocabulary.{Text}
+use Rattle.mixed_graph.specs.Vocabulary.{MixedGraph, graph_of}
 use Rattle.dag_reader.specs.declared.graph.ReadGraph.{ReadGraph}
 use Rattle.targets.specs.declared.fault.TargetFault.{TargetFault}
-use Rattle.count_rows.specs.Records.{Field}
 use Rattle.count_rows.specs.declared.fault.CountFault.{CountFault}
+use Rattle.count_rows.specs.Vocabulary.{Field, Table}
 use Rattle.count_rows.specs.declared.fault.CountFault.TheVariants as counts
-use Rattle.count_rows.specs.Rows.{Table}
-use Rattle.count_table.specs.Cells.{total}
-use Rattle.count_table.specs.Reading.{text_fault}
-use Rattle.count_eval.specs.Programs.{weights_in, is_used}
-use Rattle.natural_bounds.specs.Bounds.{HasNoModel}
-use Rattle.count_answers.specs.Reads.{HoldsCounts}
-use Rattle.implications.specs.Separable.{IsSeparable, AreIndependentGivenSome}
+use Rattle.count_table.specs.Vocabulary.{total, text_fault}
+use Rattle.count_eval.specs.Vocabulary.{weights_in, is_used}
+use Rattle.natural_bounds.specs.Vocabulary.{HasNoModel}
+use Rattle.count_answers.specs.Vocabulary.{HoldsCounts}
+use Rattle.implications.specs.Vocabulary.{IsSeparable, AreIndependentGivenSome}
 use Rattle.implications_command.specs.Pairs.{PlainPairs, ArePairs, pairs_in}
 use Rattle.implications_command.specs.Used.{used_in}
 use Rattle.implications_command.specs.Differences.{AreMeasured, first_broken}

@@ -1,6 +1,6 @@
 -- The vertices whose levels are read.
 use Rattle.std.specs.Prelude.{ℕ, List, [], ◌∷◌}
-use Rattle.mixed_graph.specs.Masks.{union, one}
+use Rattle.mixed_graph.specs.Vocabulary.{union, one}
 use Rattle.implications.specs.declared.pairs.Implication.{Implication}
 
 -- those of a pair, and those that are given

@@ -1,8 +1,7 @@
 //! The largest differences of the counts.
 
 ghost use Rattle.std.specs.Prelude.{◌≡◌, IfOk};
-ghost use Rattle.mixed_graph.specs.Bits.{has, members_below};
-ghost use Rattle.mixed_graph.specs.Shown.{graph_of};
+ghost use Rattle.mixed_graph.specs.Vocabulary.{has, members_below, graph_of};
 ghost use Rattle.implications_command.specs.Pairs.{ArePairs, pairs_in};
 ghost use Rattle.implications_command.specs.Used.{used_in};
 ghost use Rattle.implications_command.specs.Differences.{AreMeasured, first_broken};

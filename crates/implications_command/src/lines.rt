@@ -2,8 +2,8 @@
 
 ghost use Rattle.std.specs.Prelude.{◌≡◌, ◌++◌, OnOk, IfOk};
 ghost use Rattle.std.specs.List.{flat_map};
-ghost use Rattle.count_eval.specs.Programs.{cell_of};
-ghost use Rattle.count_answers.specs.Lines.{assignments};
+ghost use Rattle.count_eval.specs.Vocabulary.{cell_of};
+ghost use Rattle.count_answers.specs.Vocabulary.{assignments};
 ghost use Rattle.implications_command.specs.Lines.{pair_line, pair_lines, vertices_of, value_text, difference_line, measured_lines};
 
 use crate::differences::Measured;

@@ -1,11 +1,9 @@
 //! The answer without counts.
 
 ghost use Rattle.std.specs.Prelude.{◌≡◌, None, IfOk, IfSome, IfNone};
-ghost use Rattle.mixed_graph.specs.Shown.{graph_of};
-ghost use Rattle.replies.specs.Told.{told_of};
-ghost use Rattle.told.specs.Forms.{plain_form};
-ghost use Rattle.told.specs.Refusals.{target_refusal};
-ghost use Rattle.told.specs.Telling.{Tells};
+ghost use Rattle.mixed_graph.specs.Vocabulary.{graph_of};
+ghost use Rattle.replies.specs.Vocabulary.{told_of};
+ghost use Rattle.told.specs.Vocabulary.{plain_form, target_refusal, Tells};
 ghost use Rattle.implications_command.specs.Pairs.{ArePairs, pairs_in};
 ghost use Rattle.implications_command.specs.Right.{HasNoPairs, Lists, IsForGraph};
 ghost use Rattle.implications_command.specs.Telling.{implications_telling};

@@ -3,9 +3,9 @@
 ghost use Rattle.std.specs.Prelude.{◌≡◌, [], map, OnOk, codes};
 ghost use Rattle.std.specs.Fmt.{signed_decimal};
 ghost use Rattle.json.specs.Json.{string};
-ghost use Rattle.count_eval.specs.Programs.{cell_of};
-ghost use Rattle.answer_json.specs.Progress.{with_value, with_values, with_member, with_members, array_of};
-ghost use Rattle.count_json.specs.Cells.{level_json, cell_json};
+ghost use Rattle.count_eval.specs.Vocabulary.{cell_of};
+ghost use Rattle.answer_json.specs.Vocabulary.{with_value, with_values, with_member, with_members, array_of};
+ghost use Rattle.count_json.specs.Vocabulary.{level_json, cell_json};
 ghost use Rattle.implications_command.specs.Lines.{vertices_of};
 ghost use Rattle.implications_command.specs.Objects.{listed_members, pair_members, pair_json, difference_members, measured_json, broken_members, differences_members};
 

@@ -1,12 +1,11 @@
 //! The answer of `implications` over counts.
 
 ghost use Rattle.std.specs.Prelude.{ℕ, ◌≡◌, ◌<◌, ◌≤◌, false, List, Option, IfOk, IfErr, length, option_map};
-ghost use Rattle.mixed_graph.specs.Bits.{has, members_below};
-ghost use Rattle.count_rows.specs.Records.{Field};
-ghost use Rattle.replies.specs.Told.{told_of};
+ghost use Rattle.mixed_graph.specs.Vocabulary.{has, members_below};
+ghost use Rattle.count_rows.specs.Vocabulary.{Field};
+ghost use Rattle.replies.specs.Vocabulary.{told_of};
 ghost use Rattle.told.specs.declared.form.Form.{Form as AskedForm};
-ghost use Rattle.told.specs.Forms.{plain_form};
-ghost use Rattle.told.specs.Telling.{Tells};
+ghost use Rattle.told.specs.Vocabulary.{plain_form, Tells};
 ghost use Rattle.implications_command.specs.CountsFaults.{is_memory, counts_refusal};
 ghost use Rattle.implications_command.specs.Pairs.{PlainPairs, ArePairs, pairs_in};
 ghost use Rattle.implications_command.specs.Right.{Measures, IsCountsFault, IsForCounts};

@@ -1,8 +1,7 @@
 //! What `implications` is asked.
 
 ghost use Rattle.std.specs.Prelude.{◌≡◌, false, List, IfOk, IsErrOf, IsTrue, option_map};
-ghost use Rattle.command_words.specs.Form.{Use};
-ghost use Rattle.command_words.specs.Gives.{HoldsCall};
+ghost use Rattle.command_words.specs.Vocabulary.{Use, HoldsCall};
 ghost use Rattle.implications_command.specs.Requests.{AreInputs};
 
 use command_words::forms::Entry;

@@ -6,15 +6,14 @@ use Rattle.std.proofs.lemmas.Bool.{or_cases, or_left, or_right, eqb-true}
 use Rattle.std.proofs.lemmas.List.Elements.{All-head, All-tail, All-weaker, All-map}
 use Rattle.std.proofs.lemmas.List.Sums.{sum_by-cons}
 use Rattle.std.proofs.lemmas.Nat.{mul-le}
-use Rattle.mixed_graph.specs.Bits.{has}
-use Rattle.count_rows.specs.Records.{Field, product}
-use Rattle.count_rows.specs.Rows.{Row, Table, agrees, counted}
-use Rattle.count_table.specs.Tables.{levels_in, AreCounts}
+use Rattle.mixed_graph.specs.Vocabulary.{has}
+use Rattle.count_rows.specs.Vocabulary.{Field, product, Row, Table, agrees, counted}
+use Rattle.count_table.specs.Vocabulary.{levels_in, AreCounts}
 use Rattle.count_eval.proofs.CountedLaws.{counted_small}
 use Rattle.count_table.proofs.CellLevels.{filter-holds}
 use Rattle.count_table.proofs.Lists.{product-pos}
 use Rattle.implications.specs.declared.pairs.Implication.{Implication}
-use Rattle.implications.specs.Separable.{only}
+use Rattle.implications.specs.Vocabulary.{only}
 use Rattle.implied_differences.specs.Differences.{whole_of, first_of_pair, second_of_pair, left, right}
 
 agrees-same : (vs cell : List ℕ) (of : ℕ → Bool) (at at' : ℕ → ℕ) → All (λ v. of v ≡ true → at v ≡ at' v) vs → agrees vs cell of at ≡ agrees vs cell of at'

@@ -3,13 +3,10 @@ use Rattle.std.proofs.Common.{ℕ, ◌≡◌, Bool, true, false, cond, not, ◌&
 use Rattle.std.specs.List.{filter}
 use Rattle.std.proofs.lemmas.Bool.{both_ways}
 use Rattle.std.proofs.lemmas.List.Elements.{All-head, All-tail}
-use Rattle.mixed_graph.specs.Bits.{has, members_below}
+use Rattle.mixed_graph.specs.Vocabulary.{has, members_below}
 use Rattle.mixed_graph.proofs.Masks.{has-zero}
-use Rattle.count_rows.specs.Rows.{Row, Table}
-use Rattle.count_rows.specs.Records.{product}
-use Rattle.count_table.specs.Cells.{IsCell, place_of}
-use Rattle.count_table.specs.Tables.{AreCounts}
-use Rattle.count_table.specs.Sums.{AreSums}
+use Rattle.count_rows.specs.Vocabulary.{Row, Table, product}
+use Rattle.count_table.specs.Vocabulary.{IsCell, place_of, AreCounts, AreSums}
 use Rattle.count_table.proofs.Choosing.{size_in}
 use Rattle.count_table.proofs.Counting.{is_among, counted-alike}
 use Rattle.count_table.proofs.VertexSums.{counts-are, among-self}

@@ -1,7 +1,7 @@
 -- Sums of the cells of a block.
 use Rattle.std.proofs.Common.{ℕ, zero, suc, ◌+◌, ◌*◌, ◌≡◌, ◌<◌, ◌≤◌, List, length, get_or, sym, ap, subst, ◌∙◌, inl, inr, arith}
 use Rattle.std.proofs.lemmas.Bool.{cases_eq}
-use Rattle.count_table.specs.LaneSums.{sum_below}
+use Rattle.count_table.specs.Vocabulary.{sum_below}
 use Rattle.count_table.proofs.Counting.{sum-same}
 use Rattle.implied_differences.specs.declared.layout.Layout.{Layout}
 use Rattle.implied_differences.specs.declared.layout.Line.{Line}

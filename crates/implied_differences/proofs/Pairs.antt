@@ -2,7 +2,7 @@
 use Rattle.std.proofs.Common.{ℕ, zero, suc, ◌+◌, ◌*◌, ◌≡◌, ◌<◌, ◌≤◌, List, get_or, refl, sym, ap, ap₂, subst, ◌∙◌, inl, inr, arith}
 use Rattle.std.specs.Int.{abs_diff}
 use Rattle.std.proofs.lemmas.Bool.{cases_eq}
-use Rattle.count_table.specs.LaneSums.{sum_below}
+use Rattle.count_table.specs.Vocabulary.{sum_below}
 use Rattle.implied_differences.specs.declared.candidates.Candidate.{Candidate}
 use Rattle.implied_differences.specs.declared.layout.Layout.{Layout}
 use Rattle.implied_differences.specs.Candidates.{IsOutOfReach}

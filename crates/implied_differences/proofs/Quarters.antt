@@ -3,7 +3,7 @@ use Rattle.std.proofs.Common.{ℕ, zero, suc, ◌+◌, ◌*◌, ◌-◌, ◌/◌
 use Rattle.std.specs.Int.{abs_diff}
 use Rattle.std.proofs.lemmas.Bool.{cases_eq}
 use Rattle.std.proofs.lemmas.Nat.{mul-le}
-use Rattle.count_table.specs.LaneSums.{sum_below}
+use Rattle.count_table.specs.Vocabulary.{sum_below}
 use Rattle.implied_differences.specs.declared.layout.Layout.{Layout}
 use Rattle.implied_differences.specs.Blocks.{value_at, row_at, column_at, block_at}
 use Rattle.implied_differences.proofs.BlockSums.{term-most, sum-most}

@@ -6,23 +6,18 @@ use Rattle.std.specs.List.{AllPairs, filter}
 use Rattle.std.proofs.lemmas.Bool.{ne_eqb}
 use Rattle.std.proofs.lemmas.Bool.Decides.{eqb_tells}
 use Rattle.std.proofs.lemmas.List.{length-map, map-append}
-use Rattle.count_table.specs.LaneSums.{sum_below}
-use Rattle.mixed_graph.specs.Bits.{has}
-use Rattle.count_rows.specs.Records.{Field, product}
-use Rattle.count_rows.specs.Rows.{Table, counted}
-use Rattle.count_table.specs.Cells.{IsCell, place_of}
-use Rattle.count_table.specs.Tables.{levels_in, AreCounts}
+use Rattle.count_table.specs.Vocabulary.{sum_below, IsCell, place_of, levels_in, AreCounts, axes_of, place_at, cells_over, AreSums}
+use Rattle.mixed_graph.specs.Vocabulary.{has}
+use Rattle.count_rows.specs.Vocabulary.{Field, product, Table, counted}
 use Rattle.count_table.proofs.CellLists.{place_of-lt}
 use Rattle.count_table.proofs.TableSteps.{IsCell-length}
-use Rattle.count_table.specs.Axes.{axes_of, place_at, cells_over}
-use Rattle.count_table.specs.Sums.{AreSums}
 use Rattle.count_table.proofs.SumCells.{place_of-append, IsCell-append, IsCell-split, cell_with}
 use Rattle.count_table.proofs.Choosing.{size_in, axes-are}
 use Rattle.count_table.proofs.Counting.{put_level, put-same, put-other, counted-over, IsWith, HasLevel, sum-same}
 use Rattle.count_table.proofs.Lists.{map-same, product-append, product-pos}
 use Rattle.count_table.proofs.VertexSums.{row-levels}
 use Rattle.implications.specs.declared.pairs.Implication.{Implication}
-use Rattle.implications.specs.Separable.{only}
+use Rattle.implications.specs.Vocabulary.{only}
 use Rattle.implied_differences.specs.declared.layout.Layout.{Layout}
 use Rattle.implied_differences.specs.Differences.{whole_of, first_of_pair, second_of_pair, left, right, distance, IsReadable, axes_in}
 use Rattle.implied_differences.specs.Layouts.{between_pair, behind_pair, IsLayoutOf, IsStepped, base_of, gap_of}

@@ -1,12 +1,11 @@
 -- Whether a table has levels of an implication's vertices, by sets.
 use Rattle.std.proofs.Common.{ℕ, zero, suc, ◌≡◌, ◌<◌, ◌^◌, Bool, true, false, cond, [], ◌∷◌, All, sym, ap, ◌∙◌, refl}
 use Rattle.std.proofs.lemmas.List.Elements.{All-nil, All-cons, All-append}
-use Rattle.mixed_graph.specs.Bits.{has, members_below}
-use Rattle.mixed_graph.specs.Masks.{is_inside}
+use Rattle.mixed_graph.specs.Vocabulary.{has, members_below, is_inside}
 use Rattle.mixed_graph.proofs.MaskLaws.{inside_has, inside_from}
-use Rattle.count_rows.specs.Rows.{Table}
-use Rattle.count_table.specs.Tables.{AreCounts}
-use Rattle.count_eval.specs.Programs.{is_used}
+use Rattle.count_rows.specs.Vocabulary.{Table}
+use Rattle.count_table.specs.Vocabulary.{AreCounts}
+use Rattle.count_eval.specs.Vocabulary.{is_used}
 use Rattle.count_eval.proofs.Uses.{Same, same_members}
 use Rattle.implications.specs.declared.pairs.Implication.{Implication}
 use Rattle.implied_differences.specs.Differences.{whole_of, IsReadable}

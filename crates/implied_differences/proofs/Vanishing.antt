@@ -3,20 +3,16 @@ use Rattle.std.proofs.Common.{ℕ, zero, suc, ◌+◌, ◌*◌, ◌≡◌, ◌<�
 use Rattle.std.specs.Prelude.{pos, ◌-ℤ◌}
 use Rattle.std.proofs.lemmas.Bool.{or_right}
 use Rattle.std.proofs.lemmas.Int.{ints}
-use Rattle.mixed_graph.specs.Bits.{has}
-use Rattle.mixed_graph.specs.Graphs.{MixedGraph, IsMixedGraph}
-use Rattle.finite_models.specs.Sums.{sum_below, product_below, set_at, sum_over}
-use Rattle.finite_models.specs.Models.{FiniteModel, Fits, IsAssignment, event_weight}
-use Rattle.finite_models.specs.Models.{total as model_total}
+use Rattle.mixed_graph.specs.Vocabulary.{has, MixedGraph, IsMixedGraph}
+use Rattle.finite_models.specs.Vocabulary.{sum_below, product_below, set_at, sum_over, FiniteModel, Fits, IsAssignment, event_weight, total as model_total}
 use Rattle.finite_models.proofs.SumLaws.{set_at-same, set_at-other, over-mul-right}
 use Rattle.finite_models.proofs.Weights.{weight_of-none}
 use Rattle.do_rules.proofs.RuleThree.{scaled}
-use Rattle.count_rows.specs.Rows.{Table, counted}
-use Rattle.count_table.specs.Cells.{total}
-use Rattle.count_eval.specs.Programs.{is_used}
+use Rattle.count_rows.specs.Vocabulary.{Table, counted}
+use Rattle.count_table.specs.Vocabulary.{total}
+use Rattle.count_eval.specs.Vocabulary.{is_used}
 use Rattle.implications.specs.declared.pairs.Implication.{Implication}
-use Rattle.implications.specs.Separable.{only}
-use Rattle.implications.specs.Implications.{IsImplication}
+use Rattle.implications.specs.Vocabulary.{only, IsImplication}
 use Rattle.implications.proofs.Listing.{independent}
 use Rattle.implied_differences.specs.Differences.{whole_of, first_of_pair, second_of_pair, left, right, difference}
 use Rattle.implied_differences.specs.Laws.{IsMatchedBy, MatchedDifferencesVanish}

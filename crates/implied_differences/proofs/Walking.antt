@@ -5,16 +5,15 @@ use Rattle.std.specs.List.{filter}
 use Rattle.std.proofs.lemmas.Bool.{or_left, or_right, eq-eqb, ltb-true}
 use Rattle.std.proofs.lemmas.List.Elements.{All-cons, All-head, All-tail}
 use Rattle.std.proofs.lemmas.Nat.{div_below}
-use Rattle.mixed_graph.specs.Bits.{has}
-use Rattle.count_rows.specs.Rows.{Table}
-use Rattle.count_table.specs.Cells.{place_of}
-use Rattle.count_table.specs.Tables.{AreCounts}
-use Rattle.count_eval.specs.Programs.{cell_of}
-use Rattle.count_table.specs.Axes.{Axes, axes_of, HasCell, place_at, cells_over}
+use Rattle.mixed_graph.specs.Vocabulary.{has}
+use Rattle.count_rows.specs.Vocabulary.{Table}
+use Rattle.count_table.specs.Vocabulary.{place_of, AreCounts, axes_of, HasCell, place_at, cells_over}
+use Rattle.count_eval.specs.Vocabulary.{cell_of}
+use Rattle.count_table.specs.Axes.{Axes}
 use Rattle.count_table.proofs.CellLevels.{levels_hold, outside_of}
 use Rattle.count_table.proofs.Choosing.{size_in}
 use Rattle.implications.specs.declared.pairs.Implication.{Implication}
-use Rattle.implications.specs.Separable.{only}
+use Rattle.implications.specs.Vocabulary.{only}
 use Rattle.implied_differences.specs.Differences.{whole_of, IsReadable, axes_in}
 
 module _ (t : Table) (are : AreCounts t) (i : Implication) (r : IsReadable t i) where

@@ -2,8 +2,8 @@
 use Rattle.std.proofs.Common.{ℕ, ◌≡◌, ◌≢◌, ◌<◌, List, length, get_or, set, map, All, ap, subst, sym, ◌∙◌, length-set}
 use Rattle.std.proofs.lemmas.List.{get_or-set_same, get_or-set_other}
 use Rattle.std.proofs.lemmas.List.Elements.{All-weaker}
-use Rattle.count_table.specs.Cells.{IsCell, place_of}
-use Rattle.count_table.specs.Axes.{Axes, HasCell, place_at}
+use Rattle.count_table.specs.Vocabulary.{IsCell, place_of, HasCell, place_at}
+use Rattle.count_table.specs.Axes.{Axes}
 use Rattle.count_table.proofs.Lists.{map-same}
 
 module _ (axes : Axes) (r : List ℕ) (a b x y : ℕ) (long : length r ≡ 64) (al : a < 64) (bl : b < 64) (differ : a ≢ b) (a_out : All (λ u. u ≢ a) axes.vertices)

@@ -3,15 +3,14 @@ use Rattle.std.proofs.Common.{ℕ, ◌≡◌, ◌≢◌, ◌<◌, Bool, true, fa
 use Rattle.std.specs.List.{filter}
 use Rattle.std.proofs.lemmas.Bool.{or_parts, eqb-false, ltb-true}
 use Rattle.std.proofs.lemmas.List.Elements.{All-nil, All-cons}
-use Rattle.mixed_graph.specs.Bits.{has}
-use Rattle.count_rows.specs.Rows.{Table}
-use Rattle.count_table.specs.Cells.{IsCell}
-use Rattle.count_table.specs.Tables.{AreCounts}
-use Rattle.count_eval.specs.Programs.{cell_of}
+use Rattle.mixed_graph.specs.Vocabulary.{has}
+use Rattle.count_rows.specs.Vocabulary.{Table}
+use Rattle.count_table.specs.Vocabulary.{IsCell, AreCounts}
+use Rattle.count_eval.specs.Vocabulary.{cell_of}
 use Rattle.count_table.proofs.CellLevels.{levels_hold, outside_of}
 use Rattle.count_table.proofs.Choosing.{size_in}
 use Rattle.implications.specs.declared.pairs.Implication.{Implication}
-use Rattle.implications.specs.Separable.{only}
+use Rattle.implications.specs.Vocabulary.{only}
 use Rattle.implied_differences.specs.declared.largest.Difference.{Difference}
 use Rattle.implied_differences.specs.Differences.{whole_of, IsReadable, axes_in, IsLargest}
 use Rattle.implied_differences.specs.Laws.{IsZeroWhereMatched}

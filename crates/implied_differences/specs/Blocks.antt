@@ -1,9 +1,8 @@
 -- Blocks of sums, and the best of their cells; words for the walk, inside this crate.
 use Rattle.std.specs.Prelude.{ℕ, ◌≡◌, ◌<◌, ◌≤◌, ◌+◌, ◌*◌, ◌^◌, ◌⊎◌, List, length, slice_index}
 use Rattle.std.specs.Int.{abs_diff}
-use Rattle.count_table.specs.LaneSums.{sum_below}
-use Rattle.count_rows.specs.Rows.{Table}
-use Rattle.count_table.specs.Sums.{AreSums}
+use Rattle.count_table.specs.Vocabulary.{sum_below, AreSums}
+use Rattle.count_rows.specs.Vocabulary.{Table}
 use Rattle.implications.specs.declared.pairs.Implication.{Implication}
 use Rattle.implied_differences.specs.Differences.{whole_of}
 use Rattle.implied_differences.specs.declared.candidates.Candidate.{Candidate}

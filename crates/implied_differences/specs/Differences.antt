@@ -2,14 +2,13 @@
 use Rattle.std.specs.Prelude.{ℕ, ◌≡◌, ◌≢◌, ◌<◌, ◌≤◌, ◌*◌, ◌||◌, Bool, false, ◌∷◌, All, IsTrue, map, length, slice_index, ℤ, pos, ◌-ℤ◌}
 use Rattle.std.specs.List.{filter}
 use Rattle.std.specs.Int.{abs_diff}
-use Rattle.mixed_graph.specs.Bits.{has}
-use Rattle.count_rows.specs.Rows.{Table, counted}
-use Rattle.count_table.specs.Cells.{IsCell}
-use Rattle.count_table.specs.Tables.{levels_in}
-use Rattle.count_eval.specs.Programs.{is_used, cell_of}
-use Rattle.count_table.specs.Axes.{Axes, HasCell, cell_at, place_at}
+use Rattle.mixed_graph.specs.Vocabulary.{has}
+use Rattle.count_rows.specs.Vocabulary.{Table, counted}
+use Rattle.count_table.specs.Vocabulary.{IsCell, levels_in, HasCell, cell_at, place_at}
+use Rattle.count_eval.specs.Vocabulary.{is_used, cell_of}
+use Rattle.count_table.specs.Axes.{Axes}
 use Rattle.implications.specs.declared.pairs.Implication.{Implication}
-use Rattle.implications.specs.Separable.{only}
+use Rattle.implications.specs.Vocabulary.{only}
 use Rattle.implied_differences.specs.declared.largest.Difference.{Difference}
 
 -- the pair and what is given

@@ -1,14 +1,12 @@
 -- What the differences have to do with models.
 use Rattle.std.specs.Prelude.{ℕ, ◌≡◌, ◌-◌, ◌^◌, IsTrue, pos, negsuc, ◌≤ℤ◌}
-use Rattle.mixed_graph.specs.Graphs.{MixedGraph, IsMixedGraph}
-use Rattle.finite_models.specs.Models.{FiniteModel, Fits, IsAssignment}
-use Rattle.count_rows.specs.Rows.{Table}
-use Rattle.count_table.specs.Cells.{total}
-use Rattle.count_table.specs.Tables.{AreCounts}
-use Rattle.count_eval.specs.Laws.{IsMatched}
-use Rattle.count_eval.specs.Programs.{weights_in, is_used}
+use Rattle.mixed_graph.specs.Vocabulary.{MixedGraph, IsMixedGraph}
+use Rattle.finite_models.specs.Vocabulary.{FiniteModel, Fits, IsAssignment}
+use Rattle.count_rows.specs.Vocabulary.{Table}
+use Rattle.count_table.specs.Vocabulary.{total, AreCounts}
+use Rattle.count_eval.specs.Vocabulary.{IsMatched, weights_in, is_used}
 use Rattle.implications.specs.declared.pairs.Implication.{Implication}
-use Rattle.implications.specs.Implications.{IsImplication}
+use Rattle.implications.specs.Vocabulary.{IsImplication}
 use Rattle.implied_differences.specs.Differences.{whole_of, difference}
 use Rattle.implied_differences.specs.declared.largest.Difference.{Difference}
 

@@ -1,9 +1,8 @@
 -- Where the sums for the cells of an implication stand in a table in index order; words for the walk, inside this crate.
 use Rattle.std.specs.Prelude.{ℕ, ◌≡◌, ◌<◌, ◌+◌, ◌*◌, ◌-◌, ◌/◌, ◌%◌, ◌&&◌, Bool, not, nat_lt, length}
-use Rattle.mixed_graph.specs.Bits.{has}
-use Rattle.count_rows.specs.Rows.{Table}
-use Rattle.count_table.specs.Tables.{levels_in}
-use Rattle.count_table.specs.Axes.{axes_of, cells_over}
+use Rattle.mixed_graph.specs.Vocabulary.{has}
+use Rattle.count_rows.specs.Vocabulary.{Table}
+use Rattle.count_table.specs.Vocabulary.{levels_in, axes_of, cells_over}
 use Rattle.implications.specs.declared.pairs.Implication.{Implication}
 use Rattle.implied_differences.specs.declared.layout.Block.{Block}
 use Rattle.implied_differences.specs.declared.layout.Layout.{Layout}

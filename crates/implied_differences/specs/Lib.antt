@@ -3,3 +3,4 @@ pub mod Candidates
 pub mod Differences
 pub mod Laws
 pub mod Layouts
+pub mod Vocabulary

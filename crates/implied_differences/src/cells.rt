@@ -1,7 +1,7 @@
 //! The cell of a number.
 
 ghost use Rattle.std.specs.Prelude.{ℕ, ◌≡◌, ◌≢◌, ◌<◌, ◌*◌, ◌/◌, ◌%◌, ◌^◌, All, length, slice_index};
-ghost use Rattle.count_table.specs.Axes.{HasCell, place_at, cells_over};
+ghost use Rattle.count_table.specs.Vocabulary.{HasCell, place_at, cells_over};
 
 use count_table::sum_tables::Places;
 

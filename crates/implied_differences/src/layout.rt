@@ -1,8 +1,8 @@
 //! Where the sums for the cells stand.
 
 ghost use Rattle.std.specs.Prelude.{ℕ, ◌≡◌, ◌<◌, ◌≤◌, ◌+◌, ◌*◌, ◌-◌, ◌^◌, IfOk};
-ghost use Rattle.mixed_graph.specs.Bits.{has};
-ghost use Rattle.count_table.specs.Axes.{axes_of, cells_over};
+ghost use Rattle.mixed_graph.specs.Vocabulary.{has};
+ghost use Rattle.count_table.specs.Vocabulary.{axes_of, cells_over};
 ghost use Rattle.implied_differences.specs.Differences.{IsReadable};
 ghost use Rattle.implied_differences.specs.Blocks.{number_at};
 ghost use Rattle.implied_differences.specs.Layouts.{between_pair, behind_pair, IsLayoutOf, IsStepped, IsBase, gap_of, row_of, column_of};

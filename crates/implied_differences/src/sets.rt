@@ -1,7 +1,7 @@
 //! The vertices of an implication.
 
 ghost use Rattle.std.specs.Prelude.{◌≡◌, ◌<◌};
-ghost use Rattle.mixed_graph.specs.Bits.{has};
+ghost use Rattle.mixed_graph.specs.Vocabulary.{has};
 ghost use Rattle.implied_differences.specs.Differences.{whole_of};
 
 use implications::Implication;

@@ -1,12 +1,12 @@
 -- Given x, once the edges into x are cut, nothing is open through x: the arrows out of x may be cut as well.
 use Rattle.std.proofs.Common.{ℕ, ◌≡◌, Bool, true, false, not, ◌&&◌, ◌||◌, refl, sym, ◌∙◌, subst, List, [], ◌∷◌, arith}
 use Rattle.std.proofs.lemmas.Bool.{and_from, not-true, not_from_false, or_from, or_right}
-use Rattle.mixed_graph.specs.Graphs.{MixedGraph, IsMixedGraph, IsDirectedPath}
+use Rattle.mixed_graph.specs.Vocabulary.{MixedGraph, IsMixedGraph, IsDirectedPath}
 use Rattle.m_separation.specs.declared.marks.Mark.{Mark}
 use Rattle.m_separation.specs.declared.marks.Mark.TheVariants.{Out, Into, Both}
-use Rattle.m_separation.specs.Walks.{Step, IsJoined, IsWalk, last, heads_first, heads_second, IsPassed, ArePassedFrom, IsSeparated}
+use Rattle.m_separation.specs.Vocabulary.{Step, IsJoined, IsWalk, last, heads_first, heads_second, IsPassed, ArePassedFrom, IsSeparated}
 use Rattle.m_separation.proofs.Going.{passed_from_start, passed_inside}
-use Rattle.do_rules.specs.Cuts.{cut_into, cut_out}
+use Rattle.do_rules.specs.Vocabulary.{cut_into, cut_out}
 use Rattle.do_rules.proofs.Fewer.{graph_into, fewer_out, path_of_fewer}
 use Rattle.finite_models.proofs.Bools.{and_first, and_second, or_false}
 

@@ -1,11 +1,10 @@
 -- Listings of no set.
 use Rattle.std.proofs.Common.{◌≡◌, ◌∙◌, ◌&&◌, [], ℕ, Bool, false, sym, arith, ◌↔◌, IsTrue}
 use Rattle.std.proofs.lemmas.Bool.{false_from_ne_true, or_left}
-use Rattle.mixed_graph.specs.Bits.{has}
-use Rattle.mixed_graph.specs.Graphs.{MixedGraph, IsDescendant}
+use Rattle.mixed_graph.specs.Vocabulary.{has, MixedGraph, IsDescendant}
 use Rattle.mixed_graph.proofs.Masks.{zero_from_empty}
 use Rattle.finite_models.proofs.Bools.{and_first, and_second}
-use Rattle.minimal_sets.specs.Listings.{IsListingOf}
+use Rattle.minimal_sets.specs.Vocabulary.{IsListingOf}
 use Rattle.instrument_sets.specs.Strata.{AreMinimalStrata}
 
 -- where there is no set of a kind, the empty list is their listing

@@ -2,21 +2,15 @@
 use Rattle.std.proofs.Common.{ℕ, ◌≡◌, ◌↔◌, Bool, true, false, not, refl, ◌∙◌, ◌||◌, ◌&&◌, List, [], get_or, IsTrue, arith, subst}
 use mathlib.Core.Path.{fun_ext}
 use Rattle.std.proofs.lemmas.Bool.{false_from_ne_true, or_right}
-use Rattle.mixed_graph.specs.Bits.{has}
-use Rattle.mixed_graph.specs.Graphs.{MixedGraph, IsMixedGraph, IsAncestor, IsDescendant}
-use Rattle.mixed_graph.specs.Sets.{Within, Apart}
 use Rattle.mixed_graph.specs.declared.sets.VSet.{VSet}
-use Rattle.m_separation.specs.Walks.{IsSeparated}
-use Rattle.do_rules.specs.Cuts.{cut_into}
-use Rattle.do_rules.specs.Rules.{AreThreeSets, AreFourSets}
+use Rattle.mixed_graph.specs.Vocabulary.{has, MixedGraph, IsMixedGraph, IsAncestor, IsDescendant, Within, Apart}
+use Rattle.m_separation.specs.Vocabulary.{IsSeparated}
+use Rattle.do_rules.specs.Vocabulary.{cut_into, AreThreeSets, AreFourSets}
 use Rattle.do_rules.proofs.Fewer.{graph_into, graph_out}
 use Rattle.finite_models.proofs.Bools.{and_first, and_second, either, not_both}
-use Rattle.minimal_sets.specs.Separators.{IsSeparator, IsPart, IsMinimalSeparator}
-use Rattle.minimal_sets.specs.Frames.{IsFrame}
-use Rattle.minimal_sets.specs.Listings.{IsListingOf}
-use Rattle.minimal_sets.specs.Moral.{IsNear}
+use Rattle.minimal_sets.specs.Vocabulary.{IsSeparator, IsPart, IsMinimalSeparator, IsFrame, IsListingOf, IsNear}
 use Rattle.minimal_sets.proofs.Separations.{turn, separated_by_separator, separator_from_separated, separated_inner}
-use Rattle.natural_bounds.specs.Instruments.{IsInstrument}
+use Rattle.natural_bounds.specs.Vocabulary.{IsInstrument}
 use Rattle.instrument_sets.specs.Strata.{AreMinimalStrata}
 use Rattle.instrument_sets.proofs.Isolated.{isolated, separated_isolated, isolated_separated}
 

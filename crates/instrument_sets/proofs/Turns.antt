@@ -3,10 +3,9 @@ use Rattle.std.proofs.Common.{◌≡◌, ◌<◌, ◌∙◌, ◌++◌, ◌∷◌
 use mathlib.Core.Path.{fun_ext}
 use Rattle.std.proofs.lemmas.List.{map-append}
 use Rattle.std.proofs.lemmas.List.Elements.{All-push}
-use Rattle.mixed_graph.specs.Bits.{members_below}
-use Rattle.mixed_graph.specs.Graphs.{MixedGraph}
+use Rattle.mixed_graph.specs.Vocabulary.{members_below, MixedGraph}
 use Rattle.mixed_graph.proofs.MemberLists.{AreMembers, members-are}
-use Rattle.minimal_sets.specs.Listings.{IsListingOf}
+use Rattle.minimal_sets.specs.Vocabulary.{IsListingOf}
 use Rattle.instrument_sets.specs.declared.instruments.Candidate.{Candidate}
 use Rattle.instrument_sets.specs.Instruments.{AreCandidates}
 use Rattle.instrument_sets.specs.Strata.{AreMinimalStrata}

@@ -1,8 +1,7 @@
 -- The instruments of an effect, vertex by vertex.
 use Rattle.std.specs.Prelude.{ℕ, ◌≡◌, Bool, not, ◌&&◌, ◌==◌, nat_lt, List, map, All}
-use Rattle.mixed_graph.specs.Bits.{members_below}
-use Rattle.mixed_graph.specs.Graphs.{MixedGraph}
-use Rattle.minimal_sets.specs.Listings.{IsListingOf}
+use Rattle.mixed_graph.specs.Vocabulary.{members_below, MixedGraph}
+use Rattle.minimal_sets.specs.Vocabulary.{IsListingOf}
 use Rattle.instrument_sets.specs.declared.instruments.Candidate.{Candidate}
 use Rattle.instrument_sets.specs.Strata.{AreMinimalStrata}
 

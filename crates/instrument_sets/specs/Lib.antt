@@ -1,2 +1,3 @@
 pub mod Strata
 pub mod Instruments
+pub mod Vocabulary

@@ -1,9 +1,7 @@
 //! Each vertex with the minimal sets of strata in which it is an instrument.
 
 ghost use Rattle.std.specs.Prelude.{ℕ, IfOk};
-ghost use Rattle.mixed_graph.specs.Bits.{has};
-ghost use Rattle.mixed_graph.specs.Sets.{Within, Apart};
-ghost use Rattle.mixed_graph.specs.Shown.{graph_of};
+ghost use Rattle.mixed_graph.specs.Vocabulary.{has, Within, Apart, graph_of};
 ghost use Rattle.instrument_sets.specs.Instruments.{AreCandidates};
 
 use crate::strata::list_strata;

@@ -1,10 +1,8 @@
 //! The undirected graph whose separators are the strata.
 
 ghost use Rattle.std.specs.Prelude.{ℕ, ◌<◌, ◌↔◌, IsTrue};
-ghost use Rattle.mixed_graph.specs.Bits.{has};
-ghost use Rattle.mixed_graph.specs.Shown.{graph_of};
-ghost use Rattle.minimal_sets.specs.Moral.{Meets, IsNear};
-ghost use Rattle.minimal_sets.specs.Rows.{is_near};
+ghost use Rattle.mixed_graph.specs.Vocabulary.{has, graph_of};
+ghost use Rattle.minimal_sets.specs.Vocabulary.{Meets, IsNear, is_near};
 
 use minimal_sets::separators::beside;
 use mixed_graph::{Graph, Rows, VSet, reached};

@@ -1,12 +1,9 @@
 //! The minimal sets of strata in which a set is a conditional instrument, listed.
 
 ghost use Rattle.std.specs.Prelude.{ℕ, ◌+◌, ◌*◌, ◌≤◌, ◌↔◌, IsTrue, IfOk, length};
-ghost use Rattle.mixed_graph.specs.Graphs.{IsDescendant};
-ghost use Rattle.mixed_graph.specs.Sets.{Apart};
-ghost use Rattle.mixed_graph.specs.Bits.{has};
-ghost use Rattle.mixed_graph.specs.Shown.{graph_of};
-ghost use Rattle.do_rules.specs.Rules.{AreThreeSets};
-ghost use Rattle.minimal_sets.specs.Listings.{IsListingOf};
+ghost use Rattle.mixed_graph.specs.Vocabulary.{IsDescendant, Apart, has, graph_of};
+ghost use Rattle.do_rules.specs.Vocabulary.{AreThreeSets};
+ghost use Rattle.minimal_sets.specs.Vocabulary.{IsListingOf};
 ghost use Rattle.instrument_sets.specs.Strata.{AreMinimalStrata};
 
 use crate::moral::moral_rows;

@@ -2,18 +2,17 @@
 use Rattle.std.proofs.Common.{◌≡◌, ℕ, List, [], Some, Ok, Err, refl, sym, ◌∙◌}
 use Rattle.std.specs.Prelude.{codes}
 use Rattle.std.proofs.lemmas.Option.{same_Some}
-use Rattle.mixed_graph.specs.Bits.{has}
-use Rattle.mixed_graph.specs.Graphs.{MixedGraph}
-use Rattle.command_words.specs.Form.{Use, value_of}
+use Rattle.mixed_graph.specs.Vocabulary.{has, MixedGraph}
+use Rattle.command_words.specs.Vocabulary.{Use, value_of}
 use Rattle.command_words.proofs.OneValue.{one_listed, one_number_or}
 use Rattle.targets.specs.declared.fault.TargetFault.{TargetFault}
-use Rattle.targets.specs.Targets.{Lists, AreSets, IsTargetFault}
-use Rattle.diagram.specs.Sets.{query_lists}
+use Rattle.targets.specs.Vocabulary.{Lists, AreSets, IsTargetFault}
+use Rattle.diagram.specs.Vocabulary.{query_lists}
 use Rattle.diagram.proofs.OneDiagram.{same_query_lists}
-use Rattle.replies.specs.Outcomes.{IsAnswered}
+use Rattle.replies.specs.Vocabulary.{IsAnswered}
 use Rattle.replies.proofs.Commands.{IsLawful}
 use Rattle.replies.proofs.OneTarget.{no_fault_of, same_three}
-use Rattle.told.specs.Refusals.{target_refusal}
+use Rattle.told.specs.Vocabulary.{target_refusal}
 use Rattle.told.proofs.ToldOnce.{EndAlike, lawful_told}
 use Rattle.instruments_command.specs.declared.answer.Answer.{Answer}
 use Rattle.instruments_command.specs.declared.answer.Answer.TheVariants.{Listed, NoInstrument}

@@ -4,16 +4,14 @@ use Rattle.std.specs.Prelude.{All}
 use Rattle.std.specs.List.{list_any}
 use Rattle.std.proofs.lemmas.Bool.{and_from, cases_Bool, cases_eq, eq-eqb, ne_eqb, lt-ltb, false≢true}
 use Rattle.std.proofs.lemmas.List.Elements.{All-head, All-tail}
-use Rattle.mixed_graph.specs.Bits.{has}
-use Rattle.mixed_graph.specs.Graphs.{MixedGraph}
 use Rattle.mixed_graph.specs.declared.sets.VSet.{VSet}
+use Rattle.mixed_graph.specs.Vocabulary.{has, MixedGraph}
 use Rattle.mixed_graph.proofs.MemberLists.{member-some}
-use Rattle.minimal_sets.specs.Listings.{IsListingOf}
+use Rattle.minimal_sets.specs.Vocabulary.{IsListingOf}
 use Rattle.minimal_sets.proofs.Smallest.{none_at_all}
-use Rattle.natural_bounds.specs.Instruments.{IsInstrument}
-use Rattle.instrument_sets.specs.Strata.{AreMinimalStrata}
-use Rattle.instrument_sets.specs.Instruments.{AreCandidates}
+use Rattle.natural_bounds.specs.Vocabulary.{IsInstrument}
 use Rattle.instrument_sets.specs.declared.instruments.Candidate.{Candidate}
+use Rattle.instrument_sets.specs.Vocabulary.{AreMinimalStrata, AreCandidates}
 use Rattle.instruments_command.specs.Right.{is_some_set, have_strata, HasNoInstrument}
 
 -- an empty listing of at least one set

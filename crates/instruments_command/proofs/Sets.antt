@@ -1,8 +1,8 @@
 -- The sets that lists name are sets of the graph, apart from each other.
 use Rattle.std.proofs.Common.{◌≡◌, ℕ, length}
-use Rattle.mixed_graph.specs.Bits.{has}
-use Rattle.do_rules.specs.Rules.{AreThreeSets}
-use Rattle.targets.specs.Targets.{Lists, AreSets}
+use Rattle.mixed_graph.specs.Vocabulary.{has}
+use Rattle.do_rules.specs.Vocabulary.{AreThreeSets}
+use Rattle.targets.specs.Vocabulary.{Lists, AreSets}
 use Rattle.targets.proofs.Disjoint.{disjoint_sets}
 
 pub three_sets : (l : Lists) (n x y given : ℕ) → length l.observed ≡ n → AreSets l x y given → AreThreeSets n (has x) (has y) (has given)

@@ -1,7 +1,6 @@
 -- The command `instruments`.
-use Rattle.replies.specs.Command.{CommandForm}
-use Rattle.told.specs.Commands.{told_on_file}
-use Rattle.told.specs.Forms.{plain_form}
+use Rattle.replies.specs.Vocabulary.{CommandForm}
+use Rattle.told.specs.Vocabulary.{told_on_file, plain_form}
 use Rattle.instruments_command.specs.Requests.{Request, IsRequest}
 use Rattle.instruments_command.specs.Right.{IsInstrumentsAnswer}
 use Rattle.instruments_command.specs.Telling.{instruments_telling}

@@ -4,3 +4,4 @@ pub mod Objects
 pub mod Telling
 pub mod Right
 pub mod Command
+pub mod Vocabulary

@@ -1,10 +1,9 @@
 -- The printed answers of `instruments`.
 use Rattle.std.specs.Prelude.{ℕ, Bool, true, false, List, [], ◌∷◌, ◌++◌, codes}
 use Rattle.std.specs.List.{flat_map}
-use Rattle.mixed_graph.specs.Names.{name_of}
 use Rattle.mixed_graph.specs.declared.sets.VSet.{VSet}
-use Rattle.answer_text.specs.Printing.{printed}
-use Rattle.answer_text.specs.Texts.{set_text}
+use Rattle.mixed_graph.specs.Vocabulary.{name_of}
+use Rattle.answer_text.specs.Vocabulary.{printed, set_text}
 use Rattle.instrument_sets.specs.declared.instruments.Candidate.{Candidate}
 
 -- `Z given {W}`: a vertex, and a set of strata in which it is an instrument

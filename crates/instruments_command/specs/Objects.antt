@@ -1,8 +1,7 @@
 -- The members of the objects of `instruments`.
 use Rattle.std.specs.Prelude.{ℕ, List, [], ◌∷◌, ◌++◌, map, codes}
 use Rattle.json.specs.Json.{Json, string, boolean}
-use Rattle.answer_json.specs.Progress.{array_of, object_of}
-use Rattle.answer_json.specs.Values.{vertex_json, set_json, sets_json}
+use Rattle.answer_json.specs.Vocabulary.{array_of, object_of, vertex_json, set_json, sets_json}
 use Rattle.instrument_sets.specs.declared.instruments.Candidate.{Candidate}
 
 -- a vertex, the sets of strata in which it is an instrument, and whether there are more

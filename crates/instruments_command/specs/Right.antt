@@ -1,18 +1,16 @@
 -- Which answers of `instruments` are right: the conditional instruments for the effect of x on y, with their strata, in the observed graph.
 use Rattle.std.specs.Prelude.{ℕ, ◌≡◌, ◌==◌, Bool, true, false, ◌||◌, List, [], ◌∷◌, Some, Result, Ok, Err}
-use Rattle.mixed_graph.specs.Bits.{has}
-use Rattle.mixed_graph.specs.Graphs.{MixedGraph}
-use Rattle.mixed_graph.specs.Shown.{graph_of}
 use Rattle.mixed_graph.specs.declared.sets.VSet.{VSet}
+use Rattle.mixed_graph.specs.Vocabulary.{has, MixedGraph, graph_of}
 use Rattle.targets.specs.declared.query.Sets.{Sets}
 use Rattle.targets.specs.declared.fault.TargetFault.{TargetFault}
-use Rattle.targets.specs.Targets.{AreSets, IsTargetFault}
+use Rattle.targets.specs.Vocabulary.{AreSets, IsTargetFault}
 use Rattle.targets.specs.Targets as targets
-use Rattle.natural_bounds.specs.Instruments.{IsInstrument}
-use Rattle.instrument_sets.specs.Instruments.{AreCandidates}
+use Rattle.natural_bounds.specs.Vocabulary.{IsInstrument}
 use Rattle.instrument_sets.specs.declared.instruments.Candidate.{Candidate}
+use Rattle.instrument_sets.specs.Vocabulary.{AreCandidates}
 use Rattle.diagram.specs.declared.diagram.Diagram.{Diagram}
-use Rattle.diagram.specs.Sets.{Names, query_lists}
+use Rattle.diagram.specs.Vocabulary.{Names, query_lists}
 use Rattle.instruments_command.specs.declared.answer.Answer.{Answer}
 use Rattle.instruments_command.specs.declared.answer.Answer.TheVariants.{Listed, NoInstrument}
 

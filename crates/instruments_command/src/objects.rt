@@ -1,7 +1,7 @@
 //! The members of the objects of `instruments`.
 
 ghost use Rattle.std.specs.Prelude.{◌≡◌, map, OnOk, codes};
-ghost use Rattle.answer_json.specs.Progress.{with_value, with_values, with_member, with_members, array_of};
+ghost use Rattle.answer_json.specs.Vocabulary.{with_value, with_values, with_member, with_members, array_of};
 ghost use Rattle.instruments_command.specs.Objects.{candidate_members, candidate_json, asked_members, listing_members};
 
 use answer_json::Object;

@@ -1,15 +1,12 @@
 //! The answer of `instruments`.
 
 ghost use Rattle.std.specs.Prelude.{◌≡◌, ◌<◌, ◌≤◌, Some, [], IfOk, IfErr};
-ghost use Rattle.mixed_graph.specs.Bits.{has};
-ghost use Rattle.mixed_graph.specs.Shown.{graph_of};
-ghost use Rattle.do_rules.specs.Rules.{AreThreeSets};
-ghost use Rattle.targets.specs.Targets.{OrMemory, IsTargetFault};
-ghost use Rattle.diagram.specs.Sets.{query_lists};
-ghost use Rattle.replies.specs.Told.{told_of};
-ghost use Rattle.told.specs.Forms.{plain_form};
-ghost use Rattle.told.specs.Refusals.{target_refusal};
-ghost use Rattle.told.specs.Telling.{Tells};
+ghost use Rattle.mixed_graph.specs.Vocabulary.{has, graph_of};
+ghost use Rattle.do_rules.specs.Vocabulary.{AreThreeSets};
+ghost use Rattle.targets.specs.Vocabulary.{OrMemory, IsTargetFault};
+ghost use Rattle.diagram.specs.Vocabulary.{query_lists};
+ghost use Rattle.replies.specs.Vocabulary.{told_of};
+ghost use Rattle.told.specs.Vocabulary.{plain_form, target_refusal, Tells};
 ghost use Rattle.instruments_command.specs.Requests.{request_of};
 ghost use Rattle.instruments_command.specs.Right.{have_strata, Lists, IsForLists, IsInstrumentsAnswer};
 ghost use Rattle.instruments_command.specs.Telling.{instruments_telling};

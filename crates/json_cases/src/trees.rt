@@ -1,8 +1,7 @@
 //! Rows on trees of formulas.
 
 ghost use Rattle.std.specs.Prelude.{◌≡◌, length, None};
-ghost use Rattle.prob_expr.specs.Check.{fault_in};
-ghost use Rattle.prob_expr.specs.View.{formula_view};
+ghost use Rattle.prob_expr.specs.Vocabulary.{fault_in, formula_view};
 
 use answer_json::Object;
 use case_rows::{names, text};

@@ -11,8 +11,7 @@ use Rattle.std.proofs.lemmas.Slice.Eq.{bytes_eq-Decides}
 use Rattle.std.specs.Prelude.{slice_get}
 use Rattle.std.specs.List.{list_any}
 use Rattle.std.specs.Str.{bytes_eq}
-use Rattle.mixed_graph.specs.Bits.{members_below}
-use Rattle.mixed_graph.specs.Names.{AreNames, is_named}
+use Rattle.mixed_graph.specs.Vocabulary.{members_below, AreNames, is_named}
 use Rattle.latent_projection.specs.Renumbering.{names_at}
 use Rattle.latent_projection.proofs.Numbering.{members-more, members-same}
 

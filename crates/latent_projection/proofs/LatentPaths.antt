@@ -1,10 +1,10 @@
 -- Treks between observed vertices are paths without colliders.
 use Rattle.std.proofs.Common.{ℕ, ◌≡◌, Bool, true, false, ◌&&◌, List, [], ◌∷◌, ◌⊎◌, inl, inr, refl, sym, ◌∙◌, arith}
 use Rattle.std.proofs.lemmas.Bool.{cases_eq}
-use Rattle.mixed_graph.specs.Graphs.{MixedGraph, IsDirectedPath}
+use Rattle.mixed_graph.specs.Vocabulary.{MixedGraph, IsDirectedPath}
 use Rattle.m_separation.specs.declared.marks.Mark.{Mark}
 use Rattle.m_separation.specs.declared.marks.Mark.TheVariants.{Out, Into, Both}
-use Rattle.m_separation.specs.Walks.{Step, IsJoined, IsWalk, last, heads_first, heads_second, Avoids, IsPath}
+use Rattle.m_separation.specs.Vocabulary.{Step, IsJoined, IsWalk, last, heads_first, heads_second, Avoids, IsPath}
 use Rattle.latent_projection.specs.Projection.{AreBefore, AreLatentFrom, ends_headed, IsLatentPath}
 use Rattle.latent_projection.proofs.Treks.{Reaches, IsTrek, fork, edge, clash, here, longer}
 

@@ -1,7 +1,7 @@
 -- The latent projection of a mixed graph is a mixed graph.
 use Rattle.std.proofs.Common.{ℕ, ◌<◌, ◌≡◌, Bool, true, false, List, [], ◌∷◌, ◌++◌, refl, sym, subst}
 use Rattle.std.proofs.lemmas.Bool.{false_from_ne_true}
-use Rattle.mixed_graph.specs.Graphs.{MixedGraph, IsMixedGraph, IsDirectedPath}
+use Rattle.mixed_graph.specs.Vocabulary.{MixedGraph, IsMixedGraph, IsDirectedPath}
 use Rattle.mixed_graph.proofs.Paths.{end_below}
 use Rattle.latent_projection.specs.Projection.{LeadsThrough, IsProjection}
 use Rattle.latent_projection.proofs.Treks.{IsTrek, fork, edge, clash}

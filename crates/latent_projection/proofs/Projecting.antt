@@ -1,7 +1,7 @@
 -- A projection by treks is the latent projection.
 use Rattle.std.proofs.Common.{ℕ, ◌≡◌, Bool, true}
 use Rattle.std.proofs.lemmas.Bool.{false_from_ne_true}
-use Rattle.mixed_graph.specs.Graphs.{MixedGraph}
+use Rattle.mixed_graph.specs.Vocabulary.{MixedGraph}
 use Rattle.latent_projection.specs.Projection.{LeadsThrough, IsProjection}
 use Rattle.latent_projection.proofs.Treks.{LeadsOn, ProjectsByTreks, clash}
 use Rattle.latent_projection.proofs.LatentPaths.{trek_of, path_of}

@@ -1,7 +1,7 @@
 -- Removing one latent vertex keeps what latent paths and treks join.
 use Rattle.std.proofs.Common.{ℕ, ◌≡◌, Bool, true, false, not, ◌&&◌, ◌||◌, ◌==◌, List, [], ◌∷◌, ◌⊎◌, inl, inr, refl, sym, ◌∙◌, arith}
 use Rattle.std.proofs.lemmas.Bool.{ne_eqb, eq-eqb, cases_eq, or_cases, or_left, or_right, and_from, false_from_ne_true}
-use Rattle.mixed_graph.specs.Graphs.{MixedGraph, IsMixedGraph, IsDirectedPath}
+use Rattle.mixed_graph.specs.Vocabulary.{MixedGraph, IsMixedGraph, IsDirectedPath}
 use Rattle.latent_projection.specs.Projection.{AreBefore}
 use Rattle.latent_projection.specs.Removal.{through, without}
 use Rattle.latent_projection.proofs.Treks.{Reaches, LeadsOn, IsTrek, fork, edge, ProjectsByTreks, clash, left_true, right_true, longer}

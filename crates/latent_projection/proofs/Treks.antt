@@ -1,7 +1,7 @@
 -- Latent directed paths and treks, which take the place of latent paths in the proofs.
 use Rattle.std.proofs.Common.{ℕ, ◌≡◌, Bool, true, false, ◌&&◌, List, [], ◌∷◌, refl}
 use Rattle.std.proofs.lemmas.Bool.{both_ways, and_parts}
-use Rattle.mixed_graph.specs.Graphs.{MixedGraph, IsDirectedPath}
+use Rattle.mixed_graph.specs.Vocabulary.{MixedGraph, IsDirectedPath}
 use Rattle.latent_projection.specs.Projection.{AreBefore}
 
 -- no bit is both true and false

@@ -1,8 +1,7 @@
 -- A graph without latent vertices is its own observed graph.
 use Rattle.std.proofs.Common.{ℕ, zero, suc, ◌<◌, ◌≡◌, Bool, true, false, not, ◌&&◌, List, length, get_or, inl, inr, refl, sym, ap, ◌∙◌, arith, nat_lt}
 use Rattle.std.proofs.lemmas.Bool.{cases_lt, lt-ltb, le-ltb, false_from_ne_true}
-use Rattle.mixed_graph.specs.Bits.{members_below}
-use Rattle.mixed_graph.specs.Graphs.{MixedGraph, IsMixedGraph}
+use Rattle.mixed_graph.specs.Vocabulary.{members_below, MixedGraph, IsMixedGraph}
 use Rattle.mixed_graph.proofs.Members.{one_if, length-members-suc, length-members-zero}
 use Rattle.mixed_graph.proofs.Restricting.{same_graph}
 use Rattle.latent_projection.specs.Renumbering.{renumbered_set, renumbered, IsObserved}

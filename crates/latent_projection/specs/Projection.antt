@@ -1,7 +1,7 @@
 -- The latent projection of a graph on its observed vertices (Verma and Pearl, 1990; Richardson, 2003).
 use Rattle.std.specs.Prelude.{ℕ, ◌≡◌, ◌≢◌, ◌↔◌, Bool, false, ◌&&◌, List, [], ◌∷◌, IsTrue}
-use Rattle.mixed_graph.specs.Graphs.{MixedGraph, IsDirectedPath}
-use Rattle.m_separation.specs.Walks.{Step, IsWalk, last, heads_first, heads_second, IsPath}
+use Rattle.mixed_graph.specs.Vocabulary.{MixedGraph, IsDirectedPath}
+use Rattle.m_separation.specs.Vocabulary.{Step, IsWalk, last, heads_first, heads_second, IsPath}
 
 -- each vertex of the directed path from v by these vertices, but for the last one, is in l
 abbrev pub AreBefore : (ℕ → Bool) → ℕ → List ℕ → Type 0

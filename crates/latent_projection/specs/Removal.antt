@@ -1,6 +1,6 @@
 -- One step of the projection: a graph without one latent vertex.
 use Rattle.std.specs.Prelude.{ℕ, Bool, not, ◌&&◌, ◌||◌, ◌==◌}
-use Rattle.mixed_graph.specs.Graphs.{MixedGraph}
+use Rattle.mixed_graph.specs.Vocabulary.{MixedGraph}
 
 -- whether a path a <- k -> b, a <- k <-> b or a <-> k -> b leads through k
 abbrev pub through : MixedGraph → ℕ → ℕ → ℕ → Bool

@@ -1,8 +1,6 @@
 -- The observed vertices numbered anew, in their old order.
 use Rattle.std.specs.Prelude.{ℕ, ◌≡◌, Bool, not, ◌&&◌, List, length, map, nat_lt, slice_index}
-use Rattle.mixed_graph.specs.Bits.{members_below}
-use Rattle.mixed_graph.specs.Graphs.{MixedGraph}
-use Rattle.mixed_graph.specs.Names.{name_of}
+use Rattle.mixed_graph.specs.Vocabulary.{members_below, MixedGraph, name_of}
 use Rattle.latent_projection.specs.Projection.{IsProjection}
 
 -- the vertices below n outside the latent set, in ascending order: entry k is the old number of the new vertex k

@@ -1,9 +1,7 @@
 //! The observed graph: the projection without its latent vertices.
 
 ghost use Rattle.std.specs.Prelude.{◌≡◌, ℕ, ◌<◌, false, List, ◌∷◌, [], ◌++◌, length, IfOk, OnOk};
-ghost use Rattle.mixed_graph.specs.Bits.{has};
-ghost use Rattle.mixed_graph.specs.Names.{IsName, is_named};
-ghost use Rattle.mixed_graph.specs.Shown.{graph_of};
+ghost use Rattle.mixed_graph.specs.Vocabulary.{has, IsName, is_named, graph_of};
 ghost use Rattle.latent_projection.specs.Renumbering.{observed_below, names_at, IsObserved};
 
 use crate::latents::project;

@@ -1,8 +1,7 @@
 //! The latent projection (Verma and Pearl).
 
 ghost use Rattle.std.specs.Prelude.{◌≡◌, ℕ, ◌<◌, ◌&&◌, ◌||◌, ◌==◌, not, slice_index};
-ghost use Rattle.mixed_graph.specs.Bits.{has};
-ghost use Rattle.mixed_graph.specs.Shown.{graph_of};
+ghost use Rattle.mixed_graph.specs.Vocabulary.{has, graph_of};
 ghost use Rattle.latent_projection.specs.Projection.{IsProjection};
 ghost use Rattle.latent_projection.specs.Removal.{without};
 

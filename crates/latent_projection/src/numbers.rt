@@ -1,8 +1,7 @@
 //! The numbers of the observed vertices.
 
 ghost use Rattle.std.specs.Prelude.{◌≡◌, ℕ, ◌<◌, ◌≤◌, ◌&&◌, nat_lt, length, slice_index};
-ghost use Rattle.mixed_graph.specs.Bits.{has};
-ghost use Rattle.mixed_graph.specs.Shown.{graph_of};
+ghost use Rattle.mixed_graph.specs.Vocabulary.{has, graph_of};
 ghost use Rattle.latent_projection.specs.Renumbering.{observed_below, renumbered_set, renumbered};
 
 use mixed_graph::{Graph, Rows, VSet};

@@ -1,6 +1,6 @@
 use Rattle.std.proofs.Common.{◌≡◌, ℕ, ◌<◌, Bool, true, false, ◌==◌, List, [], ◌∷◌, refl, IsTrue}
 use Rattle.std.proofs.lemmas.Bool.{not-true, not_from_false, eq-eqb, eqb-true}
-use Rattle.mixed_graph.specs.Graphs.{MixedGraph, IsMixedGraph}
+use Rattle.mixed_graph.specs.Vocabulary.{MixedGraph, IsMixedGraph}
 use Rattle.m_separation.specs.declared.marks.Mark.{Mark}
 use Rattle.m_separation.specs.declared.marks.Mark.TheVariants.{Out, Into, Both}
 use Rattle.m_separation.specs.Walks.{Step, IsJoined, IsWalk, last, heads_second, IsPassed, ArePassed, ArePassedFrom, IsOpenWalk, HasOpenWalk, IsReached}

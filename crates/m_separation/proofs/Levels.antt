@@ -1,8 +1,7 @@
 use Rattle.std.proofs.Common.{◌≡◌, ◌≢◌, ℕ, suc, ◌+◌, ◌<◌, ◌≤◌, Bool, true, false, ◌↔◌, List, [], ◌∷◌, length, set, inl, inr, sym, ap, IsTrue, subst, arith}
 use Rattle.std.proofs.lemmas.Bool.{cases_lt}
 use Rattle.std.proofs.lemmas.List.{get_or-set_same, get_or-set_other}
-use Rattle.mixed_graph.specs.Bits.{has}
-use Rattle.mixed_graph.specs.Graphs.{MixedGraph}
+use Rattle.mixed_graph.specs.Vocabulary.{has, MixedGraph}
 use Rattle.m_separation.specs.declared.states.States.{States}
 use Rattle.m_separation.specs.Walks.{Step, IsWalk, last, heads_second, ArePassedFrom, IsOpenWalk}
 use Rattle.m_separation.specs.States.{IsLed, mask_of, level, AreLevels}

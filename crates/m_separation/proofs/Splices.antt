@@ -1,5 +1,5 @@
 use Rattle.std.proofs.Common.{◌≡◌, ℕ, Bool, true, false, List, [], ◌∷◌, ◌++◌, refl, sym, ap, ◌∙◌, IsTrue, subst}
-use Rattle.mixed_graph.specs.Graphs.{MixedGraph, IsMixedGraph, IsAncestor}
+use Rattle.mixed_graph.specs.Vocabulary.{MixedGraph, IsMixedGraph, IsAncestor}
 use Rattle.mixed_graph.proofs.Paths.{ancestor_parent}
 use Rattle.m_separation.specs.declared.marks.Mark.{Mark}
 use Rattle.m_separation.specs.declared.marks.Mark.TheVariants.{Out, Into, Both}

@@ -1,6 +1,6 @@
 -- Open paths, as two arrays hold them.
 use Rattle.std.specs.Prelude.{ℕ, zero, suc, ◌+◌, ◌-◌, ◌<◌, ◌≤◌, Bool, List, [], ◌∷◌, slice_index, slice_index_or}
-use Rattle.mixed_graph.specs.Graphs.{MixedGraph}
+use Rattle.mixed_graph.specs.Vocabulary.{MixedGraph}
 use Rattle.m_separation.specs.declared.marks.Mark.{Mark}
 use Rattle.m_separation.specs.declared.marks.Mark.TheVariants.{Out}
 use Rattle.m_separation.specs.Walks.{Step, IsOpenWalk, IsPath}

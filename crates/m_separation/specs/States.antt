@@ -1,7 +1,6 @@
 -- Words for the search, inside this crate.
 use Rattle.std.specs.Prelude.{◌≡◌, ℕ, ◌+◌, ◌<◌, Bool, true, false, not, ◌↔◌, List, IsTrue, slice_index_or}
-use Rattle.mixed_graph.specs.Bits.{has}
-use Rattle.mixed_graph.specs.Graphs.{MixedGraph, IsAncestor}
+use Rattle.mixed_graph.specs.Vocabulary.{has, MixedGraph, IsAncestor}
 use Rattle.m_separation.specs.declared.marks.Mark.{Mark}
 use Rattle.m_separation.specs.declared.states.States.{States}
 use Rattle.m_separation.specs.Walks.{IsJoined, IsPassed, heads_first, heads_second}

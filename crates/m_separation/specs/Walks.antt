@@ -1,6 +1,6 @@
 -- Walks and separation in graphs with directed and bidirected edges (Pearl, Causality, chapter 1; Richardson).
 use Rattle.std.specs.Prelude.{ℕ, ◌≡◌, ◌≢◌, ◌<◌, Bool, true, false, ◌==◌, List, [], ◌∷◌, IsTrue}
-use Rattle.mixed_graph.specs.Graphs.{MixedGraph, IsAncestor}
+use Rattle.mixed_graph.specs.Vocabulary.{MixedGraph, IsAncestor}
 use Rattle.m_separation.specs.declared.marks.Mark.{Mark}
 use Rattle.m_separation.specs.declared.marks.Mark.TheVariants.{Out, Into, Both}
 

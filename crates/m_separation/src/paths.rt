@@ -1,9 +1,7 @@
 //! An open path, made of the search for it.
 
 ghost use Rattle.std.specs.Prelude.{◌≡◌, ℕ, ◌+◌, ◌<◌, ◌==◌, false, IsTrue, Bool, IfSome, IfNone, slice_index};
-ghost use Rattle.mixed_graph.specs.Bits.{has};
-ghost use Rattle.mixed_graph.specs.Sets.{Within};
-ghost use Rattle.mixed_graph.specs.Shown.{graph_of};
+ghost use Rattle.mixed_graph.specs.Vocabulary.{has, Within, graph_of};
 ghost use Rattle.m_separation.specs.Walks.{IsOpenWalk, IsSeparated, IsJoined, IsPassed, heads_first, heads_second};
 ghost use Rattle.m_separation.specs.Paths.{IsOpenPath, steps_from};
 ghost use Rattle.m_separation.specs.States.{AreAncestors, mask_of, IsLed, AreLevels, level};

@@ -1,7 +1,7 @@
 //! The states of a walk: a vertex, and how the walk came to it.
 
 ghost use Rattle.std.specs.Prelude.{◌≡◌, ℕ, ◌<◌, ◌&&◌, ◌||◌, ◌↔◌, not, false, IsTrue, Bool, IfSome, IfNone};
-ghost use Rattle.mixed_graph.specs.Bits.{has};
+ghost use Rattle.mixed_graph.specs.Vocabulary.{has};
 ghost use Rattle.m_separation.specs.States.{mask_of, lets_pass};
 
 use mixed_graph::VSet;

@@ -1,7 +1,7 @@
 -- An open way of one graph is one of a graph with the same skeleton and unshielded colliders, or can be made shorter.
 use Rattle.std.proofs.Common.{ℕ, zero, suc, ◌+◌, ◌≡◌, ◌<◌, Bool, true, false, not, ◌&&◌, List, [], ◌∷◌, length, ◌⊎◌, inl, inr, refl, sym, ap, ◌∙◌, arith}
 use Rattle.std.proofs.lemmas.Bool.{cases_order, or_cases, or_left, and_from, and_parts}
-use Rattle.mixed_graph.specs.Graphs.{MixedGraph, IsMixedGraph, IsDirectedPath, IsAncestor}
+use Rattle.mixed_graph.specs.Vocabulary.{MixedGraph, IsMixedGraph, IsDirectedPath, IsAncestor}
 use Rattle.markov_equivalence.specs.Skeletons.{is_adjacent, is_unshielded_collider, AreEquivalent}
 use Rattle.markov_equivalence.proofs.Ways.{clash, Met, Way, stop, out, into}
 use Rattle.markov_equivalence.proofs.Shows.{turned as adjacent_turned}

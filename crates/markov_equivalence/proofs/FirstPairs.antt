@@ -1,7 +1,7 @@
 -- Lowest differences come in ascending pairs.
 use Rattle.std.proofs.Common.{ℕ, ◌≡◌, ◌≢◌, ◌<◌, inl, inr, ◌∙◌, arith}
 use Rattle.std.proofs.lemmas.Bool.{cases_order}
-use Rattle.mixed_graph.specs.Graphs.{MixedGraph, IsMixedGraph}
+use Rattle.mixed_graph.specs.Vocabulary.{MixedGraph, IsMixedGraph}
 use Rattle.markov_equivalence.specs.Skeletons.{is_adjacent}
 use Rattle.markov_equivalence.proofs.Shows.{no_loop, turned}
 

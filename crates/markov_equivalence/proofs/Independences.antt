@@ -2,10 +2,9 @@
 use Rattle.std.proofs.Common.{ℕ, ◌≡◌, ◌<◌, ◌==◌, Bool, false, [], sym, ◌∙◌, subst, rules}
 use Rattle.std.proofs.lemmas.Bool.{false_from_ne_true, eqb-true}
 use Rattle.finite_models.proofs.SumLaws.{eqb-refl}
-use Rattle.mixed_graph.specs.Graphs.{MixedGraph, IsMixedGraph}
-use Rattle.mixed_graph.specs.Sets.{Within}
-use Rattle.m_separation.specs.Walks.{IsSeparated}
-use Rattle.do_rules.specs.Rules.{AreThreeSets}
+use Rattle.mixed_graph.specs.Vocabulary.{MixedGraph, IsMixedGraph, Within}
+use Rattle.m_separation.specs.Vocabulary.{IsSeparated}
+use Rattle.do_rules.specs.Vocabulary.{AreThreeSets}
 use Rattle.do_rules.proofs.Failing.{independence_is_separation}
 use Rattle.markov_equivalence.specs.Comparisons.{SeparatesInOne}
 use Rattle.markov_equivalence.specs.Sides.{one_of, other_side}

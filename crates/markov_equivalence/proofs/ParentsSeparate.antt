@@ -1,6 +1,6 @@
 -- The parents of the later of two vertices that no arrow joins separate the two (Pearl).
 use Rattle.std.proofs.Common.{ℕ, ◌≡◌, ◌<◌, ◌≤◌, Bool, true, false, List, [], ◌∷◌, refl, ap, arith}
-use Rattle.mixed_graph.specs.Graphs.{MixedGraph, IsMixedGraph, IsDirectedPath}
+use Rattle.mixed_graph.specs.Vocabulary.{MixedGraph, IsMixedGraph, IsDirectedPath}
 use Rattle.markov_equivalence.specs.Skeletons.{HasArrowsAlone, is_adjacent, is_unshielded_collider}
 use Rattle.markov_equivalence.specs.Comparisons.{SeparatesInOne}
 use Rattle.markov_equivalence.proofs.Ways.{clash, Way, stop, out, into, separated_without, open_along, reversed}

@@ -1,8 +1,7 @@
 -- Places in the order of a graph.
 use Rattle.std.proofs.Common.{ℕ, zero, suc, ◌≡◌, ◌≢◌, ◌<◌, ◌≤◌, Bool, true, false, cond, ◌==◌, List, inl, inr, refl, sym, ap, ◌∙◌, arith, IsTrue, get_or}
 use Rattle.std.proofs.lemmas.Bool.{cases_Bool, cases_eq, cases_order, eq-eqb, eqb-true}
-use Rattle.mixed_graph.specs.Graphs.{MixedGraph, IsMixedGraph}
-use Rattle.mixed_graph.specs.Orders.{taken_by, IsOrder}
+use Rattle.mixed_graph.specs.Vocabulary.{MixedGraph, IsMixedGraph, taken_by, IsOrder}
 use Rattle.markov_equivalence.specs.Laters.{IsAfter}
 use Rattle.markov_equivalence.proofs.ParentsSeparate.{Rises}
 

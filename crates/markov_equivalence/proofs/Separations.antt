@@ -1,9 +1,9 @@
 -- Equivalent graphs imply the same separations, and graphs with a difference don't.
 use Rattle.std.proofs.Common.{ℕ, ◌≡◌, ◌<◌, Bool, false, ◌==◌, List, [], ◌∷◌, IsTrue, sym}
-use Rattle.mixed_graph.specs.Graphs.{MixedGraph, IsMixedGraph}
+use Rattle.mixed_graph.specs.Vocabulary.{MixedGraph, IsMixedGraph}
 use Rattle.m_separation.specs.declared.marks.Mark.{Mark}
 use Rattle.m_separation.specs.declared.marks.Mark.TheVariants.{Out, Into, Both}
-use Rattle.m_separation.specs.Walks.{Step, last, IsJoined, IsWalk, IsOpenWalk, HasOpenWalk, IsSeparated}
+use Rattle.m_separation.specs.Vocabulary.{Step, last, IsJoined, IsWalk, IsOpenWalk, HasOpenWalk, IsSeparated}
 use Rattle.markov_equivalence.specs.Skeletons.{HasArrowsAlone, AreEquivalent}
 use Rattle.markov_equivalence.specs.Comparisons.{SeparatesInOne}
 use Rattle.markov_equivalence.specs.Sides.{one_of, other_side}

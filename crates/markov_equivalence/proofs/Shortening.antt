@@ -1,7 +1,7 @@
 -- Ways made shorter: what a triple of a way allows, where its outer vertices are the same or joined.
 use Rattle.std.proofs.Common.{ℕ, ◌+◌, ◌≡◌, ◌<◌, Bool, true, false, [], ◌∷◌, length, ◌⊎◌, inl, inr, refl, sym, subst, arith}
 use Rattle.std.proofs.lemmas.Bool.{cases_eq}
-use Rattle.mixed_graph.specs.Graphs.{MixedGraph, IsMixedGraph, IsAncestor}
+use Rattle.mixed_graph.specs.Vocabulary.{MixedGraph, IsMixedGraph, IsAncestor}
 use Rattle.markov_equivalence.specs.Skeletons.{is_adjacent}
 use Rattle.markov_equivalence.proofs.Ways.{Met, Way, stop, out, into}
 

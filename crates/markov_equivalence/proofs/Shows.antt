@@ -2,7 +2,7 @@
 use Rattle.std.proofs.Common.{ℕ, ◌≡◌, ◌≢◌, ◌<◌, Bool, true, false, [], inl, inr, refl, sym, ◌∙◌, arith, subst}
 use Rattle.std.proofs.lemmas.Bool.{cases_Bool, cases_order, or_cases}
 use mathlib.Core.Path.{fun_ext}
-use Rattle.mixed_graph.specs.Graphs.{MixedGraph, IsMixedGraph}
+use Rattle.mixed_graph.specs.Vocabulary.{MixedGraph, IsMixedGraph}
 use Rattle.markov_equivalence.specs.Skeletons.{HasArrowsAlone, is_adjacent, is_unshielded_collider, HaveSameSkeleton}
 use Rattle.markov_equivalence.specs.Laters.{IsAfter, AreParentsOfLater}
 use Rattle.markov_equivalence.specs.Sides.{one_of, other_side, side_without}

@@ -1,9 +1,9 @@
 -- Open walks of a graph without bidirected edges, read from the front.
 use Rattle.std.proofs.Common.{ℕ, ◌≡◌, ◌<◌, Bool, true, false, ◌==◌, List, [], ◌∷◌, refl, sym, arith}
-use Rattle.mixed_graph.specs.Graphs.{MixedGraph, IsAncestor}
+use Rattle.mixed_graph.specs.Vocabulary.{MixedGraph, IsAncestor}
 use Rattle.m_separation.specs.declared.marks.Mark.{Mark}
 use Rattle.m_separation.specs.declared.marks.Mark.TheVariants.{Out, Into, Both}
-use Rattle.m_separation.specs.Walks.{Step, IsJoined, IsWalk, last, heads_first, heads_second, IsPassed, ArePassedFrom, ArePassed, HasOpenWalk, IsSeparated}
+use Rattle.m_separation.specs.Vocabulary.{Step, IsJoined, IsWalk, last, heads_first, heads_second, IsPassed, ArePassedFrom, ArePassed, HasOpenWalk, IsSeparated}
 use Rattle.markov_equivalence.specs.Skeletons.{HasArrowsAlone}
 
 -- no test is both true and false

@@ -1,9 +1,7 @@
 -- What the comparison of two graphs answers, and what it shows.
 use Rattle.std.specs.Prelude.{ℕ, ◌≡◌, ◌<◌, ◌==◌, Bool, false, ⊤}
-use Rattle.mixed_graph.specs.Bits.{has}
-use Rattle.mixed_graph.specs.Graphs.{MixedGraph}
-use Rattle.mixed_graph.specs.Sets.{Within}
-use Rattle.m_separation.specs.Walks.{IsSeparated, HasOpenWalk}
+use Rattle.mixed_graph.specs.Vocabulary.{has, MixedGraph, Within}
+use Rattle.m_separation.specs.Vocabulary.{IsSeparated, HasOpenWalk}
 use Rattle.markov_equivalence.specs.Skeletons.{is_adjacent, is_unshielded_collider, HaveSameSkeleton, AreEquivalent}
 use Rattle.markov_equivalence.specs.Firsts.{IsFirstDifference, IsFirstCollider}
 use Rattle.markov_equivalence.specs.Laters.{AreParentsOfLater}

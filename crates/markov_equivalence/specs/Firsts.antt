@@ -1,6 +1,6 @@
 -- The first difference of two skeletons, and of two collections of unshielded colliders.
 use Rattle.std.specs.Prelude.{ℕ, ◌≡◌, ◌≢◌, ◌<◌}
-use Rattle.mixed_graph.specs.Graphs.{MixedGraph}
+use Rattle.mixed_graph.specs.Vocabulary.{MixedGraph}
 use Rattle.markov_equivalence.specs.Skeletons.{is_adjacent, is_unshielded_collider}
 
 -- a < b are joined in one of the graphs alone, and no pair with a lower first vertex, or with first vertex a and a lower second one, is

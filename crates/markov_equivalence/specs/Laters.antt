@@ -1,7 +1,6 @@
 -- The later of two vertices in the order of a graph.
 use Rattle.std.specs.Prelude.{ℕ, ◌≡◌, ◌<◌, Bool, List, ◌⊎◌, slice_index}
-use Rattle.mixed_graph.specs.Graphs.{MixedGraph}
-use Rattle.mixed_graph.specs.Orders.{IsOrder}
+use Rattle.mixed_graph.specs.Vocabulary.{MixedGraph, IsOrder}
 
 -- b stands after a in the order of the graph
 pub record IsAfter (k : MixedGraph) (a b : ℕ) : Type 0 where

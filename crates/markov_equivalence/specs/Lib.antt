@@ -4,3 +4,4 @@ pub mod Laters
 pub mod Skeletons
 pub mod Sides
 pub mod Separations
+pub mod Vocabulary

@@ -1,10 +1,9 @@
 -- Graphs that imply the same separations (Pearl, Causality, chapter 1).
 use Rattle.std.specs.Prelude.{ℕ, Bool, ◌↔◌, ◌-◌, ◌==◌, slice_index}
-use Rattle.mixed_graph.specs.Graphs.{MixedGraph}
+use Rattle.mixed_graph.specs.Vocabulary.{MixedGraph}
 use Rattle.m_separation.specs.declared.paths.OpenPath.{OpenPath}
-use Rattle.m_separation.specs.Walks.{IsSeparated}
-use Rattle.m_separation.specs.Paths.{IsOpenPath}
-use Rattle.do_rules.specs.Rules.{AreThreeSets, AreIndependent}
+use Rattle.m_separation.specs.Vocabulary.{IsSeparated, IsOpenPath}
+use Rattle.do_rules.specs.Vocabulary.{AreThreeSets, AreIndependent}
 
 -- any sets x and y are separated by w in the one graph exactly where they are in the other
 abbrev pub HaveSameSeparations : MixedGraph → MixedGraph → Type 0

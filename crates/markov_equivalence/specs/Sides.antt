@@ -1,6 +1,6 @@
 -- The first of two graphs, or the second.
 use Rattle.std.specs.Prelude.{Bool, true, false}
-use Rattle.mixed_graph.specs.Graphs.{MixedGraph}
+use Rattle.mixed_graph.specs.Vocabulary.{MixedGraph}
 use Rattle.markov_equivalence.specs.declared.sides.Side.{Side}
 use Rattle.markov_equivalence.specs.declared.sides.Side.TheVariants.{First, Second}
 

@@ -1,6 +1,6 @@
 -- Skeletons and unshielded colliders of graphs without bidirected edges (Verma and Pearl, Equivalence and synthesis of causal models, 1990).
 use Rattle.std.specs.Prelude.{ℕ, ◌≡◌, ◌<◌, Bool, false, not, ◌&&◌, ◌||◌}
-use Rattle.mixed_graph.specs.Graphs.{MixedGraph}
+use Rattle.mixed_graph.specs.Vocabulary.{MixedGraph}
 
 -- no edge is bidirected
 abbrev pub HasArrowsAlone : MixedGraph → Type 0

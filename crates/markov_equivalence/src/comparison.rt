@@ -1,8 +1,7 @@
 //! The comparison of two graphs (Verma and Pearl).
 
 ghost use Rattle.std.specs.Prelude.{◌≡◌, ◌≢◌, ℕ, ◌<◌};
-ghost use Rattle.mixed_graph.specs.Bits.{has};
-ghost use Rattle.mixed_graph.specs.Shown.{graph_of};
+ghost use Rattle.mixed_graph.specs.Vocabulary.{has, graph_of};
 ghost use Rattle.markov_equivalence.specs.Skeletons.{HasArrowsAlone};
 ghost use Rattle.markov_equivalence.specs.Laters.{AreParentsOfLater};
 ghost use Rattle.markov_equivalence.specs.Sides.{one_of};

@@ -1,7 +1,7 @@
 //! The first edge and the first collider that one graph has alone.
 
 ghost use Rattle.std.specs.Prelude.{◌≡◌, ℕ, ◌<◌, IfSome, IfNone};
-ghost use Rattle.mixed_graph.specs.Shown.{graph_of};
+ghost use Rattle.mixed_graph.specs.Vocabulary.{graph_of};
 ghost use Rattle.markov_equivalence.specs.Skeletons.{is_unshielded_collider, HaveSameSkeleton, HaveSameColliders};
 ghost use Rattle.markov_equivalence.specs.Firsts.{IsFirstDifference, IsFirstFrom, IsFirstCollider};
 

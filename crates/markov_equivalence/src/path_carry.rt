@@ -3,9 +3,7 @@
 //!
 //! `carry_path(&g, &h, w, &path)` gives the open path in h, and `imply_the_same(&g, &h)` says whether all separations are equal.
 ghost use Rattle.std.specs.Prelude.{◌≡◌, ◌↔◌, IsTrue};
-ghost use Rattle.mixed_graph.specs.Bits.{has};
-ghost use Rattle.mixed_graph.specs.Sets.{Within};
-ghost use Rattle.mixed_graph.specs.Shown.{graph_of};
+ghost use Rattle.mixed_graph.specs.Vocabulary.{has, Within, graph_of};
 ghost use Rattle.markov_equivalence.specs.Skeletons.{HasArrowsAlone, AreEquivalent};
 ghost use Rattle.markov_equivalence.specs.Separations.{HaveSameSeparations, HaveSameIndependences, IsOpenWithEndsOf};
 

@@ -1,8 +1,7 @@
 //! Neighbours and unshielded colliders.
 
 ghost use Rattle.std.specs.Prelude.{◌≡◌, ◌≢◌, ℕ, ◌<◌, ◌≤◌, false, IsTrue, IfSome, IfNone};
-ghost use Rattle.mixed_graph.specs.Bits.{has};
-ghost use Rattle.mixed_graph.specs.Shown.{graph_of};
+ghost use Rattle.mixed_graph.specs.Vocabulary.{has, graph_of};
 ghost use Rattle.markov_equivalence.specs.Skeletons.{is_adjacent, is_unshielded_collider};
 
 use mixed_graph::{Graph, VSet};

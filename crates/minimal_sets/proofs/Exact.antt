@@ -2,14 +2,12 @@
 use Rattle.std.proofs.Common.{ℕ, ◌≡◌, ◌<◌, Bool, true, false, ◌&&◌, nat_lt, refl, sym, ◌∙◌, subst, arith}
 use mathlib.Core.Path.{fun_ext}
 use Rattle.std.proofs.lemmas.Bool.{false_from_ne_true}
-use Rattle.mixed_graph.specs.Bits.{has}
-use Rattle.mixed_graph.specs.Graphs.{MixedGraph, IsMixedGraph}
-use Rattle.mixed_graph.specs.Sets.{Within, Apart}
-use Rattle.finite_models.specs.Packed.{mask_of}
+use Rattle.mixed_graph.specs.Vocabulary.{has, MixedGraph, IsMixedGraph, Within, Apart}
+use Rattle.finite_models.specs.Vocabulary.{mask_of}
 use Rattle.finite_models.proofs.Packed.{has-mask}
 use Rattle.finite_models.proofs.Bools.{not_both}
-use Rattle.do_rules.specs.Rules.{AreThreeSets}
-use Rattle.adjustment.specs.Criteria.{IsAdmissible}
+use Rattle.do_rules.specs.Vocabulary.{AreThreeSets}
+use Rattle.adjustment.specs.Vocabulary.{IsAdmissible}
 use Rattle.adjustment.proofs.Effects.{admissible_adjusts}
 use Rattle.adjustment.proofs.FaultWalks.{adjusts_exactly}
 use Rattle.minimal_sets.specs.Separators.{IsPart}

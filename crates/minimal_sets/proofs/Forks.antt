@@ -1,7 +1,7 @@
 -- The branch in which a vertex joins the side.
 use Rattle.std.proofs.Common.{◌≡◌, ℕ, Bool, true, false, not, ◌||◌, ◌==◌, inl, inr, refl, sym, ◌∙◌, arith, subst}
 use Rattle.std.proofs.lemmas.Bool.{cases_Bool, eqb-true, eq-eqb}
-use Rattle.mixed_graph.specs.Bits.{has}
+use Rattle.mixed_graph.specs.Vocabulary.{has}
 use Rattle.minimal_sets.specs.Separators.{Reached, start, IsPart, IsOnSide, IsClosest, IsInseparable}
 use Rattle.minimal_sets.proofs.SeparatorLaws.{reached_part, joined_connected, still_kept}
 use Rattle.minimal_sets.specs.Branches.{IsNode, IsIn, IsForked, IsStill}

@@ -1,7 +1,7 @@
 -- Walks of colliders by a search along bidirected edges.
 use Rattle.std.proofs.Common.{◌≡◌, ℕ, Bool, true, ◌&&◌, ◌||◌, ◌==◌, inl, inr, refl, arith, subst}
 use Rattle.std.proofs.lemmas.Bool.{cases_Bool, eqb-true, eq-eqb}
-use Rattle.mixed_graph.specs.Graphs.{MixedGraph}
+use Rattle.mixed_graph.specs.Vocabulary.{MixedGraph}
 use Rattle.mixed_graph.specs.Reached.{Reached}
 use Rattle.minimal_sets.specs.Moral.{Heads, by_arrow, by_both, on, Meets, heads, parent, beyond}
 

@@ -2,17 +2,12 @@
 use Rattle.std.proofs.Common.{ℕ, ◌≡◌, ◌↔◌, Bool, true, false, not, refl, sym, ◌∙◌, ◌||◌, ◌&&◌, List, get_or, IsTrue, arith, subst}
 use mathlib.Core.Path.{fun_ext}
 use Rattle.std.proofs.lemmas.Bool.{false_from_ne_true, not-true}
-use Rattle.mixed_graph.specs.Bits.{has}
-use Rattle.mixed_graph.specs.Graphs.{MixedGraph, IsMixedGraph, IsAncestor, IsDescendant}
-use Rattle.mixed_graph.specs.Sets.{Within, Apart}
 use Rattle.mixed_graph.specs.declared.sets.VSet.{VSet}
+use Rattle.mixed_graph.specs.Vocabulary.{has, MixedGraph, IsMixedGraph, IsAncestor, IsDescendant, Within, Apart}
 use Rattle.finite_models.proofs.Bools.{and_first, and_second, not_both}
-use Rattle.prob_expr.specs.Values.{EqualsEffect}
-use Rattle.adjustment.specs.Proper.{IsBetween, IsBackDoorGraph}
+use Rattle.prob_expr.specs.Vocabulary.{EqualsEffect, effect_on}
+use Rattle.adjustment.specs.Vocabulary.{IsBetween, IsBackDoorGraph, IsForbidden, IsAdmissible, adjustment_formula}
 use Rattle.adjustment.proofs.FirstEdges.{cut_arrows, firsts, back_door_graph_is}
-use Rattle.adjustment.specs.Criteria.{IsForbidden, IsAdmissible}
-use Rattle.prob_expr.specs.Tree.{effect_on}
-use Rattle.adjustment.specs.Formulas.{adjustment_formula}
 use Rattle.adjustment.proofs.Effects.{admissible_adjusts}
 use Rattle.adjustment.proofs.Separating.{forbidden_is, separated_from, admissible_from}
 use Rattle.adjustment.proofs.Walks.{graph_arrows}

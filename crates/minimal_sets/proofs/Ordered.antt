@@ -14,8 +14,8 @@ use Rattle.std.specs.declared.cmp.Ordering.TheVariants.{Less, Equal, Greater}
 use Rattle.std.proofs.lemmas.Bool.{cases_lt, cases_eq, eqb-true, eq-eqb, ne_eqb, lt-ltb, le-ltb, false_from_ne_true}
 use Rattle.std.proofs.lemmas.Fn.{always_returns_same}
 use Rattle.std.proofs.lemmas.List.Sorted.{ranks_by, sorted_far}
-use Rattle.mixed_graph.specs.Bits.{has, members_below}
 use Rattle.mixed_graph.specs.declared.sets.VSet.{VSet}
+use Rattle.mixed_graph.specs.Vocabulary.{has, members_below}
 use Rattle.mixed_graph.proofs.Masks.{same_from_has}
 use Rattle.minimal_sets.specs.Listings.{IsBefore}
 use Rattle.minimal_sets.specs.Lists.{Pairwise}

@@ -3,8 +3,8 @@ use Rattle.std.proofs.Common.{◌≡◌, ℕ, ◌<◌, Bool, true, false, ◌||�
 use Rattle.std.proofs.lemmas.Bool.{cases_Bool, eqb-true, eq-eqb}
 use mathlib.Core.Path.{fun_ext}
 use Rattle.minimal_sets.proofs.Tests.{same_truth}
-use Rattle.mixed_graph.specs.Bits.{has}
 use Rattle.mixed_graph.specs.declared.sets.VSet.{VSet}
+use Rattle.mixed_graph.specs.Vocabulary.{has}
 use Rattle.minimal_sets.specs.Separators.{Reached, start, IsMinimalSeparator, IsOnSide, IsClosest, IsInseparable}
 use Rattle.minimal_sets.proofs.SeparatorLaws.{outside, either_way, alone, part_false}
 use Rattle.minimal_sets.specs.Lists.{Each, Pairwise}

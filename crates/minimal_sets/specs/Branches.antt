@@ -1,6 +1,6 @@
 -- Branches of the listing.
 use Rattle.std.specs.Prelude.{ℕ, Bool}
-use Rattle.mixed_graph.specs.Bits.{has}
+use Rattle.mixed_graph.specs.Vocabulary.{has}
 use Rattle.minimal_sets.specs.Separators.{Reached, IsPart, IsClosest, IsInBranch}
 use Rattle.minimal_sets.specs.declared.separators.branching.Node.{Node}
 

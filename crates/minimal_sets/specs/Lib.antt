@@ -7,3 +7,4 @@ pub mod Lists
 pub mod Listings
 pub mod Progress
 pub mod Rows
+pub mod Vocabulary

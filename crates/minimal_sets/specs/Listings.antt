@@ -4,8 +4,8 @@ use Rattle.std.specs.List.{AllPairs, Any}
 use Rattle.std.specs.Ordering.{nat_cmp}
 use Rattle.std.specs.Cmp.Lexicographic.{slice_cmp}
 use Rattle.std.specs.declared.cmp.Ordering.TheVariants.{Less}
-use Rattle.mixed_graph.specs.Bits.{has, members_below}
 use Rattle.mixed_graph.specs.declared.sets.VSet.{VSet}
+use Rattle.mixed_graph.specs.Vocabulary.{has, members_below}
 
 -- the test is that of the set
 abbrev pub IsTestOf : (ℕ → Bool) → VSet → Type 0

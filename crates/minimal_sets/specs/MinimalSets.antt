@@ -1,12 +1,8 @@
 -- Minimal admissible sets (van der Zander, Liskiewicz and Textor, 2014).
 use Rattle.std.specs.Prelude.{ℕ, Bool, ◌↔◌}
-use Rattle.mixed_graph.specs.Bits.{has}
-use Rattle.mixed_graph.specs.Graphs.{MixedGraph, IsMixedGraph}
-use Rattle.mixed_graph.specs.Sets.{Within, Apart}
-use Rattle.prob_expr.specs.Values.{EqualsEffect}
-use Rattle.adjustment.specs.Criteria.{IsAdmissible}
-use Rattle.prob_expr.specs.Tree.{effect_on}
-use Rattle.adjustment.specs.Formulas.{adjustment_formula}
+use Rattle.mixed_graph.specs.Vocabulary.{has, MixedGraph, IsMixedGraph, Within, Apart}
+use Rattle.prob_expr.specs.Vocabulary.{EqualsEffect, effect_on}
+use Rattle.adjustment.specs.Vocabulary.{IsAdmissible, adjustment_formula}
 use Rattle.minimal_sets.specs.Separators.{IsPart}
 
 -- z is an admissible set of vertices outside x and y, and no proper part of it is admissible

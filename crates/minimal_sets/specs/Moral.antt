@@ -1,7 +1,7 @@
 -- The undirected graph whose separators are the separating sets of a graph (as moralization, Lauritzen and others, with bidirected edges). Words for
 -- code inside this crate.
 use Rattle.std.specs.Prelude.{ℕ, Bool, IsTrue}
-use Rattle.mixed_graph.specs.Graphs.{MixedGraph}
+use Rattle.mixed_graph.specs.Vocabulary.{MixedGraph}
 
 -- a walk inside a leads from u to v, all of whose inner vertices are colliders and which has an arrowhead at v
 pub data Heads (g : MixedGraph) (a : ℕ → Bool) (u : ℕ) : ℕ → Type 0 where

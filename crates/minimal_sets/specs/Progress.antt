@@ -1,8 +1,8 @@
 -- How far the listing of minimal separators has come. Words for code inside this crate.
 use Rattle.std.specs.Prelude.{ℕ, ◌≡◌, ◌≢◌, ◌≤◌, Bool, true, false, List, ◌⊎◌, length, All}
 use Rattle.std.specs.List.{Any}
-use Rattle.mixed_graph.specs.Bits.{has, members_below}
 use Rattle.mixed_graph.specs.declared.sets.VSet.{VSet}
+use Rattle.mixed_graph.specs.Vocabulary.{has, members_below}
 use Rattle.minimal_sets.specs.Branches.{IsNode, IsIn}
 use Rattle.minimal_sets.specs.Separators.{IsMinimalSeparator}
 use Rattle.minimal_sets.specs.Listings.{IsTestOf}

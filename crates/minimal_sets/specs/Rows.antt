@@ -1,6 +1,6 @@
 -- Undirected graphs as rows of bits.
 use Rattle.std.specs.Prelude.{ℕ, Bool, List, slice_index}
-use Rattle.mixed_graph.specs.Bits.{has}
+use Rattle.mixed_graph.specs.Vocabulary.{has}
 
 -- u and v are joined: bit v of row u is set
 abbrev pub is_near : List ℕ → ℕ → ℕ → Bool

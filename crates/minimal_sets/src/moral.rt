@@ -1,8 +1,7 @@
 //! The undirected graph whose separators are the admissible sets.
 
 ghost use Rattle.std.specs.Prelude.{ℕ, ◌<◌, ◌↔◌, IsTrue};
-ghost use Rattle.mixed_graph.specs.Bits.{has};
-ghost use Rattle.mixed_graph.specs.Shown.{graph_of};
+ghost use Rattle.mixed_graph.specs.Vocabulary.{has, graph_of};
 ghost use Rattle.minimal_sets.specs.Moral.{Meets, IsNear};
 ghost use Rattle.minimal_sets.specs.Rows.{is_near};
 

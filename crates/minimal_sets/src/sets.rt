@@ -1,12 +1,9 @@
 //! The minimal admissible sets, listed.
 
 ghost use Rattle.std.specs.Prelude.{ℕ, ◌+◌, ◌*◌, ◌≤◌, IfOk, All, length};
-ghost use Rattle.mixed_graph.specs.Bits.{has};
-ghost use Rattle.mixed_graph.specs.Sets.{Within, Apart};
-ghost use Rattle.mixed_graph.specs.Shown.{graph_of};
-ghost use Rattle.prob_expr.specs.Values.{EqualsEffect};
-ghost use Rattle.prob_expr.specs.Tree.{effect_on};
-ghost use Rattle.adjustment.specs.Formulas.{adjustment_formula};
+ghost use Rattle.mixed_graph.specs.Vocabulary.{has, Within, Apart, graph_of};
+ghost use Rattle.prob_expr.specs.Vocabulary.{EqualsEffect, effect_on};
+ghost use Rattle.adjustment.specs.Vocabulary.{adjustment_formula};
 ghost use Rattle.minimal_sets.specs.Listings.{IsListingOf};
 ghost use Rattle.minimal_sets.specs.MinimalSets.{IsMinimalSet};
 

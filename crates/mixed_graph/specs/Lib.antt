@@ -11,3 +11,4 @@ pub mod Sets
 pub mod Shown
 pub mod NameBlocks
 pub mod NameKeys
+pub mod Vocabulary

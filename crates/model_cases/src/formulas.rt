@@ -3,8 +3,7 @@
 ghost use Rattle.std.specs.Prelude.{◌≡◌, ◌≤◌, true, ⊤, IsTrue};
 ghost use Rattle.std.specs.Bool.{OnTrue};
 ghost use Rattle.prob_expr.specs.View.{view};
-ghost use Rattle.prob_expr.specs.Terms.{are_terms};
-ghost use Rattle.prob_expr.specs.Fold.{has_factors};
+ghost use Rattle.prob_expr.specs.Vocabulary.{are_terms, has_factors};
 
 use case_rows::{Members, names, number, set, text};
 use expr_text::{formula_text, read_formula};

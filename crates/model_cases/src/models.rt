@@ -1,9 +1,8 @@
 //! Rows on models and weights.
 
 ghost use Rattle.std.specs.Prelude.{◌≡◌, ◌<◌, IsTrue, length, slice_index};
-ghost use Rattle.mixed_graph.specs.Shown.{graph_of};
-ghost use Rattle.finite_models.specs.Models.{IsAssignment};
-ghost use Rattle.finite_models.specs.Worlds.{IsAcceptedModel};
+ghost use Rattle.mixed_graph.specs.Vocabulary.{graph_of};
+ghost use Rattle.finite_models.specs.Vocabulary.{IsAssignment, IsAcceptedModel};
 
 use case_rows::{flag, graph, list, number, numbers, set};
 use finite_models::{Cause, Mechanism, Model, ModelFault, Part, WeightFault, check_model, weight};

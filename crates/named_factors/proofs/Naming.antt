@@ -3,28 +3,24 @@ use Rattle.std.proofs.Common.{ℕ, zero, suc, ◌+◌, ◌*◌, ◌≡◌, ◌<�
 use Rattle.std.proofs.Common.{List, [], ◌∷◌}
 use mathlib.Core.Path.{fun_ext}
 use Rattle.std.proofs.lemmas.Bool.{false≢true}
-use Rattle.mixed_graph.specs.Bits.{has}
-use Rattle.mixed_graph.specs.Graphs.{MixedGraph, IsMixedGraph}
+use Rattle.mixed_graph.specs.Vocabulary.{has, MixedGraph, IsMixedGraph}
 use Rattle.mixed_graph.proofs.Masks.{has-zero}
-use Rattle.fractions.specs.Fractions.{Fraction, over, add, add_below, mul, div, IsEqual}
+use Rattle.fractions.specs.Vocabulary.{Fraction, over, add, add_below, mul, div, IsEqual}
 use Rattle.fractions.proofs.FractionLaws.{mul-one}
-use Rattle.finite_models.specs.Sums.{set_at}
-use Rattle.finite_models.specs.Models.{FiniteModel, Fits, IsAssignment, IsPositiveModel, event_weight, weight_of}
+use Rattle.finite_models.specs.Vocabulary.{set_at, FiniteModel, Fits, IsAssignment, IsPositiveModel, event_weight, weight_of}
 use Rattle.finite_models.proofs.Bools.{not_both}
 use Rattle.finite_models.proofs.Following.{follows_of}
 use Rattle.finite_models.proofs.Positive.{positive_weight}
 use Rattle.finite_models.proofs.SumLaws.{set_at-other}
 use Rattle.finite_models.proofs.Weights.{weight_of-none}
-use Rattle.prob_expr.specs.Tree.{Tree, prob, sum, product, quotient, named, Trees, no_trees, tree, PlainFormula}
-use Rattle.prob_expr.specs.Values.{weights_of, value, product_value, values_from, value_of, term_value, add_over}
+use Rattle.prob_expr.specs.Tree.{Tree, prob, sum, product, quotient, named, tree}
+use Rattle.prob_expr.specs.Vocabulary.{Trees, no_trees, PlainFormula, weights_of, value, product_value, values_from, value_of, term_value, add_over}
 use Rattle.prob_expr.proofs.Boxes.{assignment_set}
-use Rattle.treated_models.specs.NamedOnce.{IsSingle, NamesOnce, EachNamesOnce}
-use Rattle.treated_models.specs.Primes.{prime_of, as_observed, plain_in, primed_in, with_primes}
-use Rattle.treated_models.specs.Treated.{joined}
+use Rattle.treated_models.specs.Vocabulary.{IsSingle, NamesOnce, EachNamesOnce, prime_of, as_observed, plain_in, primed_in, with_primes, joined}
 use Rattle.treated_models.proofs.NamedOnce.{weight_seen}
 use Rattle.treated_models.proofs.Primes.{vertex_plain, prime_behind, plain_within}
 use Rattle.treated_id.proofs.Points.{event_reads}
-use Rattle.factor_values.specs.Factors.{PlainFactor, read_at, chance_of, factors_product, factors_value}
+use Rattle.factor_values.specs.Vocabulary.{PlainFactor, read_at, chance_of, factors_product, factors_value}
 use Rattle.named_factors.specs.Named.{IsFactorOfTerm, IsFactorOf, AreFactorsOf, factors_in, summed_in, body_in, FactorsEqualNamed}
 
 below_same : (k : ℕ) (f g : ℕ → Fraction) → ((i : ℕ) → i < k → f i ≡ g i) → add_below k f ≡ add_below k g

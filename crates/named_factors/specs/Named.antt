@@ -1,15 +1,13 @@
 -- A formula over names and primed names as a sum of a product of factors: each of its terms reads x at its own level, or at the second one, which was
 -- observed.
 use Rattle.std.specs.Prelude.{ℕ, ◌≡◌, ◌<◌, Bool, true, false, ◌||◌, List, [], ◌∷◌}
-use Rattle.mixed_graph.specs.Bits.{has}
-use Rattle.mixed_graph.specs.Graphs.{MixedGraph, IsMixedGraph}
-use Rattle.fractions.specs.Fractions.{Fraction, IsEqual}
-use Rattle.finite_models.specs.Models.{FiniteModel, Fits, IsAssignment, IsPositiveModel}
-use Rattle.prob_expr.specs.Tree.{Tree, prob, sum, product, Trees, no_trees, tree, PlainFormula}
-use Rattle.prob_expr.specs.Values.{weights_of, value_of}
-use Rattle.treated_models.specs.NamedOnce.{NamesOnce}
-use Rattle.treated_models.specs.Primes.{as_observed, plain_in, primed_in, with_primes}
-use Rattle.factor_values.specs.Factors.{PlainFactor, PlainFactors, factors_value}
+use Rattle.mixed_graph.specs.Vocabulary.{has, MixedGraph, IsMixedGraph}
+use Rattle.fractions.specs.Vocabulary.{Fraction, IsEqual}
+use Rattle.finite_models.specs.Vocabulary.{FiniteModel, Fits, IsAssignment, IsPositiveModel}
+use Rattle.prob_expr.specs.Tree.{Tree, prob, sum, product, tree}
+use Rattle.prob_expr.specs.Vocabulary.{Trees, no_trees, PlainFormula, weights_of, value_of}
+use Rattle.treated_models.specs.Vocabulary.{NamesOnce, as_observed, plain_in, primed_in, with_primes}
+use Rattle.factor_values.specs.Vocabulary.{PlainFactor, PlainFactors, factors_value}
 
 -- the set has the vertices of some names: of own names, and of primed ones
 abbrev pub AreVertices : (n x : ℕ) → (ℕ → Bool) → ℕ → Type 0

@@ -1,7 +1,7 @@
 -- What x doesn't move is closed under parents; a fact of numbers may be proved as if it had a test.
 use Rattle.std.proofs.Common.{ℕ, ◌≡◌, Bool, true, false, not, refl, ◌∷◌, [], ◌++◌, ◌||◌, arith}
 use Rattle.std.proofs.lemmas.Bool.{false_from_ne_true, not_from_false, or_left, or_right}
-use Rattle.mixed_graph.specs.Graphs.{MixedGraph, IsMixedGraph, IsDescendant}
+use Rattle.mixed_graph.specs.Vocabulary.{MixedGraph, IsMixedGraph, IsDescendant}
 use Rattle.mixed_graph.proofs.Paths.{path_push}
 use Rattle.finite_models.proofs.Bools.{not_both}
 use Rattle.finite_models.proofs.Solutions.{IsClosed}

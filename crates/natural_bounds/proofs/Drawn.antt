@@ -2,13 +2,13 @@
 use Rattle.std.proofs.Common.{ℕ, zero, suc, ◌*◌, ◌≡◌, ◌<◌, ◌≤◌, Bool, true, false, not, ◌&&◌, ◌||◌, refl, sym, ap, ◌∙◌, subst, arith}
 use Rattle.std.proofs.Math.Nat.{eq_of_mul-eq-mul_left}
 use Rattle.std.proofs.lemmas.Bool.{not_from_false}
-use Rattle.mixed_graph.specs.Graphs.{MixedGraph, IsMixedGraph}
-use Rattle.fractions.specs.Fractions.{Fraction}
-use Rattle.finite_models.specs.Models.{FiniteModel, Fits, IsAssignment, weight_of, total, probability}
+use Rattle.mixed_graph.specs.Vocabulary.{MixedGraph, IsMixedGraph}
+use Rattle.fractions.specs.Vocabulary.{Fraction}
+use Rattle.finite_models.specs.Vocabulary.{FiniteModel, Fits, IsAssignment, weight_of, total, probability}
 use Rattle.finite_models.proofs.Bools.{and_first}
 use Rattle.finite_models.proofs.Following.{follows_of}
-use Rattle.latent_projection.specs.Renumbering.{IsObserved}
-use Rattle.hidden_models.specs.Folding.{Folds, values_after, values_before, set_before}
+use Rattle.latent_projection.specs.Vocabulary.{IsObserved}
+use Rattle.hidden_models.specs.Vocabulary.{Folds, values_after, values_before, set_before}
 use Rattle.hidden_models.proofs.Depends.{weight_depends}
 use Rattle.hidden_models.proofs.Drawn.{matched_folded, drawn_weight, after_within}
 use Rattle.hidden_models.proofs.Folded.{each_has_folded}

@@ -1,8 +1,8 @@
 -- The natural bounds hold in every model that fits the graph.
 use Rattle.std.proofs.Common.{ℕ, ◌+◌, ◌-◌, ◌*◌, ◌≡◌, ◌<◌, ◌≤◌, Bool, true, false, cond, not, refl, sym, ap, ◌∙◌, ◌||◌, arith}
 use Rattle.std.proofs.lemmas.Bool.{false_from_ne_true, or_left, or_right, or_from}
-use Rattle.mixed_graph.specs.Graphs.{MixedGraph, IsMixedGraph}
-use Rattle.finite_models.specs.Models.{FiniteModel, Fits, IsAssignment, solution, agree, world_weight, intervene, weight_of}
+use Rattle.mixed_graph.specs.Vocabulary.{MixedGraph, IsMixedGraph}
+use Rattle.finite_models.specs.Vocabulary.{FiniteModel, Fits, IsAssignment, solution, agree, world_weight, intervene, weight_of}
 use Rattle.finite_models.proofs.Bools.{and_first, either, not_both}
 use Rattle.finite_models.proofs.Following.{Follows, follows_of}
 use Rattle.finite_models.proofs.Positive.{over-mono}

@@ -3,10 +3,10 @@ use Rattle.std.proofs.Common.{ℕ, zero, suc, ◌+◌, ◌*◌, ◌≡◌, ◌<�
 use Rattle.std.proofs.Math.Dec.{leb}
 use Rattle.std.proofs.lemmas.Bool.{cases_lt, leb-true, leb-false}
 use mathlib.Core.Path.{fun_ext}
-use Rattle.fractions.specs.Fractions.{Fraction, over, IsEqual, add, add_below}
-use Rattle.finite_models.specs.Sums.{set_at}
+use Rattle.fractions.specs.Vocabulary.{Fraction, over, IsEqual, add, add_below}
+use Rattle.finite_models.specs.Vocabulary.{set_at}
 use Rattle.finite_models.proofs.SumLaws.{set_at-same, set_at-other}
-use Rattle.prob_expr.specs.Values.{add_over}
+use Rattle.prob_expr.specs.Vocabulary.{add_over}
 use Rattle.prob_expr.proofs.Boxes.{IsStable}
 use Rattle.natural_bounds.specs.declared.ends.End.{End}
 use Rattle.natural_bounds.specs.declared.ends.End.TheVariants.{AtLeast, AtMost}

@@ -1,13 +1,12 @@
 -- What a stratum's bound says in every model that has the weights.
 use Rattle.std.proofs.Common.{ℕ, zero, suc, ◌+◌, ◌-◌, ◌*◌, ◌≡◌, ◌<◌, ◌≤◌, Bool, true, false, cond, eqb, ◌||◌, refl, sym, ap, ◌∙◌, subst, inl, inr, arith}
 use Rattle.std.proofs.lemmas.Bool.{or_left, or_right}
-use Rattle.mixed_graph.specs.Graphs.{MixedGraph, IsMixedGraph}
-use Rattle.fractions.specs.Fractions.{Fraction}
-use Rattle.finite_models.specs.Models.{FiniteModel, Fits, IsAssignment, weight_of, total}
+use Rattle.mixed_graph.specs.Vocabulary.{MixedGraph, IsMixedGraph}
+use Rattle.fractions.specs.Vocabulary.{Fraction}
+use Rattle.finite_models.specs.Vocabulary.{FiniteModel, Fits, IsAssignment, weight_of, total}
 use Rattle.finite_models.proofs.Bools.{either, not_both}
 use Rattle.finite_models.proofs.Following.{follows_of}
-use Rattle.prob_expr.specs.Proportional.{AreProportional}
-use Rattle.prob_expr.specs.Values.{Weights, weights_of}
+use Rattle.prob_expr.specs.Vocabulary.{AreProportional, Weights, weights_of}
 use Rattle.hidden_models.proofs.Depends.{weight_depends}
 use Rattle.hidden_models.proofs.Totals.{total_positive}
 use Rattle.natural_bounds.specs.declared.ends.End.{End}

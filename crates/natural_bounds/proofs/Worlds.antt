@@ -1,8 +1,8 @@
 -- One world as it is, and under an intervention.
 use Rattle.std.proofs.Common.{ℕ, zero, suc, ◌≡◌, ◌<◌, Bool, true, false, cond, refl, sym, ◌∙◌, arith}
-use Rattle.mixed_graph.specs.Graphs.{MixedGraph}
-use Rattle.do_rules.specs.Cuts.{cut_into}
-use Rattle.finite_models.specs.Models.{FiniteModel, IsAssignment, IsSolution, solution, intervene}
+use Rattle.mixed_graph.specs.Vocabulary.{MixedGraph}
+use Rattle.do_rules.specs.Vocabulary.{cut_into}
+use Rattle.finite_models.specs.Vocabulary.{FiniteModel, IsAssignment, IsSolution, solution, intervene}
 use Rattle.finite_models.proofs.Following.{Follows}
 use Rattle.finite_models.proofs.Solutions.{IsRanked, IsClosed, solution_is, unique}
 use Rattle.do_rules.proofs.Altered.{ranked_into, follows_into}

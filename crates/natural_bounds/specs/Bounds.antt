@@ -1,12 +1,10 @@
 -- The bounds of an effect over weights, as those of a table of counts: the tightest over the levels of the instruments, summed over the strata
 -- (Robins 1989; Manski 1990; Balke and Pearl 1997; Pearl, Causality, chapter 8).
 use Rattle.std.specs.Prelude.{ℕ, ◌+◌, ◌-◌, ◌*◌, ◌≡◌, ◌<◌, ◌≤◌, Bool, true, false, ◌||◌, ◌==◌, if◌then◌else◌, IsTrue}
-use Rattle.mixed_graph.specs.Graphs.{MixedGraph, IsMixedGraph}
-use Rattle.mixed_graph.specs.Sets.{Apart}
-use Rattle.fractions.specs.Fractions.{Fraction, over, mul}
-use Rattle.finite_models.specs.Models.{FiniteModel, Fits, IsAssignment, probability, total}
-use Rattle.prob_expr.specs.Proportional.{AreProportional}
-use Rattle.prob_expr.specs.Values.{Weights, weights_of, add_over}
+use Rattle.mixed_graph.specs.Vocabulary.{MixedGraph, IsMixedGraph, Apart}
+use Rattle.fractions.specs.Vocabulary.{Fraction, over, mul}
+use Rattle.finite_models.specs.Vocabulary.{FiniteModel, Fits, IsAssignment, probability, total}
+use Rattle.prob_expr.specs.Vocabulary.{AreProportional, Weights, weights_of, add_over}
 use Rattle.natural_bounds.specs.declared.ends.End.{End}
 use Rattle.natural_bounds.specs.declared.ends.End.TheVariants.{AtLeast, AtMost}
 use Rattle.natural_bounds.specs.Instruments.{IsInstrument}

@@ -1,11 +1,11 @@
 -- What bounds an effect in every model of the observed graph does so in the diagram as drawn.
 use Rattle.std.specs.Prelude.{ℕ, ◌≡◌, ◌<◌, Bool}
-use Rattle.mixed_graph.specs.Graphs.{MixedGraph, IsMixedGraph}
-use Rattle.fractions.specs.Fractions.{Fraction}
-use Rattle.finite_models.specs.Models.{FiniteModel, Fits, IsAssignment, probability}
-use Rattle.latent_projection.specs.Renumbering.{IsObserved}
-use Rattle.prob_expr.specs.Values.{Weights}
-use Rattle.hidden_models.specs.Folding.{IsMatchedAsDrawn, values_after, set_before}
+use Rattle.mixed_graph.specs.Vocabulary.{MixedGraph, IsMixedGraph}
+use Rattle.fractions.specs.Vocabulary.{Fraction}
+use Rattle.finite_models.specs.Vocabulary.{FiniteModel, Fits, IsAssignment, probability}
+use Rattle.latent_projection.specs.Vocabulary.{IsObserved}
+use Rattle.prob_expr.specs.Vocabulary.{Weights}
+use Rattle.hidden_models.specs.Vocabulary.{IsMatchedAsDrawn, values_after, set_before}
 use Rattle.natural_bounds.specs.declared.ends.End.{End}
 use Rattle.natural_bounds.specs.Orders.{Bounds}
 use Rattle.natural_bounds.specs.Bounds.{BoundsEffect, HasNoModel}

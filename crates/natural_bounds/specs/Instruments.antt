@@ -1,10 +1,8 @@
 -- Conditional instruments (Pearl, Causality, chapter 7).
 use Rattle.std.specs.Prelude.{ℕ, ◌≤◌, Bool, ◌||◌, IsTrue}
-use Rattle.mixed_graph.specs.Graphs.{MixedGraph, IsDescendant}
-use Rattle.m_separation.specs.Paths.{IsOpenPath}
-use Rattle.m_separation.specs.Walks.{IsSeparated}
-use Rattle.do_rules.specs.Cuts.{cut_into}
-use Rattle.do_rules.specs.Rules.{AreFourSets}
+use Rattle.mixed_graph.specs.Vocabulary.{MixedGraph, IsDescendant}
+use Rattle.m_separation.specs.Vocabulary.{IsOpenPath, IsSeparated}
+use Rattle.do_rules.specs.Vocabulary.{cut_into, AreFourSets}
 use Rattle.natural_bounds.specs.declared.instruments.InstrumentFault.{InstrumentFault}
 use Rattle.natural_bounds.specs.declared.instruments.InstrumentFault.TheVariants.{Moved, Open}
 

@@ -3,3 +3,4 @@ pub mod Natural
 pub mod Orders
 pub mod Bounds
 pub mod Drawn
+pub mod Vocabulary

@@ -1,7 +1,7 @@
 -- The natural bounds of an effect (Robins 1989; Manski 1990) at a level of an instrument: one inequality a world, summed over the worlds.
 use Rattle.std.specs.Prelude.{ℕ, ◌+◌, ◌*◌, ◌≤◌, Bool, false, ◌||◌}
-use Rattle.mixed_graph.specs.Graphs.{MixedGraph, IsMixedGraph}
-use Rattle.finite_models.specs.Models.{FiniteModel, Fits, IsAssignment, weight_of}
+use Rattle.mixed_graph.specs.Vocabulary.{MixedGraph, IsMixedGraph}
+use Rattle.finite_models.specs.Vocabulary.{FiniteModel, Fits, IsAssignment, weight_of}
 use Rattle.natural_bounds.specs.Instruments.{IsInstrument}
 
 -- no vertex

@@ -1,7 +1,7 @@
 -- Fractions in order, and the greatest and the least of those at the points of a box.
 use Rattle.std.specs.Prelude.{ℕ, zero, suc, ◌*◌, ◌≡◌, ◌<◌, ◌≤◌, ◌⊎◌, Bool, if◌then◌else◌, nat_le, IsTrue}
-use Rattle.finite_models.specs.Sums.{set_at}
-use Rattle.fractions.specs.Fractions.{Fraction, over}
+use Rattle.finite_models.specs.Vocabulary.{set_at}
+use Rattle.fractions.specs.Vocabulary.{Fraction, over}
 use Rattle.natural_bounds.specs.declared.ends.End.{End}
 use Rattle.natural_bounds.specs.declared.ends.End.TheVariants.{AtLeast, AtMost}
 

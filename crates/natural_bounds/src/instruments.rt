@@ -1,9 +1,8 @@
 //! Conditional instruments (Pearl, Causality, chapter 7).
 
 ghost use Rattle.std.specs.Prelude.{ℕ, IfErr, OnErr, OnOk};
-ghost use Rattle.mixed_graph.specs.Bits.{has};
-ghost use Rattle.mixed_graph.specs.Shown.{graph_of};
-ghost use Rattle.do_rules.specs.Rules.{AreFourSets};
+ghost use Rattle.mixed_graph.specs.Vocabulary.{has, graph_of};
+ghost use Rattle.do_rules.specs.Vocabulary.{AreFourSets};
 ghost use Rattle.natural_bounds.specs.Instruments.{IsInstrument, IsInstrumentFault};
 
 use do_rules::cuts::cut_into;

@@ -2,10 +2,9 @@
 use Rattle.std.proofs.Common.{◌≡◌, ◌≤◌, ◌+◌, ◌&&◌, ℕ, Bool, true, length, sym, ap, arith, inl, inr}
 use Rattle.std.specs.Prelude.{nat_lt}
 use Rattle.std.proofs.lemmas.Bool.{cases_Bool}
-use Rattle.mixed_graph.specs.Bits.{has, members_below}
-use Rattle.mixed_graph.specs.Sets.{Within}
+use Rattle.mixed_graph.specs.Vocabulary.{has, members_below, Within}
 use Rattle.latent_projection.proofs.Numbering.{length-members-cut}
-use Rattle.treated_models.specs.Primes.{name_count}
+use Rattle.treated_models.specs.Vocabulary.{name_count}
 
 -- so many names there are with the primed ones
 pub counted_names : (n x : ℕ) → n ≤ 64 → Within n (has x) → name_count n x ≡ n + length (members_below (has x) 64)

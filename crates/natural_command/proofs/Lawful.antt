@@ -2,29 +2,27 @@
 use Rattle.std.proofs.Common.{◌≡◌, Bool, true, false, List, Some, Result, Ok, Err, refl, sym, ◌∙◌, subst, arith, inl, inr}
 use Rattle.std.specs.Prelude.{codes, ◌⊎◌}
 use Rattle.std.proofs.lemmas.Option.{same_Some}
-use Rattle.mixed_graph.specs.Graphs.{MixedGraph}
-use Rattle.mixed_graph.specs.Masks.{union}
-use Rattle.mixed_graph.specs.Shown.{graph_of}
 use Rattle.mixed_graph.specs.declared.sets.VSet.{VSet}
-use Rattle.hedge.specs.Hedges.{IsHedge}
+use Rattle.mixed_graph.specs.Vocabulary.{MixedGraph, union, graph_of}
 use Rattle.hedge.specs.declared.hedge.Hedge.{Hedge}
-use Rattle.command_words.specs.Form.{Use, value_of, has_flag}
+use Rattle.hedge.specs.Vocabulary.{IsHedge}
+use Rattle.command_words.specs.Vocabulary.{Use, value_of, has_flag}
 use Rattle.command_words.proofs.OneValue.{one_listed, one_listed_or_empty, one_needed_list}
 use Rattle.targets.specs.declared.fault.TargetFault.{TargetFault}
 use Rattle.diagram.specs.declared.diagram.Diagram.{Diagram}
 use Rattle.diagram.proofs.OneDiagram.{AreSameDiagrams, same_drawing, same_query_lists}
 use Rattle.replies.specs.declared.outcome.Outcome.{Outcome}
 use Rattle.replies.specs.declared.outcome.Outcome.TheVariants.{Yes, No}
-use Rattle.replies.specs.Outcomes.{IsAnswered}
+use Rattle.replies.specs.Vocabulary.{IsAnswered}
 use Rattle.replies.specs.Told.{Told}
 use Rattle.replies.proofs.Commands.{IsLawful, lawful_on_file}
 use Rattle.replies.proofs.OneOutcome.{one_on_diagram}
 use Rattle.replies.proofs.OneTarget.{one_set, no_fault_of}
 use Rattle.told.specs.declared.form.Form.{Form}
 use Rattle.told.specs.declared.form.Writing.{Writing}
-use Rattle.told.specs.Telling.{Tells}
+use Rattle.told.specs.Vocabulary.{Tells}
 use Rattle.told.proofs.ToldOnce.{EndAlike, told_answered}
-use Rattle.natural_id.specs.Answers.{ReadsBoth}
+use Rattle.natural_id.specs.Vocabulary.{ReadsBoth}
 use Rattle.natural_command.specs.declared.asking.Question.{Question}
 use Rattle.natural_command.specs.declared.answer.Answer.{Answer}
 use Rattle.natural_command.specs.declared.answer.Answer.TheVariants.{Formula, Excluded, Witness, Split}

@@ -2,14 +2,13 @@
 use Rattle.std.proofs.Common.{◌≡◌, ℕ, Bool, true, false, ◌||◌, List, ◌++◌, length, refl, sym, ap, ap₂, subst, ◌∙◌, inl, inr, arith}
 use Rattle.std.specs.Str.{bytes_eq}
 use Rattle.std.proofs.lemmas.List.Folds.{list_any-append}
-use Rattle.mixed_graph.specs.Bits.{has}
-use Rattle.mixed_graph.specs.Names.{is_named}
-use Rattle.mixed_graph.specs.Sets.{Within, Apart}
-use Rattle.do_rules.specs.Rules.{AreFourSets}
+use Rattle.mixed_graph.specs.Vocabulary.{has, is_named, Within, Apart}
+use Rattle.do_rules.specs.Vocabulary.{AreFourSets}
 use Rattle.finite_models.proofs.Bools.{not_both}
 use Rattle.targets.specs.declared.fault.TargetFault.{TargetFault}
-use Rattle.targets.specs.declared.fault.TargetFault.TheVariants.{Unknown, Latent, Twice, EmptyY, EmptyX, NotOneX, Bidirected, OtherNames, NoMemory}
-use Rattle.targets.specs.Targets.{first_fault, walked_in, Lists, IsNameFault, IsFaultOfTarget, OrMemory, IsTargetFault, AreSets}
+use Rattle.targets.specs.declared.fault.TargetFault.TheVariants.{EmptyY, EmptyX, NotOneX, Bidirected, OtherNames, NoMemory}
+use Rattle.targets.specs.Vocabulary.{first_fault, walked_in, Lists, IsNameFault, IsFaultOfTarget, OrMemory, IsTargetFault, AreSets}
+use Rattle.targets.specs.declared.fault.TargetFault.TheVariants.{Unknown, Latent, Twice}
 use Rattle.targets.proofs.Disjoint.{disjoint_sets}
 use Rattle.targets.proofs.Queries.{set_test, set_within}
 use Rattle.targets.proofs.RuleWalks.{not_walked, sets_apart}

@@ -7,14 +7,12 @@ use Rattle.std.proofs.lemmas.List.{append-nil, append_assoc, length-map}
 use Rattle.std.proofs.lemmas.List.Folds.{list_any-append}
 use Rattle.std.proofs.lemmas.List.Elements.{All-get_or}
 use Rattle.std.proofs.lemmas.Slice.Eq.{bytes_eq-Decides}
-use Rattle.mixed_graph.specs.Bits.{has, members_below}
-use Rattle.mixed_graph.specs.Masks.{all}
-use Rattle.mixed_graph.specs.Names.{IsName, AreNames, is_named, name_of}
+use Rattle.mixed_graph.specs.Vocabulary.{has, members_below, all, IsName, AreNames, is_named, name_of}
 use Rattle.mixed_graph.proofs.MemberLists.{AreMembers, is_in}
 use Rattle.mixed_graph.proofs.Members.{length-members-le}
 use Rattle.finite_models.proofs.Bools.{and_first}
-use Rattle.primed_names.specs.Primed.{with_primes, primed_name, primed_names}
-use Rattle.treated_models.specs.Primes.{prime_of}
+use Rattle.primed_names.specs.Vocabulary.{with_primes, primed_name, primed_names}
+use Rattle.treated_models.specs.Vocabulary.{prime_of}
 use Rattle.treated_models.proofs.Primes.{prime_behind, prime_one}
 use Rattle.natural_command.specs.Second.{place_read, names_read}
 

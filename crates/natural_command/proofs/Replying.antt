@@ -1,14 +1,12 @@
 -- From an answer, or its fault, to what is told.
 use Rattle.std.proofs.Common.{◌≡◌, ℕ, false, List, Result, Ok, Err, IfOk, ap, ◌∙◌}
 use Rattle.std.specs.Prelude.{IfErr, OnOk}
-use Rattle.mixed_graph.specs.Graphs.{MixedGraph}
-use Rattle.mixed_graph.specs.Names.{name_of}
+use Rattle.mixed_graph.specs.Vocabulary.{MixedGraph, name_of}
 use Rattle.targets.proofs.Faults.{not_memory}
 use Rattle.replies.specs.declared.outcome.Reply.{Reply}
-use Rattle.replies.specs.Told.{told_of}
+use Rattle.replies.specs.Vocabulary.{told_of}
 use Rattle.told.specs.declared.form.Form.{Form}
-use Rattle.told.specs.Refusals.{is_memory}
-use Rattle.told.specs.Telling.{Tells, outcome_in, told_in, is_wanting}
+use Rattle.told.specs.Vocabulary.{is_memory, Tells, outcome_in, told_in, is_wanting}
 use Rattle.natural_command.specs.declared.asking.Question.{Question}
 use Rattle.natural_command.specs.declared.answer.Answer.{Answer}
 use Rattle.natural_command.specs.declared.fault.NaturalFault.{NaturalFault}

@@ -1,11 +1,10 @@
 -- The ways that lead from x to y, and the sets of a question.
 use Rattle.std.proofs.Common.{◌≡◌, ◌<◌, ◌^◌, ◌↔◌, ℕ, Bool, true, false, not, ◌&&◌, ap, ◌∙◌, arith}
-use Rattle.mixed_graph.specs.Bits.{has}
-use Rattle.mixed_graph.specs.Graphs.{MixedGraph}
+use Rattle.mixed_graph.specs.Vocabulary.{has, MixedGraph}
 use Rattle.mixed_graph.proofs.Masks.{has-zero, some_member}
-use Rattle.hedge.specs.Linked.{IsSetOf}
-use Rattle.do_rules.specs.Rules.{AreFourSets}
-use Rattle.natural_id.specs.Parts.{IsNaturalTarget}
+use Rattle.hedge.specs.Vocabulary.{IsSetOf}
+use Rattle.do_rules.specs.Vocabulary.{AreFourSets}
+use Rattle.natural_id.specs.Vocabulary.{IsNaturalTarget}
 use Rattle.natural_command.specs.declared.asking.Question.{Question}
 use Rattle.natural_command.specs.Right.{AreBefore}
 use Rattle.natural_command.proofs.Naming.{turned}

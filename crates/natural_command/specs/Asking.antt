@@ -1,10 +1,10 @@
 -- What the lists of `natural` ask for.
 use Rattle.std.specs.Prelude.{ℕ, ◌≡◌, ◌⊎◌, List, [], ◌++◌, Option, Some, None}
-use Rattle.mixed_graph.specs.Names.{is_named}
+use Rattle.mixed_graph.specs.Vocabulary.{is_named}
 use Rattle.targets.specs.declared.fault.TargetFault.{TargetFault}
-use Rattle.targets.specs.Targets.{Lists, NameFault, first_fault, IsFaultOfTarget, IsListedSet, AreSets, IsTargetFault, OrMemory}
-use Rattle.diagram.specs.Sets.{Names, query_lists}
+use Rattle.targets.specs.Vocabulary.{Lists, NameFault, first_fault, IsFaultOfTarget, IsListedSet, AreSets, IsTargetFault, OrMemory}
 use Rattle.diagram.specs.declared.diagram.Diagram.{Diagram}
+use Rattle.diagram.specs.Vocabulary.{Names, query_lists}
 use Rattle.natural_command.specs.declared.asking.Question.{Question}
 use Rattle.natural_command.specs.declared.fault.NaturalFault.{NaturalFault}
 use Rattle.natural_command.specs.declared.fault.NaturalFault.TheVariants.{Listed, NoMediator, After, TooMany, NoMemory}

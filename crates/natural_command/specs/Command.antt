@@ -1,6 +1,6 @@
 -- The command `natural`.
-use Rattle.replies.specs.Command.{CommandForm, on_file}
-use Rattle.told.specs.Telling.{Tells}
+use Rattle.replies.specs.Vocabulary.{CommandForm, on_file}
+use Rattle.told.specs.Vocabulary.{Tells}
 use Rattle.natural_command.specs.Faults.{natural_refusal}
 use Rattle.natural_command.specs.Right.{IsNaturalAnswer}
 use Rattle.natural_command.specs.Telling.{natural_telling}

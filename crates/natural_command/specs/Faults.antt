@@ -1,15 +1,12 @@
 -- What is told of lists that aren't answered.
 use Rattle.std.specs.Prelude.{ℕ, ◌≡◌, Bool, true, false, List, [], ◌++◌, codes}
 use Rattle.json.specs.Json.{Json}
-use Rattle.answer_text.specs.Printing.{printed}
-use Rattle.answer_text.specs.Lines.{line_of}
-use Rattle.answer_json.specs.Faults.{bare_fault_json, text_fault_json}
-use Rattle.answer_json.specs.Progress.{json_line}
+use Rattle.answer_text.specs.Vocabulary.{printed, line_of}
+use Rattle.answer_json.specs.Vocabulary.{bare_fault_json, text_fault_json, json_line}
 use Rattle.replies.specs.declared.outcome.Outcome.TheVariants.{Graph}
-use Rattle.replies.specs.Refusals.{target_told}
-use Rattle.replies.specs.Told.{Told, refusal_of}
-use Rattle.told.specs.Telling.{Refusal}
-use Rattle.told.specs.Refusals.{is_memory}
+use Rattle.replies.specs.Vocabulary.{target_told, refusal_of}
+use Rattle.replies.specs.Told.{Told}
+use Rattle.told.specs.Vocabulary.{Refusal, is_memory}
 use Rattle.natural_command.specs.declared.fault.NaturalFault.{NaturalFault}
 use Rattle.natural_command.specs.declared.fault.NaturalFault.TheVariants.{Listed, NoMediator, After, TooMany, NoMemory}
 

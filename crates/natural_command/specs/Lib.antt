@@ -7,3 +7,4 @@ pub mod Objects
 pub mod Telling
 pub mod Right
 pub mod Command
+pub mod Vocabulary

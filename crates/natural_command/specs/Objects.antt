@@ -2,15 +2,13 @@
 use Rattle.std.specs.Prelude.{ℕ, List, [], ◌∷◌, ◌++◌, map, codes}
 use Rattle.json.specs.Json.{Json, string, boolean}
 use Rattle.answer_text.specs.declared.signs.Notation.TheVariants as notations
-use Rattle.prob_expr.specs.View.{formula_view}
+use Rattle.prob_expr.specs.Vocabulary.{formula_view}
 use Rattle.hedge.specs.declared.hedge.Hedge.{Hedge}
 use Rattle.counter_models.specs.declared.counter_pair.CounterPair.{CounterPair}
-use Rattle.answer_json.specs.Progress.{array_of, object_of}
-use Rattle.answer_json.specs.Values.{text_json, set_json, vertex_json}
-use Rattle.hedge_json.specs.Hedges.{hedge_json}
-use Rattle.hedge_json.specs.Models.{models_json}
-use Rattle.effect_answers.specs.Objects.{joint_json, formula_members}
-use Rattle.primed_names.specs.Primed.{primed_names}
+use Rattle.answer_json.specs.Vocabulary.{array_of, object_of, text_json, set_json, vertex_json}
+use Rattle.hedge_json.specs.Vocabulary.{hedge_json, models_json}
+use Rattle.effect_answers.specs.Vocabulary.{joint_json, formula_members}
+use Rattle.primed_names.specs.Vocabulary.{primed_names}
 use Rattle.natural_id.specs.declared.answers.Part.{Part}
 use Rattle.natural_id.specs.declared.answers.NaturalFormula.{NaturalFormula}
 use Rattle.natural_id.specs.declared.answers.Witness.{Witness}

@@ -1,10 +1,9 @@
 -- What `natural` is asked for.
 use Rattle.std.specs.Prelude.{◌≡◌, Bool, true, false, List, Some, [], ◌∷◌, codes, option_map}
-use Rattle.command_words.specs.Form.{Text, Row, Use, word_of, value_of, has_flag}
+use Rattle.command_words.specs.Vocabulary.{Text, Row, Use, word_of, value_of, has_flag, names_in}
 use Rattle.command_words.specs.Values as values
-use Rattle.command_words.specs.ListViews.{names_in}
-use Rattle.diagram.specs.Sets.{Names}
-use Rattle.replies.specs.Told.{format_of}
+use Rattle.diagram.specs.Vocabulary.{Names}
+use Rattle.replies.specs.Vocabulary.{format_of}
 use Rattle.told.specs.declared.form.Form.{Form}
 use Rattle.told.specs.declared.form.Writing.{Writing}
 use Rattle.told.specs.declared.form.Writing.TheVariants.{Plain, Latex}

@@ -1,28 +1,21 @@
 -- Which answers of `natural` are right: what y would be under do(x), were the mediators as under another value of x; in the observed graph.
 use Rattle.std.specs.Prelude.{ℕ, ◌≡◌, ◌<◌, ◌≤◌, ◌||◌, true, false, List, Result, Ok, Err, IsTrue}
-use Rattle.mixed_graph.specs.Bits.{has}
-use Rattle.mixed_graph.specs.Graphs.{MixedGraph, IsDescendant}
-use Rattle.mixed_graph.specs.Masks.{union}
-use Rattle.mixed_graph.specs.Names.{name_of}
-use Rattle.mixed_graph.specs.Shown.{graph_of}
-use Rattle.finite_models.specs.Models.{FiniteModel, Fits, IsAssignment, weight_of}
-use Rattle.hedge.specs.Hedges.{IsHedge}
+use Rattle.mixed_graph.specs.Vocabulary.{has, MixedGraph, IsDescendant, union, name_of, graph_of}
+use Rattle.finite_models.specs.Vocabulary.{FiniteModel, Fits, IsAssignment, weight_of}
 use Rattle.hedge.specs.declared.hedge.Hedge.{Hedge}
+use Rattle.hedge.specs.Vocabulary.{IsHedge}
 use Rattle.counter_models.specs.declared.counter_pair.CounterPair.{CounterPair}
 use Rattle.diagram.specs.declared.diagram.Diagram.{Diagram}
-use Rattle.diagram.specs.Sets.{Names}
-use Rattle.identify.specs.Answers.{IsRightHedge}
-use Rattle.treated_models.specs.Treated.{joined}
-use Rattle.treated_models.specs.Primes.{name_count}
-use Rattle.treated_id.specs.Terms.{AreNames}
-use Rattle.nested_models.specs.Nested.{weight_of_nested, HasNoIndirectPath, HasNoDirectPath}
-use Rattle.nested_models.specs.NoFormula.{HasNoFormulaNested}
+use Rattle.diagram.specs.Vocabulary.{Names}
+use Rattle.identify.specs.Vocabulary.{IsRightHedge}
+use Rattle.treated_models.specs.Vocabulary.{joined, name_count}
+use Rattle.treated_id.specs.Vocabulary.{AreNames}
+use Rattle.nested_models.specs.Vocabulary.{weight_of_nested, HasNoIndirectPath, HasNoDirectPath, HasNoFormulaNested}
 use Rattle.natural_id.specs.declared.answers.NaturalFormula.{NaturalFormula}
 use Rattle.natural_id.specs.declared.answers.Witness.{Witness as Recanting}
 use Rattle.natural_id.specs.declared.answers.Split.{Split as Parted}
-use Rattle.natural_id.specs.Parts.{EqualsNatural}
-use Rattle.natural_id.specs.Answers.{parts_view, IsWitness, IsSplit, ReadsBoth, IsLostNested}
-use Rattle.targets.specs.Targets.{OrMemory}
+use Rattle.natural_id.specs.Vocabulary.{EqualsNatural, parts_view, IsWitness, IsSplit, ReadsBoth, IsLostNested}
+use Rattle.targets.specs.Vocabulary.{OrMemory}
 use Rattle.natural_command.specs.Asking.{NaturalLists, natural_lists, AreNamed, IsNamesFault, IsListsFault}
 use Rattle.natural_command.specs.declared.asking.Question.{Question}
 use Rattle.natural_command.specs.declared.answer.Asked.{Asked}

@@ -1,10 +1,8 @@
 -- The names by which vertices are read where some of x are read at their second values.
 use Rattle.std.specs.Prelude.{ℕ, nat_lt, ◌&&◌, if◌then◌else◌, List, length, map}
-use Rattle.mixed_graph.specs.Bits.{has, members_below}
-use Rattle.mixed_graph.specs.Masks.{all}
-use Rattle.mixed_graph.specs.Names.{name_of}
-use Rattle.primed_names.specs.Primed.{primed_names}
-use Rattle.treated_models.specs.Primes.{prime_of}
+use Rattle.mixed_graph.specs.Vocabulary.{has, members_below, all, name_of}
+use Rattle.primed_names.specs.Vocabulary.{primed_names}
+use Rattle.treated_models.specs.Vocabulary.{prime_of}
 
 -- the place of v among so many names: a member of x that is read at its second value has that of its primed name, where there is one, and any other
 -- vertex its own

@@ -2,21 +2,16 @@
 use Rattle.std.specs.Prelude.{ℕ, Bool, true, false, List, [], ◌∷◌, ◌++◌, length, ◌==◌, if◌then◌else◌, codes}
 use Rattle.std.specs.List.{flat_map}
 use Rattle.answer_text.specs.declared.signs.Notation.{Notation}
-use Rattle.answer_text.specs.declared.signs.Notation.TheVariants as notations
 use Rattle.answer_text.specs.declared.signs.Sign.TheVariants.{Sum, Times}
-use Rattle.answer_text.specs.Notations.{sign_text}
-use Rattle.answer_text.specs.Texts.{names_in, member_names, set_in, set_text, term_in}
-use Rattle.mixed_graph.specs.Bits.{has, members_below}
-use Rattle.mixed_graph.specs.Masks.{all, is_empty, minus, union}
-use Rattle.prob_expr.specs.Tree.{PlainTarget, PlainFormula, effect_on, term_of}
-use Rattle.prob_expr.specs.View.{formula_view}
-use Rattle.expr_text.specs.Write.{expr_in, formula_in, text_of, wrapped}
+use Rattle.answer_text.specs.Vocabulary.{sign_text, names_in, member_names, set_in, set_text, term_in}
+use Rattle.answer_text.specs.declared.signs.Notation.TheVariants as notations
+use Rattle.mixed_graph.specs.Vocabulary.{has, members_below, all, is_empty, minus, union}
+use Rattle.prob_expr.specs.Vocabulary.{PlainTarget, PlainFormula, effect_on, term_of, formula_view}
+use Rattle.expr_text.specs.Vocabulary.{expr_in, formula_in, text_of, wrapped}
 use Rattle.hedge.specs.declared.hedge.Hedge.{Hedge}
 use Rattle.counter_models.specs.declared.counter_pair.CounterPair.{CounterPair}
-use Rattle.identify_text.specs.Answers.{answer_in, effect_term}
-use Rattle.identify_text.specs.ModelLines.{vertex_text}
-use Rattle.identify_text.specs.PairLines.{hedge_answer}
-use Rattle.primed_names.specs.Primed.{primed_names}
+use Rattle.identify_text.specs.Vocabulary.{answer_in, effect_term, vertex_text, hedge_answer}
+use Rattle.primed_names.specs.Vocabulary.{primed_names}
 use Rattle.told.specs.declared.form.Writing.{Writing}
 use Rattle.told.specs.declared.form.Writing.TheVariants.{Plain, Latex, Certificate}
 use Rattle.natural_id.specs.declared.answers.Part.{Part}

@@ -1,9 +1,9 @@
 //! The sets that the lists of a question name.
 
 ghost use Rattle.std.specs.Prelude.{◌≡◌, ◌++◌, None, IfOk, IfErr, OnOk};
-ghost use Rattle.mixed_graph.specs.Names.{texts, is_named};
-ghost use Rattle.targets.specs.Targets.{AreSets, IsListedSet, IsNameFault, first_fault};
-ghost use Rattle.diagram.specs.Sets.{lent};
+ghost use Rattle.mixed_graph.specs.Vocabulary.{texts, is_named};
+ghost use Rattle.targets.specs.Vocabulary.{AreSets, IsListedSet, IsNameFault, first_fault};
+ghost use Rattle.diagram.specs.Vocabulary.{lent};
 ghost use Rattle.natural_command.specs.Asking.{natural_lists, AreNamed, IsListsFaultOrMemory};
 
 use crate::fault::NaturalFault;

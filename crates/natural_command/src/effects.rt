@@ -2,7 +2,7 @@
 
 ghost use Rattle.std.specs.Prelude.{ℕ, List, [], ◌∷◌, ◌≡◌, ◌++◌, IfOk, OnOk};
 ghost use Rattle.natural_command.specs.Sentences.{list_text, group_text, under_text, given_text, effect_text, group_latex, given_latex, under_latex, effect_latex, effect_in};
-ghost use Rattle.primed_names.specs.Primed.{primed_names};
+ghost use Rattle.primed_names.specs.Vocabulary.{primed_names};
 
 use crate::answer::Asked;
 use answer_text::{Notation, push_set, push_set_in};

@@ -2,9 +2,9 @@
 
 ghost use Rattle.std.specs.Prelude.{◌≡◌, IfOk, OnOk};
 ghost use Rattle.std.specs.Str.{IsUtf8};
-ghost use Rattle.answer_text.specs.Lines.{line_of};
-ghost use Rattle.answer_json.specs.Progress.{json_line};
-ghost use Rattle.replies.specs.Told.{told_of};
+ghost use Rattle.answer_text.specs.Vocabulary.{line_of};
+ghost use Rattle.answer_json.specs.Vocabulary.{json_line};
+ghost use Rattle.replies.specs.Vocabulary.{told_of};
 ghost use Rattle.natural_command.specs.Faults.{after_text, after_json, many_text, many_json, empty_text, empty_json, IsAfterOrMemory};
 
 use answer_json::{bare_fault, text_fault};

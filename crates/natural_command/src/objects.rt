@@ -2,9 +2,9 @@
 
 ghost use Rattle.std.specs.Prelude.{◌≡◌, ◌∷◌, ◌++◌, codes, map, OnOk};
 ghost use Rattle.json.specs.Json.{boolean};
-ghost use Rattle.prob_expr.specs.View.{formula_view};
-ghost use Rattle.answer_json.specs.Progress.{with_member, with_members, with_value, with_values, array_of};
-ghost use Rattle.effect_answers.specs.Objects.{joint_json};
+ghost use Rattle.prob_expr.specs.Vocabulary.{formula_view};
+ghost use Rattle.answer_json.specs.Vocabulary.{with_member, with_members, with_value, with_values, array_of};
+ghost use Rattle.effect_answers.specs.Vocabulary.{joint_json};
 ghost use Rattle.natural_command.specs.Second.{names_read};
 ghost use Rattle.natural_command.specs.Sentences.{joint_of};
 ghost use Rattle.natural_command.specs.Objects.{question_members, way_members, asked_members, part_members, part_json, body_members, natural_members_of, hedge_members_of, excluded_members, witness_members, split_members};

@@ -1,13 +1,12 @@
 //! The answer of `natural`.
 
 ghost use Rattle.std.specs.Prelude.{◌<◌, ◌≤◌, ◌≡◌, Some, true, false, IfOk, IfErr};
-ghost use Rattle.mixed_graph.specs.Bits.{has};
-ghost use Rattle.mixed_graph.specs.Shown.{graph_of};
-ghost use Rattle.do_rules.specs.Rules.{AreFourSets};
-ghost use Rattle.replies.specs.Told.{told_of};
-ghost use Rattle.told.specs.Telling.{Tells};
-ghost use Rattle.treated_models.specs.Primes.{name_count};
-ghost use Rattle.nested_models.specs.Nested.{HasNoIndirectPath, HasNoDirectPath};
+ghost use Rattle.mixed_graph.specs.Vocabulary.{has, graph_of};
+ghost use Rattle.do_rules.specs.Vocabulary.{AreFourSets};
+ghost use Rattle.replies.specs.Vocabulary.{told_of};
+ghost use Rattle.told.specs.Vocabulary.{Tells};
+ghost use Rattle.treated_models.specs.Vocabulary.{name_count};
+ghost use Rattle.nested_models.specs.Vocabulary.{HasNoIndirectPath, HasNoDirectPath};
 ghost use Rattle.natural_command.specs.Asking.{natural_lists};
 ghost use Rattle.natural_command.specs.Faults.{natural_refusal};
 ghost use Rattle.natural_command.specs.Requests.{request_of};

@@ -1,8 +1,7 @@
 //! What `natural` is asked.
 
 ghost use Rattle.std.specs.Prelude.{◌≡◌, List, IfOk, IfSome, IfNone, IsErrOf};
-ghost use Rattle.command_words.specs.Form.{Use};
-ghost use Rattle.command_words.specs.Gives.{HoldsCall};
+ghost use Rattle.command_words.specs.Vocabulary.{Use, HoldsCall};
 ghost use Rattle.told.specs.declared.form.Writing as asked;
 ghost use Rattle.natural_command.specs.Requests.{IsWriting};
 

@@ -1,10 +1,8 @@
 //! The names by which vertices are read where some of x are read at their second values.
 
 ghost use Rattle.std.specs.Prelude.{◌≡◌, ◌<◌, ◌≤◌, ◌++◌, ◌∷◌, [], false, length, IfOk, OnOk};
-ghost use Rattle.mixed_graph.specs.Bits.{has, members_below};
-ghost use Rattle.mixed_graph.specs.Names.{IsName, is_named, name_of};
-ghost use Rattle.mixed_graph.specs.Masks.{all};
-ghost use Rattle.treated_models.specs.Primes.{prime_of};
+ghost use Rattle.mixed_graph.specs.Vocabulary.{has, members_below, IsName, is_named, name_of, all};
+ghost use Rattle.treated_models.specs.Vocabulary.{prime_of};
 ghost use Rattle.natural_command.specs.Second.{place_read, names_read};
 
 use mixed_graph::{AddFault, Names, VSet};

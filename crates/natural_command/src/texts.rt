@@ -2,10 +2,11 @@
 
 ghost use Rattle.std.specs.Prelude.{◌≡◌, ◌++◌, IfOk, OnOk, Bool, false};
 ghost use Rattle.std.specs.List.{flat_map};
-ghost use Rattle.prob_expr.specs.View.{formula_view, target_view, view};
-ghost use Rattle.expr_text.specs.Write.{expr_in, formula_in, wrapped, parenthesized};
-ghost use Rattle.mixed_graph.specs.Bits.{has};
-ghost use Rattle.answer_text.specs.Texts.{term_in};
+ghost use Rattle.prob_expr.specs.View.{view};
+ghost use Rattle.prob_expr.specs.Vocabulary.{formula_view, target_view};
+ghost use Rattle.expr_text.specs.Vocabulary.{expr_in, formula_in, wrapped, parenthesized};
+ghost use Rattle.mixed_graph.specs.Vocabulary.{has};
+ghost use Rattle.answer_text.specs.Vocabulary.{term_in};
 ghost use Rattle.natural_command.specs.Second.{names_read};
 ghost use Rattle.natural_command.specs.Sentences.{notation_of, district_effect, is_defined, operand_in, part_in, times_before, parts_in, summed_in, sum_in, over_in, body_in, equation_in, part_lines, no_path_text, indirect_line, direct_line, nil_lines, formula_text, joint_of, excluded_text, read_twice_text, reads_text, witness_text, split_text};
 

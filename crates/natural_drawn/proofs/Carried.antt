@@ -1,24 +1,23 @@
 -- A nested effect has one value in a model of the diagram as drawn and in one that folds it.
 use Rattle.std.proofs.Common.{ℕ, ◌*◌, ◌≡◌, ◌<◌, ◌≤◌, Bool, false, not, refl, sym, ap, ◌∙◌, subst, mul-pos, arith}
-use Rattle.mixed_graph.specs.Bits.{has}
-use Rattle.mixed_graph.specs.Graphs.{MixedGraph, IsMixedGraph}
-use Rattle.fractions.specs.Fractions.{IsEqual}
-use Rattle.finite_models.specs.Models.{FiniteModel, Fits, IsAssignment, IsPositiveModel, event_weight, total}
+use Rattle.mixed_graph.specs.Vocabulary.{has, MixedGraph, IsMixedGraph}
+use Rattle.fractions.specs.Vocabulary.{IsEqual}
+use Rattle.finite_models.specs.Vocabulary.{FiniteModel, Fits, IsAssignment, IsPositiveModel, event_weight, total}
 use Rattle.finite_models.proofs.Following.{follows_of}
 use Rattle.finite_models.proofs.Positive.{positive_weight}
 use Rattle.finite_models.proofs.Weights.{weight_of-none}
-use Rattle.latent_projection.specs.Renumbering.{IsObserved}
+use Rattle.latent_projection.specs.Vocabulary.{IsObserved}
 use Rattle.prob_expr.proofs.Alike.{left_positive}
-use Rattle.hidden_models.specs.Folding.{IsObservedPositive, set_before, values_before, drawn_weights}
+use Rattle.hidden_models.specs.Vocabulary.{IsObservedPositive, set_before, values_before, drawn_weights}
 use Rattle.hidden_models.proofs.Drawn.{drawn_weight, folded_is_positive}
 use Rattle.hidden_models.proofs.Statements.{one_fraction}
 use Rattle.hidden_models.proofs.Totals.{total_positive}
-use Rattle.treated_models.specs.Primes.{as_observed}
+use Rattle.treated_models.specs.Vocabulary.{as_observed}
 use Rattle.treated_models.proofs.Primes.{plain_within, observed_within}
-use Rattle.treated_drawn.specs.Drawn.{observed_count, drawn_with_primes}
+use Rattle.treated_drawn.specs.Vocabulary.{observed_count, drawn_with_primes}
 use Rattle.treated_drawn.proofs.Both.{no_member}
 use Rattle.treated_drawn.proofs.Among.{q_mixed, into}
-use Rattle.nested_models.specs.Nested.{weight_of_nested, nested_effect}
+use Rattle.nested_models.specs.Vocabulary.{weight_of_nested, nested_effect}
 use Rattle.natural_drawn.specs.Drawn.{FoldsNested, drawn_nested, drawn_nested_effect}
 
 module _ (g : MixedGraph) (ok : IsMixedGraph g) (l : ℕ → Bool) (q : MixedGraph) (is : IsObserved g l q) (w w' : FiniteModel) (fit : Fits g w)

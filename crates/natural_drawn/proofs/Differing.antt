@@ -1,24 +1,19 @@
 -- Two models of the observed graph that differ on a nested effect show it of the diagram as drawn.
 use Rattle.std.proofs.Common.{ℕ, ◌≡◌, ◌<◌, Bool, true, sym, subst}
-use Rattle.mixed_graph.specs.Bits.{has}
-use Rattle.mixed_graph.specs.Graphs.{MixedGraph, IsMixedGraph}
+use Rattle.mixed_graph.specs.Vocabulary.{has, MixedGraph, IsMixedGraph}
 use Rattle.fractions.proofs.FractionLaws.{equal_sym, equal_trans}
-use Rattle.finite_models.specs.Models.{FiniteModel, Fits, IsAssignment, IsPositiveModel}
-use Rattle.finite_models.specs.Served.{ServesTwo}
-use Rattle.latent_projection.specs.Renumbering.{IsObserved}
-use Rattle.prob_expr.specs.Tree.{PlainFormula}
-use Rattle.prob_expr.specs.Values.{value_of}
+use Rattle.finite_models.specs.Vocabulary.{FiniteModel, Fits, IsAssignment, IsPositiveModel, ServesTwo}
+use Rattle.latent_projection.specs.Vocabulary.{IsObserved}
+use Rattle.prob_expr.specs.Vocabulary.{PlainFormula, value_of}
 use Rattle.prob_expr.proofs.Allowed.{in_second}
-use Rattle.hidden_models.specs.Folding.{IsObservedPositive, drawn_weights}
-use Rattle.hidden_models.specs.Unfolding.{IsFoldedFrom, AgreeAsDrawn}
+use Rattle.hidden_models.specs.Vocabulary.{IsObservedPositive, drawn_weights, IsFoldedFrom, AgreeAsDrawn}
 use Rattle.hidden_models.proofs.Drawing.{each_is_folded, unfolded_is_positive, agree_drawn}
-use Rattle.treated_models.specs.NamedOnce.{FormulaNamesOnce}
-use Rattle.treated_models.specs.Primes.{as_observed, with_primes}
-use Rattle.treated_drawn.specs.Drawn.{observed_count, drawn_with_primes}
+use Rattle.treated_models.specs.Vocabulary.{FormulaNamesOnce, as_observed, with_primes}
+use Rattle.treated_drawn.specs.Vocabulary.{observed_count, drawn_with_primes}
 use Rattle.treated_drawn.proofs.Among.{q_mixed, back, one_value}
-use Rattle.nested_models.specs.Nested.{nested_effect}
+use Rattle.nested_models.specs.Vocabulary.{nested_effect}
 use Rattle.nested_models.proofs.NoFormula.{EqualsIn, not_in_both}
-use Rattle.twisted_models.specs.Pairs.{DifferOnNested}
+use Rattle.twisted_models.specs.Vocabulary.{DifferOnNested}
 use Rattle.natural_drawn.specs.Drawn.{FoldsNested, drawn_nested_effect, EqualsNestedAsDrawn, HasNoFormulaNestedAsDrawn, DifferNestedAsDrawn}
 use Rattle.natural_drawn.specs.Laws.{NestedDifferenceIsDrawn}
 use Rattle.natural_drawn.proofs.Carried.{one_nested, one_named}

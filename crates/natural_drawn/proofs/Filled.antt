@@ -1,9 +1,7 @@
 -- With the hidden mechanisms put into the observed ones each nested event has its weight.
 use Rattle.std.proofs.Common.{ℕ, ◌≡◌, ◌<◌, Bool, true, false, cond, eqb, refl, sym, ap, ap₂, ◌∙◌, ◌||◌, ◌&&◌, arith, eqb-true, eq-eqb}
-use Rattle.mixed_graph.specs.Graphs.{MixedGraph, IsMixedGraph}
-use Rattle.mixed_graph.specs.Sets.{Apart}
-use Rattle.finite_models.specs.Sums.{set_at}
-use Rattle.finite_models.specs.Models.{FiniteModel, IsAssignment, solution, agree, intervene, world_weight}
+use Rattle.mixed_graph.specs.Vocabulary.{MixedGraph, IsMixedGraph, Apart}
+use Rattle.finite_models.specs.Vocabulary.{set_at, FiniteModel, IsAssignment, solution, agree, intervene, world_weight}
 use Rattle.finite_models.proofs.Bools.{either, not_both}
 use Rattle.finite_models.proofs.Following.{Follows, follows_intervene, intervene_alike}
 use Rattle.finite_models.proofs.Ranks.{with_rank}
@@ -14,7 +12,8 @@ use Rattle.prob_expr.proofs.Boxes.{assignment_set}
 use Rattle.hidden_models.proofs.Fold.{fold_follows, same_agree}
 use Rattle.hidden_models.proofs.FoldingLaw.{fold, TellsReached}
 use Rattle.treated_drawn.proofs.Both.{solution_none, nothing}
-use Rattle.nested_models.specs.Nested.{nested, is_nested, weight_of_nested}
+use Rattle.nested_models.specs.Nested.{nested}
+use Rattle.nested_models.specs.Vocabulary.{is_nested, weight_of_nested}
 use Rattle.natural_drawn.proofs.Worlds.{set_value, same_rounds}
 
 module _ (g p : MixedGraph) (l : ℕ → Bool) (w : FiniteModel) (r : ℕ → ℕ → Bool) (ok : IsMixedGraph g) (p_ok : IsMixedGraph p) (is : ProjectsByTreks g l p)

@@ -1,19 +1,17 @@
 -- Every model has one of the observed graph that folds it, nested events too.
 use Rattle.std.proofs.Common.{ℕ, ◌*◌, ◌≡◌, Bool, true, not, sym, ap, ◌∙◌, subst}
-use Rattle.mixed_graph.specs.Graphs.{MixedGraph, IsMixedGraph}
-use Rattle.mixed_graph.specs.Sets.{Apart}
-use Rattle.finite_models.specs.Models.{FiniteModel, Fits, IsAssignment, total}
+use Rattle.mixed_graph.specs.Vocabulary.{MixedGraph, IsMixedGraph, Apart}
+use Rattle.finite_models.specs.Vocabulary.{FiniteModel, Fits, IsAssignment, total}
 use Rattle.finite_models.proofs.Following.{Follows, follows_of}
 use Rattle.finite_models.proofs.Ranks.{with_rank}
-use Rattle.latent_projection.specs.Projection.{IsProjection}
-use Rattle.latent_projection.specs.Renumbering.{observed_below, renumbered}
+use Rattle.latent_projection.specs.Vocabulary.{IsProjection, observed_below, renumbered}
 use Rattle.latent_projection.proofs.Numbering.{IsMixedGraph-renumbered}
 use Rattle.hidden_models.proofs.Folded.{by_fits, by_folds, p_ok, p_fit, p_tail, inside}
 use Rattle.hidden_models.proofs.FoldingLaw.{fold, folded_by, TellsReached, KeepsCauses, by_treks, set_in, values_in}
 use Rattle.hidden_models.proofs.ReachingLaw.{reached, reaches_some, tells_reached, keeps_causes}
 use Rattle.hidden_models.proofs.Renumber.{within}
 use Rattle.treated_drawn.proofs.Both.{both_folded}
-use Rattle.nested_models.specs.Nested.{weight_of_nested}
+use Rattle.nested_models.specs.Vocabulary.{weight_of_nested}
 use Rattle.natural_drawn.specs.Laws.{EachHasNestedFolded}
 use Rattle.natural_drawn.proofs.Filled.{fold_nested}
 use Rattle.natural_drawn.proofs.Kept.{kept_nested}

@@ -1,25 +1,23 @@
 -- A formula that equals a nested effect in the observed graph equals it in the diagram as drawn.
 use Rattle.std.proofs.Common.{ℕ, ◌≡◌, ◌<◌, Bool, true, false, not, cond, sym, subst, mul-pos, List, [], ◌∷◌, arith, ◌||◌}
-use Rattle.mixed_graph.specs.Bits.{has}
-use Rattle.mixed_graph.specs.Graphs.{MixedGraph, IsMixedGraph}
-use Rattle.fractions.specs.Fractions.{over, IsEqual}
+use Rattle.mixed_graph.specs.Vocabulary.{has, MixedGraph, IsMixedGraph}
+use Rattle.fractions.specs.Vocabulary.{over, IsEqual}
 use Rattle.fractions.proofs.FractionLaws.{equal_refl, equal_trans, mul_equal, div_equal}
-use Rattle.finite_models.specs.Models.{FiniteModel, Fits, IsAssignment, total}
-use Rattle.latent_projection.specs.Renumbering.{IsObserved}
-use Rattle.prob_expr.specs.Tree.{PlainFormula}
-use Rattle.prob_expr.specs.Values.{weights_of, value_of, add_over, term_value}
+use Rattle.finite_models.specs.Vocabulary.{FiniteModel, Fits, IsAssignment, total}
+use Rattle.latent_projection.specs.Vocabulary.{IsObserved}
+use Rattle.prob_expr.specs.Vocabulary.{PlainFormula, weights_of, value_of, add_over, term_value}
 use Rattle.prob_expr.proofs.Alike.{Events, formula_alike, asks_any, all_ask_any}
 use Rattle.prob_expr.proofs.Boxes.{assignment_set, add_over_equal}
-use Rattle.hidden_models.specs.Folding.{IsObservedPositive, drawn_weights}
+use Rattle.hidden_models.specs.Vocabulary.{IsObservedPositive, drawn_weights}
 use Rattle.hidden_models.proofs.Drawn.{drawn_weight, drawn_positive, keeps_term}
 use Rattle.hidden_models.proofs.FoldingLaw.{member}
 use Rattle.hidden_models.proofs.Positions.{member_is}
 use Rattle.hidden_models.proofs.Totals.{total_positive}
-use Rattle.treated_models.specs.Primes.{as_observed, with_primes}
-use Rattle.treated_drawn.specs.Drawn.{observed_count, drawn_with_primes}
+use Rattle.treated_models.specs.Vocabulary.{as_observed, with_primes}
+use Rattle.treated_drawn.specs.Vocabulary.{observed_count, drawn_with_primes}
 use Rattle.treated_drawn.proofs.Among.{into, one_value}
-use Rattle.nested_models.specs.Nested.{nested_effect}
-use Rattle.natural_id.specs.Parts.{PlainPart, parts_value, natural_value}
+use Rattle.nested_models.specs.Vocabulary.{nested_effect}
+use Rattle.natural_id.specs.Vocabulary.{PlainPart, parts_value, natural_value}
 use Rattle.natural_drawn.specs.Drawn.{FoldsNested, drawn_nested_effect, drawn_parts_value, drawn_natural_value}
 use Rattle.natural_drawn.specs.Laws.{RightPartsAreDrawn, RightNestedIsDrawn}
 use Rattle.natural_drawn.proofs.Carried.{inside, positive, one_nested, one_named}

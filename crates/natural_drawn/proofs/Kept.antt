@@ -2,23 +2,22 @@
 use Rattle.std.proofs.Common.{ℕ, ◌*◌, ◌≡◌, ◌<◌, Bool, true, false, not, cond, eqb, refl, sym, ap, ap₂, ◌∙◌, ◌||◌, ◌&&◌, arith, eqb-true, eq-eqb}
 use Rattle.std.proofs.lemmas.Bool.{and_from}
 use mathlib.Core.Path.{fun_ext}
-use Rattle.mixed_graph.specs.Bits.{members_below}
-use Rattle.mixed_graph.specs.Graphs.{MixedGraph, IsMixedGraph}
-use Rattle.finite_models.specs.Sums.{set_at}
-use Rattle.finite_models.specs.Models.{FiniteModel, IsAssignment, solution, agree, intervene, world_weight, total}
+use Rattle.mixed_graph.specs.Vocabulary.{members_below, MixedGraph, IsMixedGraph}
+use Rattle.finite_models.specs.Vocabulary.{set_at, FiniteModel, IsAssignment, solution, agree, intervene, world_weight, total}
 use Rattle.finite_models.proofs.Bools.{and_first, and_second, not_both, same_truth}
 use Rattle.finite_models.proofs.Following.{Follows, follows_intervene, intervene_alike}
 use Rattle.finite_models.proofs.Indicators.{number, cond-number}
 use Rattle.finite_models.proofs.Solutions.{IsRanked, solution_within, agree_from, agree_gives, agree_same}
 use Rattle.finite_models.proofs.SumLaws.{Ignores, over-congr, over-congr_within, set_at-same, set_at-other}
-use Rattle.latent_projection.specs.Renumbering.{renumbered}
+use Rattle.latent_projection.specs.Vocabulary.{renumbered}
 use Rattle.prob_expr.proofs.Boxes.{assignment_set}
 use Rattle.hidden_models.proofs.FoldingLaw.{position, member, kept, set_in, values_in, KeepsCauses}
 use Rattle.hidden_models.proofs.Folds.{sides, rest_total, total_kept}
 use Rattle.hidden_models.proofs.Positions.{IsMember, position_lt, member_position, member_is, spread}
 use Rattle.hidden_models.proofs.Renumber.{follows_kept, same_agree}
 use Rattle.treated_drawn.proofs.Both.{solution_none, no_member}
-use Rattle.nested_models.specs.Nested.{nested, is_nested, weight_of_nested}
+use Rattle.nested_models.specs.Nested.{nested}
+use Rattle.nested_models.specs.Vocabulary.{is_nested, weight_of_nested}
 use Rattle.natural_drawn.proofs.Worlds.{set_value, set_union, agree_kept, same_rounds, same_nested}
 
 module _ (p : MixedGraph) (w : FiniteModel) (o j : ℕ → Bool) (ok : IsMixedGraph p) (follows : Follows p w) (tail : (a b : ℕ) → p.arrow a b ≡ true → o a ≡ true)

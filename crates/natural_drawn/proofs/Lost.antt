@@ -2,29 +2,26 @@
 use Rattle.std.proofs.Common.{ℕ, ◌*◌, ◌≡◌, ◌<◌, Bool, true, false, cond, refl, sym, ap, ap₂, ◌∙◌, ◌||◌, ◌&&◌, subst, arith}
 use Rattle.std.proofs.lemmas.Bool.{cond-true, cond-false}
 use Rattle.std.proofs.Math.Nat.{eq_of_mul-eq-mul_left}
-use Rattle.mixed_graph.specs.Bits.{has}
-use Rattle.mixed_graph.specs.Graphs.{MixedGraph, IsMixedGraph}
-use Rattle.mixed_graph.specs.Masks.{union}
-use Rattle.fractions.specs.Fractions.{Fraction, IsEqual, over}
+use Rattle.mixed_graph.specs.Vocabulary.{has, MixedGraph, IsMixedGraph, union}
+use Rattle.fractions.specs.Vocabulary.{Fraction, IsEqual, over}
 use Rattle.fractions.proofs.FractionLaws.{equal_sym, equal_trans}
-use Rattle.finite_models.specs.Agreement.{AgreeObserved}
-use Rattle.finite_models.specs.Models.{FiniteModel, Fits, IsAssignment, solution, agree, event_weight, weight_of, world_weight, total}
+use Rattle.finite_models.specs.Vocabulary.{AgreeObserved, FiniteModel, Fits, IsAssignment, solution, agree, event_weight, weight_of, world_weight, total}
 use Rattle.finite_models.proofs.Bools.{same_truth}
 use Rattle.finite_models.proofs.Following.{follows_of}
 use Rattle.finite_models.proofs.Solutions.{agree_from, agree_gives}
 use Rattle.finite_models.proofs.SumLaws.{over-congr}
 use Rattle.finite_models.proofs.Weights.{weight_of-none}
-use Rattle.latent_projection.specs.Renumbering.{IsObserved}
-use Rattle.prob_expr.specs.Tree.{effect_on}
-use Rattle.prob_expr.specs.Values.{value_of}
+use Rattle.latent_projection.specs.Vocabulary.{IsObserved}
+use Rattle.prob_expr.specs.Vocabulary.{effect_on, value_of}
 use Rattle.prob_expr.proofs.Allowed.{events_under, in_second}
-use Rattle.hidden_models.specs.Unfolding.{NotIdentifiableAsDrawn, DifferOnAsDrawn}
-use Rattle.treated_models.specs.Primes.{prime_of, vertex_of, as_observed}
+use Rattle.hidden_models.specs.Vocabulary.{NotIdentifiableAsDrawn, DifferOnAsDrawn}
+use Rattle.treated_models.specs.Vocabulary.{prime_of, vertex_of, as_observed}
 use Rattle.treated_models.proofs.NamedOnce.{vertex_low}
 use Rattle.treated_models.proofs.Primes.{vertex_plain, vertex_primed}
-use Rattle.treated_drawn.specs.Drawn.{observed_count, drawn_with_primes}
+use Rattle.treated_drawn.specs.Vocabulary.{observed_count, drawn_with_primes}
 use Rattle.treated_drawn.proofs.Among.{q_mixed, agreed, second_names, one_formula, difference, no_one_weight}
-use Rattle.nested_models.specs.Nested.{nested, is_nested, nested_effect, IsNestedQuery}
+use Rattle.nested_models.specs.Nested.{nested}
+use Rattle.nested_models.specs.Vocabulary.{is_nested, nested_effect, IsNestedQuery}
 use Rattle.nested_models.proofs.Effects.{one_value_is_effect}
 use Rattle.natural_drawn.specs.Drawn.{FoldsNested, drawn_nested_effect, HasNoFormulaNestedAsDrawn, DifferNestedAsDrawn}
 use Rattle.natural_drawn.specs.Laws.{NestedLostIsDrawn}

@@ -1,16 +1,15 @@
 -- Where no path leads through m, or none past it, an effect is nil in the diagram as drawn.
 use Rattle.std.proofs.Common.{ℕ, ◌*◌, ◌≡◌, ◌<◌, Bool, true, false, cond, sym, ap, ◌∙◌, ◌||◌, arith}
 use Rattle.std.proofs.Math.Nat.{eq_of_mul-eq-mul_left}
-use Rattle.mixed_graph.specs.Bits.{has}
-use Rattle.mixed_graph.specs.Graphs.{MixedGraph, IsMixedGraph}
-use Rattle.finite_models.specs.Models.{FiniteModel, Fits, IsAssignment, weight_of, total}
-use Rattle.latent_projection.specs.Renumbering.{IsObserved}
-use Rattle.hidden_models.specs.Folding.{drawn_weights}
+use Rattle.mixed_graph.specs.Vocabulary.{has, MixedGraph, IsMixedGraph}
+use Rattle.finite_models.specs.Vocabulary.{FiniteModel, Fits, IsAssignment, weight_of, total}
+use Rattle.latent_projection.specs.Vocabulary.{IsObserved}
+use Rattle.hidden_models.specs.Vocabulary.{drawn_weights}
 use Rattle.hidden_models.proofs.Drawn.{drawn_weight}
 use Rattle.hidden_models.proofs.Totals.{total_positive}
-use Rattle.treated_models.specs.Treated.{joined}
+use Rattle.treated_models.specs.Vocabulary.{joined}
 use Rattle.treated_drawn.proofs.Among.{q_mixed}
-use Rattle.nested_models.specs.Nested.{weight_of_nested}
+use Rattle.nested_models.specs.Vocabulary.{weight_of_nested}
 use Rattle.nested_models.proofs.Effects.{no_indirect_path_is_effect, no_direct_path_is_effect}
 use Rattle.natural_drawn.specs.Drawn.{FoldsNested, drawn_nested}
 use Rattle.natural_drawn.specs.Laws.{NoIndirectPathIsDrawn, NoDirectPathIsDrawn}

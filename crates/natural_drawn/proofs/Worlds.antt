@@ -1,7 +1,7 @@
 -- What the values of a world rest on.
 use Rattle.std.proofs.Common.{ℕ, zero, suc, ◌≡◌, ◌<◌, Bool, true, false, cond, refl, sym, ap, ◌∙◌, arith, ◌||◌, ◌&&◌}
-use Rattle.mixed_graph.specs.Graphs.{MixedGraph, IsMixedGraph}
-use Rattle.finite_models.specs.Models.{FiniteModel, rounds, solution, agree, intervene}
+use Rattle.mixed_graph.specs.Vocabulary.{MixedGraph, IsMixedGraph}
+use Rattle.finite_models.specs.Vocabulary.{FiniteModel, rounds, solution, agree, intervene}
 use Rattle.finite_models.proofs.Bools.{and_first, and_second, same_truth}
 use Rattle.finite_models.proofs.Following.{Follows}
 use Rattle.finite_models.proofs.Solutions.{agree_from, agree_gives}

@@ -1,21 +1,15 @@
 -- Nested effects, what y would be under do(x), were m as under another do(x) (Robins and Greenland 1992; Pearl 2001; Causality, chapter 4.5), in the
 -- models of a diagram with hidden vertices. Vertices and names are those of the observed graph, in their new numbers.
 use Rattle.std.specs.Prelude.{ℕ, ◌*◌, ◌≡◌, Bool, ◌||◌, if◌then◌else◌, List, [], ◌∷◌}
-use Rattle.mixed_graph.specs.Bits.{has}
-use Rattle.mixed_graph.specs.Graphs.{MixedGraph}
-use Rattle.mixed_graph.specs.Masks.{union}
-use Rattle.fractions.specs.Fractions.{Fraction, over, mul, div, IsEqual}
-use Rattle.finite_models.specs.Models.{FiniteModel, Fits, IsAssignment, total}
-use Rattle.prob_expr.specs.Tree.{PlainFormula, effect_on}
-use Rattle.prob_expr.specs.Values.{value_of, add_over, term_value}
-use Rattle.hidden_models.specs.Folding.{IsObservedPositive, set_before, values_before, drawn_weights}
-use Rattle.hidden_models.specs.Unfolding.{AgreeAsDrawn, NotIdentifiableAsDrawn}
-use Rattle.treated_models.specs.NamedOnce.{FormulaNamesOnce}
-use Rattle.treated_models.specs.Primes.{as_observed}
-use Rattle.treated_models.specs.Treated.{joined}
-use Rattle.treated_drawn.specs.Drawn.{observed_count, drawn_with_primes, FoldsBoth}
-use Rattle.nested_models.specs.Nested.{weight_of_nested, nested_effect}
-use Rattle.natural_id.specs.Parts.{PlainPart}
+use Rattle.mixed_graph.specs.Vocabulary.{has, MixedGraph, union}
+use Rattle.fractions.specs.Vocabulary.{Fraction, over, mul, div, IsEqual}
+use Rattle.finite_models.specs.Vocabulary.{FiniteModel, Fits, IsAssignment, total}
+use Rattle.prob_expr.specs.Vocabulary.{PlainFormula, effect_on, value_of, add_over, term_value}
+use Rattle.hidden_models.specs.Vocabulary.{IsObservedPositive, set_before, values_before, drawn_weights, AgreeAsDrawn, NotIdentifiableAsDrawn}
+use Rattle.treated_models.specs.Vocabulary.{FormulaNamesOnce, as_observed, joined}
+use Rattle.treated_drawn.specs.Vocabulary.{observed_count, drawn_with_primes, FoldsBoth}
+use Rattle.nested_models.specs.Vocabulary.{weight_of_nested, nested_effect}
+use Rattle.natural_id.specs.Vocabulary.{PlainPart}
 
 -- ---- nested events
 

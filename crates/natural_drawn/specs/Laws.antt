@@ -1,17 +1,14 @@
 -- What is true of nested effects in the diagram as drawn.
 use Rattle.std.specs.Prelude.{ℕ, ◌≡◌, ◌<◌, Bool, true, List}
-use Rattle.mixed_graph.specs.Bits.{has}
-use Rattle.mixed_graph.specs.Graphs.{MixedGraph, IsMixedGraph}
-use Rattle.mixed_graph.specs.Masks.{union}
-use Rattle.finite_models.specs.Models.{FiniteModel, Fits}
-use Rattle.latent_projection.specs.Renumbering.{IsObserved}
-use Rattle.prob_expr.specs.Tree.{PlainFormula, effect_on}
-use Rattle.hidden_models.specs.Unfolding.{NotIdentifiableAsDrawn}
-use Rattle.treated_models.specs.NamedOnce.{FormulaNamesOnce}
-use Rattle.nested_models.specs.Nested.{IsNestedQuery, HasNoIndirectPath, HasNoDirectPath}
-use Rattle.nested_models.specs.NoFormula.{EqualsNested}
-use Rattle.natural_id.specs.Parts.{PlainPart, EqualsNatural}
-use Rattle.twisted_models.specs.Pairs.{DifferOnNested}
+use Rattle.mixed_graph.specs.Vocabulary.{has, MixedGraph, IsMixedGraph, union}
+use Rattle.finite_models.specs.Vocabulary.{FiniteModel, Fits}
+use Rattle.latent_projection.specs.Vocabulary.{IsObserved}
+use Rattle.prob_expr.specs.Vocabulary.{PlainFormula, effect_on}
+use Rattle.hidden_models.specs.Vocabulary.{NotIdentifiableAsDrawn}
+use Rattle.treated_models.specs.Vocabulary.{FormulaNamesOnce}
+use Rattle.nested_models.specs.Vocabulary.{IsNestedQuery, HasNoIndirectPath, HasNoDirectPath, EqualsNested}
+use Rattle.natural_id.specs.Vocabulary.{PlainPart, EqualsNatural}
+use Rattle.twisted_models.specs.Vocabulary.{DifferOnNested}
 use Rattle.natural_drawn.specs.Drawn.{FoldsNested, EqualsNaturalAsDrawn, EqualsNestedAsDrawn, IsLostNestedAsDrawn, DifferOnNestedAsDrawn}
 use Rattle.natural_drawn.specs.Drawn.{IsIndirectNilAsDrawn, IsDirectNilAsDrawn}
 

@@ -2,26 +2,22 @@
 use Rattle.std.proofs.Common.{ℕ, ◌*◌, ◌≡◌, ◌≢◌, ◌<◌, ◌^◌, ◌↔◌, Bool, true, false, sym, ap, ◌∙◌, ◌&&◌, subst, List, [], ◌∷◌, arith, suc, inl, inr}
 use Rattle.std.specs.Prelude.{All}
 use mathlib.Core.Path.{fun_ext}
-use Rattle.mixed_graph.specs.Bits.{has}
-use Rattle.mixed_graph.specs.Graphs.{MixedGraph, IsMixedGraph}
-use Rattle.mixed_graph.specs.Masks.{union, minus, all}
+use Rattle.mixed_graph.specs.Vocabulary.{has, MixedGraph, IsMixedGraph, union, minus, all}
 use Rattle.mixed_graph.proofs.Masks.{has-zero, positive_from_has, some_member}
 use Rattle.mixed_graph.proofs.MaskLaws.{has_join}
-use Rattle.finite_models.specs.Data.{meaning}
-use Rattle.finite_models.specs.Models.{weight_of, total}
+use Rattle.finite_models.specs.Vocabulary.{meaning, weight_of, total}
 use Rattle.finite_models.proofs.Bools.{not_both}
-use Rattle.hedge.specs.Linked.{IsSetOf, IsInOne, IsMaximalJoined, IsPartition, AreDistrictsOf}
-use Rattle.hedge.proofs.Collecting.{parts_from}
 use Rattle.hedge.specs.declared.hedge.Hedge.{Hedge}
-use Rattle.counter_models.specs.Events.{AreCounterModels}
+use Rattle.hedge.specs.Vocabulary.{IsSetOf, IsInOne, IsMaximalJoined, IsPartition, AreDistrictsOf}
+use Rattle.hedge.proofs.Collecting.{parts_from}
 use Rattle.counter_models.specs.declared.counter_pair.CounterPair.{CounterPair}
-use Rattle.identification_theory.specs.Procedure.{AreAncestorsIn}
+use Rattle.counter_models.specs.Vocabulary.{AreCounterModels}
+use Rattle.identification_theory.specs.Vocabulary.{AreAncestorsIn}
 use Rattle.identification_theory.proofs.Unique.{one_set}
-use Rattle.identify.specs.Answers.{IsRightHedge}
-use Rattle.nested_models.specs.Nested.{LeadsPast, LeadsThrough}
-use Rattle.nested_models.specs.NoFormula.{HasNoFormulaNested}
+use Rattle.identify.specs.Vocabulary.{IsRightHedge}
+use Rattle.nested_models.specs.Vocabulary.{LeadsPast, LeadsThrough, HasNoFormulaNested}
 use Rattle.nested_models.proofs.NoFormula.{difference_excludes_nested, effect_excludes_nested}
-use Rattle.twisted_models.specs.Pairs.{DifferOnNested}
+use Rattle.twisted_models.specs.Vocabulary.{DifferOnNested}
 use Rattle.carrying_models.proofs.Differing.{witness_differs, split_differs}
 use Rattle.natural_id.specs.declared.answers.Split.{Split}
 use Rattle.natural_id.specs.declared.answers.Witness.{Witness}

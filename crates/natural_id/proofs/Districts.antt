@@ -1,18 +1,16 @@
 -- The districts of what leads to y and z outside x.
 use Rattle.std.proofs.Common.{ℕ, ◌≡◌, ◌<◌, Bool, true, false, not, refl, sym, ap, ◌∙◌, ◌||◌, ◌&&◌, arith, List, [], ◌∷◌, inl, inr, ◌⊎◌}
 use Rattle.std.proofs.lemmas.Bool.{and_from, false_from_ne_true}
-use Rattle.mixed_graph.specs.Bits.{has}
-use Rattle.mixed_graph.specs.Graphs.{MixedGraph, IsMixedGraph, IsDirectedPath, induced}
-use Rattle.mixed_graph.specs.Masks.{union, minus, all}
+use Rattle.mixed_graph.specs.Vocabulary.{has, MixedGraph, IsMixedGraph, IsDirectedPath, induced, union, minus, all}
 use Rattle.mixed_graph.proofs.MaskLaws.{has_join, has_minus}
 use Rattle.finite_models.proofs.Bools.{and_first, and_second, not_both, same_truth}
-use Rattle.hedge.specs.Linked.{IsInOne, AreApart, IsPartition}
+use Rattle.hedge.specs.Vocabulary.{IsInOne, AreApart, IsPartition}
 use Rattle.hedge.proofs.Collecting.{parts_from}
-use Rattle.do_rules.specs.Cuts.{cut_out}
-use Rattle.identification_theory.specs.Procedure.{AreAncestorsIn}
+use Rattle.do_rules.specs.Vocabulary.{cut_out}
+use Rattle.identification_theory.specs.Vocabulary.{AreAncestorsIn}
 use Rattle.identification_theory.proofs.Groups.{AreParts, are_parts}
 use Rattle.identification_theory.proofs.Sets.{all-is}
-use Rattle.treated_models.specs.Treated.{is_in, AreUnjoined, AreFree}
+use Rattle.treated_models.specs.Vocabulary.{is_in, AreUnjoined, AreFree}
 use Rattle.nested_models.proofs.Witnesses.{no_witness_tells_apart}
 use Rattle.natural_id.specs.Parts.{IsNaturalTarget, NaturalFormulaIsRight, districts_of}
 use Rattle.natural_id.proofs.Values.{value_is}

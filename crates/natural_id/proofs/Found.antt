@@ -1,16 +1,14 @@
 -- Where the effect on y and z has a formula, that of each district is found.
 use Rattle.std.proofs.Common.{ℕ, suc, ◌+◌, ◌≡◌, ◌≢◌, ◌<◌, Bool, true, not, refl, sym, ap, ◌∙◌, ◌&&◌, subst, arith, List, [], ◌∷◌, length, get_or, inl, inr, ◌⊎◌, zero}
-use Rattle.mixed_graph.specs.Bits.{has}
-use Rattle.mixed_graph.specs.Graphs.{MixedGraph, IsMixedGraph, IsDirectedPath, induced}
-use Rattle.mixed_graph.specs.Masks.{minus, all}
+use Rattle.mixed_graph.specs.Vocabulary.{has, MixedGraph, IsMixedGraph, IsDirectedPath, induced, minus, all}
 use Rattle.mixed_graph.proofs.MaskLaws.{has_minus}
 use Rattle.mixed_graph.proofs.Masks.{same_from_has}
 use Rattle.finite_models.proofs.Bools.{and_first, and_second, same_truth}
-use Rattle.hedge.specs.Linked.{IsDistrict, IsJoinedSet, IsLinked, IsMaximalJoined, AreDistricts, AreDistrictsOf}
+use Rattle.hedge.specs.Vocabulary.{IsDistrict, IsJoinedSet, IsLinked, IsMaximalJoined, AreDistricts, AreDistrictsOf, at, by}
 use Rattle.std.specs.Prelude.{All}
-use Rattle.hedge.specs.Linked.IsLinked.{at, by}
-use Rattle.prob_expr.specs.Tree.{PlainFormula, Tree, Trees, prob}
-use Rattle.identification_theory.specs.Procedure.{AreAncestorsIn, Source, IsFactor, IsStopped, AreFactored, StopsAt, Split, IsComposed, IsIdentified, IsUnidentified}
+use Rattle.prob_expr.specs.Tree.{Tree, prob}
+use Rattle.prob_expr.specs.Vocabulary.{PlainFormula, Trees}
+use Rattle.identification_theory.specs.Vocabulary.{AreAncestorsIn, Source, IsFactor, IsStopped, AreFactored, StopsAt, Split, IsComposed, IsIdentified, IsUnidentified}
 use Rattle.identification_theory.proofs.Groups.{Among}
 use Rattle.identification_theory.proofs.Stops.{IsHome, home_of}
 use Rattle.identification_theory.proofs.Unique.{one_set, split_one, made_or_stopped}

@@ -1,18 +1,16 @@
 -- The ways that lead to y, and the sets of what leads there.
 use Rattle.std.proofs.Common.{ℕ, ◌≡◌, ◌<◌, ◌↔◌, Bool, true, false, not, refl, sym, ap, ◌∙◌, ◌||◌, ◌&&◌, arith, List, [], ◌∷◌, inl, inr, ◌⊎◌, eqb-true}
 use Rattle.std.proofs.lemmas.Bool.{and_from}
-use Rattle.mixed_graph.specs.Bits.{has}
-use Rattle.mixed_graph.specs.Graphs.{MixedGraph, IsMixedGraph, IsAncestor, IsDirectedPath, induced}
-use Rattle.mixed_graph.specs.Masks.{union, minus, all}
+use Rattle.mixed_graph.specs.Vocabulary.{has, MixedGraph, IsMixedGraph, IsAncestor, IsDirectedPath, induced, union, minus, all}
 use Rattle.mixed_graph.proofs.MaskLaws.{has_minus, has_join}
 use Rattle.mixed_graph.proofs.Paths.{end_below}
 use Rattle.finite_models.proofs.Bools.{and_first, and_second}
 use Rattle.finite_models.proofs.SumLaws.{eqb-refl}
-use Rattle.hedge.specs.Linked.{IsSetOf}
-use Rattle.do_rules.specs.Cuts.{cut_out}
-use Rattle.identification_theory.specs.Procedure.{AreAncestorsIn}
+use Rattle.hedge.specs.Vocabulary.{IsSetOf}
+use Rattle.do_rules.specs.Vocabulary.{cut_out}
+use Rattle.identification_theory.specs.Vocabulary.{AreAncestorsIn}
 use Rattle.identification_theory.proofs.Sets.{all-is}
-use Rattle.nested_models.specs.Nested.{LeadsPast, LeadsThrough, IsNestedQuery}
+use Rattle.nested_models.specs.Vocabulary.{LeadsPast, LeadsThrough, IsNestedQuery}
 use Rattle.nested_models.proofs.Leading.{to_cut, past_or_through}
 
 no_of : (b : Bool) → not b ≡ true → b ≡ false

@@ -4,13 +4,9 @@ use Rattle.std.proofs.lemmas.Bool.{and_from, not_from_false}
 use Rattle.std.proofs.lemmas.List.{map-append}
 use Rattle.mixed_graph.proofs.Masks.{has-zero, positive_from_has}
 use Rattle.finite_models.proofs.Bools.{and_first, and_second, not_both, same_truth}
-use Rattle.mixed_graph.specs.Bits.{has}
-use Rattle.mixed_graph.specs.Graphs.{MixedGraph}
-use Rattle.mixed_graph.specs.Masks.{minus, all}
 use Rattle.mixed_graph.specs.declared.sets.VSet.{VSet}
-use Rattle.prob_expr.specs.Tree.{effect_on}
-use Rattle.prob_expr.specs.Values.{EqualsEffect}
-use Rattle.prob_expr.specs.View.{formula_view}
+use Rattle.mixed_graph.specs.Vocabulary.{has, MixedGraph, minus, all}
+use Rattle.prob_expr.specs.Vocabulary.{effect_on, EqualsEffect, formula_view}
 use Rattle.natural_id.specs.declared.answers.Part.{Part}
 use Rattle.natural_id.specs.declared.answers.Split.{Split}
 use Rattle.natural_id.specs.Parts.{PlainPart, IsRightPart, AreRightParts, districts_of}

@@ -3,15 +3,12 @@ use Rattle.std.proofs.Common.{ℕ, zero, suc, ◌*◌, ◌^◌, ◌≡◌, ◌<�
 use Rattle.std.proofs.Common.{List, [], ◌∷◌, length}
 use native.Mathlib.Nat.{pow-zero, pow-suc}
 use mathlib.Core.Path.{fun_ext}
-use Rattle.mixed_graph.specs.Bits.{has}
-use Rattle.mixed_graph.specs.Graphs.{MixedGraph, IsMixedGraph}
-use Rattle.mixed_graph.specs.Masks.{union, minus, all}
+use Rattle.mixed_graph.specs.Vocabulary.{has, MixedGraph, IsMixedGraph, union, minus, all}
 use Rattle.mixed_graph.proofs.Masks.{has-zero}
 use Rattle.mixed_graph.proofs.MaskLaws.{has_join, has_minus}
-use Rattle.fractions.specs.Fractions.{over, div, IsEqual}
+use Rattle.fractions.specs.Vocabulary.{over, div, IsEqual}
 use Rattle.fractions.proofs.FractionLaws.{equal_refl, equal_trans, equal_scaled, mul_equal, div_equal}
-use Rattle.finite_models.specs.Sums.{sum_over}
-use Rattle.finite_models.specs.Models.{FiniteModel, Fits, IsAssignment, IsPositiveModel, solution, agree, event_weight, intervene, weight_of, world_weight, total}
+use Rattle.finite_models.specs.Vocabulary.{sum_over, FiniteModel, Fits, IsAssignment, IsPositiveModel, solution, agree, event_weight, intervene, weight_of, world_weight, total}
 use Rattle.finite_models.proofs.Bools.{same_truth}
 use Rattle.finite_models.proofs.Following.{follows_of, follows_intervene}
 use Rattle.finite_models.proofs.Positive.{positive_weight}
@@ -19,13 +16,12 @@ use Rattle.finite_models.proofs.Ranks.{with_rank}
 use Rattle.finite_models.proofs.Solutions.{solution_is, unique, agree_from, agree_gives}
 use Rattle.finite_models.proofs.SumLaws.{over-congr}
 use Rattle.finite_models.proofs.Weights.{weight-none, weight_of-none}
-use Rattle.prob_expr.specs.Tree.{PlainFormula, effect_on}
-use Rattle.prob_expr.specs.Values.{weights_of, value_of, add_over, term_value, EqualsEffect}
+use Rattle.prob_expr.specs.Vocabulary.{PlainFormula, effect_on, weights_of, value_of, add_over, term_value, EqualsEffect}
 use Rattle.prob_expr.proofs.Boxes.{add_over_whole, assignment_set}
 use Rattle.identification_theory.proofs.Sets.{all-is}
-use Rattle.treated_models.specs.Treated.{is_in, AreUnjoined, AreFree, read_at}
-use Rattle.do_rules.specs.Cuts.{cut_out}
-use Rattle.nested_models.specs.Nested.{Reader, sets_of, ReadOneEach, weights_read, weight_of_nested, nested_effect, TellsApart}
+use Rattle.treated_models.specs.Vocabulary.{is_in, AreUnjoined, AreFree, read_at}
+use Rattle.do_rules.specs.Vocabulary.{cut_out}
+use Rattle.nested_models.specs.Vocabulary.{Reader, sets_of, ReadOneEach, weights_read, weight_of_nested, nested_effect, TellsApart}
 use Rattle.nested_models.proofs.Product.{nested_is_product}
 use Rattle.natural_id.specs.Parts.{PlainPart, parts_value, natural_value, AreRightParts, districts_of, IsNaturalTarget}
 

@@ -1,21 +1,14 @@
 -- Right answers to the question for P(y[x, m[x']] | z).
 use Rattle.std.specs.Prelude.{ℕ, ◌≡◌, ◌⊎◌, Bool, true, false, List, map, Option, Some, None, IsTrue}
-use Rattle.mixed_graph.specs.Bits.{has}
-use Rattle.mixed_graph.specs.Graphs.{MixedGraph}
-use Rattle.mixed_graph.specs.Masks.{union, minus, all}
 use Rattle.mixed_graph.specs.declared.sets.VSet.{VSet}
-use Rattle.hedge.specs.Linked.{IsMaximalJoined}
-use Rattle.hedge.specs.Hedges.{IsHedge}
+use Rattle.mixed_graph.specs.Vocabulary.{has, MixedGraph, union, minus, all}
 use Rattle.hedge.specs.declared.hedge.Hedge.{Hedge}
-use Rattle.prob_expr.specs.Tree.{effect_on, PlainFormula}
-use Rattle.prob_expr.specs.Values.{EqualsEffect}
-use Rattle.prob_expr.specs.View.{formula_view}
-use Rattle.identification_theory.specs.Procedure.{IsIdentified}
-use Rattle.identify.specs.Answers.{IsRightHedge}
-use Rattle.nested_models.specs.Nested.{LeadsPast, LeadsThrough}
-use Rattle.nested_models.specs.NoFormula.{HasNoFormulaNested}
-use Rattle.nested_models.specs.Split.{IsSplitDistrict}
-use Rattle.twisted_models.specs.Pairs.{DifferOnNested}
+use Rattle.hedge.specs.Vocabulary.{IsMaximalJoined, IsHedge}
+use Rattle.prob_expr.specs.Vocabulary.{effect_on, PlainFormula, EqualsEffect, formula_view}
+use Rattle.identification_theory.specs.Vocabulary.{IsIdentified}
+use Rattle.identify.specs.Vocabulary.{IsRightHedge}
+use Rattle.nested_models.specs.Vocabulary.{LeadsPast, LeadsThrough, HasNoFormulaNested, IsSplitDistrict}
+use Rattle.twisted_models.specs.Vocabulary.{DifferOnNested}
 use Rattle.natural_id.specs.Parts.{PlainPart, EqualsNatural, AreRightParts, districts_of}
 use Rattle.natural_id.specs.declared.answers.Part.{Part}
 use Rattle.natural_id.specs.declared.answers.Witness.{Witness}

@@ -1,15 +1,12 @@
 -- The formula of a nested effect: one formula for each district, which reads one value of each treatment.
 use Rattle.std.specs.Prelude.{ℕ, ◌≡◌, ◌<◌, if◌then◌else◌, List, [], ◌∷◌, IsTrue}
-use Rattle.mixed_graph.specs.Bits.{has}
-use Rattle.mixed_graph.specs.Graphs.{MixedGraph, IsMixedGraph}
-use Rattle.mixed_graph.specs.Masks.{union, minus, all}
-use Rattle.hedge.specs.Linked.{AreDistrictsOf, IsSetOf}
-use Rattle.fractions.specs.Fractions.{Fraction, over, mul, div, IsEqual}
-use Rattle.finite_models.specs.Models.{FiniteModel, Fits, IsAssignment, IsPositiveModel}
-use Rattle.prob_expr.specs.Tree.{PlainFormula, effect_on}
-use Rattle.prob_expr.specs.Values.{weights_of, value_of, add_over, term_value, EqualsEffect}
-use Rattle.identification_theory.specs.Procedure.{AreAncestorsIn}
-use Rattle.nested_models.specs.Nested.{nested_effect, IsNestedQuery, LeadsThrough, IsRecantingWitness}
+use Rattle.mixed_graph.specs.Vocabulary.{has, MixedGraph, IsMixedGraph, union, minus, all}
+use Rattle.hedge.specs.Vocabulary.{AreDistrictsOf, IsSetOf}
+use Rattle.fractions.specs.Vocabulary.{Fraction, over, mul, div, IsEqual}
+use Rattle.finite_models.specs.Vocabulary.{FiniteModel, Fits, IsAssignment, IsPositiveModel}
+use Rattle.prob_expr.specs.Vocabulary.{PlainFormula, effect_on, weights_of, value_of, add_over, term_value, EqualsEffect}
+use Rattle.identification_theory.specs.Vocabulary.{AreAncestorsIn}
+use Rattle.nested_models.specs.Vocabulary.{nested_effect, IsNestedQuery, LeadsThrough, IsRecantingWitness}
 
 -- a district, the treatments that it reads at their second values, and the formula of P(district | do(all other vertices))
 pub record PlainPart : Type 0 where

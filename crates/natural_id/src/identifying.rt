@@ -1,14 +1,11 @@
 //! Identification of a nested effect from a graph.
 
 ghost use Rattle.std.specs.Prelude.{ℕ, ◌≡◌, ◌<◌, IfOk, IsTrue, ◌↔◌};
-ghost use Rattle.mixed_graph.specs.Bits.{has};
-ghost use Rattle.mixed_graph.specs.Masks.{union};
-ghost use Rattle.mixed_graph.specs.Sets.{Within, Apart};
-ghost use Rattle.mixed_graph.specs.Shown.{graph_of};
-ghost use Rattle.hedge.specs.Hedges.{IsHedge};
+ghost use Rattle.mixed_graph.specs.Vocabulary.{has, union, Within, Apart, graph_of};
 ghost use Rattle.hedge.specs.declared.hedge.Hedge.{Hedge as HedgeData};
-ghost use Rattle.prob_expr.specs.Tree.{PlainFormula};
-ghost use Rattle.identification_theory.specs.Procedure.{IsIdentified};
+ghost use Rattle.hedge.specs.Vocabulary.{IsHedge};
+ghost use Rattle.prob_expr.specs.Vocabulary.{PlainFormula};
+ghost use Rattle.identification_theory.specs.Vocabulary.{IsIdentified};
 ghost use Rattle.natural_id.specs.Answers.{IsRight, IsFound, IsSettled, IsWitnessOrNone, is_hedge};
 ghost use Rattle.natural_id.specs.Parts.{IsNaturalTarget};
 

@@ -1,13 +1,9 @@
 //! The parts of the formula, one for each district.
 
 ghost use Rattle.std.specs.Prelude.{ℕ, ◌≡◌, ◌<◌, IfOk, IsTrue, All};
-ghost use Rattle.mixed_graph.specs.Bits.{has};
-ghost use Rattle.mixed_graph.specs.Masks.{minus, all};
-ghost use Rattle.mixed_graph.specs.Sets.{Within};
-ghost use Rattle.mixed_graph.specs.Shown.{graph_of};
-ghost use Rattle.hedge.specs.Linked.{IsMaximalJoined};
-ghost use Rattle.hedge.specs.Listed.{first_masks};
-ghost use Rattle.identification_theory.specs.Procedure.{IsUnidentified};
+ghost use Rattle.mixed_graph.specs.Vocabulary.{has, minus, all, Within, graph_of};
+ghost use Rattle.hedge.specs.Vocabulary.{IsMaximalJoined, first_masks};
+ghost use Rattle.identification_theory.specs.Vocabulary.{IsUnidentified};
 ghost use Rattle.natural_id.specs.Answers.{IsPartOf, IsSplitOrNone, ArePartsOrSplit};
 
 use crate::answers::{Part, Split};

@@ -1,10 +1,8 @@
 //! The ways that lead to y: through m, and past it.
 
-ghost use Rattle.mixed_graph.specs.Bits.{has};
-ghost use Rattle.mixed_graph.specs.Sets.{Within, Apart};
-ghost use Rattle.mixed_graph.specs.Shown.{graph_of};
-ghost use Rattle.hedge.specs.Linked.{IsSetOf};
-ghost use Rattle.nested_models.specs.Nested.{LeadsPast, LeadsThrough};
+ghost use Rattle.mixed_graph.specs.Vocabulary.{has, Within, Apart, graph_of};
+ghost use Rattle.hedge.specs.Vocabulary.{IsSetOf};
+ghost use Rattle.nested_models.specs.Vocabulary.{LeadsPast, LeadsThrough};
 
 use identify::ancestors_outside;
 use mixed_graph::{Graph, VSet};

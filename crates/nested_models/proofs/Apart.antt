@@ -1,9 +1,9 @@
 -- The model whose arrows out of x carry two values: it fits the graph, and follows it without these arrows.
 use Rattle.std.proofs.Common.{ℕ, ◌≡◌, ◌<◌, Bool, true, false, cond, not, refl, ◌&&◌}
 use Rattle.std.proofs.lemmas.Bool.{and_from, not_from_false}
-use Rattle.mixed_graph.specs.Graphs.{MixedGraph}
-use Rattle.do_rules.specs.Cuts.{cut_out}
-use Rattle.finite_models.specs.Models.{FiniteModel, Fits, IsAssignment}
+use Rattle.mixed_graph.specs.Vocabulary.{MixedGraph}
+use Rattle.do_rules.specs.Vocabulary.{cut_out}
+use Rattle.finite_models.specs.Vocabulary.{FiniteModel, Fits, IsAssignment}
 use Rattle.finite_models.proofs.Following.{Follows}
 use Rattle.nested_models.specs.Nested.{held_apart}
 

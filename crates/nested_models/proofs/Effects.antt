@@ -2,15 +2,15 @@
 use Rattle.std.proofs.Common.{ℕ, suc, ◌≡◌, ◌<◌, Bool, true, false, cond, refl, sym, ap, ◌∙◌, ◌||◌, ◌&&◌, arith}
 use Rattle.std.proofs.lemmas.Bool.{and_from, cond-false, or_left, or_right}
 use mathlib.Core.Path.{fun_ext}
-use Rattle.mixed_graph.specs.Graphs.{MixedGraph, IsMixedGraph}
+use Rattle.mixed_graph.specs.Vocabulary.{MixedGraph, IsMixedGraph}
 use Rattle.mixed_graph.proofs.Paths.{ancestor_member}
-use Rattle.finite_models.specs.Models.{FiniteModel, Fits, IsAssignment, solution, agree, event_weight, intervene, weight_of, world_weight}
+use Rattle.finite_models.specs.Vocabulary.{FiniteModel, Fits, IsAssignment, solution, agree, event_weight, intervene, weight_of, world_weight}
 use Rattle.finite_models.proofs.Bools.{and_first, and_second, either, same_truth}
 use Rattle.finite_models.proofs.Following.{Follows, follows_of}
 use Rattle.finite_models.proofs.Ranks.{with_rank}
 use Rattle.finite_models.proofs.Solutions.{IsRanked, agree_from, agree_gives}
 use Rattle.finite_models.proofs.SumLaws.{over-congr, over-congr_within}
-use Rattle.treated_models.specs.Treated.{held, is_both, joined, IsBefore}
+use Rattle.treated_models.specs.Vocabulary.{held, is_both, joined, IsBefore}
 use Rattle.treated_models.proofs.Held.{treated_is_held}
 use Rattle.nested_models.specs.Nested.{nested, is_nested, weight_of_nested, IsNestedQuery}
 use Rattle.nested_models.specs.Nested.{OneValueIsEffect, NoIndirectPathIsEffect, NoDirectPathIsEffect}

@@ -1,9 +1,9 @@
 -- A nested event as an event of the model whose arrows out of x carry two values.
 use Rattle.std.proofs.Common.{ℕ, suc, ◌≡◌, ◌<◌, Bool, true, cond, refl, sym, ap, ◌∙◌, ◌||◌, arith}
 use Rattle.std.proofs.lemmas.Bool.{and_from, or_left, or_right}
-use Rattle.mixed_graph.specs.Graphs.{MixedGraph, IsMixedGraph}
+use Rattle.mixed_graph.specs.Vocabulary.{MixedGraph, IsMixedGraph}
 use Rattle.mixed_graph.proofs.Paths.{ancestor_member}
-use Rattle.finite_models.specs.Models.{FiniteModel, IsAssignment, solution, agree, event_weight, world_weight}
+use Rattle.finite_models.specs.Vocabulary.{FiniteModel, IsAssignment, solution, agree, event_weight, world_weight}
 use Rattle.finite_models.proofs.Bools.{and_first, and_second, either, same_truth}
 use Rattle.finite_models.proofs.Following.{Follows, follows_of}
 use Rattle.finite_models.proofs.Ranks.{with_rank}

@@ -1,14 +1,12 @@
 -- What leads to y outside x.
 use Rattle.std.proofs.Common.{ℕ, ◌≡◌, ◌<◌, Bool, true, false, not, eqb, refl, sym, ap, ◌∙◌, ◌||◌, ◌&&◌, arith, List, [], ◌∷◌, inl, inr, ◌⊎◌}
 use Rattle.std.proofs.lemmas.Bool.{and_from, not_from_false}
-use Rattle.mixed_graph.specs.Bits.{has}
-use Rattle.mixed_graph.specs.Graphs.{MixedGraph, IsMixedGraph, IsAncestor, IsDirectedPath, induced}
-use Rattle.mixed_graph.specs.Masks.{minus, all}
+use Rattle.mixed_graph.specs.Vocabulary.{has, MixedGraph, IsMixedGraph, IsAncestor, IsDirectedPath, induced, minus, all}
 use Rattle.mixed_graph.proofs.MaskLaws.{has_minus}
 use Rattle.mixed_graph.proofs.Paths.{ancestor_member, ancestor_parent}
 use Rattle.finite_models.proofs.Bools.{and_first, and_second}
 use Rattle.finite_models.proofs.SumLaws.{eqb-refl}
-use Rattle.do_rules.specs.Cuts.{cut_out}
+use Rattle.do_rules.specs.Vocabulary.{cut_out}
 use Rattle.nested_models.specs.Nested.{LeadsPast, LeadsThrough}
 
 no_of : (b : Bool) → not b ≡ true → b ≡ false

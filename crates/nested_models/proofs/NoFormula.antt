@@ -2,22 +2,18 @@
 use Rattle.std.proofs.Common.{ℕ, ◌*◌, ◌≡◌, ◌<◌, Bool, true, false, cond, refl, sym, ap, ap₂, ◌∙◌, ◌||◌, ◌&&◌, subst, nat_lt, ltb-true, arith}
 use Rattle.std.proofs.lemmas.Bool.{cond-true, lt-ltb, le-ltb}
 use Rattle.std.proofs.Math.Nat.{eq_of_mul-eq-mul_left}
-use Rattle.mixed_graph.specs.Bits.{has}
-use Rattle.mixed_graph.specs.Graphs.{MixedGraph, IsMixedGraph}
-use Rattle.fractions.specs.Fractions.{Fraction, IsEqual, over}
+use Rattle.mixed_graph.specs.Vocabulary.{has, MixedGraph, IsMixedGraph}
+use Rattle.fractions.specs.Vocabulary.{Fraction, IsEqual, over}
 use Rattle.fractions.proofs.FractionLaws.{equal_sym, equal_trans}
-use Rattle.finite_models.specs.Agreement.{AgreeObserved}
-use Rattle.finite_models.specs.Models.{FiniteModel, Fits, IsAssignment, IsPositiveModel, solution, agree, event_weight, intervene, weight_of, world_weight, total}
+use Rattle.finite_models.specs.Vocabulary.{AgreeObserved, FiniteModel, Fits, IsAssignment, IsPositiveModel, solution, agree, event_weight, intervene, weight_of, world_weight, total}
 use Rattle.finite_models.proofs.Bools.{same_truth}
 use Rattle.finite_models.proofs.Following.{intervene_alike}
 use Rattle.finite_models.proofs.Solutions.{agree_from, agree_gives}
 use Rattle.finite_models.proofs.SumLaws.{over-congr}
 use Rattle.finite_models.proofs.Weights.{weight_of-none}
 use Rattle.prob_expr.proofs.Allowed.{events_under, in_second}
-use Rattle.prob_expr.specs.Tree.{PlainFormula}
-use Rattle.prob_expr.specs.Values.{value_of}
-use Rattle.treated_models.specs.NamedOnce.{FormulaNamesOnce}
-use Rattle.treated_models.specs.Primes.{name_count, prime_of, vertex_of, as_observed, with_primes}
+use Rattle.prob_expr.specs.Vocabulary.{PlainFormula, value_of}
+use Rattle.treated_models.specs.Vocabulary.{FormulaNamesOnce, name_count, prime_of, vertex_of, as_observed, with_primes}
 use Rattle.treated_models.proofs.NamedOnce.{vertex_low, observed_fixes_named}
 use Rattle.treated_models.proofs.Primes.{vertex_plain, vertex_primed, prime_behind}
 use Rattle.nested_models.specs.Nested.{nested, is_nested, nested_effect, IsNestedQuery}

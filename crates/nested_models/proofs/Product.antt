@@ -2,18 +2,16 @@
 use Rattle.std.proofs.Common.{ℕ, ◌*◌, ◌^◌, ◌≡◌, ◌<◌, Bool, true, false, cond, eqb, not, refl, sym, ap, ap₂, ◌∙◌, ◌||◌, ◌&&◌, List, [], ◌∷◌, length, arith}
 use Rattle.std.proofs.lemmas.Bool.{cond-false}
 use mathlib.Core.Path.{fun_ext}
-use Rattle.mixed_graph.specs.Bits.{has}
-use Rattle.mixed_graph.specs.Graphs.{MixedGraph, IsMixedGraph}
-use Rattle.finite_models.specs.Sums.{sum_over}
-use Rattle.finite_models.specs.Models.{FiniteModel, Fits, IsAssignment, event_weight, world_weight, total}
+use Rattle.mixed_graph.specs.Vocabulary.{has, MixedGraph, IsMixedGraph}
+use Rattle.finite_models.specs.Vocabulary.{sum_over, FiniteModel, Fits, IsAssignment, event_weight, world_weight, total}
 use Rattle.finite_models.proofs.Factors.{marginal, weight_by_checks}
 use Rattle.finite_models.proofs.Following.{follows_of}
 use Rattle.finite_models.proofs.Indicators.{number}
 use Rattle.finite_models.proofs.Ranks.{with_rank}
 use Rattle.finite_models.proofs.SumLaws.{over-congr, over-scale, product_below-congr}
-use Rattle.do_rules.specs.Cuts.{cut_out}
+use Rattle.do_rules.specs.Vocabulary.{cut_out}
 use Rattle.do_rules.proofs.Altered.{ranked_out}
-use Rattle.treated_models.specs.Treated.{held, obeyed, factor_of, factors_of, AreFree, read_at}
+use Rattle.treated_models.specs.Vocabulary.{held, obeyed, factor_of, factors_of, AreFree, read_at}
 use Rattle.treated_models.proofs.Held.{untouched_factors}
 use Rattle.treated_models.proofs.Districts.{districts_multiply}
 use Rattle.treated_models.proofs.Factor.{factor_is_effect}

@@ -1,14 +1,14 @@
 -- A world of the model whose arrows out of x carry two values, beside the nested world.
 use Rattle.std.proofs.Common.{ℕ, zero, suc, ◌≡◌, ◌<◌, Bool, true, false, cond, eqb, not, refl, sym, ap, ◌∙◌, ◌||◌, ◌∷◌, arith}
 use Rattle.std.proofs.lemmas.Bool.{and_from, cond-false, cond-true, false_from_ne_true, not_from_false, or_left, or_right}
-use Rattle.mixed_graph.specs.Graphs.{MixedGraph, IsMixedGraph, IsAncestor, IsDescendant}
+use Rattle.mixed_graph.specs.Vocabulary.{MixedGraph, IsMixedGraph, IsAncestor, IsDescendant}
 use Rattle.mixed_graph.proofs.Paths.{ancestor_member, ancestor_parent, end_below}
-use Rattle.finite_models.specs.Models.{FiniteModel, IsAssignment, IsSolution, solution, intervene}
+use Rattle.finite_models.specs.Vocabulary.{FiniteModel, IsAssignment, IsSolution, solution, intervene}
 use Rattle.finite_models.proofs.Bools.{not_both, or_false}
 use Rattle.finite_models.proofs.Following.{Follows, intervene_alike}
 use Rattle.finite_models.proofs.Solutions.{IsRanked, solution_is, solution_within, unique}
 use Rattle.finite_models.proofs.SumLaws.{eqb-refl}
-use Rattle.do_rules.specs.Cuts.{cut_into, cut_out}
+use Rattle.do_rules.specs.Vocabulary.{cut_into, cut_out}
 use Rattle.do_rules.proofs.Altered.{ranked_into, ranked_out, follows_into}
 use Rattle.nested_models.specs.Nested.{nested, held_apart, TellsApart, LeadsPast, LeadsThrough}
 use Rattle.nested_models.proofs.Apart.{carried, follows_apart}

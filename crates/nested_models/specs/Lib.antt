@@ -1,3 +1,4 @@
 pub mod Nested
 pub mod NoFormula
 pub mod Split
+pub mod Vocabulary

@@ -1,12 +1,10 @@
 -- Nested counterfactuals: what y would be under do(x), were m as under another do(x) (Robins and Greenland 1992; Pearl 2001; Causality, chapter 4.5).
 use Rattle.std.specs.Prelude.{ℕ, ◌*◌, ◌^◌, ◌≡◌, Bool, true, false, not, ◌&&◌, ◌||◌, if◌then◌else◌, ◌==◌, List, [], ◌∷◌, length}
-use Rattle.mixed_graph.specs.Bits.{has}
-use Rattle.mixed_graph.specs.Graphs.{MixedGraph, IsMixedGraph, IsAncestor, IsDescendant}
-use Rattle.do_rules.specs.Cuts.{cut_out}
-use Rattle.fractions.specs.Fractions.{Fraction, over}
-use Rattle.finite_models.specs.Sums.{sum_over}
-use Rattle.finite_models.specs.Models.{FiniteModel, Fits, IsAssignment, solution, agree, event_weight, weight_of, intervene, sum_worlds, world_weight, total}
-use Rattle.treated_models.specs.Treated.{joined, is_in, AreUnjoined, AreFree, read_at}
+use Rattle.mixed_graph.specs.Vocabulary.{has, MixedGraph, IsMixedGraph, IsAncestor, IsDescendant}
+use Rattle.do_rules.specs.Vocabulary.{cut_out}
+use Rattle.fractions.specs.Vocabulary.{Fraction, over}
+use Rattle.finite_models.specs.Vocabulary.{sum_over, FiniteModel, Fits, IsAssignment, solution, agree, event_weight, weight_of, intervene, sum_worlds, world_weight, total}
+use Rattle.treated_models.specs.Vocabulary.{joined, is_in, AreUnjoined, AreFree, read_at}
 
 -- the values in the world u under do(x) at s where m is set too, to the values that it has in this world under do(x) at t
 abbrev pub nested : FiniteModel → (x m : ℕ → Bool) → (s t : ℕ → ℕ) → (ℕ → ℕ) → ℕ → ℕ

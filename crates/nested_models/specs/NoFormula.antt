@@ -1,14 +1,10 @@
 -- When no formula equals a nested effect.
 use Rattle.std.specs.Prelude.{ℕ, ◌*◌, ◌≢◌, ◌≡◌, ◌<◌, true, ◌||◌}
-use Rattle.mixed_graph.specs.Bits.{has}
-use Rattle.mixed_graph.specs.Graphs.{MixedGraph, IsMixedGraph}
-use Rattle.fractions.specs.Fractions.{IsEqual}
-use Rattle.finite_models.specs.Agreement.{AgreeObserved}
-use Rattle.finite_models.specs.Models.{FiniteModel, Fits, IsAssignment, IsPositiveModel, weight_of, total}
-use Rattle.prob_expr.specs.Tree.{PlainFormula}
-use Rattle.prob_expr.specs.Values.{value_of}
-use Rattle.treated_models.specs.NamedOnce.{FormulaNamesOnce}
-use Rattle.treated_models.specs.Primes.{as_observed, with_primes}
+use Rattle.mixed_graph.specs.Vocabulary.{has, MixedGraph, IsMixedGraph}
+use Rattle.fractions.specs.Vocabulary.{IsEqual}
+use Rattle.finite_models.specs.Vocabulary.{AgreeObserved, FiniteModel, Fits, IsAssignment, IsPositiveModel, weight_of, total}
+use Rattle.prob_expr.specs.Vocabulary.{PlainFormula, value_of}
+use Rattle.treated_models.specs.Vocabulary.{FormulaNamesOnce, as_observed, with_primes}
 use Rattle.nested_models.specs.Nested.{nested_effect, IsNestedQuery}
 
 -- the formula has the value of P(y[x, m[x']] | z) in each positive model of the graph, at each assignment of values to names: x has the first value at

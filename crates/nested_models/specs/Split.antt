@@ -1,9 +1,7 @@
 -- Districts that read both values of one treatment.
 use Rattle.std.specs.Prelude.{ℕ, IsTrue}
-use Rattle.mixed_graph.specs.Bits.{has}
-use Rattle.mixed_graph.specs.Graphs.{MixedGraph, IsAncestor, induced}
-use Rattle.mixed_graph.specs.Masks.{union, minus, all}
-use Rattle.hedge.specs.Linked.{IsMaximalJoined, IsSetOf}
+use Rattle.mixed_graph.specs.Vocabulary.{has, MixedGraph, IsAncestor, induced, union, minus, all}
+use Rattle.hedge.specs.Vocabulary.{IsMaximalJoined, IsSetOf}
 use Rattle.nested_models.specs.Nested.{LeadsPast, LeadsThrough}
 
 -- A district t of the ancestors of y and z outside x has two children of the treatment p: v leads to y past m, and w leads there through m (Shpitser 2013).

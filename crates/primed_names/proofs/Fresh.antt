@@ -9,7 +9,7 @@ use Rattle.std.proofs.lemmas.Str.Ascii.{IsAscii-nil, IsAscii-cons}
 use Rattle.std.proofs.lemmas.List.Folds.{list_all-append}
 use Rattle.std.specs.List.{list_all}
 use Rattle.std.specs.Str.{bytes_eq, is_utf8}
-use Rattle.mixed_graph.specs.Names.{IsName, AreNames, is_named, is_line_byte, name_of}
+use Rattle.mixed_graph.specs.Vocabulary.{IsName, AreNames, is_named, is_line_byte, name_of}
 use Rattle.primed_names.specs.Primed.{primed_from, primed_name, with_prime}
 
 -- how many of the names have at least so many bytes

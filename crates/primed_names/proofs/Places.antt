@@ -4,8 +4,7 @@ use Rattle.std.proofs.Common.{arith, length-append}
 use Rattle.std.proofs.Math.Seq.{get_or-append_seam}
 use Rattle.std.proofs.lemmas.Bool.{cases_Bool}
 use Rattle.std.proofs.lemmas.List.{get_or_append_left}
-use Rattle.mixed_graph.specs.Bits.{has, members_below}
-use Rattle.mixed_graph.specs.Names.{is_named, name_of}
+use Rattle.mixed_graph.specs.Vocabulary.{has, members_below, is_named, name_of}
 use Rattle.primed_names.specs.Primed.{primed_from, primed_name, with_prime, with_primes, ticked, PrimedStandBehind}
 use Rattle.primed_names.proofs.Fresh.{stays, goes_on, put_behind}
 

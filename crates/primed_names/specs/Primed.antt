@@ -1,7 +1,6 @@
 -- Primed names: a second name for some vertices, behind the names of all (Pearl, Causality, chapter 7).
 use Rattle.std.specs.Prelude.{ℕ, zero, suc, ◌≡◌, ◌<◌, ◌≤◌, ◌+◌, List, [], ◌∷◌, ◌++◌, length, get_or, nat_lt, if◌then◌else◌}
-use Rattle.mixed_graph.specs.Bits.{has, members_below}
-use Rattle.mixed_graph.specs.Names.{is_named, name_of}
+use Rattle.mixed_graph.specs.Vocabulary.{has, members_below, is_named, name_of}
 
 -- a name, with primes behind it while it is one of those that are taken; so many may be added at most
 abbrev pub primed_from : (most : ℕ) → (taken : List (List ℕ)) → List ℕ → List ℕ

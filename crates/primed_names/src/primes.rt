@@ -3,7 +3,7 @@
 ghost use Rattle.std.specs.Prelude.{◌≡◌, ◌<◌, ◌++◌, ◌∷◌, [], true, false, length, IfOk, OnOk};
 ghost use Rattle.std.specs.List.{list_all};
 ghost use Rattle.std.specs.Str.{is_utf8};
-ghost use Rattle.mixed_graph.specs.Names.{IsName, is_named, is_line_byte};
+ghost use Rattle.mixed_graph.specs.Vocabulary.{IsName, is_named, is_line_byte};
 ghost use Rattle.primed_names.specs.Primed.{primed_name, with_prime, primed_names};
 
 use mixed_graph::{AddFault, Names, VSet};

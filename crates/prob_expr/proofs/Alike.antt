@@ -1,11 +1,10 @@
 -- Formulas have equal values over two kinds of weights that agree, up to a factor, on the events that their terms ask for.
 use Rattle.std.proofs.Common.{ℕ, zero, suc, ◌*◌, ◌≡◌, ◌<◌, ◌≤◌, Bool, true, false, cond, eqb, ap, ◌∙◌, ◌||◌, sym, subst, List, [], ◌∷◌, arith, mul-pos}
 use Rattle.std.proofs.Math.Nat.{eq_of_mul-eq-mul_left}
-use Rattle.mixed_graph.specs.Bits.{has}
-use Rattle.mixed_graph.specs.Masks.{is_empty}
-use Rattle.fractions.specs.Fractions.{Fraction, over, IsEqual}
+use Rattle.mixed_graph.specs.Vocabulary.{has, is_empty}
+use Rattle.fractions.specs.Vocabulary.{Fraction, over, IsEqual}
 use Rattle.fractions.proofs.FractionLaws.{equal_refl, mul_equal, div_equal}
-use Rattle.finite_models.specs.Models.{IsAssignment}
+use Rattle.finite_models.specs.Vocabulary.{IsAssignment}
 use Rattle.finite_models.proofs.Bools.{and_first, and_second}
 use Rattle.prob_expr.specs.Tree.{Tree, prob, sum, product, quotient, named, Trees, no_trees, tree, PlainFormula}
 use Rattle.prob_expr.specs.Terms.{is_listed, is_under, are_under, all_under}

@@ -2,16 +2,11 @@
 use Rattle.std.proofs.Common.{ℕ, ◌*◌, ◌≡◌, ◌<◌, ◌≤◌, Bool, true, false, not, cond, refl, ap, ◌∙◌, ◌||◌, ◌⊎◌, inl, inr, sym, subst, List, arith, mul-pos}
 use mathlib.Core.Path.{fun_ext}
 use Rattle.std.proofs.lemmas.Bool.{or_cases}
-use Rattle.mixed_graph.specs.Bits.{has}
-use Rattle.mixed_graph.specs.Graphs.{MixedGraph, IsMixedGraph}
-use Rattle.mixed_graph.specs.Masks.{is_empty}
+use Rattle.mixed_graph.specs.Vocabulary.{has, MixedGraph, IsMixedGraph, is_empty}
 use Rattle.mixed_graph.proofs.MaskLaws.{empty_has}
-use Rattle.fractions.specs.Fractions.{IsEqual}
+use Rattle.fractions.specs.Vocabulary.{IsEqual}
 use Rattle.fractions.proofs.FractionLaws.{equal_sym, equal_trans}
-use Rattle.finite_models.specs.Agreement.{AgreeObserved, AgreeUnder}
-use Rattle.finite_models.specs.Models.{FiniteModel, Fits, IsAssignment, IsPositiveModel, solution, agree, event_weight, intervene, weight_of}
-use Rattle.finite_models.specs.Models.{world_weight, total}
-use Rattle.finite_models.specs.Sums.{sum_over}
+use Rattle.finite_models.specs.Vocabulary.{AgreeObserved, AgreeUnder, FiniteModel, Fits, IsAssignment, IsPositiveModel, solution, agree, event_weight, intervene, weight_of, world_weight, total, sum_over}
 use Rattle.finite_models.proofs.Bools.{and_first, and_second, same_truth}
 use Rattle.finite_models.proofs.Factors.{marginal}
 use Rattle.finite_models.proofs.Following.{Follows, follows_of, follows_intervene, intervene_alike}

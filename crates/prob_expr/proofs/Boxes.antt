@@ -1,9 +1,8 @@
 -- Laws of sums of fractions over the points of a box.
 use Rattle.std.proofs.Common.{ℕ, zero, suc, ◌≡◌, ◌<◌, ◌≤◌, Bool, true, false, cond, eqb, refl, sym, subst, arith, eqb-true}
-use Rattle.fractions.specs.Fractions.{Fraction, over, IsEqual, IsPositive, add_below}
+use Rattle.fractions.specs.Vocabulary.{Fraction, over, IsEqual, IsPositive, add_below}
 use Rattle.fractions.proofs.FractionLaws.{add_below_equal, add_below_whole, add_below_positive}
-use Rattle.finite_models.specs.Sums.{sum_below, sum_over, set_at}
-use Rattle.finite_models.specs.Models.{IsAssignment}
+use Rattle.finite_models.specs.Vocabulary.{sum_below, sum_over, set_at, IsAssignment}
 use Rattle.finite_models.proofs.SumLaws.{along, sum_below-congr, set_at-same, set_at-other}
 use Rattle.prob_expr.specs.Values.{add_over}
 

@@ -3,7 +3,7 @@ use Rattle.std.proofs.Common.{◌≡◌, ℕ, ◌+◌, Bool, true, false, not, �
 use Rattle.std.proofs.Common.{refl, sym, ap}
 use Rattle.std.specs.Prelude.{All}
 use Rattle.std.proofs.lemmas.List.Elements.{All-nil, All-cons}
-use Rattle.mixed_graph.specs.Masks.{is_empty, is_below}
+use Rattle.mixed_graph.specs.Vocabulary.{is_empty, is_below}
 use Rattle.prob_expr.specs.TermSets.{are_term_sets}
 use Rattle.prob_expr.specs.Tree.{Tree, prob, sum, product, quotient, named, Trees, no_trees, tree}
 use Rattle.prob_expr.specs.Terms.{are_terms, are_terms_each}

@@ -1,9 +1,9 @@
 -- What two models that differ on an effect exclude.
 use Rattle.std.proofs.Common.{ℕ, ◌*◌, ◌≡◌, Bool, true, false, ◌||◌, refl, sym, ap, ap₂, ◌∙◌, []}
 use mathlib.Core.Path.{fun_ext}
-use Rattle.mixed_graph.specs.Bits.{has}
+use Rattle.mixed_graph.specs.Vocabulary.{has}
 use Rattle.mixed_graph.proofs.Masks.{has-zero}
-use Rattle.finite_models.specs.Models.{weight_of}
+use Rattle.finite_models.specs.Vocabulary.{weight_of}
 use Rattle.prob_expr.specs.Differences.{UnequalWeights, DifferenceExcludesFormula, ExperimentsExcludeFormula}
 use Rattle.prob_expr.proofs.Allowed.{same_effect}
 use Rattle.prob_expr.proofs.Observed.{effect_is_over_total, no_experiments}

@@ -4,12 +4,10 @@ use Rattle.std.proofs.Common.{length, get_or, arith, eqb-true}
 use Rattle.std.specs.Prelude.{All}
 use Rattle.std.proofs.lemmas.List.Elements.{All-head, All-tail}
 use mathlib.Core.Path.{fun_ext}
-use Rattle.mixed_graph.specs.Bits.{has}
-use Rattle.fractions.specs.Fractions.{Fraction, over, add, mul, div, add_below}
-use Rattle.finite_models.specs.Sums.{set_at, all_below}
-use Rattle.finite_models.specs.Models.{FiniteModel, event_weight, intervene, weight_of, sum_worlds, solution, world_weight}
+use Rattle.mixed_graph.specs.Vocabulary.{has, union, is_below}
+use Rattle.fractions.specs.Vocabulary.{Fraction, over, add, mul, div, add_below}
+use Rattle.finite_models.specs.Vocabulary.{set_at, all_below, FiniteModel, event_weight, intervene, weight_of, sum_worlds, solution, world_weight}
 use Rattle.finite_models.proofs.Bools.{and_first, and_second}
-use Rattle.mixed_graph.specs.Masks.{union, is_below}
 use Rattle.prob_expr.specs.Tree.{Tree, prob, sum, product, quotient, named, Trees, no_trees, tree}
 use Rattle.prob_expr.specs.Terms.{are_terms, are_terms_each}
 use Rattle.prob_expr.specs.Free.{free_in, free_in_any, free_in_defs}

@@ -1,6 +1,6 @@
 -- The free variables of factors, one after another.
 use Rattle.std.proofs.Common.{◌≡◌, ℕ, ◌+◌, ◌<◌, ◌≤◌, List, length, drop, get_or, sym, ap, ◌∙◌}
-use Rattle.mixed_graph.specs.Masks.{union}
+use Rattle.mixed_graph.specs.Vocabulary.{union}
 use Rattle.prob_expr.specs.View.{view, views}
 use Rattle.prob_expr.specs.Free.{free_in, free_in_any}
 use Rattle.prob_expr.specs.declared.expr.Expr.{Expr}

@@ -1,7 +1,7 @@
 -- The vertices that the factors of a product and the definitions of a formula name, one after the other.
 use Rattle.std.proofs.Common.{◌≡◌, ℕ, ◌+◌, ◌<◌, ◌≤◌, List, length, map, drop, get_or, sym, ap, ◌∙◌}
 use Rattle.std.proofs.lemmas.List.{at_drop_more, at_drop_all}
-use Rattle.mixed_graph.specs.Masks.{union}
+use Rattle.mixed_graph.specs.Vocabulary.{union}
 use Rattle.mixed_graph.proofs.MaskLaws.{join_assoc, join-zero}
 use Rattle.prob_expr.specs.Mentioned.{mentioned_in, mentioned_in_any, mentioned_in_defs}
 use Rattle.prob_expr.specs.View.{view, views}

@@ -1,8 +1,8 @@
 -- The value of a formula without interventions depends on what is observed alone.
 use Rattle.std.proofs.Common.{ap, ◌∙◌, [], arith}
-use Rattle.mixed_graph.specs.Bits.{has}
+use Rattle.mixed_graph.specs.Vocabulary.{has}
 use Rattle.mixed_graph.proofs.MaskLaws.{has_none}
-use Rattle.finite_models.specs.Models.{FiniteModel, intervene}
+use Rattle.finite_models.specs.Vocabulary.{FiniteModel, intervene}
 use Rattle.finite_models.proofs.Weights.{weight-none}
 use Rattle.prob_expr.specs.Experiments.{AgreeUnderAll}
 use Rattle.prob_expr.specs.Laws.{EffectIsOverTotal, ObservedFixesValue, FormulaFixesEffect}

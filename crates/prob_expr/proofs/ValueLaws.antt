@@ -1,10 +1,9 @@
 -- Values in a positive model are positive, and equal parts have equal values.
 use Rattle.std.proofs.Common.{ℕ, suc, Bool, true, false, cond, eqb, refl, ◌||◌, List, [], ◌∷◌, arith}
-use Rattle.mixed_graph.specs.Bits.{has}
-use Rattle.mixed_graph.specs.Graphs.{MixedGraph, IsMixedGraph}
-use Rattle.fractions.specs.Fractions.{Fraction, over, IsEqual, IsPositive}
+use Rattle.mixed_graph.specs.Vocabulary.{has, MixedGraph, IsMixedGraph}
+use Rattle.fractions.specs.Vocabulary.{Fraction, over, IsEqual, IsPositive}
 use Rattle.fractions.proofs.FractionLaws.{mul_positive, div_positive, div_equal, equal_refl}
-use Rattle.finite_models.specs.Models.{FiniteModel, Fits, IsAssignment, IsPositiveModel}
+use Rattle.finite_models.specs.Vocabulary.{FiniteModel, Fits, IsAssignment, IsPositiveModel}
 use Rattle.finite_models.proofs.Following.{follows_of}
 use Rattle.finite_models.proofs.Positive.{positive_weight}
 use Rattle.prob_expr.specs.Tree.{Tree, prob, sum, product, quotient, named, Trees, no_trees, tree, PlainFormula}

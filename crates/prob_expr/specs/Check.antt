@@ -1,7 +1,7 @@
 -- The first fault of an expression and of a formula.
 use Rattle.std.specs.Prelude.{ℕ, ◌+◌, ◌-◌, ◌^◌, min, Bool, true, false, ltb, List, [], ◌∷◌, length, Option, Some, None, Result, Ok, Err, if◌then◌else◌, not}
 use Rattle.prob_expr.specs.Tree.{Tree, prob, sum, product, quotient, named, Trees, no_trees, tree, PlainFormula}
-use Rattle.mixed_graph.specs.Masks.{is_empty, is_below}
+use Rattle.mixed_graph.specs.Vocabulary.{is_empty, is_below}
 use Rattle.prob_expr.specs.TermSets.{are_term_sets}
 pub use Rattle.finite_models.specs.Faults.{cap}
 use Rattle.prob_expr.specs.declared.checking.ExprFault.{ExprFault}

@@ -1,10 +1,8 @@
 -- Two models in which an effect has two values, and formulas that can't equal it then.
 use Rattle.std.specs.Prelude.{ℕ, ◌*◌, ◌≡◌, ◌≢◌, true, List}
-use Rattle.mixed_graph.specs.Bits.{has}
-use Rattle.mixed_graph.specs.Graphs.{MixedGraph, IsMixedGraph}
-use Rattle.fractions.specs.Fractions.{IsEqual}
-use Rattle.finite_models.specs.Agreement.{AgreeObserved}
-use Rattle.finite_models.specs.Models.{FiniteModel, Fits, IsAssignment, IsPositiveModel, weight_of, total}
+use Rattle.mixed_graph.specs.Vocabulary.{has, MixedGraph, IsMixedGraph}
+use Rattle.fractions.specs.Vocabulary.{IsEqual}
+use Rattle.finite_models.specs.Vocabulary.{AgreeObserved, FiniteModel, Fits, IsAssignment, IsPositiveModel, weight_of, total}
 use Rattle.prob_expr.specs.Experiments.{AgreeUnderAll}
 use Rattle.prob_expr.specs.Terms.{is_allowed, is_do_free}
 use Rattle.prob_expr.specs.Tree.{PlainFormula, PlainTarget}

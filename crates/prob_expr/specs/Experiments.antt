@@ -1,10 +1,8 @@
 -- Formulas whose terms are observed or under experiments, in models that these don't tell apart.
 use Rattle.std.specs.Prelude.{ℕ, ◌≡◌, true, List}
-use Rattle.mixed_graph.specs.Bits.{has}
-use Rattle.mixed_graph.specs.Graphs.{MixedGraph, IsMixedGraph}
-use Rattle.fractions.specs.Fractions.{IsEqual}
-use Rattle.finite_models.specs.Agreement.{AgreeObserved, AgreeUnder}
-use Rattle.finite_models.specs.Models.{FiniteModel, Fits, IsAssignment, IsPositiveModel}
+use Rattle.mixed_graph.specs.Vocabulary.{has, MixedGraph, IsMixedGraph}
+use Rattle.fractions.specs.Vocabulary.{IsEqual}
+use Rattle.finite_models.specs.Vocabulary.{AgreeObserved, AgreeUnder, FiniteModel, Fits, IsAssignment, IsPositiveModel}
 use Rattle.prob_expr.specs.Terms.{is_allowed, is_listed}
 use Rattle.prob_expr.specs.Tree.{PlainFormula}
 use Rattle.prob_expr.specs.Values.{weights_of, value_of}

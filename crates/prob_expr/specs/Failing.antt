@@ -1,9 +1,8 @@
 -- A model in which a formula isn't the effect.
 use Rattle.std.specs.Prelude.{ℕ}
-use Rattle.mixed_graph.specs.Graphs.{MixedGraph}
-use Rattle.fractions.specs.Fractions.{IsEqual}
-use Rattle.finite_models.specs.Models.{FiniteModel, Fits, IsAssignment, IsPositiveModel}
-use Rattle.finite_models.specs.Served.{ServesTwo}
+use Rattle.mixed_graph.specs.Vocabulary.{MixedGraph}
+use Rattle.fractions.specs.Vocabulary.{IsEqual}
+use Rattle.finite_models.specs.Vocabulary.{FiniteModel, Fits, IsAssignment, IsPositiveModel, ServesTwo}
 use Rattle.prob_expr.specs.Tree.{PlainFormula, PlainTarget}
 use Rattle.prob_expr.specs.Values.{weights_of, value_of, effect}
 

@@ -1,6 +1,6 @@
 -- The free variables of a formula: those whose values its value may depend on.
 use Rattle.std.specs.Prelude.{ℕ, List, [], ◌∷◌, ◌++◌, get_or}
-use Rattle.mixed_graph.specs.Masks.{union, minus}
+use Rattle.mixed_graph.specs.Vocabulary.{union, minus}
 use Rattle.prob_expr.specs.Tree.{Tree, prob, sum, product, quotient, named, Trees, no_trees, tree, PlainFormula}
 
 abbrev mutual

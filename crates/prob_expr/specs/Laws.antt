@@ -1,11 +1,9 @@
 -- Laws of formulas: what check accepts; the free variables; values are positive fractions in positive models, and without interventions they come
 -- from what is observed.
 use Rattle.std.specs.Prelude.{ℕ, ◌≡◌, true, None, All}
-use Rattle.mixed_graph.specs.Bits.{has}
-use Rattle.mixed_graph.specs.Graphs.{MixedGraph, IsMixedGraph}
-use Rattle.fractions.specs.Fractions.{IsEqual, IsPositive}
-use Rattle.finite_models.specs.Agreement.{AgreeObserved}
-use Rattle.finite_models.specs.Models.{FiniteModel, Fits, IsAssignment, IsPositiveModel, total}
+use Rattle.mixed_graph.specs.Vocabulary.{has, MixedGraph, IsMixedGraph}
+use Rattle.fractions.specs.Vocabulary.{IsEqual, IsPositive}
+use Rattle.finite_models.specs.Vocabulary.{AgreeObserved, FiniteModel, Fits, IsAssignment, IsPositiveModel, total}
 use Rattle.prob_expr.specs.Tree.{Tree, PlainFormula, PlainTarget}
 use Rattle.prob_expr.specs.Terms.{are_terms, is_do_free}
 use Rattle.prob_expr.specs.Check.{fault_in}

@@ -16,3 +16,4 @@ pub mod TreeCodes
 pub mod Values
 pub mod Uses
 pub mod View
+pub mod Vocabulary

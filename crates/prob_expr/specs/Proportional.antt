@@ -1,6 +1,6 @@
 -- Weights that are those of others up to one factor.
 use Rattle.std.specs.Prelude.{ℕ, ◌*◌, ◌≡◌, ◌<◌, ◌≤◌, Bool, true, false}
-use Rattle.finite_models.specs.Models.{IsAssignment}
+use Rattle.finite_models.specs.Vocabulary.{IsAssignment}
 use Rattle.prob_expr.specs.Values.{Weights}
 
 -- the weights v of events of the used vertices are those of w up to one factor, the ratio of their totals

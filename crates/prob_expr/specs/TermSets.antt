@@ -1,6 +1,6 @@
 -- Sets of the terms of an expression.
 use Rattle.std.specs.Prelude.{ℕ, Bool, ◌&&◌}
-use Rattle.mixed_graph.specs.Masks.{is_apart, is_below}
+use Rattle.mixed_graph.specs.Vocabulary.{is_apart, is_below}
 
 -- three sets below n, no two of which meet
 abbrev pub are_term_sets : ℕ → ℕ → ℕ → ℕ → Bool

@@ -1,6 +1,6 @@
 -- Terms: what their sets have to be, and which interventions stand in them.
 use Rattle.std.specs.Prelude.{ℕ, Bool, true, false, not, ◌&&◌, ◌||◌, ◌==◌, List, [], ◌∷◌}
-use Rattle.mixed_graph.specs.Masks.{is_empty, is_below}
+use Rattle.mixed_graph.specs.Vocabulary.{is_empty, is_below}
 use Rattle.prob_expr.specs.TermSets.{are_term_sets}
 use Rattle.prob_expr.specs.Tree.{Tree, prob, sum, product, quotient, named, Trees, no_trees, tree, PlainFormula}
 

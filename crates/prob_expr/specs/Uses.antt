@@ -1,6 +1,6 @@
 -- Whether a formula has vertices of a set alone, in its terms and its sums.
 use Rattle.std.specs.Prelude.{ℕ, Bool, true, ◌&&◌, List, [], ◌∷◌}
-use Rattle.mixed_graph.specs.Masks.{is_inside}
+use Rattle.mixed_graph.specs.Vocabulary.{is_inside}
 use Rattle.prob_expr.specs.Tree.{Tree, prob, sum, product, quotient, named, Trees, no_trees, tree, PlainFormula}
 
 abbrev mutual

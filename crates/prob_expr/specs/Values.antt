@@ -1,10 +1,8 @@
 -- The value of an expression at an assignment: in a model, or over any other weights of events.
 use Rattle.std.specs.Prelude.{ℕ, zero, suc, Bool, ◌||◌, if◌then◌else◌, ◌==◌, List, [], ◌∷◌}
-use Rattle.mixed_graph.specs.Bits.{has}
-use Rattle.mixed_graph.specs.Graphs.{MixedGraph}
-use Rattle.fractions.specs.Fractions.{Fraction, over, IsEqual, add_below, mul, div}
-use Rattle.finite_models.specs.Sums.{set_at}
-use Rattle.finite_models.specs.Models.{FiniteModel, Fits, IsAssignment, IsPositiveModel, weight_of, probability}
+use Rattle.mixed_graph.specs.Vocabulary.{has, MixedGraph}
+use Rattle.fractions.specs.Vocabulary.{Fraction, over, IsEqual, add_below, mul, div}
+use Rattle.finite_models.specs.Vocabulary.{set_at, FiniteModel, Fits, IsAssignment, IsPositiveModel, weight_of, probability}
 use Rattle.prob_expr.specs.Tree.{Tree, prob, sum, product, quotient, named, Trees, no_trees, tree, PlainFormula, PlainTarget}
 
 -- the sum of f over all points that differ from b at most in the coordinates i below n with u i, such a coordinate ranging below s i

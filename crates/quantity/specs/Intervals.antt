@@ -2,7 +2,7 @@
 use Rattle.std.specs.Prelude.{ℕ, ◌+◌, ◌*◌, ◌/◌, ◌-◌, ◌^◌, ◌≡◌, ◌≤◌, ◌↔◌, if◌then◌else◌, nat_le, ◌==◌, Result, Ok, Err}
 use Rattle.quantity.specs.declared.fault.QuantityFault.{QuantityFault}
 use Rattle.quantity.specs.declared.fault.QuantityFault.TheVariants.{TooWide, TooFine, ZeroBelow}
-use Rattle.fractions.specs.Fractions.{Fraction}
+use Rattle.fractions.specs.Vocabulary.{Fraction}
 use Rattle.quantity.specs.Kinds.{Pair, pair, Kind, most}
 use Rattle.quantity.specs.Texts.{bounds_text}
 

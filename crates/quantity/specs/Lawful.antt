@@ -1,7 +1,7 @@
 -- What the operations of a kind have to do with fractions.
 use Rattle.std.specs.Prelude.{ℕ, ◌≡◌, ◌≢◌, ◌≤◌, ◌↔◌, Ok, Err}
 use Rattle.fractions.specs.Fractions
-use Rattle.fractions.specs.Fractions.{Fraction, over, IsEqual}
+use Rattle.fractions.specs.Vocabulary.{Fraction, over, IsEqual}
 use Rattle.quantity.specs.declared.fault.QuantityFault.TheVariants.{ZeroBelow}
 use Rattle.quantity.specs.Kinds.{Pair, Kind}
 

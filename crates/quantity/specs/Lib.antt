@@ -6,3 +6,4 @@ pub mod Intervals
 pub mod Lawful
 pub mod Laws
 pub mod Theorems
+pub mod Vocabulary

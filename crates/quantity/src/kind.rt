@@ -1,7 +1,7 @@
 //! What a kind of quantity offers.
 
 ghost use Rattle.std.specs.Prelude.{ℕ, ◌≡◌, ◌≤◌, ◌^◌, ◌++◌, OnOk, OnErr};
-ghost use Rattle.fractions.specs.Fractions.{Fraction};
+ghost use Rattle.fractions.specs.Vocabulary.{Fraction};
 ghost use Rattle.quantity.specs.Kinds.{Pair, Kind, gives};
 ghost use Rattle.quantity.specs.Lawful.{IsLawful};
 

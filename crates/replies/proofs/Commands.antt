@@ -1,7 +1,7 @@
 -- What holds of each command: its words ask for one request, and its answers have one outcome, which is one that commands answer.
 use Rattle.std.proofs.Common.{◌≡◌, ℕ, List, Option, Some}
 use Rattle.std.proofs.lemmas.Option.{none-some}
-use Rattle.command_words.specs.Form.{Text, Use}
+use Rattle.command_words.specs.Vocabulary.{Text, Use}
 use Rattle.diagram.specs.declared.diagram.Diagram.{Diagram}
 use Rattle.diagram.proofs.OneDiagram.{AreSameDiagrams}
 use Rattle.replies.specs.declared.format.Format.{Format}

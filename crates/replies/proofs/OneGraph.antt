@@ -1,7 +1,7 @@
 -- Bytes hold one graph at most, and so one diagram.
 use Rattle.std.proofs.Common.{ℕ, List}
 use Rattle.dag_reader.specs.declared.graph.ReadGraph.{ReadGraph}
-use Rattle.dag_reader.specs.RoundTrip.{AreSame}
+use Rattle.dag_reader.specs.Vocabulary.{AreSame}
 use Rattle.dag_reader.proofs.OneReading.{one_graph}
 use Rattle.diagram.specs.declared.diagram.Diagram.{Diagram}
 use Rattle.diagram.proofs.OneDiagram.{AreSameDiagrams, one_diagram}

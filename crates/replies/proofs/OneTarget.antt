@@ -2,13 +2,13 @@
 use Rattle.std.proofs.Common.{◌≡◌, ◌⊎◌, ◌<◌, ℕ, zero, suc, Bool, false, List, [], ◌∷◌, Option, None, inl, inr, sym, subst, ◌∙◌, IsTrue, arith}
 use Rattle.std.proofs.lemmas.Bool.{cases_Bool, cases_lt, false_from_ne_true}
 use Rattle.std.proofs.lemmas.Option.{none-some}
-use Rattle.mixed_graph.specs.Bits.{has}
-use Rattle.mixed_graph.specs.Sets.{Within}
+use Rattle.mixed_graph.specs.Vocabulary.{has, Within}
 use Rattle.mixed_graph.proofs.Masks.{same_from_has, zero_from_empty}
 use Rattle.targets.specs.declared.fault.TargetFault.{TargetFault}
-use Rattle.targets.specs.declared.fault.TargetFault.TheVariants.{Unknown, Latent, Twice, EmptyY, EmptyX}
-use Rattle.targets.specs.Targets.{NameFault, unknown, latent, twice, IsListedSet, IsFaultOfTarget, Lists, AreSets, EffectLists, effect_fault}
-use Rattle.targets.specs.Targets.{AreEffectSets, IsEffectFault}
+use Rattle.targets.specs.declared.fault.TargetFault.TheVariants.{EmptyY, EmptyX}
+use Rattle.targets.specs.Vocabulary.{NameFault, IsListedSet, IsFaultOfTarget, Lists, AreSets, EffectLists, effect_fault, AreEffectSets, IsEffectFault}
+use Rattle.targets.specs.declared.fault.TargetFault.TheVariants.{Unknown, Latent, Twice}
+use Rattle.targets.specs.Targets.{unknown, latent, twice}
 use Rattle.replies.specs.Observed.{IsTargetRefusal}
 use Rattle.replies.specs.Told.{Told}
 

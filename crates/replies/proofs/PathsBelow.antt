@@ -1,11 +1,10 @@
 -- The vertices of an open path are vertices of the graph, so that they have names.
 use Rattle.std.proofs.Common.{◌≡◌, ℕ, ◌+◌, ◌-◌, ◌<◌, ◌≤◌, Bool, List, arith}
 use Rattle.std.specs.Prelude.{zero, suc, slice_index}
-use Rattle.mixed_graph.specs.Graphs.{MixedGraph, IsMixedGraph}
+use Rattle.mixed_graph.specs.Vocabulary.{MixedGraph, IsMixedGraph}
 use Rattle.m_separation.specs.declared.marks.Mark.{Mark}
 use Rattle.m_separation.specs.declared.paths.OpenPath.{OpenPath}
-use Rattle.m_separation.specs.Walks.{IsWalk}
-use Rattle.m_separation.specs.Paths.{steps_from, IsOpenPath}
+use Rattle.m_separation.specs.Vocabulary.{IsWalk, steps_from, IsOpenPath}
 use Rattle.m_separation.proofs.Going.{joined_below}
 use Rattle.replies.specs.Lines.{IsPrintablePath}
 

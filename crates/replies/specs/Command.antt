@@ -1,6 +1,6 @@
 -- What a command is.
 use Rattle.std.specs.Prelude.{ℕ, ◌≡◌, List, Option, Some, None}
-use Rattle.command_words.specs.Form.{Text, Use}
+use Rattle.command_words.specs.Vocabulary.{Text, Use}
 use Rattle.diagram.specs.declared.diagram.Diagram.{Diagram}
 use Rattle.replies.specs.declared.format.Format.{Format}
 use Rattle.replies.specs.declared.outcome.Outcome.{Outcome}

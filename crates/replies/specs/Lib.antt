@@ -5,3 +5,4 @@ pub mod Outcomes
 pub mod OneOutcome
 pub mod Lines
 pub mod Command
+pub mod Vocabulary

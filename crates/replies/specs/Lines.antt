@@ -2,7 +2,7 @@
 use Rattle.std.specs.Prelude.{ℕ, ◌<◌, ◌≤◌, List, [], ◌∷◌, ◌++◌, codes, slice_index}
 use Rattle.m_separation.specs.declared.marks.Mark.{Mark}
 use Rattle.m_separation.specs.declared.paths.OpenPath.{OpenPath}
-use Rattle.answer_text.specs.Texts.{path_text, set_text}
+use Rattle.answer_text.specs.Vocabulary.{path_text, set_text}
 
 -- `open: A -> B <- C`
 abbrev pub open_text : List (List ℕ) → List ℕ → List Mark → ℕ → List ℕ

@@ -3,10 +3,9 @@ use Rattle.std.specs.Prelude.{ℕ, ◌≡◌, ◌≤◌, ◌⊎◌, List, length
 use Rattle.dag_reader.specs.declared.graph.ReadGraph.{ReadGraph}
 use Rattle.dag_reader.specs.Reads.{Reads}
 use Rattle.diagram.specs.declared.diagram.Diagram.{Diagram}
-use Rattle.diagram.specs.Observed.{observed_names}
-use Rattle.diagram.specs.Sets.{Names}
+use Rattle.diagram.specs.Vocabulary.{observed_names, Names}
 use Rattle.targets.specs.declared.fault.TargetFault.{TargetFault}
-use Rattle.targets.specs.Targets.{listed, Lists, AreSets, IsTargetFault}
+use Rattle.targets.specs.Vocabulary.{listed, Lists, AreSets, IsTargetFault}
 use Rattle.replies.specs.declared.outcome.Outcome.{Outcome}
 use Rattle.replies.specs.declared.outcome.Outcome.TheVariants.{Graph}
 use Rattle.replies.specs.Refusals.{target_told}

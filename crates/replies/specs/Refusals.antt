@@ -3,13 +3,12 @@ use Rattle.std.specs.Prelude.{ℕ, ◌≡◌, ◌<◌, ◌≤◌, List, length, 
 use Rattle.dag_reader.specs.Reads.{Reads}
 use Rattle.dag_reader.specs.declared.faults.GraphFault.{GraphFault}
 use Rattle.dag_reader.specs.declared.faults.GraphFault.TheVariants.{NoMemory}
-use Rattle.dag_reader.specs.FaultTexts.{graph_fault_text, size_text}
+use Rattle.dag_reader.specs.Vocabulary.{graph_fault_text, size_text}
 use Rattle.targets.specs.declared.fault.TargetFault.{TargetFault}
-use Rattle.targets.specs.FaultTexts.{target_fault_text}
-use Rattle.answer_text.specs.Lines.{line_of}
-use Rattle.answer_json.specs.Progress.{json_line}
-use Rattle.fault_json.specs.GraphFaults.{graph_fault_json, graph_size_json}
-use Rattle.fault_json.specs.TargetFaults.{target_fault_json}
+use Rattle.targets.specs.Vocabulary.{target_fault_text}
+use Rattle.answer_text.specs.Vocabulary.{line_of}
+use Rattle.answer_json.specs.Vocabulary.{json_line}
+use Rattle.fault_json.specs.Vocabulary.{graph_fault_json, graph_size_json, target_fault_json}
 use Rattle.replies.specs.Told.{Told, refusal_of}
 
 -- what is told of a fault of listed names

@@ -4,13 +4,12 @@ use Rattle.std.specs.Prelude.{nat_lt, not}
 use Rattle.std.proofs.lemmas.Bool.{and_parts, ltb-true, lt-ltb, le-ltb, cases_lt}
 use Rattle.std.specs.List.{flat_map}
 use Rattle.std.proofs.lemmas.List.{map-append}
-use Rattle.mixed_graph.specs.Bits.{has, members_below}
-use Rattle.mixed_graph.specs.Sets.{Within}
-use Rattle.dag_reader.specs.Rows.{count_up}
+use Rattle.mixed_graph.specs.Vocabulary.{has, members_below, Within}
+use Rattle.dag_reader.specs.Vocabulary.{count_up}
 use Rattle.dag_reader.proofs.RowPairs.{rows_begin, rows_more}
 use Rattle.dag_reader.proofs.Joined.{members-cut}
-use Rattle.answer_json.specs.Progress.{Progress, with_values}
-use Rattle.answer_json.specs.Values.{pair_json}
+use Rattle.answer_json.specs.Progress.{Progress}
+use Rattle.answer_json.specs.Vocabulary.{with_values, pair_json}
 use Rattle.answer_json.proofs.Arrays.{both_written}
 
 -- the pairs of vertex a

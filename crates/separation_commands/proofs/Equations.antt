@@ -1,7 +1,7 @@
 -- Both sides of a rule, and the text around them.
 use Rattle.std.proofs.Common.{◌≡◌, ℕ, List, ◌++◌, codes, ap, ap₂, ◌∙◌}
 use Rattle.std.proofs.lemmas.List.{append_assoc}
-use Rattle.do_rules.specs.Rules.{Side}
+use Rattle.do_rules.specs.Vocabulary.{Side}
 
 -- sides with the same members are the same
 pub same_side : (s t : Side) → ((v : ℕ) → s.of v ≡ t.of v) → ((v : ℕ) → s.doing v ≡ t.doing v) → ((v : ℕ) → s.given v ≡ t.given v) → s ≡ t

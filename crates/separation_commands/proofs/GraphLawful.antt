@@ -1,14 +1,12 @@
 -- The command's words ask for one request, and its answers have one outcome.
 use Rattle.std.proofs.Common.{◌≡◌, Bool, List, Result, Ok, Err, refl, sym, ◌∙◌}
 use Rattle.std.proofs.lemmas.Option.{same_Some}
-use Rattle.command_words.specs.Form.{Use}
+use Rattle.command_words.specs.Vocabulary.{Use}
 use Rattle.targets.specs.declared.fault.TargetFault.{TargetFault}
 use Rattle.diagram.specs.declared.diagram.Diagram.{Diagram}
 use Rattle.replies.specs.declared.outcome.Outcome.TheVariants.{Yes}
 use Rattle.replies.proofs.Commands.{IsLawful, lawful_on_file}
-use Rattle.told.specs.Forms.{plain_form}
-use Rattle.told.specs.Refusals.{target_refusal}
-use Rattle.told.specs.Telling.{outcome_in}
+use Rattle.told.specs.Vocabulary.{plain_form, target_refusal, outcome_in}
 use Rattle.told.proofs.ToldOnce.{told_answered}
 use Rattle.separation_commands.specs.GraphRequests.{Request, IsRequest}
 use Rattle.separation_commands.specs.GraphCommand.{graph_command}

@@ -2,25 +2,24 @@
 use Rattle.std.proofs.Common.{◌≡◌, ◌-◌, ◌||◌, ℕ, List, Ok, Err, refl, sym, subst, ◌∙◌, arith}
 use Rattle.std.specs.Prelude.{codes, slice_index}
 use Rattle.std.proofs.lemmas.Option.{same_Some}
-use Rattle.mixed_graph.specs.Bits.{has}
-use Rattle.mixed_graph.specs.Graphs.{MixedGraph}
+use Rattle.mixed_graph.specs.Vocabulary.{has, MixedGraph}
 use Rattle.m_separation.specs.declared.paths.OpenPath.{OpenPath}
-use Rattle.m_separation.specs.Paths.{steps_from, IsOpenPath}
-use Rattle.command_words.specs.Form.{Use, value_of}
+use Rattle.m_separation.specs.Vocabulary.{steps_from, IsOpenPath}
+use Rattle.command_words.specs.Vocabulary.{Use, value_of}
 use Rattle.command_words.proofs.OneValue.{one_listed_or_empty, one_needed_list, one_needed_number}
-use Rattle.do_rules.specs.Rules.{IsOpenFor, number_of}
 use Rattle.do_rules.specs.declared.rules.Rule.{Rule}
+use Rattle.do_rules.specs.Vocabulary.{IsOpenFor, number_of}
 use Rattle.do_rules.specs.declared.rules.Rule.TheVariants as rules
 use Rattle.do_rules.proofs.RuleGraphs.{one_graph}
 use Rattle.targets.specs.declared.query.RuleSets.{RuleSets}
 use Rattle.targets.specs.declared.fault.TargetFault.{TargetFault}
-use Rattle.targets.specs.Targets.{RuleLists, AreRuleSets, IsRuleFault}
-use Rattle.diagram.specs.Sets.{rule_lists}
+use Rattle.targets.specs.Vocabulary.{RuleLists, AreRuleSets, IsRuleFault}
+use Rattle.diagram.specs.Vocabulary.{rule_lists}
 use Rattle.diagram.proofs.OneDiagram.{same_rule_lists}
-use Rattle.replies.specs.Outcomes.{IsAnswered}
+use Rattle.replies.specs.Vocabulary.{IsAnswered}
 use Rattle.replies.proofs.Commands.{IsLawful}
 use Rattle.replies.proofs.OneTarget.{one_set, no_fault_of}
-use Rattle.told.specs.Refusals.{target_refusal}
+use Rattle.told.specs.Vocabulary.{target_refusal}
 use Rattle.told.proofs.ToldOnce.{EndAlike, lawful_told}
 use Rattle.separation_commands.specs.declared.rule.answer.Answer.{Answer}
 use Rattle.separation_commands.specs.declared.rule.answer.Answer.TheVariants.{Holds, Fails}

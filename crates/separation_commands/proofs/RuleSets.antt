@@ -1,9 +1,9 @@
 -- The sets that the lists of a rule name are sets of the graph, apart from each other.
 use Rattle.std.proofs.Common.{◌≡◌, ℕ, length}
-use Rattle.mixed_graph.specs.Bits.{has}
-use Rattle.targets.specs.Targets.{RuleLists, AreRuleSets}
+use Rattle.mixed_graph.specs.Vocabulary.{has}
+use Rattle.targets.specs.Vocabulary.{RuleLists, AreRuleSets}
 use Rattle.targets.proofs.Disjoint.{disjoint_rule_sets}
-use Rattle.do_rules.specs.Rules.{AreFourSets}
+use Rattle.do_rules.specs.Vocabulary.{AreFourSets}
 
 pub four_sets : (l : RuleLists) (n y x z given : ℕ) → length l.observed ≡ n → AreRuleSets l y x z given
     → AreFourSets n (has x) (has y) (has z) (has given)

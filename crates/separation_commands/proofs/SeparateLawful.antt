@@ -2,22 +2,21 @@
 use Rattle.std.proofs.Common.{◌≡◌, ◌-◌, ℕ, List, Ok, Err, refl, sym, ◌∙◌}
 use Rattle.std.specs.Prelude.{codes, slice_index}
 use Rattle.std.proofs.lemmas.Option.{same_Some}
-use Rattle.mixed_graph.specs.Bits.{has}
-use Rattle.mixed_graph.specs.Graphs.{MixedGraph}
+use Rattle.mixed_graph.specs.Vocabulary.{has, MixedGraph}
 use Rattle.m_separation.specs.declared.paths.OpenPath.{OpenPath}
-use Rattle.m_separation.specs.Paths.{steps_from, IsOpenPath}
-use Rattle.do_rules.specs.Rules.{AreDependent}
-use Rattle.command_words.specs.Form.{Use, value_of}
+use Rattle.m_separation.specs.Vocabulary.{steps_from, IsOpenPath}
+use Rattle.do_rules.specs.Vocabulary.{AreDependent}
+use Rattle.command_words.specs.Vocabulary.{Use, value_of}
 use Rattle.command_words.proofs.OneValue.{one_listed}
 use Rattle.targets.specs.declared.query.Sets.{Sets}
 use Rattle.targets.specs.declared.fault.TargetFault.{TargetFault}
-use Rattle.targets.specs.Targets.{Lists, AreSets, IsTargetFault}
-use Rattle.diagram.specs.Sets.{query_lists}
+use Rattle.targets.specs.Vocabulary.{Lists, AreSets, IsTargetFault}
+use Rattle.diagram.specs.Vocabulary.{query_lists}
 use Rattle.diagram.proofs.OneDiagram.{same_query_lists}
-use Rattle.replies.specs.Outcomes.{IsAnswered}
+use Rattle.replies.specs.Vocabulary.{IsAnswered}
 use Rattle.replies.proofs.Commands.{IsLawful}
 use Rattle.replies.proofs.OneTarget.{no_fault_of, same_three}
-use Rattle.told.specs.Refusals.{target_refusal}
+use Rattle.told.specs.Vocabulary.{target_refusal}
 use Rattle.told.proofs.ToldOnce.{EndAlike, lawful_told}
 use Rattle.separation_commands.specs.declared.separate.answer.Answer.{Answer}
 use Rattle.separation_commands.specs.declared.separate.answer.Answer.TheVariants.{Separated, Connected}

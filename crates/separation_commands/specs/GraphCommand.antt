@@ -1,7 +1,6 @@
 -- The command `graph`.
-use Rattle.replies.specs.Command.{CommandForm}
-use Rattle.told.specs.Commands.{told_on_file}
-use Rattle.told.specs.Forms.{plain_form}
+use Rattle.replies.specs.Vocabulary.{CommandForm}
+use Rattle.told.specs.Vocabulary.{told_on_file, plain_form}
 use Rattle.separation_commands.specs.GraphRight.{IsGraphAnswer}
 use Rattle.separation_commands.specs.GraphTelling.{graph_telling}
 use Rattle.separation_commands.specs.GraphRequests.{Request, IsRequest}

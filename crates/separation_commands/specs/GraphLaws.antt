@@ -1,8 +1,9 @@
 -- What `graph` writes, read again.
 use Rattle.std.specs.Prelude.{◌<◌, ◌≤◌, length}
 use Rattle.dag_reader.specs.declared.graph.ReadGraph.{ReadGraph}
-use Rattle.dag_reader.specs.Written.{drawn_of, written}
-use Rattle.replies.specs.Observed.{HoldsGraph}
+use Rattle.dag_reader.specs.Vocabulary.{drawn_of}
+use Rattle.dag_reader.specs.Written.{written}
+use Rattle.replies.specs.Vocabulary.{HoldsGraph}
 
 -- within the limit on files the text of a graph holds that graph
 abbrev pub WrittenIsHeld : Type 0

@@ -4,10 +4,9 @@ use Rattle.json.specs.Json.{Json, null, string}
 use Rattle.dag_reader.specs.declared.graph.ReadGraph.{ReadGraph}
 use Rattle.dag_reader.specs.declared.marks.Role.{Role}
 use Rattle.dag_reader.specs.declared.marks.Role.TheVariants.{Exposure, Outcome, Adjusted, Latent}
-use Rattle.dag_reader.specs.Rows.{count_up}
-use Rattle.dag_reader.specs.Written.{role_at, drawn_of, written}
-use Rattle.answer_json.specs.Progress.{array_of, object_of}
-use Rattle.answer_json.specs.Values.{text_json, vertex_json, pairs_json}
+use Rattle.dag_reader.specs.Vocabulary.{count_up, role_at, drawn_of}
+use Rattle.dag_reader.specs.Written.{written}
+use Rattle.answer_json.specs.Vocabulary.{array_of, object_of, text_json, vertex_json, pairs_json}
 
 -- a role, or null
 abbrev pub role_json : Option Role → Json

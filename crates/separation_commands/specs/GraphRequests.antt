@@ -1,8 +1,8 @@
 -- What `graph` is asked for.
 use Rattle.std.specs.Prelude.{◌≡◌, Bool, List, Some, [], ◌∷◌, codes}
-use Rattle.command_words.specs.Form.{Text, Row, Use, word_of, has_flag}
+use Rattle.command_words.specs.Vocabulary.{Text, Row, Use, word_of, has_flag}
 use Rattle.replies.specs.declared.format.Format.{Format}
-use Rattle.replies.specs.Told.{format_of}
+use Rattle.replies.specs.Vocabulary.{format_of}
 use Rattle.separation_commands.specs.declared.graph.request.Request.{Request as CodeRequest}
 
 -- `graph FILE [--project] [--json]`

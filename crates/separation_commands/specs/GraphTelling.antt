@@ -1,5 +1,6 @@
 -- What is told of a graph: its text, whose names are its own.
-use Rattle.dag_reader.specs.Written.{drawn_of, written}
+use Rattle.dag_reader.specs.Written.{written}
+use Rattle.dag_reader.specs.Vocabulary.{drawn_of}
 use Rattle.replies.specs.declared.outcome.Outcome.TheVariants.{Yes}
 use Rattle.told.specs.Telling.{Telling}
 use Rattle.separation_commands.specs.GraphObjects.{graph_members}

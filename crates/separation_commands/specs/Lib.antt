@@ -16,3 +16,4 @@ pub mod RuleTelling
 pub mod RuleRight
 pub mod RuleRequests
 pub mod RuleCommand
+pub mod Vocabulary

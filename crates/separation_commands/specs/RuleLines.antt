@@ -1,11 +1,11 @@
 -- What is printed for an answer of `rule`.
 use Rattle.std.specs.Prelude.{ℕ, Bool, List, [], ◌∷◌, ◌++◌, codes}
 use Rattle.std.specs.Fmt.{decimal}
-use Rattle.mixed_graph.specs.Bits.{has}
+use Rattle.mixed_graph.specs.Vocabulary.{has}
 use Rattle.answer_text.specs.declared.Term.{Term}
-use Rattle.answer_text.specs.Texts.{term_text}
-use Rattle.do_rules.specs.Rules.{Side, left_of, right_of, number_of}
+use Rattle.answer_text.specs.Vocabulary.{term_text}
 use Rattle.do_rules.specs.declared.rules.Rule.{Rule}
+use Rattle.do_rules.specs.Vocabulary.{Side, left_of, right_of, number_of}
 
 -- a side of a rule, as P(y|do(x),z,w)
 abbrev pub side_text : List (List ℕ) → Side → List ℕ

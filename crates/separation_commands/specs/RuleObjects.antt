@@ -1,12 +1,11 @@
 -- The objects of the answers of `rule`.
 use Rattle.std.specs.Prelude.{ℕ, List, [], ◌∷◌, ◌++◌, codes, decimal}
 use Rattle.json.specs.Json.{Json, string, number}
-use Rattle.mixed_graph.specs.Bits.{has}
+use Rattle.mixed_graph.specs.Vocabulary.{has}
 use Rattle.m_separation.specs.declared.paths.OpenPath.{OpenPath}
-use Rattle.answer_json.specs.Progress.{object_of}
-use Rattle.answer_json.specs.Values.{text_json, set_json, path_json}
-use Rattle.do_rules.specs.Rules.{left_of, right_of, number_of}
+use Rattle.answer_json.specs.Vocabulary.{object_of, text_json, set_json, path_json}
 use Rattle.do_rules.specs.declared.rules.Rule.{Rule}
+use Rattle.do_rules.specs.Vocabulary.{left_of, right_of, number_of}
 use Rattle.separation_commands.specs.RuleLines.{side_text}
 
 -- the rule and its sets

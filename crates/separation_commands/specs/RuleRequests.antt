@@ -1,12 +1,11 @@
 -- What `rule` is asked for.
 use Rattle.std.specs.Prelude.{◌≡◌, List, Some, [], ◌∷◌, codes}
-use Rattle.command_words.specs.Form.{Text, Row, Use, word_of, value_of, has_flag}
+use Rattle.command_words.specs.Vocabulary.{Text, Row, Use, word_of, value_of, has_flag, names_in}
 use Rattle.command_words.specs.Values as values
-use Rattle.command_words.specs.ListViews.{names_in}
 use Rattle.do_rules.specs.declared.rules.Rule.{Rule}
-use Rattle.do_rules.specs.Rules.{number_of}
+use Rattle.do_rules.specs.Vocabulary.{number_of}
 use Rattle.replies.specs.declared.format.Format.{Format}
-use Rattle.replies.specs.Told.{format_of}
+use Rattle.replies.specs.Vocabulary.{format_of}
 use Rattle.separation_commands.specs.declared.rule.request.Request.{Request as CodeRequest}
 
 -- `rule FILE --rule N --y L --z L [--do L] [--given L] [--json]`

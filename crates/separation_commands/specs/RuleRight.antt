@@ -1,16 +1,14 @@
 -- Which answers of `rule` are right: whether a rule of the do-calculus holds, in the observed graph of the one that was read.
 use Rattle.std.specs.Prelude.{◌≡◌, List, ℕ, Result, Ok, Err}
-use Rattle.mixed_graph.specs.Bits.{has}
-use Rattle.mixed_graph.specs.Graphs.{MixedGraph}
-use Rattle.mixed_graph.specs.Shown.{graph_of}
+use Rattle.mixed_graph.specs.Vocabulary.{has, MixedGraph, graph_of}
 use Rattle.m_separation.specs.declared.paths.OpenPath.{OpenPath}
 use Rattle.do_rules.specs.declared.rules.Rule.{Rule}
-use Rattle.do_rules.specs.Rules.{IsBlockedFor, IsRuleFor, IsOpenFor, DifferSomewhere, left_of, right_of}
+use Rattle.do_rules.specs.Vocabulary.{IsBlockedFor, IsRuleFor, IsOpenFor, DifferSomewhere, left_of, right_of}
 use Rattle.targets.specs.declared.query.RuleSets.{RuleSets}
 use Rattle.targets.specs.declared.fault.TargetFault.{TargetFault}
-use Rattle.targets.specs.Targets.{RuleLists, AreRuleSets, IsRuleFault}
+use Rattle.targets.specs.Vocabulary.{RuleLists, AreRuleSets, IsRuleFault}
 use Rattle.diagram.specs.declared.diagram.Diagram.{Diagram}
-use Rattle.diagram.specs.Sets.{rule_lists}
+use Rattle.diagram.specs.Vocabulary.{rule_lists}
 use Rattle.separation_commands.specs.declared.rule.answer.Answer.{Answer}
 use Rattle.separation_commands.specs.declared.rule.answer.Answer.TheVariants.{Holds, Fails}
 

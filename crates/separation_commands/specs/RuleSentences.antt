@@ -1,9 +1,9 @@
 -- The parts of what is told of a rule.
 use Rattle.std.specs.Prelude.{ℕ, List, [], ◌∷◌, ◌++◌, codes, decimal}
 use Rattle.json.specs.Json.{Json, string}
-use Rattle.mixed_graph.specs.Bits.{has}
-use Rattle.do_rules.specs.Rules.{number_of}
+use Rattle.mixed_graph.specs.Vocabulary.{has}
 use Rattle.do_rules.specs.declared.rules.Rule.{Rule}
+use Rattle.do_rules.specs.Vocabulary.{number_of}
 use Rattle.targets.specs.declared.query.RuleSets.{RuleSets}
 use Rattle.separation_commands.specs.RuleLines.{equation_text}
 use Rattle.separation_commands.specs.RuleObjects.{rule_members, side_members}

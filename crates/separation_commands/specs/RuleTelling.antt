@@ -1,10 +1,10 @@
 -- What is told of a rule.
 use Rattle.std.specs.Prelude.{ℕ, List, [], ◌∷◌, ◌++◌, codes}
 use Rattle.json.specs.Json.{Json}
-use Rattle.answer_json.specs.Values.{path_json}
+use Rattle.answer_json.specs.Vocabulary.{path_json}
 use Rattle.replies.specs.declared.outcome.Outcome.{Outcome}
 use Rattle.replies.specs.declared.outcome.Outcome.TheVariants.{Yes, No}
-use Rattle.replies.specs.Lines.{open_text}
+use Rattle.replies.specs.Vocabulary.{open_text}
 use Rattle.told.specs.Telling.{Telling}
 use Rattle.separation_commands.specs.declared.rule.answer.Answer.{Answer}
 use Rattle.separation_commands.specs.declared.rule.answer.Answer.TheVariants.{Holds, Fails}

@@ -1,7 +1,6 @@
 -- The command `separate`.
-use Rattle.replies.specs.Command.{CommandForm}
-use Rattle.told.specs.Commands.{told_on_file}
-use Rattle.told.specs.Forms.{plain_form}
+use Rattle.replies.specs.Vocabulary.{CommandForm}
+use Rattle.told.specs.Vocabulary.{told_on_file, plain_form}
 use Rattle.separation_commands.specs.SeparateRight.{IsSeparateAnswer}
 use Rattle.separation_commands.specs.SeparateTelling.{separate_telling}
 use Rattle.separation_commands.specs.SeparateRequests.{Request, IsRequest}

@@ -1,17 +1,14 @@
 -- Which answers of `separate` are right: whether x and y are separated given w, in the observed graph of the one that was read.
 use Rattle.std.specs.Prelude.{◌≡◌, Result, Ok, Err}
-use Rattle.mixed_graph.specs.Bits.{has}
-use Rattle.mixed_graph.specs.Graphs.{MixedGraph}
-use Rattle.mixed_graph.specs.Shown.{graph_of}
+use Rattle.mixed_graph.specs.Vocabulary.{has, MixedGraph, graph_of}
 use Rattle.m_separation.specs.declared.paths.OpenPath.{OpenPath}
-use Rattle.m_separation.specs.Walks.{IsSeparated}
-use Rattle.m_separation.specs.Paths.{IsOpenPath}
-use Rattle.do_rules.specs.Rules.{AreIndependent, AreDependent}
+use Rattle.m_separation.specs.Vocabulary.{IsSeparated, IsOpenPath}
+use Rattle.do_rules.specs.Vocabulary.{AreIndependent, AreDependent}
 use Rattle.targets.specs.declared.query.Sets.{Sets}
 use Rattle.targets.specs.declared.fault.TargetFault.{TargetFault}
-use Rattle.targets.specs.Targets.{Lists, AreSets, IsTargetFault}
+use Rattle.targets.specs.Vocabulary.{Lists, AreSets, IsTargetFault}
 use Rattle.diagram.specs.declared.diagram.Diagram.{Diagram}
-use Rattle.diagram.specs.Sets.{Names, query_lists}
+use Rattle.diagram.specs.Vocabulary.{Names, query_lists}
 use Rattle.separation_commands.specs.declared.separate.answer.Answer.{Answer}
 use Rattle.separation_commands.specs.declared.separate.answer.Answer.TheVariants.{Separated, Connected}
 

@@ -1,9 +1,9 @@
 -- The parts of what is told of a separation.
 use Rattle.std.specs.Prelude.{ℕ, List, [], ◌∷◌, ◌++◌, codes}
 use Rattle.json.specs.Json.{Json, string}
-use Rattle.answer_json.specs.Values.{query_members}
+use Rattle.answer_json.specs.Vocabulary.{query_members}
 use Rattle.targets.specs.declared.query.Sets.{Sets}
-use Rattle.replies.specs.Lines.{query_text}
+use Rattle.replies.specs.Vocabulary.{query_text}
 
 -- `separated: X from Y given W`
 abbrev pub sentence_text : (start : List ℕ) → List (List ℕ) → Sets → List ℕ

@@ -1,9 +1,9 @@
 -- Counting on from factor to factor.
 use Rattle.std.proofs.Common.{◌≡◌, ℕ, ◌+◌, ◌<◌, ◌≤◌, List, ◌∷◌, [], length, map, drop, get_or, sym, ap, ◌∙◌, arith}
 use Rattle.std.proofs.lemmas.List.{at_drop_more, at_drop_all}
-use Rattle.prob_expr.specs.Check.{cap}
-use Rattle.prob_expr.specs.View.{view, views}
 use Rattle.prob_expr.specs.declared.expr.Expr.{Expr}
+use Rattle.prob_expr.specs.Vocabulary.{cap, views}
+use Rattle.prob_expr.specs.View.{view}
 use Rattle.prob_expr.proofs.Views.{views_more, none_after}
 use Rattle.short_formulas.specs.Length.{length_of, length_of_each, length_of_all}
 

@@ -2,10 +2,11 @@
 use Rattle.std.proofs.Common.{ℕ, zero, suc, ◌≡◌, ◌≤◌, true, List, [], ◌∷◌, refl, arith}
 use Rattle.std.proofs.lemmas.Bool.{and_from}
 use Rattle.finite_models.proofs.Bools.{and_first, and_second}
-use Rattle.prob_expr.specs.Tree.{Tree, prob, sum, product, quotient, named, Trees, no_trees, tree}
-use Rattle.do_derivation.specs.Plans.{Plan, Plans, no_plans, plan, PlainLemma}
-use Rattle.identification_theory.specs.Depth.{is_plan_within, are_plans_within, are_lemmas_within}
-use Rattle.identification_theory.specs.AnswerDepth.{is_tree_within, are_trees_within, are_defs_within}
+use Rattle.prob_expr.specs.Tree.{Tree, prob, sum, product, quotient, named, tree}
+use Rattle.prob_expr.specs.Vocabulary.{Trees, no_trees}
+use Rattle.do_derivation.specs.Plans.{Plan, Plans, plan}
+use Rattle.do_derivation.specs.Vocabulary.{no_plans, PlainLemma}
+use Rattle.identification_theory.specs.Vocabulary.{is_plan_within, are_plans_within, are_lemmas_within, is_tree_within, are_trees_within, are_defs_within}
 
 mutual
   pub tree_deeper : (d e : ℕ) (t : Tree) → d ≤ e → is_tree_within d t ≡ true → is_tree_within e t ≡ true

@@ -1,9 +1,9 @@
 -- What nests so deep below its first level.
 use Rattle.std.proofs.Common.{ℕ, suc, ◌≡◌, Bool, true, false, sym, ◌∙◌}
-use Rattle.prob_expr.specs.Tree.{Tree, sum, product, quotient, Trees}
+use Rattle.prob_expr.specs.Tree.{Tree, sum, product, quotient}
+use Rattle.prob_expr.specs.Vocabulary.{Trees}
 use Rattle.do_derivation.specs.Plans.{Plan, Plans}
-use Rattle.identification_theory.specs.Depth.{is_plan_within, are_plans_within}
-use Rattle.identification_theory.specs.AnswerDepth.{is_tree_within, are_trees_within}
+use Rattle.identification_theory.specs.Vocabulary.{is_plan_within, are_plans_within, is_tree_within, are_trees_within}
 
 pub within_sum : (d k u : ℕ) (t e : Tree) (b : Bool) → d ≡ suc k → e ≡ sum u t → b ≡ is_tree_within k t → b ≡ is_tree_within d e
 within_sum d k u t e b ds is h = rw (ds, is) h

@@ -1,11 +1,11 @@
 -- What is true of each vertex that a formula names is true of the names in it.
 use Rattle.std.proofs.Common.{ℕ, ◌≡◌, Bool, true, ◌||◌, List, [], ◌∷◌, arith}
-use Rattle.mixed_graph.specs.Bits.{has}
-use Rattle.mixed_graph.specs.Masks.{union}
+use Rattle.mixed_graph.specs.Vocabulary.{has, union}
 use Rattle.mixed_graph.proofs.MaskLaws.{has_join}
-use Rattle.prob_expr.specs.Tree.{Tree, prob, sum, product, quotient, named, Trees, no_trees, tree, PlainFormula}
-use Rattle.identification_theory.specs.Names.{AreAll, NamesOnly, EachNamesOnly, AllNameOnly, FormulaNamesOnly}
-use Rattle.prob_expr.specs.Mentioned.{mentioned_in, mentioned_in_any, mentioned_in_defs, mentioned}
+use Rattle.prob_expr.specs.Tree.{Tree, prob, sum, product, quotient, named, tree}
+use Rattle.prob_expr.specs.Vocabulary.{Trees, no_trees, PlainFormula, mentioned_in, mentioned_in_any, mentioned_in_defs}
+use Rattle.identification_theory.specs.Vocabulary.{AreAll, NamesOnly, EachNamesOnly, AllNameOnly, FormulaNamesOnly}
+use Rattle.prob_expr.specs.Mentioned.{mentioned}
 
 left : (p q : Bool) → p ≡ true → (p || q) ≡ true
 left p q h = grind (arith, h)

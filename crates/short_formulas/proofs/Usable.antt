@@ -1,16 +1,14 @@
 -- What the procedures answer may be shortened.
 use Rattle.std.proofs.Common.{ℕ, ◌≡◌, ◌≤◌, ◌<◌, Bool, true, false, length, subst, sym, arith}
-use Rattle.mixed_graph.specs.Bits.{has}
-use Rattle.mixed_graph.specs.Graphs.{MixedGraph, IsAncestor}
+use Rattle.mixed_graph.specs.Vocabulary.{has, MixedGraph, IsAncestor}
 use Rattle.mixed_graph.proofs.MaskLaws.{join-zero}
-use Rattle.do_rules.specs.Rules.{AreThreeSets}
-use Rattle.prob_expr.specs.Terms.{is_term}
-use Rattle.prob_expr.specs.Tree.{PlainFormula, PlainTarget, effect_on}
+use Rattle.do_rules.specs.Vocabulary.{AreThreeSets}
+use Rattle.prob_expr.specs.Vocabulary.{is_term, PlainFormula, PlainTarget, effect_on}
 use Rattle.do_derivation.proofs.TermSets.{apart_back, term_test}
-use Rattle.do_derivation.specs.Plans.{PlainDerivation}
-use Rattle.identification_theory.specs.Names.{FormulaNamesOnly}
-use Rattle.identify.specs.Answers.{IsRightFormula, AreShallowSteps, IsShallowFormula}
-use Rattle.conditional_id.specs.TurnLaws.{IsRightGiven, IsShallowGiven}
+use Rattle.do_derivation.specs.Vocabulary.{PlainDerivation}
+use Rattle.identification_theory.specs.Vocabulary.{FormulaNamesOnly}
+use Rattle.identify.specs.Vocabulary.{IsRightFormula, AreShallowSteps, IsShallowFormula}
+use Rattle.conditional_id.specs.Vocabulary.{IsRightGiven, IsShallowGiven}
 use Rattle.short_formulas.specs.Short.{IsUsable, IsOrShorter, IsSameOrShorter}
 use Rattle.short_formulas.proofs.Deeper.{tree_deeper, defs_deeper, plan_deeper, lemmas_deeper}
 

@@ -1,16 +1,11 @@
 -- What a formula has to be that stands in place of another.
 use Rattle.std.specs.Prelude.{◌≡◌, ◌≤◌, Bool, true, false, [], None, IsTrue, length}
-use Rattle.mixed_graph.specs.Graphs.{MixedGraph}
-use Rattle.prob_expr.specs.Check.{fault_in}
-use Rattle.prob_expr.specs.Terms.{is_do_free}
-use Rattle.prob_expr.specs.Values.{EqualsEffect}
+use Rattle.mixed_graph.specs.Vocabulary.{MixedGraph}
+use Rattle.prob_expr.specs.Vocabulary.{fault_in, is_do_free, EqualsEffect, PlainFormula, PlainTarget}
 use Rattle.do_derivation.specs.Accepts.{Accepts}
-use Rattle.prob_expr.specs.Tree.{PlainFormula, PlainTarget}
-use Rattle.do_derivation.specs.Plans.{PlainDerivation}
-use Rattle.identification_theory.specs.Depth.{is_plan_within, are_lemmas_within}
-use Rattle.identification_theory.specs.AnswerDepth.{is_tree_within, are_defs_within}
-use Rattle.conditional_id.specs.Conditionals.{IsConditional}
-use Rattle.conditional_id.specs.TurnLaws.{IsRightGiven}
+use Rattle.do_derivation.specs.Vocabulary.{PlainDerivation}
+use Rattle.identification_theory.specs.Vocabulary.{is_plan_within, are_lemmas_within, is_tree_within, are_defs_within}
+use Rattle.conditional_id.specs.Vocabulary.{IsConditional, IsRightGiven}
 use Rattle.short_formulas.specs.Length.{formula_length}
 
 -- steps nest at most 60 deep, and nodes at most 60; and there are at most 4096 definitions

@@ -2,13 +2,10 @@
 
 ghost use Rattle.std.specs.Prelude.{◌≡◌, ◌≤◌, true, IfOk};
 ghost use Rattle.std.specs.Bool.{OnTrue};
-ghost use Rattle.mixed_graph.specs.Bits.{has};
-ghost use Rattle.prob_expr.specs.Terms.{is_term};
-ghost use Rattle.mixed_graph.specs.Graphs.{IsAncestor};
-ghost use Rattle.mixed_graph.specs.Shown.{graph_of};
-ghost use Rattle.prob_expr.specs.View.{formula_view, target_view};
-ghost use Rattle.do_derivation.specs.View.{derivation_view};
-ghost use Rattle.identification_theory.specs.Names.{FormulaNamesOnly};
+ghost use Rattle.mixed_graph.specs.Vocabulary.{has, IsAncestor, graph_of};
+ghost use Rattle.prob_expr.specs.Vocabulary.{is_term, formula_view, target_view};
+ghost use Rattle.do_derivation.specs.Vocabulary.{derivation_view};
+ghost use Rattle.identification_theory.specs.Vocabulary.{FormulaNamesOnly};
 ghost use Rattle.short_formulas.specs.Length.{formula_length};
 ghost use Rattle.short_formulas.specs.Short.{IsReadable, IsAccepted, IsInPlaceOf};
 

@@ -2,8 +2,8 @@
 //! by itself.
 
 ghost use Rattle.std.specs.Prelude.{ℕ, ◌<◌};
-ghost use Rattle.mixed_graph.specs.Bits.{has};
-ghost use Rattle.do_rules.specs.Rules.{AreThreeSets};
+ghost use Rattle.mixed_graph.specs.Vocabulary.{has};
+ghost use Rattle.do_rules.specs.Vocabulary.{AreThreeSets};
 
 use crate::candidates::{plain, start, whole};
 use crate::hiding::derivation_in;

@@ -1,8 +1,8 @@
 //! The candidates that are made of the target's term as a whole, in the order in which they are preferred where they are equally short.
 
 ghost use Rattle.std.specs.Prelude.{ℕ, ◌<◌};
-ghost use Rattle.mixed_graph.specs.Bits.{has};
-ghost use Rattle.do_rules.specs.Rules.{AreThreeSets};
+ghost use Rattle.mixed_graph.specs.Vocabulary.{has};
+ghost use Rattle.do_rules.specs.Vocabulary.{AreThreeSets};
 
 use crate::hiding::{Hidden, Sweep, derivation_in, hide};
 use crate::listing::minimal_sets;

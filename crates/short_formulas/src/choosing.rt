@@ -1,10 +1,9 @@
 //! The shortest of several candidates.
 
 ghost use Rattle.std.specs.Prelude.{◌≡◌, true, IfOk, IfSome};
-ghost use Rattle.mixed_graph.specs.Shown.{graph_of};
-ghost use Rattle.prob_expr.specs.Terms.{is_term};
-ghost use Rattle.prob_expr.specs.View.{formula_view, target_view};
-ghost use Rattle.do_derivation.specs.View.{derivation_view};
+ghost use Rattle.mixed_graph.specs.Vocabulary.{graph_of};
+ghost use Rattle.prob_expr.specs.Vocabulary.{is_term, formula_view, target_view};
+ghost use Rattle.do_derivation.specs.Vocabulary.{derivation_view};
 ghost use Rattle.short_formulas.specs.Short.{IsInPlaceOf};
 
 use crate::admitting::is_in_place_of;

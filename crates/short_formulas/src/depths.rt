@@ -1,10 +1,10 @@
 //! How deep formulas and derivations nest.
 
 ghost use Rattle.std.specs.Prelude.{◌≡◌, map};
-ghost use Rattle.prob_expr.specs.View.{view, views};
-ghost use Rattle.do_derivation.specs.View.{step_view, steps_view, lemma_view};
-ghost use Rattle.identification_theory.specs.Depth.{is_plan_within, are_plans_within, are_lemmas_within};
-ghost use Rattle.identification_theory.specs.AnswerDepth.{is_tree_within, are_trees_within, are_defs_within};
+ghost use Rattle.prob_expr.specs.View.{view};
+ghost use Rattle.prob_expr.specs.Vocabulary.{views};
+ghost use Rattle.do_derivation.specs.Vocabulary.{step_view, steps_view, lemma_view};
+ghost use Rattle.identification_theory.specs.Vocabulary.{is_plan_within, are_plans_within, are_lemmas_within, is_tree_within, are_trees_within, are_defs_within};
 
 use do_derivation::{Lemma, Step};
 use prob_expr::Expr;

@@ -1,8 +1,8 @@
 //! Hiding what isn't needed: the latent projection on fewer vertices, on which the target is still identified.
 
 ghost use Rattle.std.specs.Prelude.{ℕ, ◌≡◌, ◌<◌, IfOk, IfSome};
-ghost use Rattle.mixed_graph.specs.Bits.{has};
-ghost use Rattle.do_rules.specs.Rules.{AreThreeSets};
+ghost use Rattle.mixed_graph.specs.Vocabulary.{has};
+ghost use Rattle.do_rules.specs.Vocabulary.{AreThreeSets};
 
 use conditional_id::{Conditional, identify_given};
 use do_derivation::Derivation;

@@ -1,11 +1,10 @@
 //! Identification that answers short formulas.
 
 ghost use Rattle.std.specs.Prelude.{◌≡◌, ℕ, ◌<◌, ◌↔◌, false, IsTrue, IfOk};
-ghost use Rattle.mixed_graph.specs.Bits.{has};
-ghost use Rattle.mixed_graph.specs.Shown.{graph_of};
-ghost use Rattle.do_rules.specs.Rules.{AreThreeSets};
-ghost use Rattle.prob_expr.specs.View.{target_view};
-ghost use Rattle.conditional_id.specs.Answers.{IsRight, SomeFormula, SomeJointHedge, IfFormula, is_joint};
+ghost use Rattle.mixed_graph.specs.Vocabulary.{has, graph_of};
+ghost use Rattle.do_rules.specs.Vocabulary.{AreThreeSets};
+ghost use Rattle.prob_expr.specs.Vocabulary.{target_view};
+ghost use Rattle.conditional_id.specs.Vocabulary.{IsRight, SomeFormula, SomeJointHedge, IfFormula, is_joint};
 ghost use Rattle.short_formulas.specs.Short.{IsReadable, IsNoLonger};
 
 use crate::shortening::shortened;

@@ -1,9 +1,8 @@
 //! Whether lemmas have sets.
 
 ghost use Rattle.std.specs.Prelude.{◌≡◌, ◌≤◌, ◌&&◌, not, map};
-ghost use Rattle.mixed_graph.specs.Masks.{is_below, is_empty};
-ghost use Rattle.do_derivation.specs.Accepts.{are_sets, sets_of};
-ghost use Rattle.do_derivation.specs.View.{lemma_view};
+ghost use Rattle.mixed_graph.specs.Vocabulary.{is_below, is_empty};
+ghost use Rattle.do_derivation.specs.Vocabulary.{are_sets, sets_of, lemma_view};
 
 use do_derivation::Lemma;
 use mixed_graph::VSet;

@@ -1,8 +1,7 @@
 //! The minimal sets for which the adjustment formula is the effect.
 
 ghost use Rattle.std.specs.Prelude.{ℕ, ◌≡◌, ◌<◌};
-ghost use Rattle.mixed_graph.specs.Bits.{has};
-ghost use Rattle.mixed_graph.specs.Sets.{Within, Apart};
+ghost use Rattle.mixed_graph.specs.Vocabulary.{has, Within, Apart};
 
 use minimal_sets::{Steps, list};
 use mixed_graph::{Graph, VSet};

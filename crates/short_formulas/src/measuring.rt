@@ -1,8 +1,8 @@
 //! The length of a formula.
 
 ghost use Rattle.std.specs.Prelude.{◌≡◌, ◌+◌, map};
-ghost use Rattle.prob_expr.specs.Check.{cap};
-ghost use Rattle.prob_expr.specs.View.{view, views, formula_view};
+ghost use Rattle.prob_expr.specs.Vocabulary.{cap, views, formula_view};
+ghost use Rattle.prob_expr.specs.View.{view};
 ghost use Rattle.short_formulas.specs.Length.{size_of, length_of, length_of_each, length_of_all, formula_length};
 
 use mixed_graph::VSet;

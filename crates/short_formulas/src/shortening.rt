@@ -1,11 +1,10 @@
 //! A short formula in place of one that is right.
 
 ghost use Rattle.std.specs.Prelude.{ℕ, ◌≡◌, ◌<◌, ◌≤◌, IfOk};
-ghost use Rattle.mixed_graph.specs.Bits.{has};
-ghost use Rattle.mixed_graph.specs.Shown.{graph_of};
-ghost use Rattle.do_rules.specs.Rules.{AreThreeSets};
-ghost use Rattle.prob_expr.specs.View.{formula_view, target_view};
-ghost use Rattle.do_derivation.specs.View.{derivation_view};
+ghost use Rattle.mixed_graph.specs.Vocabulary.{has, graph_of};
+ghost use Rattle.do_rules.specs.Vocabulary.{AreThreeSets};
+ghost use Rattle.prob_expr.specs.Vocabulary.{formula_view, target_view};
+ghost use Rattle.do_derivation.specs.Vocabulary.{derivation_view};
 ghost use Rattle.short_formulas.specs.Length.{formula_length};
 ghost use Rattle.short_formulas.specs.Short.{IsUsable, IsSameOrShorter};
 

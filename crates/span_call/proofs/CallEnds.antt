@@ -1,7 +1,7 @@
 -- The ends of calls.
 use Rattle.std.proofs.Common.{◌≡◌, ◌≤◌, ℕ, List, refl, arith}
 use Rattle.caller_memory.specs.declared.spans.Span.{Span}
-use Rattle.caller_memory.specs.Words.{AreTexts}
+use Rattle.caller_memory.specs.Vocabulary.{AreTexts}
 use Rattle.span_call.specs.declared.Sizes.{Sizes}
 use Rattle.span_call.specs.Ends.{IsEnd}
 

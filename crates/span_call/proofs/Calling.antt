@@ -2,23 +2,20 @@
 use Rattle.std.proofs.Common.{◌≡◌, ◌≤◌, ℕ, Bool, List, [], ◌∷◌, Option, Some, length, nat_le, if◌then◌else◌, refl, sym, ap, ◌∙◌, subst, arith}
 use Rattle.std.proofs.Math.Seq.{take-length}
 use Rattle.std.specs.Io.KnownBytes.{Appends}
-use Rattle.command_words.specs.Form.{Text}
+use Rattle.command_words.specs.Vocabulary.{Text}
 use Rattle.caller_memory.specs.declared.spans.Span.{Span}
 use Rattle.caller_memory.specs.declared.spans.Input.{Input}
 use Rattle.replies.specs.declared.outcome.Outcome.{Outcome}
 use Rattle.replies.specs.declared.outcome.Outcome.TheVariants.{Yes, No}
 use Rattle.replies.specs.declared.outcome.Reply.{Reply}
 use Rattle.replies.specs.declared.format.Format.{Format}
-use Rattle.replies.specs.Outcomes.{code_of, IsAnswered}
-use Rattle.command_run.specs.Commands.{HasFormat}
-use Rattle.command_run.specs.Run.{Stream, stream_of, Run, run_with, Received}
-use Rattle.command_run.specs.Complete.{InputsAreKnown}
-use Rattle.command_run.specs.Ends.{RepliesWith, EndsWith, Delivers, written, silent, shown_of, text_of, told_as}
+use Rattle.replies.specs.Vocabulary.{code_of, IsAnswered}
+use Rattle.command_run.specs.Vocabulary.{HasFormat, Stream, stream_of, run_with, Received, InputsAreKnown, RepliesWith, EndsWith, Delivers, written, silent, shown_of, text_of, told_as}
+use Rattle.command_run.specs.Run.{Run}
 use Rattle.command_run.proofs.CompleteRuns.{complete, exact_unless_lacked}
 use Rattle.command_run.proofs.Deliveries.{delivered}
-use Rattle.causal_cli.specs.Calls.{call_of}
+use Rattle.causal_cli.specs.Vocabulary.{call_of, RightAsDrawn}
 use Rattle.causal_cli.specs.Commands.{commands}
-use Rattle.causal_cli.specs.Drawn.{RightAsDrawn}
 use Rattle.causal_cli.proofs.CallAnswers.{Gave, gave}
 use Rattle.causal_cli.proofs.DrawnRuns.{right_as_drawn_of}
 use Rattle.causal_cli.proofs.Headlines.{headline}

@@ -2,9 +2,9 @@
 use Rattle.std.proofs.Common.{◌≡◌, ℕ, Bool, false, List, [], ◌∷◌, Option, Some, None, is_none, get_or, slice_get, position, option_map, refl, ap}
 use Rattle.std.proofs.lemmas.List.Quantifiers.{position-Some}
 use Rattle.std.proofs.lemmas.Option.{none-some, slice_get-get_or}
-use Rattle.command_words.specs.Form.{Text}
+use Rattle.command_words.specs.Vocabulary.{Text}
 use Rattle.caller_memory.specs.declared.spans.Input.{Input}
-use Rattle.caller_memory.specs.Parts.{part, place_named, content_at, content_named}
+use Rattle.caller_memory.specs.Vocabulary.{part, place_named, content_at, content_named}
 
 -- the input at a place that was found
 found_at : (inputs : List Input) (p : Input → Bool) (i : ℕ) → position p inputs ≡ Some i → (input : Input) × (slice_get inputs i ≡ Some input)

@@ -1,14 +1,14 @@
 -- What statuses 6 and 7 say of a call over spans.
 use Rattle.std.proofs.Common.{◌≡◌, ℕ, Bool, true, false, List, Option, refl, sym, ◌∙◌, arith}
-use Rattle.command_words.specs.Form.{Text}
-use Rattle.causal_io.specs.Causes.{Rose}
+use Rattle.command_words.specs.Vocabulary.{Text}
+use Rattle.causal_io.specs.Vocabulary.{Rose}
 use Rattle.caller_memory.specs.declared.spans.Span.{Span}
 use Rattle.caller_memory.specs.declared.spans.Input.{Input}
 use Rattle.span_call.specs.declared.Sizes.{Sizes}
 use Rattle.replies.specs.declared.outcome.Outcome.{Outcome}
 use Rattle.replies.specs.declared.outcome.Outcome.TheVariants.{Read, Write}
+use Rattle.replies.specs.Vocabulary.{code_of}
 use Rattle.replies.specs.Told.{Told}
-use Rattle.replies.specs.Outcomes.{code_of}
 use Rattle.command_run.specs.Run.{Run, Ends, Unread, Unwritten}
 use Rattle.causal_cli.specs.Commands.{commands}
 use Rattle.span_call.specs.Called.{IsRunOf, Called, LacksInput}

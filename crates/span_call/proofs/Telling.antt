@@ -1,11 +1,11 @@
 -- What is told of inputs is told of a request that the words ask for.
 use Rattle.std.proofs.Common.{◌≡◌, ℕ, List, option_map, sym, subst}
-use Rattle.command_words.specs.Form.{Text}
+use Rattle.command_words.specs.Vocabulary.{Text}
 use Rattle.caller_memory.specs.declared.spans.Span.{Span}
-use Rattle.caller_memory.specs.Words.{texts}
-use Rattle.command_run.specs.Commands.{Asks, file_of, second_of}
+use Rattle.caller_memory.specs.Vocabulary.{texts}
+use Rattle.command_run.specs.Vocabulary.{Asks, file_of, second_of}
 use Rattle.causal_cli.specs.Commands.{commands}
-use Rattle.causal_cli.specs.Inputs.{IsEnough, AreInputs}
+use Rattle.causal_cli.specs.Vocabulary.{IsEnough, AreInputs}
 use Rattle.causal_cli.specs.declared.inputs.Inputs.{Inputs}
 use Rattle.span_call.specs.Wanted.{AreTold, IsTold, TellsInputs}
 use Rattle.span_call.specs.declared.wanted.Wanted.{Wanted}

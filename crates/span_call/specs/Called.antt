@@ -1,20 +1,18 @@
 -- What a call over spans of bytes gives.
 use Rattle.std.specs.Prelude.{ℕ, ◌≡◌, [], List, Option, Some, true, false, is_none, nat_le, if◌then◌else◌}
-use Rattle.command_words.specs.Form.{Text}
+use Rattle.command_words.specs.Vocabulary.{Text}
 use Rattle.caller_memory.specs.declared.spans.Span.{Span}
 use Rattle.caller_memory.specs.declared.spans.Input.{Input}
-use Rattle.caller_memory.specs.Parts.{place_named, content_named}
-use Rattle.caller_memory.specs.Words.{texts}
+use Rattle.caller_memory.specs.Vocabulary.{place_named, content_named, texts}
 use Rattle.span_call.specs.declared.Sizes.{Sizes}
 use Rattle.span_call.specs.Rooms.{ShowsText}
 use Rattle.replies.specs.declared.outcome.Reply.{Reply}
-use Rattle.replies.specs.Outcomes.{code_of}
-use Rattle.command_run.specs.Run.{Stream, Run, Ended, Unread}
-use Rattle.command_run.specs.Complete.{InputsAreKnown, IsExact, Complete}
-use Rattle.command_run.specs.Ends.{text_of}
-use Rattle.causal_cli.specs.Calls.{call_of}
+use Rattle.replies.specs.Vocabulary.{code_of}
+use Rattle.command_run.specs.Run.{Run, Unread}
+use Rattle.command_run.specs.Vocabulary.{Stream, Ended, InputsAreKnown, IsExact, text_of}
+use Rattle.command_run.specs.Complete.{Complete}
+use Rattle.causal_cli.specs.Vocabulary.{call_of, RightAsDrawn}
 use Rattle.causal_cli.specs.Commands.{commands}
-use Rattle.causal_cli.specs.Drawn.{RightAsDrawn}
 use Rattle.causal_cli.specs.Headline.{Headline}
 
 -- the run is one over these words and inputs, with the text that stands for their file where one is kept: its words are the spans' texts, what it holds

@@ -1,7 +1,7 @@
 -- How each call over spans of bytes ends.
 use Rattle.std.specs.Prelude.{ℕ, ◌≡◌, ◌≤◌, List}
 use Rattle.caller_memory.specs.declared.spans.Span.{Span}
-use Rattle.caller_memory.specs.Words.{AreTexts, IsNoText}
+use Rattle.caller_memory.specs.Vocabulary.{AreTexts, IsNoText}
 use Rattle.span_call.specs.declared.Sizes.{Sizes}
 
 -- what the status says of the words: 9 that one is no text, and below it that each is; and from 9 on nothing was written

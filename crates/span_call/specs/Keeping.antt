@@ -1,7 +1,7 @@
 -- What a call that keeps a diagram gives.
 use Rattle.std.specs.Prelude.{ℕ, List}
 use Rattle.caller_memory.specs.declared.kept.kept.KeptDiagram.{KeptDiagram}
-use Rattle.caller_memory.specs.Kept.{KeepsText}
+use Rattle.caller_memory.specs.Vocabulary.{KeepsText}
 use Rattle.span_call.specs.Rooms.{ShowsText}
 
 -- the text's diagram is kept with its names, of which the room shows the front, or all

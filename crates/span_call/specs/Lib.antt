@@ -3,3 +3,4 @@ pub mod Ends
 pub mod Rooms
 pub mod Wanted
 pub mod Keeping
+pub mod Vocabulary

@@ -1,11 +1,11 @@
 -- What a call tells of the inputs that words may ask for.
 use Rattle.std.specs.Prelude.{ℕ, ◌≡◌, ◌+◌, ◌++◌, List, [], length, Option, Some, None, option_map}
-use Rattle.command_words.specs.Form.{Text}
+use Rattle.command_words.specs.Vocabulary.{Text}
 use Rattle.caller_memory.specs.declared.spans.Span.{Span}
-use Rattle.caller_memory.specs.Words.{texts}
-use Rattle.command_run.specs.Commands.{Asks, Request, file_of, second_of}
+use Rattle.caller_memory.specs.Vocabulary.{texts}
+use Rattle.command_run.specs.Vocabulary.{Asks, Request, file_of, second_of}
 use Rattle.causal_cli.specs.Commands.{commands}
-use Rattle.causal_cli.specs.Inputs.{IsEnough}
+use Rattle.causal_cli.specs.Vocabulary.{IsEnough}
 use Rattle.causal_cli.specs.declared.inputs.Inputs.{Inputs}
 use Rattle.span_call.specs.declared.wanted.Wanted.{Wanted}
 use Rattle.span_call.specs.Rooms.{ShowsText}

@@ -1,10 +1,10 @@
 // The answer to words over spans of bytes, as it is shown.
 
 ghost use Rattle.std.specs.Prelude.{◌≡◌, ◌≤◌, List, ℕ, Option, option_map};
-ghost use Rattle.command_words.specs.Views.{texts_of};
-ghost use Rattle.caller_memory.specs.Words.{texts};
-ghost use Rattle.replies.specs.Outcomes.{code_of};
-ghost use Rattle.command_run.specs.Ends.{IsTextOf, shown_of};
+ghost use Rattle.command_words.specs.Vocabulary.{texts_of};
+ghost use Rattle.caller_memory.specs.Vocabulary.{texts};
+ghost use Rattle.replies.specs.Vocabulary.{code_of};
+ghost use Rattle.command_run.specs.Vocabulary.{IsTextOf, shown_of};
 ghost use Rattle.span_call.specs.Called.{Called, line_of};
 ghost use Rattle.span_call.specs.Rooms.{ShowsText};
 

@@ -1,7 +1,7 @@
 // What a call over spans is given, and how it ends.
 
 ghost use Rattle.std.specs.Prelude.{◌≡◌, ◌≤◌, List, ℕ, length, take, drop, min, map, string_bytes, IfOk, IfErr, OnOk};
-ghost use Rattle.caller_memory.specs.Words.{texts, AreTexts};
+ghost use Rattle.caller_memory.specs.Vocabulary.{texts, AreTexts};
 ghost use Rattle.span_call.specs.Ends.{IsEnd};
 ghost use Rattle.span_call.specs.Rooms.{ShowsText};
 

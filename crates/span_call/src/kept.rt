@@ -1,7 +1,7 @@
 //! Questions about a diagram that a caller keeps, over spans of bytes: the commands, answered as on the text that was read.
 ghost use Rattle.std.specs.Prelude.{◌≡◌, ◌≤◌, List, ℕ, Some};
 ghost use Rattle.dag_reader.specs.declared.graph.ReadGraph.{ReadGraph};
-ghost use Rattle.caller_memory.specs.Kept.{KeepsText, Keeps};
+ghost use Rattle.caller_memory.specs.Vocabulary.{KeepsText, Keeps};
 ghost use Rattle.span_call.specs.Ends.{IsEnd};
 ghost use Rattle.span_call.specs.Called.{Called, LacksInput};
 

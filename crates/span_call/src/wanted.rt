@@ -1,7 +1,7 @@
 // The inputs that the words of a call may ask for.
 
 ghost use Rattle.std.specs.Prelude.{◌≡◌, ◌≤◌, ◌⊎◌, ◌++◌, IfOk, option_map};
-ghost use Rattle.caller_memory.specs.Words.{AreTexts, IsNoText};
+ghost use Rattle.caller_memory.specs.Vocabulary.{AreTexts, IsNoText};
 ghost use Rattle.span_call.specs.Wanted.{TellsInputs, IsTold, AskForNothing, bytes_of, one_if};
 
 use crate::ends::{Arguments, call_words, show};

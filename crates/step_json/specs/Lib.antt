@@ -1,3 +1,4 @@
 pub mod Reading
 pub mod View
 pub mod Words
+pub mod Vocabulary

@@ -1,10 +1,9 @@
 -- Reading a step or a set from a JSON value, item by item, with the first fault.
 use Rattle.std.specs.Prelude.{◌≡◌, ℕ, zero, suc, ◌+◌, ◌^◌, Bool, true, false, nat_lt, List, [], ◌∷◌, ◌++◌, length, Option, Some, None}
 use Rattle.std.specs.Prelude.{option_and_then, Result, Ok, Err, if◌then◌else◌}
-use Rattle.mixed_graph.specs.Bits.{has}
-use Rattle.mixed_graph.specs.Names.{is_named, index_of}
-use Rattle.mixed_graph.specs.Masks.{union, one, is_empty}
-use Rattle.do_derivation.specs.Plans.{Move, Plan, plans_of}
+use Rattle.mixed_graph.specs.Vocabulary.{has, is_named, index_of, union, one, is_empty}
+use Rattle.do_derivation.specs.Plans.{Move, Plan}
+use Rattle.do_derivation.specs.Vocabulary.{plans_of}
 use Rattle.serde_json.specs.Data.{Data, Items, no_items, item}
 use Rattle.serde_json.specs.Find.{as_str, as_array, as_number, as_u64}
 use Rattle.step_json.specs.Words.{word_of}

@@ -1,9 +1,9 @@
 -- The words of steps.
 use Rattle.std.specs.Prelude.{ℕ, List, Option, Some, None, if◌then◌else◌, codes}
 use Rattle.std.specs.Str.{bytes_eq}
-use Rattle.do_derivation.specs.Words.{set_move_of, bare_move_of}
 use Rattle.do_derivation.specs.declared.moves.SetMove.{SetMove}
 use Rattle.do_derivation.specs.declared.moves.BareMove.{BareMove}
+use Rattle.do_derivation.specs.Vocabulary.{set_move_of, bare_move_of}
 use Rattle.step_json.specs.declared.words.Word.{Word}
 use Rattle.step_json.specs.declared.words.Word.TheVariants as words
 

@@ -1,9 +1,9 @@
 //! Sets and lists of vertices read from JSON.
 
 ghost use Rattle.std.specs.Prelude.{◌≡◌, ◌<◌, ◌≤◌, [], length, vec_len, IfOk};
-ghost use Rattle.mixed_graph.specs.Names.{AreNames};
+ghost use Rattle.mixed_graph.specs.Vocabulary.{AreNames};
 ghost use Rattle.serde_json.specs.View.{view, items_view};
-ghost use Rattle.do_derivation.specs.View.{listed};
+ghost use Rattle.do_derivation.specs.Vocabulary.{listed};
 ghost use Rattle.step_json.specs.View.{groups_view};
 ghost use Rattle.step_json.specs.Reading.{Gives, vertex_in, with_member, more_of_set, set_in, filled_set_in, more_vertices, vertices_in, number_in, each, numbers_in, groups_in};
 

@@ -3,8 +3,8 @@
 ghost use Rattle.std.specs.Prelude.{◌≡◌, [], map, option_and_then};
 ghost use Rattle.serde_json.specs.View.{view, items_view};
 ghost use Rattle.serde_json.specs.Find.{as_str};
-ghost use Rattle.do_derivation.specs.Plans.{Move as PlainMove, Plan, plans_of};
-ghost use Rattle.do_derivation.specs.View.{step_view};
+ghost use Rattle.do_derivation.specs.Plans.{Move as PlainMove, Plan};
+ghost use Rattle.do_derivation.specs.Vocabulary.{plans_of, step_view};
 ghost use Rattle.step_json.specs.Words.{word_of};
 ghost use Rattle.step_json.specs.Reading.{Gives, set_in, vertices_in, groups_in, number_in, is_end, last, argument, list_by, each, arguments, word_and_arguments, step_within, step_in};
 

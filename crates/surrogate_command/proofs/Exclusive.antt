@@ -1,9 +1,9 @@
 -- Diagrams that are the same have the same lists.
 use Rattle.std.proofs.Common.{◌≡◌}
-use Rattle.diagram.specs.Sets.{Names}
 use Rattle.diagram.specs.declared.diagram.Diagram.{Diagram}
+use Rattle.diagram.specs.Vocabulary.{Names}
 use Rattle.diagram.proofs.OneDiagram.{AreSameDiagrams, same_effect_lists}
-use Rattle.experiment_lists.specs.Words.{Lists}
+use Rattle.experiment_lists.specs.Vocabulary.{Lists}
 use Rattle.surrogate_command.specs.Sets.{surrogate_lists}
 
 -- diagrams that are the same have the same lists

@@ -2,21 +2,21 @@
 use Rattle.std.proofs.Common.{◌≡◌, ℕ, Bool, true, false, List, Ok, Err, refl, sym, subst, ◌∙◌}
 use Rattle.std.specs.Prelude.{codes}
 use Rattle.std.proofs.lemmas.Option.{same_Some}
-use Rattle.mixed_graph.specs.Graphs.{MixedGraph}
-use Rattle.prob_expr.specs.Listed.{masks_of}
-use Rattle.command_words.specs.Form.{Use, value_of, has_flag}
+use Rattle.mixed_graph.specs.Vocabulary.{MixedGraph}
+use Rattle.prob_expr.specs.Vocabulary.{masks_of}
+use Rattle.command_words.specs.Vocabulary.{Use, value_of, has_flag}
 use Rattle.command_words.proofs.OneValue.{one_listed}
 use Rattle.experiment_lists.proofs.OneSet.{one_by_one}
 use Rattle.experiment_lists.proofs.OneWord.{one_word}
 use Rattle.targets.specs.declared.fault.TargetFault.{TargetFault}
 use Rattle.targets.specs.declared.fault.TargetFault.TheVariants.{EmptyX}
-use Rattle.targets.specs.Targets.{IsFaultOfTarget}
-use Rattle.surrogates.specs.Surrogates.{SomeBlocked}
+use Rattle.targets.specs.Vocabulary.{IsFaultOfTarget}
+use Rattle.surrogates.specs.Vocabulary.{SomeBlocked}
 use Rattle.surrogates.proofs.RightAnswers.{some_blocked}
-use Rattle.replies.specs.Outcomes.{IsAnswered}
+use Rattle.replies.specs.Vocabulary.{IsAnswered}
 use Rattle.replies.proofs.Commands.{IsLawful}
 use Rattle.replies.proofs.OneTarget.{same_two, no_fault_of, some_list, is_some_list}
-use Rattle.told.specs.Refusals.{target_refusal}
+use Rattle.told.specs.Vocabulary.{target_refusal}
 use Rattle.told.proofs.ToldOnce.{EndAlike, lawful_told}
 use Rattle.surrogate_command.specs.declared.form.Form.{Form}
 use Rattle.surrogate_command.specs.declared.form.Writing.{Writing}

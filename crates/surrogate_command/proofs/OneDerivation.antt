@@ -1,16 +1,16 @@
 -- The derivation of the formula over experiments is fixed.
 use Rattle.std.proofs.Common.{ℕ, ◌+◌, ◌≡◌, refl, sym, ap, ap₂, subst, ◌∙◌, ◌⊎◌, inl, inr, List, [], ◌∷◌, ◌++◌, length}
-use Rattle.mixed_graph.specs.Graphs.{MixedGraph}
-use Rattle.mixed_graph.specs.Masks.{is_apart}
-use Rattle.prob_expr.specs.Tree.{prob, Tree, Trees, tree, PlainFormula}
-use Rattle.do_derivation.specs.Plans.{Plan, Plans, no_plans, PlainLemma, PlainDerivation}
-use Rattle.identification_theory.specs.Procedure.{Source, IsFactor}
-use Rattle.identification_theory.specs.Derivations.{Lists, more, AreFactorSteps, district_steps, main_steps}
+use Rattle.mixed_graph.specs.Vocabulary.{MixedGraph, is_apart}
+use Rattle.prob_expr.specs.Tree.{prob, Tree, tree}
+use Rattle.prob_expr.specs.Vocabulary.{Trees, PlainFormula}
+use Rattle.do_derivation.specs.Plans.{Plan, Plans}
+use Rattle.do_derivation.specs.Vocabulary.{no_plans, PlainLemma, PlainDerivation}
+use Rattle.identification_theory.specs.Vocabulary.{Source, IsFactor, Lists, more, AreFactorSteps, district_steps, main_steps}
 use Rattle.identification_theory.proofs.Bools.{clash}
 use Rattle.identification_theory.proofs.Orders.{one_order}
 use Rattle.identification_theory.proofs.OneDerivation as derivations
 use Rattle.identification_theory.proofs.Unique.{one_set, factor_one, split_one}
-use Rattle.surrogates.specs.Surrogates.{without, ComesFirst, IsFactorUnder, IsDerivedUnder, AreDerivedWith, IsComposedBySteps, IsSurrogateBySteps}
+use Rattle.surrogates.specs.Vocabulary.{without, ComesFirst, IsFactorUnder, IsDerivedUnder, AreDerivedWith, IsComposedBySteps, IsSurrogateBySteps}
 use Rattle.surrogates.proofs.Unique.{factor_or_stop}
 
 -- two factors with their definitions, lemmas and steps are the same

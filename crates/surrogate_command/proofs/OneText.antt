@@ -3,45 +3,35 @@ use Rattle.std.proofs.Common.{◌≡◌, ◌≤◌, ℕ, true, List, [], ◌∷�
 use Rattle.std.specs.Prelude.{◌↔◌, IsSome, IfSome, codes}
 use Rattle.std.proofs.lemmas.Bool.{false≢true}
 use Rattle.json.specs.Json.{Json, string}
-use Rattle.mixed_graph.specs.Graphs.{MixedGraph, IsMixedGraph}
 use Rattle.mixed_graph.specs.declared.sets.VSet.{VSet}
+use Rattle.mixed_graph.specs.Vocabulary.{MixedGraph, IsMixedGraph}
 use Rattle.hedge.specs.declared.hedge.Hedge.{Hedge}
 use Rattle.counter_models.specs.declared.counter_pair.CounterPair.{CounterPair}
-use Rattle.prob_expr.specs.Listed.{masks_of}
-use Rattle.prob_expr.specs.Tree.{PlainTarget, effect_on}
-use Rattle.prob_expr.specs.View.{target_view, formula_view}
-use Rattle.identification_theory.specs.Procedure.{IsStopped}
+use Rattle.prob_expr.specs.Vocabulary.{masks_of, PlainTarget, effect_on, target_view, formula_view}
+use Rattle.identification_theory.specs.Vocabulary.{IsStopped}
 use Rattle.identification_theory.proofs.Unique.{one_set, stopped_one}
-use Rattle.surrogates.specs.Common.{around}
-use Rattle.surrogates.specs.Surrogates.{without, IsStoppedUnder}
-use Rattle.surrogates.specs.Answers.{IsStopShown, IsBlockShown, IsBlockedTogether}
 use Rattle.surrogates.specs.declared.answer.CommonHedge.{CommonHedge}
+use Rattle.surrogates.specs.Vocabulary.{around, without, IsStoppedUnder, IsStopShown, IsBlockShown, IsBlockedTogether}
 use Rattle.surrogates.proofs.Answered.{one_surrogate, one_stop_with}
-use Rattle.experiment_lists.specs.Lines.{unidentifiable_with_line}
+use Rattle.experiment_lists.specs.Vocabulary.{unidentifiable_with_line}
 use Rattle.experiment_lists.proofs.OneSet.{one_by_one}
-use Rattle.certificate_json.specs.Certificates.{certificate_line}
-use Rattle.certificate.specs.Plain.{hedge_view}
+use Rattle.certificate_json.specs.Vocabulary.{certificate_line}
+use Rattle.certificate.specs.Vocabulary.{hedge_view}
 use Rattle.certificate.specs.Plain as plain
-use Rattle.answer_json.specs.Progress.{object_of, json_line}
-use Rattle.answer_json.specs.Values.{set_json}
-use Rattle.effect_answers.specs.Objects.{effect_json}
-use Rattle.replies.proofs.OneTarget as targets
-use Rattle.replies.specs.Outcomes.{code_of}
-use Rattle.replies.specs.Told.{answer_of, text_in}
-use Rattle.told.specs.declared.form.Writing.{Writing as ToldWriting}
-use Rattle.told.specs.declared.form.Writing.TheVariants as told
-use Rattle.told.specs.Refusals.{target_refusal}
-use Rattle.told.specs.Telling.{told_in}
+use Rattle.answer_json.specs.Vocabulary.{object_of, json_line, set_json}
 use Rattle.effect_answers.specs.declared.formulas.EffectFormula.{EffectFormula}
-use Rattle.effect_answers.specs.Certificates.{member_in}
-use Rattle.effect_answers.specs.FormulaTelling.{formula_certificate}
+use Rattle.effect_answers.specs.Vocabulary.{effect_json, member_in, formula_certificate, HasArrays}
+use Rattle.replies.proofs.OneTarget as targets
+use Rattle.replies.specs.Vocabulary.{code_of, answer_of, text_in}
+use Rattle.told.specs.declared.form.Writing.{Writing as ToldWriting}
+use Rattle.told.specs.Vocabulary.{target_refusal, told_in}
+use Rattle.told.specs.declared.form.Writing.TheVariants as told
 use Rattle.effect_answers.proofs.OneHedge.{AreAlike, hedges_alike}
 use Rattle.effect_answers.proofs.AlikePairs.{ArePairsAlike, pairs_alike}
 use Rattle.effect_answers.proofs.HedgeTexts.{sets_alike, models_alike}
 use Rattle.effect_answers.proofs.HedgeObjects as objects
 use Rattle.effect_answers.proofs.HedgeViews.{views_alike}
 use Rattle.effect_answers.proofs.Telling.{one_certificate, one_formula_text}
-use Rattle.effect_answers.specs.Hedges.{HasArrays}
 use Rattle.surrogate_command.specs.declared.form.Form.{Form}
 use Rattle.surrogate_command.specs.declared.form.Writing.{Writing}
 use Rattle.surrogate_command.specs.declared.form.Writing.TheVariants.{Plain, Models, Certificate}

@@ -3,12 +3,11 @@ use Rattle.std.proofs.Common.{◌≡◌, ℕ, false, List, Result, Ok, Err, IfOk
 use Rattle.std.specs.Prelude.{OnOk}
 use Rattle.targets.specs.declared.fault.TargetFault.{TargetFault}
 use Rattle.targets.specs.declared.fault.TargetFault.TheVariants.{NoMemory}
-use Rattle.targets.specs.Targets.{OrMemory}
+use Rattle.targets.specs.Vocabulary.{OrMemory}
 use Rattle.replies.specs.declared.outcome.Reply.{Reply}
-use Rattle.replies.specs.Told.{told_of}
+use Rattle.replies.specs.Vocabulary.{told_of}
 use Rattle.told.specs.declared.form.Form.{Form}
-use Rattle.told.specs.Refusals.{is_memory, target_refusal}
-use Rattle.told.specs.Telling.{Tells, outcome_in, told_in, is_wanting}
+use Rattle.told.specs.Vocabulary.{is_memory, target_refusal, Tells, outcome_in, told_in, is_wanting}
 use Rattle.surrogate_command.specs.declared.answer.Answer.{Answer}
 use Rattle.surrogate_command.specs.Telling.{surrogate_telling}
 

@@ -1,20 +1,18 @@
 -- The answer of a stop.
 use Rattle.std.proofs.Common.{◌≡◌, ◌↔◌, ℕ, Bool, true, false, List, Option, Some, None, refl, sym, subst}
 use Rattle.std.specs.Prelude.{IsSome, IfSome}
-use Rattle.mixed_graph.specs.Graphs.{MixedGraph}
 use Rattle.mixed_graph.specs.declared.sets.VSet.{VSet}
-use Rattle.prob_expr.specs.Listed.{masks_of}
-use Rattle.prob_expr.specs.Tree.{effect_on}
+use Rattle.mixed_graph.specs.Vocabulary.{MixedGraph}
+use Rattle.prob_expr.specs.Vocabulary.{masks_of, effect_on}
 use Rattle.hedge.specs.declared.hedge.Hedge.{Hedge}
 use Rattle.counter_models.specs.declared.counter_pair.CounterPair.{CounterPair}
-use Rattle.identify.specs.Answers.{IsRightHedge}
-use Rattle.certificate.specs.Plain.{hedge, hedge_view}
-use Rattle.certificate_json.specs.Writable.{IsBareTarget}
-use Rattle.effect_answers.specs.Certificates.{IsReadBack}
-use Rattle.effect_answers.specs.Hedges.{HasArrays}
+use Rattle.identify.specs.Vocabulary.{IsRightHedge}
+use Rattle.certificate.specs.Vocabulary.{hedge, hedge_view}
+use Rattle.certificate_json.specs.Vocabulary.{IsBareTarget}
+use Rattle.effect_answers.specs.Vocabulary.{IsReadBack, HasArrays}
 use Rattle.effect_answers.proofs.ReadBack.{hedge_back}
-use Rattle.surrogates.specs.Answers.{IsRightBlock, IsStopShown, IsBlockShown, IsBlockedTogether}
 use Rattle.surrogates.specs.declared.answer.CommonHedge.{CommonHedge}
+use Rattle.surrogates.specs.Vocabulary.{IsRightBlock, IsStopShown, IsBlockShown, IsBlockedTogether}
 use Rattle.surrogate_command.specs.declared.sets.SurrogateSets.{SurrogateSets}
 use Rattle.surrogate_command.specs.declared.answer.Answer.{Answer}
 use Rattle.surrogate_command.specs.Right.{stop_shown, IsStop, Decides}

@@ -1,9 +1,9 @@
 -- The faults of the lists of an effect over experiments.
 use Rattle.std.proofs.Common.{◌≡◌, None, ap}
 use Rattle.targets.specs.declared.fault.TargetFault.{TargetFault}
-use Rattle.targets.specs.Targets.{or_fault, IsNameFault, OrMemory, effect_fault}
+use Rattle.targets.specs.Vocabulary.{or_fault, IsNameFault, OrMemory, effect_fault}
 use Rattle.targets.proofs.Faults.{named_fault}
-use Rattle.experiment_lists.specs.Sets.{experiments_fault}
+use Rattle.experiment_lists.specs.Vocabulary.{experiments_fault}
 use Rattle.surrogate_command.specs.Sets.{SurrogateLists, surrogate_fault, IsSurrogateFault}
 
 -- a fault of a name is one of the lists

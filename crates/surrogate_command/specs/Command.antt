@@ -1,6 +1,6 @@
 -- The command `surrogate`.
-use Rattle.replies.specs.Command.{CommandForm}
-use Rattle.told.specs.Commands.{told_on_file}
+use Rattle.replies.specs.Vocabulary.{CommandForm}
+use Rattle.told.specs.Vocabulary.{told_on_file}
 use Rattle.surrogate_command.specs.Forms.{wants_common, told_form}
 use Rattle.surrogate_command.specs.Requests.{Request, IsRequest}
 use Rattle.surrogate_command.specs.Right.{IsSurrogateAnswer}

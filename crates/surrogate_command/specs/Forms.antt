@@ -1,6 +1,6 @@
 -- The form of an answer, by its three flags.
 use Rattle.std.specs.Prelude.{◌≡◌, Bool, true, false}
-use Rattle.replies.specs.Told.{format_of}
+use Rattle.replies.specs.Vocabulary.{format_of}
 use Rattle.told.specs.declared.form.Form.{Form as ToldForm}
 use Rattle.told.specs.declared.form.Writing.{Writing as ToldWriting}
 use Rattle.told.specs.declared.form.Writing.TheVariants as told

@@ -1,13 +1,11 @@
 -- What is printed.
 use Rattle.std.specs.Prelude.{ℕ, List, ◌++◌, codes}
-use Rattle.answer_text.specs.Texts.{set_text}
-use Rattle.expr_text.specs.Write.{text_of}
+use Rattle.answer_text.specs.Vocabulary.{set_text}
+use Rattle.expr_text.specs.Vocabulary.{text_of}
 use Rattle.hedge.specs.declared.hedge.Hedge.{Hedge}
 use Rattle.counter_models.specs.declared.counter_pair.CounterPair.{CounterPair}
-use Rattle.identify_text.specs.Answers.{effect_term}
-use Rattle.identify_text.specs.HedgeLines.{sets_line}
-use Rattle.identify_text.specs.PairLines.{models_text}
-use Rattle.experiment_lists.specs.Lines.{unidentifiable_with_line}
+use Rattle.identify_text.specs.Vocabulary.{effect_term, sets_line, models_text}
+use Rattle.experiment_lists.specs.Vocabulary.{unidentifiable_with_line}
 
 -- `P(Y|do(X)) has no formula found from these experiments`
 abbrev pub unfound_line : List (List ℕ) → (x y : ℕ) → List ℕ

@@ -1,13 +1,12 @@
 -- The objects of the answers.
 use Rattle.std.specs.Prelude.{ℕ, List, [], ◌∷◌, ◌++◌, codes}
 use Rattle.json.specs.Json.{Json, string}
-use Rattle.prob_expr.specs.Tree.{PlainFormula, PlainTarget}
+use Rattle.prob_expr.specs.Vocabulary.{PlainFormula, PlainTarget}
 use Rattle.hedge.specs.declared.hedge.Hedge.{Hedge}
 use Rattle.counter_models.specs.declared.counter_pair.CounterPair.{CounterPair}
-use Rattle.answer_json.specs.Values.{set_json, sets_json}
-use Rattle.hedge_json.specs.Hedges.{hedge_json}
-use Rattle.hedge_json.specs.Models.{models_json}
-use Rattle.effect_answers.specs.Objects.{target_members, effect_json, formula_members}
+use Rattle.answer_json.specs.Vocabulary.{set_json, sets_json}
+use Rattle.hedge_json.specs.Vocabulary.{hedge_json, models_json}
+use Rattle.effect_answers.specs.Vocabulary.{target_members, effect_json, formula_members}
 
 -- what was asked for: the target's sets, and the experiments on zs
 abbrev pub asked_members : List (List ℕ) → List ℕ → PlainTarget → List (List ℕ × Json)

@@ -1,17 +1,14 @@
 -- The parts of what is told of an answer.
 use Rattle.std.specs.Prelude.{ℕ, List, ◌++◌, Some, codes}
 use Rattle.json.specs.Json.{Json}
-use Rattle.prob_expr.specs.Tree.{PlainTarget}
-use Rattle.prob_expr.specs.View.{target_view, formula_view}
+use Rattle.prob_expr.specs.Vocabulary.{PlainTarget, target_view, formula_view}
 use Rattle.hedge.specs.declared.hedge.Hedge.{Hedge}
-use Rattle.certificate_json.specs.Certificates.{certificate_line}
+use Rattle.certificate_json.specs.Vocabulary.{certificate_line}
 use Rattle.told.specs.declared.form.Writing.{Writing}
 use Rattle.told.specs.declared.form.Writing.TheVariants.{Plain, Latex, Certificate}
 use Rattle.effect_answers.specs.declared.formulas.EffectFormula.{EffectFormula}
 use Rattle.effect_answers.specs.declared.hedges.EffectHedge.{EffectHedge}
-use Rattle.effect_answers.specs.Certificates.{member_in}
-use Rattle.effect_answers.specs.FormulaTelling.{formula_certificate}
-use Rattle.effect_answers.specs.HedgeTelling.{hedge_certificate}
+use Rattle.effect_answers.specs.Vocabulary.{member_in, formula_certificate, hedge_certificate}
 use Rattle.surrogate_command.specs.Lines.{common_answer}
 use Rattle.surrogate_command.specs.Objects.{formula_answer, stop_members, common_members}
 

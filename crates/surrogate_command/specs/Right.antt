@@ -1,30 +1,24 @@
 -- Which answers of `surrogate` are right: whether the procedure over experiments finds a formula for the effect of x on y, in the observed graph of a
 -- diagram.
 use Rattle.std.specs.Prelude.{ℕ, ◌≡◌, ◌↔◌, Bool, true, false, List, Option, Some, None, IsSome, IfSome, Result, Ok, Err}
-use Rattle.mixed_graph.specs.Graphs.{MixedGraph}
-use Rattle.mixed_graph.specs.Shown.{graph_of}
 use Rattle.mixed_graph.specs.declared.sets.VSet.{VSet}
-use Rattle.prob_expr.specs.Listed.{masks_of}
-use Rattle.prob_expr.specs.Tree.{PlainFormula, effect_on}
-use Rattle.prob_expr.specs.View.{target_view, formula_view}
-use Rattle.do_derivation.specs.Plans.{PlainDerivation}
+use Rattle.mixed_graph.specs.Vocabulary.{MixedGraph, graph_of}
+use Rattle.prob_expr.specs.Vocabulary.{masks_of, PlainFormula, effect_on, target_view, formula_view}
+use Rattle.do_derivation.specs.Vocabulary.{PlainDerivation}
 use Rattle.hedge.specs.declared.hedge.Hedge.{Hedge}
 use Rattle.counter_models.specs.declared.counter_pair.CounterPair.{CounterPair}
-use Rattle.identification_theory.specs.Procedure.{IsIdentified}
-use Rattle.identify.specs.Answers.{IsRightHedge}
-use Rattle.certificate.specs.Plain.{hedge_view}
+use Rattle.identification_theory.specs.Vocabulary.{IsIdentified}
+use Rattle.identify.specs.Vocabulary.{IsRightHedge}
+use Rattle.certificate.specs.Vocabulary.{hedge_view}
 use Rattle.certificate.specs.Plain as certificates
-use Rattle.surrogates.specs.Surrogates.{IsSurrogate, IsSurrogateBySteps, SomeBlocked}
-use Rattle.surrogates.specs.Answers.{IsRightFormulaWith, IsRightBlock, IsStopShown, IsBlockShown, IsBlockedTogether}
 use Rattle.surrogates.specs.declared.answer.CommonHedge.{CommonHedge}
+use Rattle.surrogates.specs.Vocabulary.{IsSurrogate, IsSurrogateBySteps, SomeBlocked, IsRightFormulaWith, IsRightBlock, IsStopShown, IsBlockShown, IsBlockedTogether}
 use Rattle.targets.specs.declared.fault.TargetFault.{TargetFault}
 use Rattle.diagram.specs.declared.diagram.Diagram.{Diagram}
-use Rattle.diagram.specs.Sets.{Names}
-use Rattle.experiment_lists.specs.Words.{Lists}
+use Rattle.diagram.specs.Vocabulary.{Names}
+use Rattle.experiment_lists.specs.Vocabulary.{Lists}
 use Rattle.effect_answers.specs.declared.formulas.EffectFormula.{EffectFormula}
-use Rattle.effect_answers.specs.Certificates.{IsReadBack}
-use Rattle.effect_answers.specs.Hedges.{HasArrays}
-use Rattle.effect_answers.specs.Right.{IsKept}
+use Rattle.effect_answers.specs.Vocabulary.{IsReadBack, HasArrays, IsKept}
 use Rattle.surrogate_command.specs.declared.sets.SurrogateSets.{SurrogateSets}
 use Rattle.surrogate_command.specs.declared.answer.Answer.{Answer}
 use Rattle.surrogate_command.specs.declared.answer.Answer.TheVariants.{Formula, Unfound, Blocked}

@@ -1,12 +1,11 @@
 -- What the lists of an effect over experiments stand for: sets of vertices, or the first fault.
 use Rattle.std.specs.Prelude.{ℕ, ◌≡◌, List, Option, None}
 use Rattle.dag_reader.specs.declared.graph.ReadGraph.{ReadGraph}
-use Rattle.diagram.specs.Sets.{Names, effect_lists}
+use Rattle.diagram.specs.Vocabulary.{Names, effect_lists}
 use Rattle.targets.specs.declared.fault.TargetFault.{TargetFault}
 use Rattle.targets.specs.declared.fault.TargetFault.TheVariants.{EmptyX}
-use Rattle.targets.specs.Targets.{NameFault, or_fault, IsFaultOfTarget, EffectLists, effect_fault, AreEffectSets}
-use Rattle.experiment_lists.specs.Sets.{experiments_fault, AreExperimentSets}
-use Rattle.experiment_lists.specs.Words.{Lists}
+use Rattle.targets.specs.Vocabulary.{NameFault, or_fault, IsFaultOfTarget, EffectLists, effect_fault, AreEffectSets}
+use Rattle.experiment_lists.specs.Vocabulary.{experiments_fault, AreExperimentSets, Lists}
 
 -- the lists of an effect, and one for each experiment
 pub record SurrogateLists : Type 0 where

@@ -1,13 +1,12 @@
 -- What is told of an answer of `surrogate`.
 use Rattle.std.specs.Prelude.{ℕ, List}
 use Rattle.json.specs.Json.{Json}
-use Rattle.prob_expr.specs.Listed.{masks_of}
-use Rattle.prob_expr.specs.Tree.{effect_on}
+use Rattle.prob_expr.specs.Vocabulary.{masks_of, effect_on}
 use Rattle.replies.specs.declared.outcome.Outcome.{Outcome}
 use Rattle.replies.specs.declared.outcome.Outcome.TheVariants.{Yes, No}
 use Rattle.told.specs.declared.form.Writing.{Writing}
 use Rattle.told.specs.Telling.{Telling}
-use Rattle.effect_answers.specs.FormulaTelling.{formula_text}
+use Rattle.effect_answers.specs.Vocabulary.{formula_text}
 use Rattle.surrogate_command.specs.declared.answer.Answer.{Answer}
 use Rattle.surrogate_command.specs.declared.answer.Answer.TheVariants.{Formula, Unfound, Blocked}
 use Rattle.surrogate_command.specs.Lines.{stop_answer}

@@ -1,9 +1,8 @@
 //! What is answered of an effect over experiments.
 
 ghost use Rattle.std.specs.Prelude.{◌≡◌, Some, IfOk, OnOk};
-ghost use Rattle.prob_expr.specs.Listed.{masks_of};
-ghost use Rattle.prob_expr.specs.Tree.{effect_on};
-ghost use Rattle.answer_json.specs.Progress.{with_members};
+ghost use Rattle.prob_expr.specs.Vocabulary.{masks_of, effect_on};
+ghost use Rattle.answer_json.specs.Vocabulary.{with_members};
 ghost use Rattle.surrogate_command.specs.Parts.{blocked_text, found_object, unfound_object, blocked_object};
 
 use crate::parts::{

@@ -1,10 +1,8 @@
 //! The parts of what is told.
 
 ghost use Rattle.std.specs.Prelude.{◌≡◌, ◌++◌, IfOk, OnOk};
-ghost use Rattle.prob_expr.specs.Listed.{masks_of};
-ghost use Rattle.prob_expr.specs.Tree.{effect_on};
-ghost use Rattle.prob_expr.specs.View.{formula_view, target_view};
-ghost use Rattle.answer_json.specs.Progress.{with_members};
+ghost use Rattle.prob_expr.specs.Vocabulary.{masks_of, effect_on, formula_view, target_view};
+ghost use Rattle.answer_json.specs.Vocabulary.{with_members};
 ghost use Rattle.surrogate_command.specs.Lines.{unfound_line, district_line, stop_answer, common_answer};
 ghost use Rattle.surrogate_command.specs.Objects.{asked_members, formula_answer, stop_members, common_members};
 

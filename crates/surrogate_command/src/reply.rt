@@ -1,16 +1,13 @@
 //! The answer of `surrogate`.
 
 ghost use Rattle.std.specs.Prelude.{◌≡◌, ◌<◌, ◌≤◌, true, IfOk, IfErr, IfSome, length};
-ghost use Rattle.mixed_graph.specs.Bits.{has};
-ghost use Rattle.mixed_graph.specs.Sets.{Within, Apart};
-ghost use Rattle.mixed_graph.specs.Shown.{graph_of};
-ghost use Rattle.prob_expr.specs.Listed.{masks_of};
-ghost use Rattle.do_derivation.specs.Accepts.{are_sets};
-ghost use Rattle.targets.specs.Targets.{OrMemory};
-ghost use Rattle.replies.specs.Told.{told_of};
-ghost use Rattle.told.specs.Refusals.{target_refusal};
-ghost use Rattle.told.specs.Telling.{Tells};
-ghost use Rattle.effect_answers.specs.Hedges.{HasArrays};
+ghost use Rattle.mixed_graph.specs.Vocabulary.{has, Within, Apart, graph_of};
+ghost use Rattle.prob_expr.specs.Vocabulary.{masks_of};
+ghost use Rattle.do_derivation.specs.Vocabulary.{are_sets};
+ghost use Rattle.targets.specs.Vocabulary.{OrMemory};
+ghost use Rattle.replies.specs.Vocabulary.{told_of};
+ghost use Rattle.told.specs.Vocabulary.{target_refusal, Tells};
+ghost use Rattle.effect_answers.specs.Vocabulary.{HasArrays};
 ghost use Rattle.surrogate_command.specs.Forms.{wants_common, told_form};
 ghost use Rattle.surrogate_command.specs.Requests.{request_of};
 ghost use Rattle.surrogate_command.specs.Right.{stop_shown, Decides, IsForLists, IsSurrogateAnswer};

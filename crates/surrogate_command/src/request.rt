@@ -1,10 +1,8 @@
 //! What `surrogate` is asked.
 
 ghost use Rattle.std.specs.Prelude.{◌≡◌, ℕ, List, true, IfOk, IfSome, IfNone, IsErrOf};
-ghost use Rattle.command_words.specs.Form.{Row, Use, is_among, value_names, value_of};
-ghost use Rattle.command_words.specs.Gives.{HoldsCall};
-ghost use Rattle.experiment_lists.specs.Words.{AreFilled, AreNeededExperiments, Lists};
-ghost use Rattle.experiment_lists.specs.Views.{lists_in};
+ghost use Rattle.command_words.specs.Vocabulary.{Row, Use, is_among, value_names, value_of, HoldsCall};
+ghost use Rattle.experiment_lists.specs.Vocabulary.{AreFilled, AreNeededExperiments, Lists, lists_in};
 ghost use Rattle.surrogate_command.specs.Forms.{IsWriting};
 ghost use Rattle.surrogate_command.specs.declared.form.Writing as asked;
 

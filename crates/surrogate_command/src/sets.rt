@@ -1,10 +1,10 @@
 //! The sets that the lists of an effect over experiments name in a diagram.
 
 ghost use Rattle.std.specs.Prelude.{IfOk, IfErr, map};
-ghost use Rattle.prob_expr.specs.Listed.{masks_of};
-ghost use Rattle.targets.specs.Targets.{OrMemory};
-ghost use Rattle.command_words.specs.ListViews.{names_in};
-ghost use Rattle.diagram.specs.Sets.{lent};
+ghost use Rattle.prob_expr.specs.Vocabulary.{masks_of};
+ghost use Rattle.targets.specs.Vocabulary.{OrMemory};
+ghost use Rattle.command_words.specs.Vocabulary.{names_in};
+ghost use Rattle.diagram.specs.Vocabulary.{lent};
 ghost use Rattle.surrogate_command.specs.Sets.{surrogate_lists, AreSurrogateSets, IsSurrogateFault};
 
 use diagram::{Diagram, Marked, set_of};

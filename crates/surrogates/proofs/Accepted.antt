@@ -1,8 +1,7 @@
 -- The derivation of the formula over experiments is accepted.
 use Rattle.std.proofs.Common.{ℕ, ◌+◌, ◌≡◌, ◌<◌, true, refl, sym, ap, ap₂, subst, ◌∙◌, List, [], ◌∷◌, ◌++◌, length, length-append}
-use Rattle.do_derivation.specs.Accepts.{Define, are_sets, sets_of}
-use Rattle.do_derivation.specs.Plans.{Plan, Plans, no_plans, PlainDerivation, PlainLemma}
-use Rattle.do_derivation.specs.Steps.{MakesAll}
+use Rattle.do_derivation.specs.Vocabulary.{Define, are_sets, sets_of, no_plans, PlainDerivation, PlainLemma, MakesAll}
+use Rattle.do_derivation.specs.Plans.{Plan, Plans}
 use Rattle.identification_theory.proofs.Accepted.{are_sets-append, d_low, main_deep, main_made, y_in}
 use Rattle.identification_theory.proofs.Assembly.{all_cited, cited_two, define-two, length-sets, sets-append, starts}
 use Rattle.identification_theory.proofs.Bodies.{EachMade}
@@ -13,15 +12,11 @@ use Rattle.identification_theory.proofs.Free.{all_under-append, free_of, free_pr
 use Rattle.identification_theory.proofs.Groups.{AreParts, are_parts}
 use Rattle.identification_theory.proofs.Nesting.{are_lists_to, lemmas_append}
 use Rattle.identification_theory.proofs.Orders.{IsOrderFrom, order_of}
-use Rattle.identification_theory.specs.Depth.{are_lemmas_within, are_plans_within}
-use Rattle.identification_theory.specs.Derivations.{Lists, district_steps, main_steps}
-use Rattle.identification_theory.specs.Procedure.{IsTarget, Source, product_of}
+use Rattle.identification_theory.specs.Vocabulary.{are_lemmas_within, are_plans_within, Lists, district_steps, main_steps, IsTarget, Source, product_of}
 use Rattle.identification_theory.proofs.OneDerivation.{factor_one}
-use Rattle.mixed_graph.specs.Bits.{has}
-use Rattle.mixed_graph.specs.Graphs.{IsMixedGraph, MixedGraph}
-use Rattle.mixed_graph.specs.Masks.{all, minus}
-use Rattle.prob_expr.specs.Terms.{all_under, are_under, is_under}
-use Rattle.prob_expr.specs.Tree.{PlainFormula, Tree, Trees, prob}
+use Rattle.mixed_graph.specs.Vocabulary.{has, IsMixedGraph, MixedGraph, all, minus}
+use Rattle.prob_expr.specs.Vocabulary.{all_under, are_under, is_under, PlainFormula, Trees}
+use Rattle.prob_expr.specs.Tree.{Tree, prob}
 use Rattle.surrogates.proofs.Induced.{factor_out, steps_out}
 use Rattle.surrogates.proofs.Rooms.{Chosen, chosen, listed_low, a_room, a_off, c_in_a, stage}
 use Rattle.surrogates.specs.ExperimentLaws.{IsAcceptedWith}

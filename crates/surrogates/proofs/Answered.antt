@@ -1,14 +1,15 @@
 -- The laws of the procedure over experiments, with the case of an empty x.
 use Rattle.std.specs.Prelude.{None}
 use Rattle.std.proofs.Common.{ℕ, ◌+◌, ◌≡◌, ◌⊎◌, inl, inr, List, [], length}
-use Rattle.do_derivation.specs.Plans.{Plan, no_plans, PlainLemma}
+use Rattle.do_derivation.specs.Plans.{Plan}
+use Rattle.do_derivation.specs.Vocabulary.{no_plans, PlainLemma}
 use Rattle.identification_theory.proofs.Orders.{order_of}
-use Rattle.identification_theory.specs.Derivations.{Lists}
+use Rattle.identification_theory.specs.Vocabulary.{Lists}
 use Rattle.identification_theory.proofs.Answered.{formula_is_formed}
 use Rattle.identification_theory.proofs.Faults.{no_fault}
-use Rattle.mixed_graph.specs.Graphs.{MixedGraph}
-use Rattle.prob_expr.specs.Check.{fault_in}
-use Rattle.prob_expr.specs.Tree.{Tree, Trees, prob}
+use Rattle.mixed_graph.specs.Vocabulary.{MixedGraph}
+use Rattle.prob_expr.specs.Vocabulary.{fault_in, Trees}
+use Rattle.prob_expr.specs.Tree.{Tree, prob}
 use Rattle.surrogates.proofs.Accepted.{accepted, observed_with}
 use Rattle.surrogates.proofs.Blocked.{blocked_none, own_hedge, first_blocked}
 use Rattle.surrogates.proofs.Formed.{composed_formed}

@@ -4,13 +4,11 @@ use Rattle.std.proofs.Common.{eqb-true, ltb-true}
 use Rattle.std.proofs.lemmas.Bool.{and_parts, both_ways, or_cases, or_left, or_right, false_from_ne_true}
 use Rattle.std.proofs.lemmas.Nat.{and_le_r}
 use Rattle.std.proofs.Math.Pow.{pow_mono}
-use Rattle.mixed_graph.specs.Bits.{has}
-use Rattle.mixed_graph.specs.Masks.{union, common, is_apart, is_below, is_empty}
-use Rattle.mixed_graph.specs.Sets.{Apart}
+use Rattle.mixed_graph.specs.Vocabulary.{has, union, common, is_apart, is_below, is_empty, Apart}
 use Rattle.mixed_graph.proofs.Masks.{has-zero, has-or, has-and, some_in_meet}
 use Rattle.mixed_graph.proofs.MaskLaws.{apart_has, apart_from}
-use Rattle.prob_expr.specs.Terms.{is_listed}
-use Rattle.do_derivation.specs.Accepts.{are_sets}
+use Rattle.prob_expr.specs.Vocabulary.{is_listed}
+use Rattle.do_derivation.specs.Vocabulary.{are_sets}
 use Rattle.surrogates.specs.Common.{around, EachIsHarmless, AroundIsApart}
 
 pub around_is_apart : AroundIsApart

@@ -1,16 +1,14 @@
 -- What is assembled of the factors over experiments is the formula with its derivation.
 use Rattle.std.proofs.Common.{ℕ, List, map, refl, sym, subst}
-use Rattle.hedge.specs.Linked.{AreDistricts}
-use Rattle.mixed_graph.specs.Graphs.{MixedGraph}
-use Rattle.mixed_graph.specs.Masks.{all, minus}
-use Rattle.prob_expr.specs.Tree.{PlainFormula}
-use Rattle.prob_expr.specs.View.{view, views}
-use Rattle.do_derivation.specs.Plans.{PlainDerivation}
-use Rattle.identification_theory.specs.Procedure.{AreAncestorsIn}
-use Rattle.identify.specs.Factored.{AreAssembled}
-use Rattle.identify.specs.Lists.{lists_view}
-use Rattle.identify.specs.declared.answer.Factors.{Factors}
+use Rattle.hedge.specs.Vocabulary.{AreDistricts}
+use Rattle.mixed_graph.specs.Vocabulary.{MixedGraph, all, minus}
+use Rattle.prob_expr.specs.Vocabulary.{PlainFormula, views}
+use Rattle.prob_expr.specs.View.{view}
+use Rattle.do_derivation.specs.Vocabulary.{PlainDerivation}
+use Rattle.identification_theory.specs.Vocabulary.{AreAncestorsIn}
 use Rattle.identify.specs.declared.wanted.Wanted.TheVariants.{Derivation}
+use Rattle.identify.specs.Vocabulary.{AreAssembled, lists_view}
+use Rattle.identify.specs.declared.answer.Factors.{Factors}
 use Rattle.surrogates.specs.Surrogates.{AreDerivedWith, IsComposedBySteps}
 use Rattle.surrogates.specs.Gathered.{AreFactorsWith}
 

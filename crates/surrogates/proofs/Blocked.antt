@@ -1,10 +1,7 @@
 -- Where all tries of a district stop it is blocked, and a blocked district has no factor.
 use Rattle.std.proofs.Common.{ℕ, suc, ◌+◌, ◌≡◌, ◌<◌, Bool, true, false, eqb, not, refl, sym, subst, ◌∙◌, ◌&&◌, ◌⊎◌, inl, inr, List, [], ◌∷◌, length}
 use Rattle.std.proofs.Common.{arith, eqb-true}
-use Rattle.hedge.specs.Linked.{IsLinked}
-use Rattle.hedge.specs.Linked.IsLinked.{at, by}
-use Rattle.hedge.specs.Hedges.{outside}
-use Rattle.hedge.specs.Shapes.{AreSetsOfHedge}
+use Rattle.hedge.specs.Vocabulary.{IsLinked, at, by, outside, AreSetsOfHedge}
 use Rattle.identification_theory.proofs.Accepted.{d_low}
 use Rattle.identification_theory.proofs.Body.{order_in}
 use Rattle.identification_theory.proofs.Bools.{and_l, and_r, both_true, clash, not_e, not_i, or_e, or_l}
@@ -13,15 +10,12 @@ use Rattle.identification_theory.proofs.Groups.{Among, IsPart, are_parts, part_a
 use Rattle.identification_theory.proofs.Orders.{IsOrderFrom, order_of}
 use Rattle.identification_theory.proofs.Sets.{all-below, all-is, has-minus, one-is, one-self}
 use Rattle.identification_theory.specs.Procedure.IsFactor.{whole, summed, further}
-use Rattle.identification_theory.specs.Procedure.{AreAncestorsIn, IsFactor, IsStopped, IsTarget, Source}
+use Rattle.identification_theory.specs.Vocabulary.{AreAncestorsIn, IsFactor, IsStopped, IsTarget, Source, AreRoots}
 use Rattle.identification_theory.proofs.Stops.{IsHome, hedge, home_of, kept_inside}
-use Rattle.identification_theory.specs.AnswerLaws.{AreRoots}
 use Rattle.mixed_graph.proofs.Masks.{has-zero}
-use Rattle.mixed_graph.specs.Bits.{has}
-use Rattle.mixed_graph.specs.Graphs.{IsAncestor, IsDirectedPath, IsMixedGraph, MixedGraph, induced}
-use Rattle.mixed_graph.specs.Masks.{all, is_apart, minus, one}
-use Rattle.prob_expr.specs.Terms.{is_listed}
-use Rattle.prob_expr.specs.Tree.{Tree, Trees, PlainFormula}
+use Rattle.mixed_graph.specs.Vocabulary.{has, IsAncestor, IsDirectedPath, IsMixedGraph, MixedGraph, induced, all, is_apart, minus, one}
+use Rattle.prob_expr.specs.Vocabulary.{is_listed, Trees, PlainFormula}
+use Rattle.prob_expr.specs.Tree.{Tree}
 use Rattle.surrogates.proofs.Induced.{inner_graph, inside_of, above_inside, link_in, stopped_out}
 use Rattle.surrogates.proofs.Unique.{same_districts}
 use Rattle.surrogates.proofs.Rooms.{Chosen, chosen, zero_apart, c_room, a_room, c_in_a}

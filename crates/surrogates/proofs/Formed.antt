@@ -1,19 +1,18 @@
 -- Each part of the formula over experiments has its form.
 use Rattle.std.proofs.Common.{ℕ, ◌+◌, ◌≡◌, ◌<◌, true, not, refl, subst, List, [], ◌∷◌, ◌++◌, length, arith, length-append}
-use Rattle.do_derivation.specs.Accepts.{are_sets}
+use Rattle.do_derivation.specs.Vocabulary.{are_sets}
 use Rattle.identification_theory.proofs.Accepted.{d_low, y_in}
 use Rattle.identification_theory.proofs.Bools.{and_l}
 use Rattle.identification_theory.proofs.Groups.{count, once, in_list, AreParts, are_parts}
 use Rattle.identification_theory.proofs.Orders.{IsOrderFrom, order_of}
 use Rattle.identification_theory.proofs.Sets.{has-minus}
-use Rattle.identification_theory.specs.Procedure.{IsTarget, Source, product_of}
+use Rattle.identification_theory.specs.Vocabulary.{IsTarget, Source, product_of}
 use Rattle.identification_theory.proofs.Formed.{IsFormed, AreFormed, AllFormed, IsFormedFormula, formed_more, formed_more_each, sum_formed}
 use Rattle.identification_theory.proofs.Formed.{factor_all, all_append, product_formed}
 use Rattle.mixed_graph.proofs.Masks.{has-zero}
-use Rattle.mixed_graph.specs.Bits.{has}
-use Rattle.mixed_graph.specs.Graphs.{IsMixedGraph, MixedGraph}
-use Rattle.mixed_graph.specs.Masks.{all, minus}
-use Rattle.prob_expr.specs.Tree.{PlainFormula, Tree, Trees, no_trees}
+use Rattle.mixed_graph.specs.Vocabulary.{has, IsMixedGraph, MixedGraph, all, minus}
+use Rattle.prob_expr.specs.Tree.{Tree}
+use Rattle.prob_expr.specs.Vocabulary.{PlainFormula, Trees, no_trees}
 use Rattle.surrogates.proofs.Induced.{inner_graph}
 use Rattle.surrogates.proofs.Rooms.{Chosen, chosen, listed_low, a_off, inner_stage}
 use Rattle.surrogates.specs.Surrogates.{without, AreFactoredWith, IsComposedOver}

@@ -2,11 +2,12 @@
 use Rattle.std.proofs.Common.{ℕ, ◌+◌, ◌≡◌, List, length, map, sym, ap, subst}
 use Rattle.std.specs.Prelude.{Result, Ok, Err, IfOk, IfErr}
 use Rattle.std.proofs.lemmas.List.{length-map}
-use Rattle.mixed_graph.specs.Graphs.{MixedGraph}
+use Rattle.mixed_graph.specs.Vocabulary.{MixedGraph}
 use Rattle.prob_expr.specs.View.{view}
 use Rattle.identify.specs.declared.factors.district_factor.Factor.{Factor}
 use Rattle.identify.specs.declared.factors.district_factor.FactorFault.{FactorFault}
-use Rattle.identify.specs.declared.factors.district_factor.FactorFault.TheVariants.{Stopped, NoMemory}
+use Rattle.identify.specs.declared.factors.district_factor.FactorFault.TheVariants.{Stopped}
+use Rattle.identify.specs.declared.factors.district_factor.FactorFault.TheVariants.{NoMemory}
 use Rattle.identify.specs.declared.answer.Factors.{Factors}
 use Rattle.identify.proofs.GatheredFactors.{Continues, Gathered, GoesOn, gathered_derived}
 use Rattle.surrogates.specs.Surrogates.{AreDerivedWith, StopsWith}

@@ -1,17 +1,15 @@
 -- A factor made in the graph induced on a set of vertices, the room, read in the graph itself.
 use Rattle.std.proofs.Common.{ℕ, suc, ◌≡◌, ◌<◌, Bool, true, eqb, refl, ◌∙◌, ◌&&◌, ◌⊎◌, inl, inr, List, [], ◌∷◌, eqb-true}
-use Rattle.hedge.specs.Linked.{IsLinked, IsDistrict}
-use Rattle.hedge.specs.Linked.IsLinked.{at, by}
-use Rattle.do_derivation.specs.Plans.{PlainLemma, Plans}
+use Rattle.hedge.specs.Vocabulary.{IsLinked, IsDistrict, at, by}
+use Rattle.do_derivation.specs.Plans.{Plans}
+use Rattle.do_derivation.specs.Vocabulary.{PlainLemma}
 use Rattle.identification_theory.proofs.Bools.{and_l, and_r, both_true, or_r, or_e}
 use Rattle.identification_theory.proofs.Sets.{one-self, one-is}
-use Rattle.identification_theory.specs.Derivations.{AreBodySteps, AreFactorSteps, ArePlaceLists, Lists}
-use Rattle.identification_theory.specs.Procedure.{AreAncestorsIn, AreFactors, IsBody, IsFactor, IsParent, IsPillow, IsStopped, Source}
+use Rattle.identification_theory.specs.Vocabulary.{AreBodySteps, AreFactorSteps, ArePlaceLists, Lists, AreAncestorsIn, AreFactors, IsBody, IsFactor, IsParent, IsPillow, IsStopped, Source}
 use Rattle.mixed_graph.proofs.Masks.{has-and, has-or}
-use Rattle.mixed_graph.specs.Bits.{has}
-use Rattle.mixed_graph.specs.Graphs.{IsAncestor, IsDirectedPath, IsMixedGraph, MixedGraph, induced}
-use Rattle.mixed_graph.specs.Masks.{union, one, common}
-use Rattle.prob_expr.specs.Tree.{Tree, Trees}
+use Rattle.mixed_graph.specs.Vocabulary.{has, IsAncestor, IsDirectedPath, IsMixedGraph, MixedGraph, induced, union, one, common}
+use Rattle.prob_expr.specs.Tree.{Tree}
+use Rattle.prob_expr.specs.Vocabulary.{Trees}
 
 module _ (g : MixedGraph) (room : ℕ) where
   abbrev pub inner : MixedGraph

@@ -4,14 +4,13 @@ use Rattle.std.proofs.Common.{Result, Ok, Err, refl, sym, ap, subst, ◌∙◌, 
 use Rattle.std.proofs.lemmas.List.{append-nil, map-append, take-append-drop, at_drop_more, at_drop_all, map_more}
 use Rattle.std.specs.Prelude.{IfOk}
 use Rattle.identification_theory.proofs.Bools.{clash, or_e}
-use Rattle.mixed_graph.specs.Graphs.{MixedGraph}
 use Rattle.mixed_graph.specs.declared.sets.VSet.{VSet}
-use Rattle.prob_expr.specs.Listed.{masks_of}
-use Rattle.mixed_graph.specs.Masks.{is_apart}
-use Rattle.prob_expr.specs.Terms.{is_listed}
+use Rattle.mixed_graph.specs.Vocabulary.{MixedGraph, is_apart}
+use Rattle.prob_expr.specs.Vocabulary.{masks_of, is_listed}
 use Rattle.identify.specs.declared.factors.district_factor.Factor.{Factor}
 use Rattle.identify.specs.declared.factors.district_factor.FactorFault.{FactorFault}
-use Rattle.identify.specs.declared.factors.district_factor.FactorFault.TheVariants.{Stopped, NoMemory}
+use Rattle.identify.specs.declared.factors.district_factor.FactorFault.TheVariants.{Stopped}
+use Rattle.identify.specs.declared.factors.district_factor.FactorFault.TheVariants.{NoMemory}
 use Rattle.surrogates.proofs.Rooms.{zero_apart}
 use Rattle.surrogates.specs.Surrogates.{AllStop, ComesFirst, IsStoppedUnder}
 use Rattle.surrogates.specs.Tries.{AllTriedInVain, IsAttempt, IsFirstOf, IsTriedInVain, IsTried, IsTryFault}

@@ -3,13 +3,11 @@ use Rattle.std.proofs.Common.{ℕ, ◌+◌, ◌≡◌, ◌<◌, Bool, true, fals
 use mathlib.Core.Path.{fun_ext}
 use Rattle.identification_theory.proofs.Bools.{both_true, not_i}
 use Rattle.identification_theory.proofs.Sets.{all-is, has-minus}
-use Rattle.identification_theory.specs.Procedure.{AreAncestorsIn, AreFactored, IsFactor, IsIdentified, IsIdentifiedBy, Source}
+use Rattle.identification_theory.specs.Vocabulary.{AreAncestorsIn, AreFactored, IsFactor, IsIdentified, IsIdentifiedBy, Source}
 use Rattle.mixed_graph.proofs.Masks.{has-zero}
-use Rattle.mixed_graph.specs.Bits.{has}
-use Rattle.mixed_graph.specs.Graphs.{IsMixedGraph, MixedGraph}
-use Rattle.mixed_graph.specs.Orders.{IsOrder}
-use Rattle.mixed_graph.specs.Masks.{all, minus}
-use Rattle.prob_expr.specs.Tree.{PlainFormula, Tree, Trees, prob}
+use Rattle.mixed_graph.specs.Vocabulary.{has, IsMixedGraph, MixedGraph, IsOrder, all, minus}
+use Rattle.prob_expr.specs.Tree.{Tree, prob}
+use Rattle.prob_expr.specs.Vocabulary.{PlainFormula, Trees}
 use Rattle.surrogates.proofs.Rooms.{zero_apart}
 use Rattle.surrogates.specs.Surrogates.{without, ComesFirst, AreFactoredWith, IsComposedOver, IsSurrogate}
 

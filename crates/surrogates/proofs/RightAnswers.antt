@@ -1,30 +1,23 @@
 -- What the procedure over experiments answers is a right answer.
 use Rattle.std.proofs.Common.{ℕ, ◌≡◌, ◌≤◌, ◌↔◌, true, false, inl, inr, refl, sym, subst, List, Option, Some, None, IsTrue}
 use Rattle.std.specs.Prelude.{Result, IfOk, IfSome}
-use Rattle.mixed_graph.specs.Bits.{has}
-use Rattle.mixed_graph.specs.Graphs.{MixedGraph, IsMixedGraph}
-use Rattle.mixed_graph.specs.Sets.{Apart}
 use Rattle.mixed_graph.specs.declared.sets.VSet.{VSet}
-use Rattle.finite_models.specs.Data.{meaning}
-use Rattle.prob_expr.specs.Experiments.{AgreeUnderAll}
-use Rattle.prob_expr.specs.Tree.{PlainFormula, effect_on}
-use Rattle.prob_expr.specs.View.{formula_view}
+use Rattle.mixed_graph.specs.Vocabulary.{has, MixedGraph, IsMixedGraph, Apart}
+use Rattle.finite_models.specs.Vocabulary.{meaning}
+use Rattle.prob_expr.specs.Vocabulary.{AgreeUnderAll, PlainFormula, effect_on, formula_view}
 use Rattle.prob_expr.proofs.Excluded.{experiments_exclude_formula}
-use Rattle.do_derivation.specs.Accepts.{are_sets}
-use Rattle.do_derivation.specs.Plans.{PlainDerivation}
-use Rattle.do_derivation.specs.View.{derivation_view}
+use Rattle.do_derivation.specs.Vocabulary.{are_sets, PlainDerivation, derivation_view}
 use Rattle.do_derivation.proofs.Accepted.{accepted_is_effect}
 use Rattle.identification_theory.proofs.Bools.{clash}
-use Rattle.identification_theory.specs.Procedure.{IsTarget, IsIdentified}
+use Rattle.identification_theory.specs.Vocabulary.{IsTarget, IsIdentified}
 use Rattle.counter_models.proofs.Excluded.{differ_on}
 use Rattle.counter_models.proofs.Final.{agree_harmless}
-use Rattle.counter_models.specs.Pairs.{IsPairOf}
 use Rattle.counter_models.specs.declared.counter_pair.CounterPair.{CounterPair}
-use Rattle.hedge.specs.Hedges.{IsHedge}
+use Rattle.counter_models.specs.Vocabulary.{IsPairOf}
 use Rattle.hedge.specs.declared.hedge.Hedge.{Hedge}
+use Rattle.hedge.specs.Vocabulary.{IsHedge}
 use Rattle.identify.proofs.RightAnswers.{if_ok, right_hedge, target_term}
-use Rattle.identify.specs.Answers.{AreShallowSteps, IsShallowFormula}
-use Rattle.identify.specs.Hedged.{IsHedgeOf}
+use Rattle.identify.specs.Vocabulary.{AreShallowSteps, IsShallowFormula, IsHedgeOf}
 use Rattle.surrogates.proofs.Answered.{derived_is_surrogate, surrogate_is_accepted, stop_is_first_blocked, blocked_excludes_formula, one_surrogate}
 use Rattle.surrogates.proofs.Answered.{plain_comes_first}
 use Rattle.surrogates.proofs.Around.{around_is_apart, each_is_harmless}

@@ -1,16 +1,14 @@
 -- A district apart from an experiment z: its ancestors in the graph without z, and the stage at which its factor begins.
 use Rattle.std.proofs.Common.{ℕ, ◌≡◌, ◌<◌, Bool, true, false, not, eqb, refl, ◌∙◌, ◌&&◌, ◌⊎◌, inl, inr, List, [], ◌∷◌, eqb-true, eq-eqb}
-use Rattle.do_derivation.specs.Accepts.{are_sets}
+use Rattle.do_derivation.specs.Vocabulary.{are_sets}
 use Rattle.identification_theory.proofs.Bools.{and_l, and_r, both_true, clash, not_e, not_i, or_e, or_l, or_r}
 use Rattle.identification_theory.proofs.Factor.{IsStage}
 use Rattle.identification_theory.proofs.Sets.{all-is, all-below, apart, has-minus}
-use Rattle.identification_theory.specs.Procedure.{AreAncestorsIn, Source}
+use Rattle.identification_theory.specs.Vocabulary.{AreAncestorsIn, Source}
 use Rattle.mixed_graph.proofs.Masks.{has-zero}
-use Rattle.mixed_graph.specs.Bits.{has}
-use Rattle.mixed_graph.specs.Graphs.{IsAncestor, IsDirectedPath, IsMixedGraph, MixedGraph, induced}
+use Rattle.mixed_graph.specs.Vocabulary.{has, IsAncestor, IsDirectedPath, IsMixedGraph, MixedGraph, induced, all, is_apart, is_below, is_empty, minus}
 use Rattle.mixed_graph.proofs.MaskLaws.{apart_has, below_has}
-use Rattle.mixed_graph.specs.Masks.{all, is_apart, is_below, is_empty, minus}
-use Rattle.prob_expr.specs.Terms.{is_listed}
+use Rattle.prob_expr.specs.Vocabulary.{is_listed}
 use Rattle.surrogates.specs.Surrogates.{without, ComesFirst}
 
 -- what comes first is apart, and one of the list

@@ -1,14 +1,13 @@
 -- The formula over experiments nests little, whatever the graph.
 use Rattle.std.proofs.Common.{ℕ, zero, suc, ◌+◌, ◌≡◌, ◌⊎◌, inl, inr, Bool, true, false, cond, refl, sym, subst, ◌&&◌, List, [], ◌∷◌, ◌++◌, length}
-use Rattle.do_derivation.specs.Shapes.{as_one, flat, appended}
+use Rattle.do_derivation.specs.Vocabulary.{as_one, flat, appended}
 use Rattle.identification_theory.proofs.Bools.{and_l, and_r, both_true}
 use Rattle.identification_theory.specs.Procedure.IsFactor.{whole, summed, further}
-use Rattle.identification_theory.specs.Procedure.{AreFactors, IsBody, IsFactor, Source, conditional, marginal, product_of, sum_if}
+use Rattle.identification_theory.specs.Vocabulary.{AreFactors, IsBody, IsFactor, Source, conditional, marginal, product_of, sum_if, are_defs_within, are_trees_within, is_tree_within}
 use Rattle.identification_theory.proofs.Depth.{flat_more}
-use Rattle.identification_theory.specs.AnswerDepth.{are_defs_within, are_trees_within, is_tree_within}
-use Rattle.mixed_graph.specs.Graphs.{MixedGraph}
-use Rattle.mixed_graph.specs.Masks.{is_empty, union, minus, one}
-use Rattle.prob_expr.specs.Tree.{PlainFormula, Tree, Trees, named, no_trees, prob, product, quotient, sum, tree}
+use Rattle.mixed_graph.specs.Vocabulary.{MixedGraph, is_empty, union, minus, one}
+use Rattle.prob_expr.specs.Tree.{Tree, named, prob, product, quotient, sum, tree}
+use Rattle.prob_expr.specs.Vocabulary.{PlainFormula, Trees, no_trees}
 use Rattle.surrogates.specs.ExperimentLaws.{SurrogateIsShallow}
 use Rattle.surrogates.specs.Surrogates.{AreFactoredWith, IsComposedOver, without}
 

@@ -3,15 +3,12 @@ use Rattle.std.proofs.Common.{ℕ, suc, ◌+◌, ◌≡◌, ◌<◌, ◌≤◌, 
 use Rattle.std.proofs.Common.{sym, ap, subst, ◌∙◌, arith}
 use Rattle.std.proofs.lemmas.List.{at_drop_more, at_drop_all}
 use Rattle.std.specs.List.{All}
-use Rattle.mixed_graph.specs.Bits.{has}
-use Rattle.mixed_graph.specs.Graphs.{MixedGraph}
-use Rattle.mixed_graph.specs.Masks.{is_apart, union}
-use Rattle.mixed_graph.specs.Sets.{Within}
 use Rattle.mixed_graph.specs.declared.sets.VSet.{VSet}
+use Rattle.mixed_graph.specs.Vocabulary.{has, MixedGraph, is_apart, union, Within}
 use Rattle.mixed_graph.proofs.Masks.{same_from_has}
 use Rattle.mixed_graph.proofs.MaskLaws.{has_join, has_none, join_assoc, join-zero}
-use Rattle.hedge.specs.Linked.{IsMaximalJoined}
-use Rattle.prob_expr.specs.Listed.{masks_of}
+use Rattle.hedge.specs.Vocabulary.{IsMaximalJoined}
+use Rattle.prob_expr.specs.Vocabulary.{masks_of}
 use Rattle.prob_expr.specs.View.{view}
 use Rattle.identify.specs.declared.factors.district_factor.Factor.{Factor}
 use Rattle.surrogates.proofs.Blocked.{stop_at}

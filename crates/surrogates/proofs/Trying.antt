@@ -1,20 +1,16 @@
 -- A factor of the graph without z, as a try of the graph.
 use Rattle.std.proofs.Common.{ℕ, ◌≡◌, ◌≤◌, ◌==◌, true, List, length, Result, Ok, Err, refl, sym, subst, eqb-true}
 use Rattle.std.specs.Prelude.{IfOk, IfErr}
-use Rattle.hedge.specs.Linked.{IsJoinedSet}
-use Rattle.identify.specs.Factors.{IsMadeFactor, IsFactorFault}
+use Rattle.hedge.specs.Vocabulary.{IsJoinedSet}
 use Rattle.identify.specs.declared.factors.district_factor.Factor.{Factor}
 use Rattle.identify.specs.declared.factors.district_factor.FactorFault.{FactorFault}
-use Rattle.identify.specs.declared.factors.district_factor.FactorFault.TheVariants.{Stopped, NoMemory}
+use Rattle.identify.specs.declared.factors.district_factor.FactorFault.TheVariants.{Stopped}
 use Rattle.identify.specs.declared.wanted.Wanted.TheVariants.{Derivation}
-use Rattle.do_derivation.specs.View.{lemma_view, steps_view}
-use Rattle.identification_theory.specs.Derivations.{AreFactorSteps}
-use Rattle.identification_theory.specs.Procedure.{AreAncestorsIn, IsFactor, IsStopped, Source}
-use Rattle.mixed_graph.specs.Bits.{has}
-use Rattle.mixed_graph.specs.Graphs.{IsMixedGraph, MixedGraph}
-use Rattle.mixed_graph.specs.Orders.{IsOrder}
-use Rattle.mixed_graph.specs.Sets.{Within}
-use Rattle.mixed_graph.specs.Masks.{all, is_apart, minus}
+use Rattle.identify.specs.Vocabulary.{IsMadeFactor, IsFactorFault}
+use Rattle.identify.specs.declared.factors.district_factor.FactorFault.TheVariants.{NoMemory}
+use Rattle.do_derivation.specs.Vocabulary.{lemma_view, steps_view}
+use Rattle.identification_theory.specs.Vocabulary.{AreFactorSteps, AreAncestorsIn, IsFactor, IsStopped, Source}
+use Rattle.mixed_graph.specs.Vocabulary.{has, IsMixedGraph, MixedGraph, IsOrder, Within, all, is_apart, minus}
 use Rattle.prob_expr.specs.View.{view}
 use Rattle.std.specs.Prelude.{map}
 use Rattle.surrogates.proofs.Induced.{link_in}

@@ -2,13 +2,11 @@
 use Rattle.std.proofs.Common.{ℕ, ◌+◌, ◌≡◌, true, eqb, refl, sym, ap₂, subst, ◌∙◌, ◌⊎◌, inl, inr, List, [], ◌∷◌, ◌++◌, length, eqb-true}
 use Rattle.identification_theory.proofs.Bools.{clash, or_e}
 use Rattle.identification_theory.proofs.Orders.{one_order}
-use Rattle.identification_theory.specs.Procedure.{IsFactor, IsStopped, Source, Split, product_of, sum_if}
+use Rattle.identification_theory.specs.Vocabulary.{IsFactor, IsStopped, Source, Split, product_of, sum_if}
 use Rattle.identification_theory.proofs.Unique.{factor_one, made_or_stopped, one_set, split_one, stopped_one}
-use Rattle.mixed_graph.specs.Graphs.{MixedGraph}
-use Rattle.mixed_graph.specs.Orders.{IsOrder}
-use Rattle.mixed_graph.specs.Masks.{is_apart, minus}
-use Rattle.prob_expr.specs.Terms.{is_listed}
-use Rattle.prob_expr.specs.Tree.{PlainFormula, Tree, Trees, prob, tree}
+use Rattle.mixed_graph.specs.Vocabulary.{MixedGraph, IsOrder, is_apart, minus}
+use Rattle.prob_expr.specs.Vocabulary.{is_listed, PlainFormula, Trees}
+use Rattle.prob_expr.specs.Tree.{Tree, prob, tree}
 use Rattle.surrogates.proofs.Rooms.{Chosen, chosen}
 use Rattle.surrogates.specs.Surrogates.{without, ComesFirst, IsFactorUnder, IsStoppedUnder, AllStop, AreFactoredWith, IsComposedOver, IsSurrogate}
 use Rattle.surrogates.specs.Surrogates.{StopsWith, IsStoppedWith, IsFirstBlocked, IsFirstBlockedFor}

@@ -1,25 +1,16 @@
 -- Right answers to the question for P(y | do(x)) over experiments on the sets zs.
 use Rattle.std.specs.Prelude.{ℕ, ◌≡◌, Bool, true, false, List, Option, Some, None, IsSome, IfSome}
-use Rattle.mixed_graph.specs.Bits.{has}
-use Rattle.mixed_graph.specs.Graphs.{MixedGraph}
-use Rattle.mixed_graph.specs.Sets.{Apart}
 use Rattle.mixed_graph.specs.declared.sets.VSet.{VSet}
-use Rattle.finite_models.specs.Data.{meaning}
-use Rattle.prob_expr.specs.Differences.{HasNoFormulaOver}
-use Rattle.prob_expr.specs.Experiments.{AgreeUnderAll}
-use Rattle.prob_expr.specs.Terms.{is_allowed}
-use Rattle.prob_expr.specs.Tree.{PlainFormula, effect_on}
-use Rattle.prob_expr.specs.Values.{EqualsEffect}
-use Rattle.prob_expr.specs.View.{formula_view}
+use Rattle.mixed_graph.specs.Vocabulary.{has, MixedGraph, Apart}
+use Rattle.finite_models.specs.Vocabulary.{meaning}
+use Rattle.prob_expr.specs.Vocabulary.{HasNoFormulaOver, AgreeUnderAll, is_allowed, PlainFormula, effect_on, EqualsEffect, formula_view}
 use Rattle.do_derivation.specs.Accepts.{Accepts}
-use Rattle.do_derivation.specs.Plans.{PlainDerivation}
-use Rattle.do_derivation.specs.View.{derivation_view}
-use Rattle.hedge.specs.Hedges.{IsHedge}
+use Rattle.do_derivation.specs.Vocabulary.{PlainDerivation, derivation_view}
 use Rattle.hedge.specs.declared.hedge.Hedge.{Hedge}
-use Rattle.counter_models.specs.Pairs.{IsPairOf}
+use Rattle.hedge.specs.Vocabulary.{IsHedge}
 use Rattle.counter_models.specs.declared.counter_pair.CounterPair.{CounterPair}
-use Rattle.identify.specs.Answers.{IsRightHedge}
-use Rattle.identify.specs.Hedged.{IsHedgeOf}
+use Rattle.counter_models.specs.Vocabulary.{IsPairOf}
+use Rattle.identify.specs.Vocabulary.{IsRightHedge, IsHedgeOf}
 use Rattle.surrogates.specs.Common.{around}
 use Rattle.surrogates.specs.Surrogates.{IsSurrogateBySteps, IsStoppedUnder, IsStoppedWith, IsFirstBlockedFor}
 use Rattle.surrogates.specs.declared.answer.CommonHedge.{CommonHedge}

@@ -1,14 +1,10 @@
 -- What blocks a district under all experiments that leave it alone at once.
 use Rattle.std.specs.Prelude.{ℕ, ◌≡◌, ◌≤◌, ◌⊎◌, true, List, [], ◌∷◌, if◌then◌else◌, IsTrue}
-use Rattle.mixed_graph.specs.Bits.{has}
-use Rattle.mixed_graph.specs.Graphs.{MixedGraph, IsMixedGraph}
-use Rattle.mixed_graph.specs.Masks.{union, is_apart}
-use Rattle.mixed_graph.specs.Sets.{Apart}
-use Rattle.prob_expr.specs.Terms.{is_listed}
-use Rattle.do_derivation.specs.Accepts.{are_sets}
-use Rattle.hedge.specs.Shapes.{AreSetsOfHedge}
-use Rattle.identification_theory.specs.Procedure.{IsTarget}
-use Rattle.identification_theory.specs.AnswerLaws.{AreRoots}
+use Rattle.mixed_graph.specs.Vocabulary.{has, MixedGraph, IsMixedGraph, union, is_apart, Apart}
+use Rattle.prob_expr.specs.Vocabulary.{is_listed}
+use Rattle.do_derivation.specs.Vocabulary.{are_sets}
+use Rattle.hedge.specs.Vocabulary.{AreSetsOfHedge}
+use Rattle.identification_theory.specs.Vocabulary.{IsTarget, AreRoots}
 use Rattle.surrogates.specs.Surrogates.{IsStoppedUnder, IsStoppedWith}
 
 -- the experiments that leave c alone, taken together

@@ -1,15 +1,11 @@
 -- What is proved of the procedure over experiments.
 use Rattle.std.specs.Prelude.{ℕ, ◌≡◌, true, List, None, IsTrue}
-use Rattle.mixed_graph.specs.Graphs.{MixedGraph, IsMixedGraph}
-use Rattle.hedge.specs.Shapes.{AreSetsOfHedge}
-use Rattle.prob_expr.specs.Check.{fault_in}
-use Rattle.prob_expr.specs.Tree.{PlainFormula}
-use Rattle.do_derivation.specs.Accepts.{Accepts, are_sets}
-use Rattle.do_derivation.specs.Plans.{PlainDerivation}
-use Rattle.identification_theory.specs.Depth.{is_plan_within, are_lemmas_within}
-use Rattle.identification_theory.specs.Procedure.{IsTarget, IsIdentified}
-use Rattle.identification_theory.specs.AnswerDepth.{is_tree_within, are_defs_within}
-use Rattle.identification_theory.specs.AnswerLaws.{AreRoots}
+use Rattle.mixed_graph.specs.Vocabulary.{MixedGraph, IsMixedGraph}
+use Rattle.hedge.specs.Vocabulary.{AreSetsOfHedge}
+use Rattle.prob_expr.specs.Vocabulary.{fault_in, PlainFormula}
+use Rattle.do_derivation.specs.Accepts.{Accepts}
+use Rattle.do_derivation.specs.Vocabulary.{are_sets, PlainDerivation}
+use Rattle.identification_theory.specs.Vocabulary.{is_plan_within, are_lemmas_within, IsTarget, IsIdentified, is_tree_within, are_defs_within, AreRoots}
 use Rattle.surrogates.specs.Surrogates.{IsSurrogate, IsSurrogateBySteps, IsStoppedWith, IsFirstBlockedFor, SomeBlocked}
 
 -- The derivation is accepted for P(y | do(x)) and the formula, whose terms are observed or under an experiment. The steps of its main nest at most 14

@@ -1,12 +1,12 @@
 -- What the factors of the districts over experiments have to be, and where one stops.
 use Rattle.std.specs.Prelude.{ℕ, ◌≡◌, ◌≤◌, ◌*◌, List, length, map}
-use Rattle.mixed_graph.specs.Graphs.{MixedGraph}
-use Rattle.prob_expr.specs.View.{view, views}
-use Rattle.do_derivation.specs.View.{lemma_view}
-use Rattle.identify.specs.Factored.{IsStopBy}
-use Rattle.identify.specs.Lists.{lists_view}
-use Rattle.identify.specs.declared.answer.Factors.{Factors}
+use Rattle.mixed_graph.specs.Vocabulary.{MixedGraph}
+use Rattle.prob_expr.specs.View.{view}
+use Rattle.prob_expr.specs.Vocabulary.{views}
+use Rattle.do_derivation.specs.Vocabulary.{lemma_view}
 use Rattle.identify.specs.declared.answer.Stop.{Stop}
+use Rattle.identify.specs.Vocabulary.{IsStopBy, lists_view}
+use Rattle.identify.specs.declared.answer.Factors.{Factors}
 use Rattle.surrogates.specs.Surrogates.{AreDerivedWith, StopsWith}
 
 -- the factors of these districts over the experiments, with their definitions, at most 64 for each, and derivations

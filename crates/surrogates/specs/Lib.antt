@@ -4,3 +4,4 @@ pub mod Tries
 pub mod Common
 pub mod ExperimentLaws
 pub mod Surrogates
+pub mod Vocabulary

@@ -2,16 +2,13 @@
 -- the experiments.
 -- The factor of a district may be read from any of them that leaves the district alone.
 use Rattle.std.specs.Prelude.{ℕ, ◌+◌, ◌≡◌, ◌≢◌, ◌⊎◌, false, List, [], ◌∷◌, ◌++◌, length, IsTrue}
-use Rattle.mixed_graph.specs.Bits.{has}
-use Rattle.mixed_graph.specs.Graphs.{MixedGraph, induced}
-use Rattle.mixed_graph.specs.Orders.{IsOrder}
-use Rattle.hedge.specs.Shapes.{AreSetsOfHedge}
-use Rattle.mixed_graph.specs.Masks.{minus, all, is_apart}
-use Rattle.prob_expr.specs.Terms.{is_listed}
-use Rattle.prob_expr.specs.Tree.{prob, Tree, Trees, no_trees, tree, PlainFormula}
-use Rattle.do_derivation.specs.Plans.{Plan, Plans, no_plans, PlainLemma, PlainDerivation}
-use Rattle.identification_theory.specs.Procedure.{AreAncestorsIn, Source, IsFactor, IsStopped, Split, product_of, sum_if}
-use Rattle.identification_theory.specs.Derivations.{Lists, no_more, more, AreFactorSteps, district_steps, main_steps}
+use Rattle.mixed_graph.specs.Vocabulary.{has, MixedGraph, induced, IsOrder, minus, all, is_apart}
+use Rattle.hedge.specs.Vocabulary.{AreSetsOfHedge}
+use Rattle.prob_expr.specs.Vocabulary.{is_listed, Trees, no_trees, PlainFormula}
+use Rattle.prob_expr.specs.Tree.{prob, Tree, tree}
+use Rattle.do_derivation.specs.Plans.{Plan, Plans}
+use Rattle.do_derivation.specs.Vocabulary.{no_plans, PlainLemma, PlainDerivation}
+use Rattle.identification_theory.specs.Vocabulary.{AreAncestorsIn, Source, IsFactor, IsStopped, Split, product_of, sum_if, Lists, no_more, more, AreFactorSteps, district_steps, main_steps}
 
 -- the graph without the edges at z, whose members stay as vertices
 abbrev pub without : MixedGraph → ℕ → MixedGraph

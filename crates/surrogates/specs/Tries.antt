@@ -1,16 +1,14 @@
 -- The factor of a district under one experiment after the other, as the code gives it.
 use Rattle.std.specs.Prelude.{ℕ, ◌≡◌, ◌+◌, ◌^◌, ◌<◌, ◌≤◌, ◌⊎◌, false, List, [], ◌∷◌, length, map, Option, Some, None, IsTrue}
-use Rattle.mixed_graph.specs.Bits.{has}
-use Rattle.mixed_graph.specs.Graphs.{MixedGraph}
-use Rattle.mixed_graph.specs.Masks.{is_apart}
-use Rattle.mixed_graph.specs.Sets.{Within}
 use Rattle.mixed_graph.specs.declared.sets.VSet.{VSet}
-use Rattle.hedge.specs.Linked.{IsJoinedSet}
+use Rattle.mixed_graph.specs.Vocabulary.{has, MixedGraph, is_apart, Within}
+use Rattle.hedge.specs.Vocabulary.{IsJoinedSet}
 use Rattle.prob_expr.specs.View.{view}
-use Rattle.do_derivation.specs.View.{lemma_view, steps_view}
+use Rattle.do_derivation.specs.Vocabulary.{lemma_view, steps_view}
 use Rattle.identify.specs.declared.factors.district_factor.Factor.{Factor}
 use Rattle.identify.specs.declared.factors.district_factor.FactorFault.{FactorFault}
-use Rattle.identify.specs.declared.factors.district_factor.FactorFault.TheVariants.{Stopped, NoMemory}
+use Rattle.identify.specs.declared.factors.district_factor.FactorFault.TheVariants.{Stopped}
+use Rattle.identify.specs.declared.factors.district_factor.FactorFault.TheVariants.{NoMemory}
 use Rattle.surrogates.specs.Common.{around}
 use Rattle.surrogates.specs.Surrogates.{IsDerivedUnder, IsStoppedUnder, ComesFirst, AllStop}
 

@@ -1,9 +1,8 @@
 //! What stops a district's factor under all experiments that leave the district alone at once.
 
 ghost use Rattle.std.specs.Prelude.{◌≡◌, if◌then◌else◌, IfOk};
-ghost use Rattle.mixed_graph.specs.Masks.{is_apart, union};
-ghost use Rattle.mixed_graph.specs.Shown.{graph_of};
-ghost use Rattle.prob_expr.specs.Listed.{masks_of};
+ghost use Rattle.mixed_graph.specs.Vocabulary.{is_apart, union, graph_of};
+ghost use Rattle.prob_expr.specs.Vocabulary.{masks_of};
 ghost use Rattle.surrogates.specs.Common.{around};
 ghost use Rattle.surrogates.specs.Surrogates.{IsStoppedUnder};
 ghost use Rattle.surrogates.specs.Tries.{IsDistrictFrom, IsStopTogether};

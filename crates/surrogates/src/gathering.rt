@@ -1,12 +1,9 @@
 //! The factors of all districts over the experiments, one after the other, until one stops.
 
 ghost use Rattle.std.specs.Prelude.{◌≡◌, ◌+◌, ◌*◌, ◌<◌, ◌^◌, ℕ, IsTrue, MatchResult, length, All};
-ghost use Rattle.mixed_graph.specs.Bits.{has};
-ghost use Rattle.mixed_graph.specs.Sets.{Within};
-ghost use Rattle.mixed_graph.specs.Shown.{graph_of};
-ghost use Rattle.hedge.specs.Linked.{IsMaximalJoined};
-ghost use Rattle.hedge.specs.Listed.{first_masks};
-ghost use Rattle.prob_expr.specs.Listed.{masks_of};
+ghost use Rattle.mixed_graph.specs.Vocabulary.{has, Within, graph_of};
+ghost use Rattle.hedge.specs.Vocabulary.{IsMaximalJoined, first_masks};
+ghost use Rattle.prob_expr.specs.Vocabulary.{masks_of};
 ghost use Rattle.surrogates.specs.Gathered.{AreFactorsWith, IsStopWith};
 
 use crate::tries::first_factor;

@@ -1,15 +1,11 @@
 //! Identification of an effect over experiments.
 
 ghost use Rattle.std.specs.Prelude.{◌≡◌, ℕ, ◌<◌, ◌≤◌, ◌↔◌, true, length, IsTrue, IfOk, None};
-ghost use Rattle.mixed_graph.specs.Bits.{has};
-ghost use Rattle.mixed_graph.specs.Sets.{Within, Apart};
-ghost use Rattle.mixed_graph.specs.Shown.{graph_of};
-ghost use Rattle.prob_expr.specs.Check.{fault_in};
-ghost use Rattle.prob_expr.specs.Listed.{masks_of};
-ghost use Rattle.prob_expr.specs.Tree.{PlainFormula};
-ghost use Rattle.do_derivation.specs.Accepts.{are_sets};
-ghost use Rattle.identify.specs.Answers.{AreShallowSteps, IsShallowFormula};
-ghost use Rattle.identification_theory.specs.Procedure.{IsIdentified};
+ghost use Rattle.mixed_graph.specs.Vocabulary.{has, Within, Apart, graph_of};
+ghost use Rattle.prob_expr.specs.Vocabulary.{fault_in, masks_of, PlainFormula};
+ghost use Rattle.do_derivation.specs.Vocabulary.{are_sets};
+ghost use Rattle.identify.specs.Vocabulary.{AreShallowSteps, IsShallowFormula};
+ghost use Rattle.identification_theory.specs.Vocabulary.{IsIdentified};
 ghost use Rattle.surrogates.specs.Surrogates.{IsSurrogate, IsSurrogateBySteps, IsStoppedWith, SomeBlocked};
 ghost use Rattle.surrogates.specs.Answers.{IsAnswerWith, IsRightWith, IfFormula, IfStopped, IfCommon, IsStopShown, IsBlockShown, IsCommonShown, IsBlockedTogether, is_stopped, HasCommon};
 ghost use Rattle.surrogates.specs.Tries.{IsDistrictFrom};

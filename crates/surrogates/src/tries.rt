@@ -1,12 +1,9 @@
 //! The factor of one district, under one experiment after the other.
 
 ghost use Rattle.std.specs.Prelude.{◌≡◌, ◌+◌, ◌<◌, ◌^◌, ◌≤◌, ℕ, true, length, None, IsTrue, IfOk, IfErr};
-ghost use Rattle.mixed_graph.specs.Bits.{has};
-ghost use Rattle.mixed_graph.specs.Sets.{Within};
-ghost use Rattle.mixed_graph.specs.Shown.{graph_of};
-ghost use Rattle.hedge.specs.Linked.{IsJoinedSet};
-ghost use Rattle.prob_expr.specs.Listed.{masks_of};
-ghost use Rattle.mixed_graph.specs.Masks.{is_apart};
+ghost use Rattle.mixed_graph.specs.Vocabulary.{has, Within, graph_of, is_apart};
+ghost use Rattle.hedge.specs.Vocabulary.{IsJoinedSet};
+ghost use Rattle.prob_expr.specs.Vocabulary.{masks_of};
 ghost use Rattle.surrogates.specs.Surrogates.{IsStoppedUnder};
 ghost use Rattle.surrogates.specs.Tries.{IsDistrictFrom, IsTried, IsTryFault, IsAttempt, IsAttemptOf, IsFirstTried, IsBlockedFactor};
 

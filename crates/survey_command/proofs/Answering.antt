@@ -1,13 +1,12 @@
 -- From what is answered for an effect to whether it has a hedge.
 use Rattle.std.proofs.Common.{ℕ, ◌≡◌, ◌↔◌, IsTrue, Result, Ok, Err, IfOk, refl, subst}
-use Rattle.mixed_graph.specs.Graphs.{MixedGraph}
-use Rattle.hedge.specs.Hedges.{IsHedge}
+use Rattle.mixed_graph.specs.Vocabulary.{MixedGraph, one}
 use Rattle.hedge.specs.declared.hedge.Hedge.{Hedge as HedgeData}
-use Rattle.mixed_graph.specs.Masks.{one}
-use Rattle.prob_expr.specs.View.{formula_view}
-use Rattle.do_derivation.specs.View.{derivation_view}
-use Rattle.identify.specs.Answers.{IsRight, is_hedge}
+use Rattle.hedge.specs.Vocabulary.{IsHedge}
+use Rattle.prob_expr.specs.Vocabulary.{formula_view}
+use Rattle.do_derivation.specs.Vocabulary.{derivation_view}
 use Rattle.identify.specs.declared.answer.Answer.{Answer}
+use Rattle.identify.specs.Vocabulary.{IsRight, is_hedge}
 use Rattle.identify.specs.declared.answer.Answer.TheVariants.{Formula, Hedge}
 use Rattle.survey_command.specs.Tallies.{IsAnswerFor}
 

@@ -1,7 +1,7 @@
 -- Rows of draws, and the graph that they make.
 use Rattle.std.proofs.Common.{ℕ, suc, ◌+◌, ◌-◌, ◌≡◌, ◌<◌, ◌≤◌, Bool, true, false, ◌&&◌, ◌||◌, ◌==◌, nat_lt, List, [], ◌∷◌, inl, inr, refl, sym, ap, ◌∙◌, arith}
 use Rattle.std.proofs.lemmas.Bool.{cases_eq, cases_lt, lt-ltb, le-ltb, ltb-true, and_parts, or_cases, or_left, or_right, ne_eqb, eq-eqb}
-use Rattle.mixed_graph.specs.Graphs.{IsMixedGraph, IsDirectedPath}
+use Rattle.mixed_graph.specs.Vocabulary.{IsMixedGraph, IsDirectedPath}
 use Rattle.survey_command.specs.Draws.{next_state, state_after, draw_of}
 use Rattle.survey_command.specs.Drawn.{pairs_before, draw_at, is_drawn, drawn_graph}
 use Rattle.survey_command.specs.Rows.{is_in_row}

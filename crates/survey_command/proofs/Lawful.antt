@@ -1,14 +1,12 @@
 -- The command's words ask for one request, and its answers end alike.
 use Rattle.std.proofs.Common.{◌≡◌, ◌-◌, ◌∙◌, List, [], Result, Ok, Err, refl, sym}
 use Rattle.std.specs.Prelude.{◌^◌, codes}
-use Rattle.command_words.specs.Form.{Use, word_of}
+use Rattle.command_words.specs.Vocabulary.{Use, word_of}
 use Rattle.command_words.proofs.OneValue.{one_needed_number}
 use Rattle.targets.specs.declared.fault.TargetFault.{TargetFault}
 use Rattle.replies.specs.declared.outcome.Outcome.TheVariants.{Yes}
 use Rattle.replies.proofs.Commands.{IsLawful, lawful_on_words}
-use Rattle.told.specs.Forms.{plain_form}
-use Rattle.told.specs.Refusals.{target_refusal}
-use Rattle.told.specs.Telling.{outcome_in}
+use Rattle.told.specs.Vocabulary.{plain_form, target_refusal, outcome_in}
 use Rattle.told.proofs.ToldOnce.{told_answered}
 use Rattle.survey_command.specs.declared.answer.Survey.{Survey}
 use Rattle.survey_command.specs.Command.{survey_command}

@@ -1,10 +1,8 @@
 -- Sets of one vertex.
 use Rattle.std.proofs.Common.{ℕ, ◌≡◌, ◌<◌, IsTrue, refl, sym, ◌∙◌, arith}
 use Rattle.std.proofs.lemmas.Bool.{ne_eqb, eq-eqb, eqb-true}
-use Rattle.mixed_graph.specs.Bits.{has}
-use Rattle.mixed_graph.specs.Sets.{Within, Apart}
+use Rattle.mixed_graph.specs.Vocabulary.{has, Within, Apart, one}
 use Rattle.mixed_graph.proofs.Masks.{has-pow, positive_from_has}
-use Rattle.mixed_graph.specs.Masks.{one}
 
 member : (a v : ℕ) → IsTrue (has (one a) v) → v ≡ a
 member a v i = eqb-true v a (sym (has-pow a v) ∙ i)

@@ -1,13 +1,11 @@
 -- A seed has one survey, so one thing is told of it.
 use Rattle.std.proofs.Common.{◌≡◌, ◌+◌, ◌<◌, ◌==◌, ◌&&◌, ℕ, zero, suc, Bool, true, false, not, List, [], Result, Ok, Err, refl, sym, ap, ap₂, ◌∙◌, arith}
 use Rattle.std.proofs.lemmas.Bool.{eq-eqb}
-use Rattle.mixed_graph.specs.Graphs.{MixedGraph}
+use Rattle.mixed_graph.specs.Vocabulary.{MixedGraph}
 use Rattle.targets.specs.declared.fault.TargetFault.{TargetFault}
 use Rattle.replies.specs.declared.outcome.Outcome.{Outcome}
 use Rattle.replies.specs.Told.{Told}
-use Rattle.told.specs.Forms.{plain_form}
-use Rattle.told.specs.Refusals.{target_refusal}
-use Rattle.told.specs.Telling.{told_in}
+use Rattle.told.specs.Vocabulary.{plain_form, target_refusal, told_in}
 use Rattle.survey_command.specs.Command.{survey_command}
 use Rattle.survey_command.specs.Counts.{pairs_from}
 use Rattle.survey_command.specs.Requests.{Request}

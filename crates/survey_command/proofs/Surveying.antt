@@ -1,6 +1,6 @@
 -- From the tally of a graph to its survey.
 use Rattle.std.proofs.Common.{ℕ, ◌≡◌, subst}
-use Rattle.mixed_graph.specs.Graphs.{MixedGraph}
+use Rattle.mixed_graph.specs.Vocabulary.{MixedGraph}
 use Rattle.survey_command.specs.Counts.{arrow_count, spouse_count}
 use Rattle.survey_command.specs.Right.{IsSurvey}
 use Rattle.survey_command.specs.Tallies.{IsAnswerFor, IsTally}

@@ -3,8 +3,7 @@ use Rattle.std.proofs.Common.{ℕ, zero, suc, ◌≡◌, ◌<◌, ◌≤◌, ◌
 use Rattle.std.proofs.Common.{subst, arith}
 use Rattle.std.proofs.Math.Nat.{mul-le-mul}
 use Rattle.std.proofs.lemmas.Bool.{cases_eq, ne_eqb, eq-eqb}
-use Rattle.mixed_graph.specs.Bits.{members_below}
-use Rattle.mixed_graph.specs.Graphs.{MixedGraph}
+use Rattle.mixed_graph.specs.Vocabulary.{members_below, MixedGraph}
 use Rattle.mixed_graph.proofs.Members.{length-members-suc, length-members-zero, length-members-le, one_if}
 use Rattle.survey_command.specs.Counts.{pairs_from}
 use Rattle.survey_command.proofs.Counting.{pairs_from_le}

@@ -1,9 +1,7 @@
 -- The command `survey`.
 use Rattle.std.specs.Prelude.{[]}
-use Rattle.replies.specs.Command.{CommandForm, on_words}
-use Rattle.told.specs.Forms.{plain_form}
-use Rattle.told.specs.Refusals.{target_refusal}
-use Rattle.told.specs.Telling.{Tells}
+use Rattle.replies.specs.Vocabulary.{CommandForm, on_words}
+use Rattle.told.specs.Vocabulary.{plain_form, target_refusal, Tells}
 use Rattle.survey_command.specs.Requests.{Request, IsRequest}
 use Rattle.survey_command.specs.Right.{IsSurveyAnswer}
 use Rattle.survey_command.specs.Telling.{survey_telling}

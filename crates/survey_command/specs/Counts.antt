@@ -1,7 +1,6 @@
 -- How many edges a graph has.
 use Rattle.std.specs.Prelude.{ℕ, zero, suc, ◌+◌, Bool, ◌&&◌, nat_lt, length}
-use Rattle.mixed_graph.specs.Bits.{members_below}
-use Rattle.mixed_graph.specs.Graphs.{MixedGraph}
+use Rattle.mixed_graph.specs.Vocabulary.{members_below, MixedGraph}
 
 -- how many pairs (a, b) with a < k and b < n the relation joins
 abbrev pub pairs_from : ℕ → (ℕ → ℕ → Bool) → ℕ → ℕ

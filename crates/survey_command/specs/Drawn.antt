@@ -1,6 +1,6 @@
 -- The graph of a survey: one draw for each pair of vertices.
 use Rattle.std.specs.Prelude.{ℕ, zero, suc, ◌+◌, ◌-◌, Bool, ◌&&◌, ◌||◌, ◌==◌, nat_lt}
-use Rattle.mixed_graph.specs.Graphs.{MixedGraph}
+use Rattle.mixed_graph.specs.Vocabulary.{MixedGraph}
 use Rattle.survey_command.specs.Draws.{state_after, draw_of}
 
 -- how many pairs (a, b) with a < b < 40 have a < i: the rows before row i, where row a has the pairs (a, a + 1) to (a, 39)

@@ -1,9 +1,9 @@
 -- What `survey` is asked for.
 use Rattle.std.specs.Prelude.{ℕ, ◌≡◌, ◌-◌, ◌^◌, List, [], ◌∷◌, codes}
-use Rattle.command_words.specs.Form.{Row, Use, word_of, has_flag}
+use Rattle.command_words.specs.Vocabulary.{Row, Use, word_of, has_flag}
 use Rattle.command_words.specs.Values as values
 use Rattle.replies.specs.declared.format.Format.{Format}
-use Rattle.replies.specs.Told.{format_of}
+use Rattle.replies.specs.Vocabulary.{format_of}
 use Rattle.survey_command.specs.declared.request.Request.{Request as CodeRequest}
 
 -- `survey N [--json]`

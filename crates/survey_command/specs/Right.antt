@@ -1,12 +1,11 @@
 -- Which answers of `survey` are right: between how many two vertices of a large graph the effect of the first on the second can be computed from observations.
 use Rattle.std.specs.Prelude.{ℕ, ◌≡◌, ◌<◌, Bool, true, false, not, ◌&&◌, ◌==◌, Result, Ok, Err}
-use Rattle.mixed_graph.specs.Graphs.{MixedGraph}
-use Rattle.mixed_graph.specs.Masks.{one}
-use Rattle.hedge.specs.Hedges.{IsHedge}
+use Rattle.mixed_graph.specs.Vocabulary.{MixedGraph, one}
 use Rattle.hedge.specs.declared.hedge.Hedge.{Hedge}
-use Rattle.prob_expr.specs.Tree.{PlainFormula}
-use Rattle.do_derivation.specs.Plans.{PlainDerivation}
-use Rattle.identify.specs.Answers.{IsRightFormula}
+use Rattle.hedge.specs.Vocabulary.{IsHedge}
+use Rattle.prob_expr.specs.Vocabulary.{PlainFormula}
+use Rattle.do_derivation.specs.Vocabulary.{PlainDerivation}
+use Rattle.identify.specs.Vocabulary.{IsRightFormula}
 use Rattle.targets.specs.declared.fault.TargetFault.{TargetFault}
 use Rattle.survey_command.specs.Counts.{pairs_from, arrow_count, spouse_count}
 use Rattle.survey_command.specs.Drawn.{drawn_graph}

@@ -1,7 +1,6 @@
 -- Tallies of pairs, inside this crate.
 use Rattle.std.specs.Prelude.{ℕ, ◌≡◌, ◌<◌, Bool, true, false, not, ◌&&◌, ◌==◌, length}
-use Rattle.mixed_graph.specs.Bits.{members_below}
-use Rattle.mixed_graph.specs.Graphs.{MixedGraph}
+use Rattle.mixed_graph.specs.Vocabulary.{members_below, MixedGraph}
 use Rattle.survey_command.specs.Counts.{pairs_from}
 use Rattle.survey_command.specs.Right.{HasHedge, HasFormula}
 use Rattle.survey_command.specs.declared.tally.Tally.{Tally}

@@ -1,7 +1,7 @@
 //! What is answered of a survey.
 
 ghost use Rattle.std.specs.Prelude.{◌≡◌, OnOk};
-ghost use Rattle.answer_json.specs.Progress.{with_members};
+ghost use Rattle.answer_json.specs.Vocabulary.{with_members};
 ghost use Rattle.survey_command.specs.Objects.{graph_members, tally_members};
 
 use crate::tally::Tally;

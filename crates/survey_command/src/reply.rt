@@ -1,10 +1,8 @@
 //! The answer of `survey`.
 
 ghost use Rattle.std.specs.Prelude.{[], IfOk};
-ghost use Rattle.replies.specs.Told.{told_of};
-ghost use Rattle.told.specs.Forms.{plain_form};
-ghost use Rattle.told.specs.Refusals.{target_refusal};
-ghost use Rattle.told.specs.Telling.{Tells};
+ghost use Rattle.replies.specs.Vocabulary.{told_of};
+ghost use Rattle.told.specs.Vocabulary.{plain_form, target_refusal, Tells};
 ghost use Rattle.survey_command.specs.Drawn.{drawn_graph};
 ghost use Rattle.survey_command.specs.Requests.{request_of};
 ghost use Rattle.survey_command.specs.Right.{IsSurvey, IsSurveyAnswer};

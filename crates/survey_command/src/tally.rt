@@ -1,8 +1,8 @@
 //! How many effects of a graph have a formula, and how many a hedge.
 
 ghost use Rattle.std.specs.Prelude.{◌≡◌, ◌≢◌, ◌<◌, ◌≤◌, ◌+◌, IfOk, if◌then◌else◌};
-ghost use Rattle.mixed_graph.specs.Shown.{graph_of};
-ghost use Rattle.identify.specs.Answers.{is_hedge};
+ghost use Rattle.mixed_graph.specs.Vocabulary.{graph_of};
+ghost use Rattle.identify.specs.Vocabulary.{is_hedge};
 ghost use Rattle.survey_command.specs.Tallies.{IsAnswerFor};
 
 use identify::{Answer, identify};

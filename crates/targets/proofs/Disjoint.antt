@@ -2,8 +2,7 @@
 use Rattle.std.proofs.Common.{◌≡◌, ℕ, false, List, [], length, refl, sym, subst, ◌∙◌}
 use Rattle.std.specs.Prelude.{nat_lt}
 use Rattle.std.proofs.lemmas.Bool.{and_right}
-use Rattle.mixed_graph.specs.Bits.{has}
-use Rattle.mixed_graph.specs.Sets.{Within, Apart}
+use Rattle.mixed_graph.specs.Vocabulary.{has, Within, Apart}
 use Rattle.mixed_graph.proofs.Masks.{has-zero}
 use Rattle.targets.specs.Targets.{Lists, AreListedSets, AreSets, RuleLists, AreRuleSets, IsListedSet}
 use Rattle.targets.proofs.Queries.{set_within}

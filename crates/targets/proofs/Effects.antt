@@ -1,8 +1,6 @@
 -- What the sets of an effect, and those of a query, have.
 use Rattle.std.proofs.Common.{◌<◌, ℕ, false, ◌++◌, length}
-use Rattle.mixed_graph.specs.Bits.{has}
-use Rattle.mixed_graph.specs.Sets.{Within, Apart}
-use Rattle.mixed_graph.specs.Names.{is_named}
+use Rattle.mixed_graph.specs.Vocabulary.{has, Within, Apart, is_named}
 use Rattle.targets.specs.Targets.{Lists, AreListedSets, AreSets, EffectLists, AreEffectSets}
 use Rattle.targets.proofs.Queries.{set_within, behind}
 use Rattle.targets.proofs.RuleWalks.{not_walked, sets_apart, some_in}

@@ -4,10 +4,8 @@ use Rattle.std.proofs.Common.{subst, ◌∙◌, append_assoc, arith}
 use Rattle.std.specs.Prelude.{cond, not, nat_lt}
 use Rattle.std.specs.Str.{bytes_eq}
 use Rattle.std.proofs.lemmas.Bool.{lt-ltb, ltb-true}
-use Rattle.mixed_graph.specs.Bits.{has}
+use Rattle.mixed_graph.specs.Vocabulary.{has, Within, is_named, index_of, name_of}
 use Rattle.mixed_graph.proofs.Masks.{has-or}
-use Rattle.mixed_graph.specs.Sets.{Within}
-use Rattle.mixed_graph.specs.Names.{is_named, index_of, name_of}
 use Rattle.targets.specs.declared.fault.TargetFault.{TargetFault}
 use Rattle.targets.specs.Targets.{NameFault, name_fault, or_fault, first_fault, walked_in, IsListedSet, IsNameFault}
 use Rattle.targets.proofs.Walking.{named_here, same_first_fault, fault_first}

@@ -4,10 +4,8 @@ use Rattle.std.specs.Prelude.{nat_lt}
 use Rattle.std.specs.Str.{bytes_eq}
 use Rattle.std.proofs.lemmas.Bool.{cases_Bool}
 use Rattle.std.proofs.lemmas.Slice.Eq.{bytes_eq-Decides}
-use Rattle.mixed_graph.specs.Bits.{has}
+use Rattle.mixed_graph.specs.Vocabulary.{has, Apart, is_named, index_of, name_of}
 use Rattle.mixed_graph.proofs.Masks.{has-zero}
-use Rattle.mixed_graph.specs.Sets.{Apart}
-use Rattle.mixed_graph.specs.Names.{is_named, index_of, name_of}
 use Rattle.targets.specs.Targets.{name_fault, first_fault, IsListedSet, RuleLists, rule_fault, AreRuleSets}
 use Rattle.targets.proofs.Walking.{no_fault}
 use Rattle.targets.proofs.Queries.{set_test, neither, behind}

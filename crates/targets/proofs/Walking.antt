@@ -5,12 +5,10 @@ use Rattle.std.specs.Prelude.{suc, cond, nat_lt, slice_index_or}
 use Rattle.std.specs.Str.{bytes_eq}
 use Rattle.std.proofs.lemmas.Bool.{cases_Bool, cases_eq, cases_order, eq-eqb, ne_eqb, eqb-true, lt-ltb, ltb-true}
 use Rattle.std.proofs.lemmas.Slice.Eq.{bytes_eq-Decides}
-use Rattle.mixed_graph.specs.Bits.{has}
-use Rattle.mixed_graph.specs.Names.{AreNames, is_named, index_of, name_of}
+use Rattle.mixed_graph.specs.Vocabulary.{has, AreNames, is_named, index_of, name_of, texts}
 use Rattle.std.proofs.Math.ListN.{drop_of_length-le}
 use Rattle.std.proofs.lemmas.List.{length-map}
 use Rattle.std.specs.Global.{Vec}
-use Rattle.mixed_graph.specs.Names.{texts}
 use Rattle.targets.specs.declared.fault.TargetFault.{TargetFault}
 use Rattle.targets.specs.declared.fault.TargetFault.TheVariants.{Unknown, Latent, Twice, EmptyY, EmptyX, NotOneX, Bidirected, OtherNames, NoMemory}
 use Rattle.targets.specs.Targets.{IsNameFault, NameFault, unknown, latent, twice, name_fault, or_fault, first_fault, walked_in, IsListedSet}

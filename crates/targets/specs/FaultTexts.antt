@@ -1,6 +1,6 @@
 -- What is wrong with the names that a command lists, in words.
 use Rattle.std.specs.Prelude.{ℕ, List, [], ◌∷◌, ◌++◌, codes}
-use Rattle.answer_text.specs.Printing.{printed}
+use Rattle.answer_text.specs.Vocabulary.{printed}
 use Rattle.targets.specs.declared.fault.TargetFault.{TargetFault}
 use Rattle.targets.specs.declared.fault.TargetFault.TheVariants.{Unknown, Latent, Twice, EmptyY, EmptyX, NotOneX, Bidirected, OtherNames, NoMemory}
 

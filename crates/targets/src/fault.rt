@@ -1,8 +1,7 @@
 //! What keeps listed names from being sets.
 
 ghost use Rattle.std.specs.Prelude.{◌≡◌, ◌∷◌, ◌++◌, codes, Some, IfOk, OnOk};
-ghost use Rattle.answer_text.specs.Printing.{printed};
-ghost use Rattle.answer_text.specs.Lines.{line_of, second};
+ghost use Rattle.answer_text.specs.Vocabulary.{printed, line_of, second};
 ghost use Rattle.targets.specs.Targets.{IsNameFault, unknown, latent, twice};
 ghost use Rattle.targets.specs.FaultTexts.{target_fault_text};
 

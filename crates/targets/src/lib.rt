@@ -4,8 +4,7 @@
 #![tactic(auto)]
 
 ghost use Rattle.std.specs.Prelude.{◌≡◌, ◌<◌, ◌++◌, ℕ, IsTrue, false, true, length, IfOk, IfErr, OnOk, None, Some, ◌||◌};
-ghost use Rattle.mixed_graph.specs.Bits.{has};
-ghost use Rattle.mixed_graph.specs.Names.{AreNames, is_named, index_of, texts};
+ghost use Rattle.mixed_graph.specs.Vocabulary.{has, AreNames, is_named, index_of, texts};
 ghost use Rattle.targets.specs.Targets.{first_fault, name_fault, IsListedSet, IsNameFault, walked_in};
 
 mod fault;

@@ -1,9 +1,7 @@
 //! The sets that the lists of a question name.
 
 ghost use Rattle.std.specs.Prelude.{◌≡◌, ◌<◌, IfOk, IfErr, length, map};
-ghost use Rattle.mixed_graph.specs.Bits.{has, members_below};
-ghost use Rattle.mixed_graph.specs.Sets.{Within};
-ghost use Rattle.mixed_graph.specs.Names.{texts, name_of};
+ghost use Rattle.mixed_graph.specs.Vocabulary.{has, members_below, Within, texts, name_of};
 ghost use Rattle.targets.specs.Targets.{OrMemory, AreListedSets, IsListFault, AreSets, IsTargetFault, AreRuleSets, IsRuleFault, AreEffectSets, IsEffectFault};
 
 use crate::fault::TargetFault;

@@ -1,7 +1,7 @@
 -- Where right answers that end alike are told in one way, one thing is told.
 use Rattle.std.proofs.Common.{◌≡◌, ◌≤◌, ◌<◌, ℕ, List, Result, Ok, Err, sym, ap, ◌∙◌, arith}
 use Rattle.replies.specs.declared.outcome.Outcome.{Outcome}
-use Rattle.replies.specs.Outcomes.{code_of}
+use Rattle.replies.specs.Vocabulary.{code_of}
 use Rattle.replies.specs.Told.{Told}
 use Rattle.told.specs.declared.form.Form.{Form}
 use Rattle.told.specs.Telling.{Telling, Refusal, Tells, outcome_in, told_in}

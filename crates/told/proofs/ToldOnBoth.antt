@@ -1,11 +1,11 @@
 -- A command on two inputs whose right answers end alike is lawful, whatever is told of them.
 use Rattle.std.proofs.Common.{◌≡◌, ℕ, List, Option, Some, Result, sym, ◌∙◌}
-use Rattle.command_words.specs.Form.{Text, Use}
+use Rattle.command_words.specs.Vocabulary.{Text, Use}
 use Rattle.targets.specs.declared.fault.TargetFault.{TargetFault}
 use Rattle.diagram.specs.declared.diagram.Diagram.{Diagram}
 use Rattle.diagram.proofs.OneDiagram.{AreSameDiagrams}
-use Rattle.replies.specs.Outcomes.{IsAnswered}
-use Rattle.replies.specs.OneOutcome.{OneOutcome, IsAnswerOn}
+use Rattle.replies.specs.Vocabulary.{IsAnswered, IsAnswerOn}
+use Rattle.replies.specs.OneOutcome.{OneOutcome}
 use Rattle.replies.proofs.Commands.{IsLawful, lawful_on_two_inputs}
 use Rattle.replies.proofs.OneGraph.{one_holding}
 use Rattle.told.specs.declared.form.Form.{Form}

@@ -3,3 +3,4 @@ pub mod Telling
 pub mod Refusals
 pub mod Commands
 pub mod TwoInputs
+pub mod Vocabulary

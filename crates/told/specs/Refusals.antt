@@ -3,7 +3,7 @@ use Rattle.std.specs.Prelude.{Bool, true, false}
 use Rattle.targets.specs.declared.fault.TargetFault.{TargetFault}
 use Rattle.targets.specs.declared.fault.TargetFault.TheVariants.{NoMemory}
 use Rattle.replies.specs.declared.outcome.Outcome.TheVariants.{Graph}
-use Rattle.replies.specs.Refusals.{target_told}
+use Rattle.replies.specs.Vocabulary.{target_told}
 use Rattle.told.specs.Telling.{Refusal}
 
 -- want of memory is one of the faults

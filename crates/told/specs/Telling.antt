@@ -1,9 +1,10 @@
 -- Answers as values: what is told of an answer is a function of it, of its form and of the names of the vertices.
 use Rattle.std.specs.Prelude.{ℕ, ◌≡◌, Bool, false, List, Result, Ok, Err}
 use Rattle.json.specs.Json.{Json}
-use Rattle.answer_json.specs.Progress.{object_of, json_line}
+use Rattle.answer_json.specs.Vocabulary.{object_of, json_line}
 use Rattle.replies.specs.declared.outcome.Outcome.{Outcome}
-use Rattle.replies.specs.Told.{Told, text_in, answer_of}
+use Rattle.replies.specs.Vocabulary.{text_in, answer_of}
+use Rattle.replies.specs.Told.{Told}
 use Rattle.told.specs.declared.form.Form.{Form}
 use Rattle.told.specs.declared.form.Writing.{Writing}
 

@@ -1,9 +1,9 @@
 -- A command on two inputs whose answers are values.
 use Rattle.std.specs.Prelude.{ℕ, List, Option, Result}
-use Rattle.command_words.specs.Form.{Text, Use}
+use Rattle.command_words.specs.Vocabulary.{Text, Use}
 use Rattle.targets.specs.declared.fault.TargetFault.{TargetFault}
 use Rattle.diagram.specs.declared.diagram.Diagram.{Diagram}
-use Rattle.replies.specs.Command.{CommandForm, on_two_inputs}
+use Rattle.replies.specs.Vocabulary.{CommandForm, on_two_inputs}
 use Rattle.told.specs.declared.form.Form.{Form}
 use Rattle.told.specs.Telling.{Telling, Refusal, Tells}
 use Rattle.told.specs.Refusals.{target_refusal}

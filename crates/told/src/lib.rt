@@ -4,8 +4,8 @@
 #![tactic(auto)]
 
 ghost use Rattle.std.specs.Prelude.{◌≡◌, false, IfOk, OnOk};
-ghost use Rattle.answer_json.specs.Progress.{with_members, object_of, json_line};
-ghost use Rattle.replies.specs.Told.{told_of, answer_of, text_in};
+ghost use Rattle.answer_json.specs.Vocabulary.{with_members, object_of, json_line};
+ghost use Rattle.replies.specs.Vocabulary.{told_of, answer_of, text_in};
 ghost use Rattle.told.specs.Telling.{Telling, Refusal, outcome_in, told_in, is_wanting};
 
 mod form;

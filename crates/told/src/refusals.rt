@@ -1,7 +1,7 @@
 //! What is told of a fault in place of an answer.
 
 ghost use Rattle.std.specs.Prelude.{◌≡◌, false, IfOk, OnOk};
-ghost use Rattle.replies.specs.Told.{told_of};
+ghost use Rattle.replies.specs.Vocabulary.{told_of};
 ghost use Rattle.told.specs.Telling.{Refusal};
 
 use replies::{Reply, refuse};

@@ -2,28 +2,27 @@
 use Rattle.std.proofs.Common.{◌≡◌, Bool, true, false, List, Some, Result, Ok, Err, refl, sym, ◌∙◌, subst, arith}
 use Rattle.std.specs.Prelude.{codes}
 use Rattle.std.proofs.lemmas.Option.{same_Some}
-use Rattle.mixed_graph.specs.Graphs.{MixedGraph}
-use Rattle.mixed_graph.specs.Shown.{graph_of}
-use Rattle.command_words.specs.Form.{Use, value_of, has_flag}
+use Rattle.mixed_graph.specs.Vocabulary.{MixedGraph, graph_of}
+use Rattle.command_words.specs.Vocabulary.{Use, value_of, has_flag}
 use Rattle.command_words.proofs.OneValue.{one_listed, one_listed_or_empty}
 use Rattle.targets.specs.declared.query.Sets.{Sets}
 use Rattle.targets.specs.declared.fault.TargetFault.{TargetFault}
+use Rattle.targets.specs.Vocabulary.{Lists, AreListedSets, IsListFault, IsFaultOfTarget, fault_in}
 use Rattle.targets.specs.declared.fault.TargetFault.TheVariants as listed
-use Rattle.targets.specs.Targets.{Lists, AreListedSets, IsListFault, IsFaultOfTarget, fault_in}
 use Rattle.diagram.specs.declared.diagram.Diagram.{Diagram}
-use Rattle.diagram.specs.Sets.{query_lists}
+use Rattle.diagram.specs.Vocabulary.{query_lists}
 use Rattle.diagram.proofs.OneDiagram.{AreSameDiagrams, same_drawing, same_query_lists}
 use Rattle.replies.specs.declared.outcome.Outcome.{Outcome}
-use Rattle.replies.specs.Outcomes.{IsAnswered}
+use Rattle.replies.specs.Vocabulary.{IsAnswered}
 use Rattle.replies.specs.Told.{Told}
 use Rattle.replies.proofs.Commands.{IsLawful, lawful_on_file}
 use Rattle.replies.proofs.OneOutcome.{one_on_diagram}
 use Rattle.replies.proofs.OneTarget.{one_set, no_fault_of, some_list, is_some_list}
 use Rattle.told.specs.declared.form.Form.{Form}
 use Rattle.told.specs.declared.form.Writing.{Writing}
-use Rattle.told.specs.Telling.{Tells}
+use Rattle.told.specs.Vocabulary.{Tells}
 use Rattle.told.proofs.ToldOnce.{EndAlike, told_answered}
-use Rattle.treated_id.specs.Sets.{IsConfounded}
+use Rattle.treated_id.specs.Vocabulary.{IsConfounded}
 use Rattle.treated_command.specs.declared.answer.Answer.{Answer}
 use Rattle.treated_command.specs.declared.answer.Answer.TheVariants.{Formula, Excluded, Unfixed}
 use Rattle.treated_command.specs.declared.fault.TreatedFault.{TreatedFault}

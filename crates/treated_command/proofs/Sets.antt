@@ -2,19 +2,15 @@
 use Rattle.std.proofs.Common.{◌≡◌, ◌≤◌, ◌<◌, ◌+◌, ◌&&◌, ◌||◌, ℕ, zero, suc, Bool, true, false, refl, length, sym, ap, ◌∙◌, arith, inl, inr}
 use Rattle.std.specs.Prelude.{nat_lt}
 use Rattle.std.proofs.lemmas.Bool.{cases_Bool}
-use Rattle.mixed_graph.specs.Bits.{has, members_below}
-use Rattle.mixed_graph.specs.Graphs.{MixedGraph}
-use Rattle.mixed_graph.specs.Masks.{union}
-use Rattle.mixed_graph.specs.Sets.{Within, Apart}
+use Rattle.mixed_graph.specs.Vocabulary.{has, members_below, MixedGraph, union, Within, Apart}
 use Rattle.mixed_graph.proofs.MaskLaws.{has_join, join_filled}
 use Rattle.finite_models.proofs.Bools.{either, not_both}
 use Rattle.latent_projection.proofs.Numbering.{length-members-cut}
-use Rattle.do_rules.specs.Rules.{AreThreeSets}
-use Rattle.targets.specs.Targets.{Lists, AreListedSets}
+use Rattle.do_rules.specs.Vocabulary.{AreThreeSets}
+use Rattle.targets.specs.Vocabulary.{Lists, AreListedSets}
 use Rattle.targets.proofs.Disjoint.{disjoint_listed_sets}
-use Rattle.treated_models.specs.Primes.{name_count}
-use Rattle.treated_id.specs.Right.{IsTreatedTarget}
-use Rattle.treated_id.specs.Sets.{AreBefore}
+use Rattle.treated_models.specs.Vocabulary.{name_count}
+use Rattle.treated_id.specs.Vocabulary.{IsTreatedTarget, AreBefore}
 
 -- they are within the observed vertices, and no two of them meet
 pub three_sets : (l : Lists) (n x y given : ℕ) → length l.observed ≡ n → AreListedSets l x y given → AreThreeSets n (has x) (has y) (has given)

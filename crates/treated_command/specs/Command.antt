@@ -1,6 +1,6 @@
 -- The command `treated`.
-use Rattle.replies.specs.Command.{CommandForm, on_file}
-use Rattle.told.specs.Telling.{Tells}
+use Rattle.replies.specs.Vocabulary.{CommandForm, on_file}
+use Rattle.told.specs.Vocabulary.{Tells}
 use Rattle.treated_command.specs.Faults.{treated_refusal}
 use Rattle.treated_command.specs.Right.{IsTreatedAnswer}
 use Rattle.treated_command.specs.Telling.{treated_telling}

@@ -1,15 +1,13 @@
 -- The members of the answers' objects.
 use Rattle.std.specs.Prelude.{ℕ, if◌then◌else◌, List, [], ◌∷◌, ◌++◌, map, codes}
 use Rattle.json.specs.Json.{Json, string, null}
-use Rattle.prob_expr.specs.Tree.{PlainFormula}
+use Rattle.prob_expr.specs.Vocabulary.{PlainFormula}
 use Rattle.hedge.specs.declared.hedge.Hedge.{Hedge}
 use Rattle.counter_models.specs.declared.counter_pair.CounterPair.{CounterPair}
-use Rattle.answer_json.specs.Progress.{array_of, object_of}
-use Rattle.answer_json.specs.Values.{set_json, text_json, vertex_json, vertices_json}
-use Rattle.hedge_json.specs.Hedges.{hedge_json}
-use Rattle.hedge_json.specs.Models.{models_json}
-use Rattle.effect_answers.specs.Objects.{effect_json, joint_json, formula_members}
-use Rattle.primed_names.specs.Primed.{primed_names}
+use Rattle.answer_json.specs.Vocabulary.{array_of, object_of, set_json, text_json, vertex_json, vertices_json}
+use Rattle.hedge_json.specs.Vocabulary.{hedge_json, models_json}
+use Rattle.effect_answers.specs.Vocabulary.{effect_json, joint_json, formula_members}
+use Rattle.primed_names.specs.Vocabulary.{primed_names}
 use Rattle.treated_id.specs.declared.answers.Confounding.{Confounding}
 use Rattle.treated_command.specs.declared.answer.Asked.{Asked}
 use Rattle.treated_command.specs.Sentences.{target_of, joint_of, is_single, split_text}

@@ -1,27 +1,18 @@
 -- Which answers of `treated` are right: what y would be under do(x) among those for whom x and what is given were observed, in the observed graph.
 use Rattle.std.specs.Prelude.{ℕ, ◌≡◌, ◌<◌, ◌≤◌, List, Some, Result, Ok, Err, IsTrue}
-use Rattle.mixed_graph.specs.Bits.{has}
-use Rattle.mixed_graph.specs.Graphs.{MixedGraph}
-use Rattle.mixed_graph.specs.Masks.{union}
-use Rattle.mixed_graph.specs.Names.{name_of}
-use Rattle.mixed_graph.specs.Shown.{graph_of}
-use Rattle.hedge.specs.Hedges.{IsHedge}
+use Rattle.mixed_graph.specs.Vocabulary.{has, MixedGraph, union, name_of, graph_of}
 use Rattle.hedge.specs.declared.hedge.Hedge.{Hedge}
+use Rattle.hedge.specs.Vocabulary.{IsHedge}
 use Rattle.counter_models.specs.declared.counter_pair.CounterPair.{CounterPair}
-use Rattle.prob_expr.specs.Tree.{PlainFormula}
-use Rattle.prob_expr.specs.View.{formula_view}
+use Rattle.prob_expr.specs.Vocabulary.{PlainFormula, formula_view}
 use Rattle.targets.specs.declared.query.Sets.{Sets}
-use Rattle.targets.specs.Targets.{Lists, AreListedSets, IsListFault, OrMemory}
+use Rattle.targets.specs.Vocabulary.{Lists, AreListedSets, IsListFault, OrMemory}
 use Rattle.diagram.specs.declared.diagram.Diagram.{Diagram}
-use Rattle.diagram.specs.Sets.{Names, query_lists}
-use Rattle.effect_answers.specs.Hedges.{IsFoundHedge}
-use Rattle.treated_models.specs.NamedOnce.{FormulaNamesOnce}
-use Rattle.treated_models.specs.NoFormula.{HasNoFormulaAmong, DifferAmong}
-use Rattle.treated_models.specs.Primes.{EqualsAmong, name_count}
+use Rattle.diagram.specs.Vocabulary.{Names, query_lists}
+use Rattle.effect_answers.specs.Vocabulary.{IsFoundHedge}
+use Rattle.treated_models.specs.Vocabulary.{FormulaNamesOnce, HasNoFormulaAmong, DifferAmong, EqualsAmong, name_count}
 use Rattle.treated_id.specs.declared.answers.Confounding.{Confounding}
-use Rattle.treated_id.specs.Answers.{IsConfounding}
-use Rattle.treated_id.specs.Sets.{AreBefore, IsAfter, IsConfounded}
-use Rattle.treated_id.specs.Terms.{AreNames, IsFormula}
+use Rattle.treated_id.specs.Vocabulary.{IsConfounding, AreBefore, IsAfter, IsConfounded, AreNames, IsFormula}
 use Rattle.treated_command.specs.declared.answer.Asked.{Asked}
 use Rattle.treated_command.specs.declared.answer.Answer.{Answer}
 use Rattle.treated_command.specs.declared.answer.Answer.TheVariants.{Formula, Excluded, Unfixed}

@@ -3,16 +3,13 @@ use Rattle.std.specs.Prelude.{ℕ, ◌==◌, Bool, if◌then◌else◌, List, []
 use Rattle.std.specs.List.{flat_map}
 use Rattle.answer_text.specs.declared.signs.Notation.{Notation}
 use Rattle.answer_text.specs.declared.signs.Notation.TheVariants as notations
-use Rattle.mixed_graph.specs.Bits.{has, members_below}
-use Rattle.mixed_graph.specs.Masks.{union}
-use Rattle.prob_expr.specs.Tree.{PlainTarget, PlainFormula, term_of}
-use Rattle.expr_text.specs.Write.{text_of}
+use Rattle.mixed_graph.specs.Vocabulary.{has, members_below, union}
+use Rattle.prob_expr.specs.Vocabulary.{PlainTarget, PlainFormula, term_of}
+use Rattle.expr_text.specs.Vocabulary.{text_of}
 use Rattle.hedge.specs.declared.hedge.Hedge.{Hedge}
 use Rattle.counter_models.specs.declared.counter_pair.CounterPair.{CounterPair}
-use Rattle.identify_text.specs.Answers.{answer_in, effect_term}
-use Rattle.identify_text.specs.ModelLines.{vertex_text}
-use Rattle.identify_text.specs.PairLines.{hedge_answer}
-use Rattle.primed_names.specs.Primed.{primed_names}
+use Rattle.identify_text.specs.Vocabulary.{answer_in, effect_term, vertex_text, hedge_answer}
+use Rattle.primed_names.specs.Vocabulary.{primed_names}
 use Rattle.told.specs.declared.form.Writing.{Writing}
 use Rattle.told.specs.declared.form.Writing.TheVariants.{Plain, Latex, Certificate}
 use Rattle.treated_id.specs.declared.answers.Confounding.{Confounding}

@@ -1,7 +1,7 @@
 -- What is told of an effect among the treated.
 use Rattle.std.specs.Prelude.{ℕ, List}
 use Rattle.json.specs.Json.{Json}
-use Rattle.prob_expr.specs.View.{formula_view}
+use Rattle.prob_expr.specs.Vocabulary.{formula_view}
 use Rattle.replies.specs.declared.outcome.Outcome.{Outcome}
 use Rattle.replies.specs.declared.outcome.Outcome.TheVariants.{Yes, No}
 use Rattle.told.specs.declared.form.Writing.{Writing}

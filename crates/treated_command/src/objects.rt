@@ -2,11 +2,10 @@
 
 ghost use Rattle.std.specs.Prelude.{◌≡◌, ◌∷◌, codes, map, OnOk};
 ghost use Rattle.json.specs.Json.{string};
-ghost use Rattle.prob_expr.specs.View.{formula_view};
-ghost use Rattle.answer_json.specs.Progress.{with_member, with_members, with_values, array_of};
-ghost use Rattle.answer_json.specs.Values.{set_json, vertices_json};
-ghost use Rattle.effect_answers.specs.Objects.{effect_json, joint_json};
-ghost use Rattle.primed_names.specs.Primed.{primed_names};
+ghost use Rattle.prob_expr.specs.Vocabulary.{formula_view};
+ghost use Rattle.answer_json.specs.Vocabulary.{with_member, with_members, with_values, array_of, set_json, vertices_json};
+ghost use Rattle.effect_answers.specs.Vocabulary.{effect_json, joint_json};
+ghost use Rattle.primed_names.specs.Vocabulary.{primed_names};
 ghost use Rattle.treated_command.specs.Sentences.{target_of, joint_of};
 ghost use Rattle.treated_command.specs.Objects.{asked_members, path_object, formula_object, confounding_members, reason_members, excluded_members, two_values_json, unfixed_members};
 

@@ -1,14 +1,13 @@
 //! The answer of `treated`.
 
 ghost use Rattle.std.specs.Prelude.{◌<◌, ◌≤◌, Some, IfOk, IfErr};
-ghost use Rattle.mixed_graph.specs.Bits.{has};
-ghost use Rattle.mixed_graph.specs.Shown.{graph_of};
-ghost use Rattle.do_rules.specs.Rules.{AreThreeSets};
-ghost use Rattle.diagram.specs.Sets.{query_lists};
-ghost use Rattle.replies.specs.Told.{told_of};
-ghost use Rattle.told.specs.Telling.{Tells};
-ghost use Rattle.treated_models.specs.Primes.{name_count};
-ghost use Rattle.treated_id.specs.Sets.{AreBefore};
+ghost use Rattle.mixed_graph.specs.Vocabulary.{has, graph_of};
+ghost use Rattle.do_rules.specs.Vocabulary.{AreThreeSets};
+ghost use Rattle.diagram.specs.Vocabulary.{query_lists};
+ghost use Rattle.replies.specs.Vocabulary.{told_of};
+ghost use Rattle.told.specs.Vocabulary.{Tells};
+ghost use Rattle.treated_models.specs.Vocabulary.{name_count};
+ghost use Rattle.treated_id.specs.Vocabulary.{AreBefore};
 ghost use Rattle.treated_command.specs.Faults.{treated_refusal};
 ghost use Rattle.treated_command.specs.Requests.{request_of};
 ghost use Rattle.treated_command.specs.Right.{Decides, IsAskedFor, IsConfoundedBy, IsForSets, IsOfSets, IsSetsFaultOrMemory, IsFaultOrMemory, IsTreatedAnswer};

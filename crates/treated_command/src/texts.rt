@@ -2,11 +2,10 @@
 
 ghost use Rattle.std.specs.Prelude.{◌≡◌, ◌++◌, IfOk, OnOk};
 ghost use Rattle.std.specs.List.{flat_map};
-ghost use Rattle.mixed_graph.specs.Masks.{union};
-ghost use Rattle.prob_expr.specs.Tree.{term_of};
-ghost use Rattle.prob_expr.specs.View.{formula_view, target_view};
-ghost use Rattle.expr_text.specs.Write.{text_of};
-ghost use Rattle.primed_names.specs.Primed.{primed_names};
+ghost use Rattle.mixed_graph.specs.Vocabulary.{union};
+ghost use Rattle.prob_expr.specs.Vocabulary.{term_of, formula_view, target_view};
+ghost use Rattle.expr_text.specs.Vocabulary.{text_of};
+ghost use Rattle.primed_names.specs.Vocabulary.{primed_names};
 ghost use Rattle.treated_command.specs.Sentences.{target_of, joint_of, effect_text, step_text, confounding_text, notation_of, formula_text, excluded_text, is_single, share_text, split_text, two_values_line, two_values_text, unfixed_text};
 
 use crate::answer::Asked;

@@ -3,29 +3,23 @@ use Rattle.std.proofs.Common.{ℕ, ◌*◌, ◌≡◌, ◌<◌, ◌≤◌, Bool,
 use Rattle.std.specs.Prelude.{sum_by, nat_lt}
 use Rattle.std.proofs.Common.{ltb-true}
 use mathlib.Core.Path.{fun_ext}
-use Rattle.mixed_graph.specs.Bits.{has}
-use Rattle.mixed_graph.specs.Graphs.{MixedGraph, IsMixedGraph}
-use Rattle.fractions.specs.Fractions.{Fraction, over, IsEqual}
+use Rattle.mixed_graph.specs.Vocabulary.{has, MixedGraph, IsMixedGraph}
+use Rattle.fractions.specs.Vocabulary.{Fraction, over, IsEqual}
 use Rattle.fractions.proofs.FractionLaws.{equal_trans}
-use Rattle.finite_models.specs.Models.{FiniteModel, Fits, IsAssignment, IsPositiveModel, event_weight, total as worlds}
+use Rattle.finite_models.specs.Vocabulary.{FiniteModel, Fits, IsAssignment, IsPositiveModel, event_weight, total as worlds}
 use Rattle.finite_models.proofs.Bools.{and_first, and_second, either}
 use Rattle.finite_models.proofs.Weights.{weight_of-none}
-use Rattle.prob_expr.specs.Tree.{Tree, prob, sum, product, quotient, named, Trees, no_trees, tree}
-use Rattle.prob_expr.specs.Values.{Weights, value_of}
+use Rattle.prob_expr.specs.Tree.{Tree, prob, sum, product, quotient, named, tree}
+use Rattle.prob_expr.specs.Vocabulary.{Trees, no_trees, Weights, value_of}
 use Rattle.prob_expr.proofs.Alike.{Events, Asks, AskEach, left_positive, formula_alike}
-use Rattle.quantity.specs.Kinds.{Pair, Kind}
-use Rattle.quantity.specs.Lawful.{IsLawful}
-use Rattle.count_rows.specs.Rows.{Table, Row, agrees, counted}
-use Rattle.count_table.specs.Cells.{total}
-use Rattle.count_eval.specs.Evaluated.{formula_value}
-use Rattle.count_eval.specs.Laws.{IsUsed, AreUsed, IsMatched}
-use Rattle.count_eval.specs.Programs.{weights_in, is_used}
-use Rattle.count_eval.specs.Rules.{plain}
+use Rattle.quantity.specs.Kinds.{Pair}
+use Rattle.quantity.specs.Vocabulary.{Kind, IsLawful}
+use Rattle.count_rows.specs.Vocabulary.{Table, Row, agrees, counted}
+use Rattle.count_table.specs.Vocabulary.{total}
+use Rattle.count_eval.specs.Vocabulary.{formula_value, IsUsed, AreUsed, IsMatched, weights_in, is_used, plain}
 use Rattle.count_eval.proofs.Covered.{formula_good}
 use Rattle.count_eval.proofs.Matched.{same_value}
-use Rattle.treated_models.specs.NamedOnce.{IsSingle, NamesOnce}
-use Rattle.treated_models.specs.Primes.{name_count, prime_of, vertex_of, as_observed, plain_in, primed_in, with_primes}
-use Rattle.treated_models.specs.Treated.{joined}
+use Rattle.treated_models.specs.Vocabulary.{IsSingle, NamesOnce, name_count, prime_of, vertex_of, as_observed, plain_in, primed_in, with_primes, joined}
 use Rattle.treated_models.proofs.NamedOnce.{vertex_low, Once, asks_once, weight_seen, weight_some}
 use Rattle.treated_models.proofs.Chain.{total_positive}
 use Rattle.treated_models.proofs.NoFormula.{among}

@@ -1,22 +1,16 @@
 -- What counts say of formulas over names and primed names.
 use Rattle.std.specs.Prelude.{ℕ, ◌≡◌, ◌<◌, ◌&&◌, ◌||◌, Bool, true, if◌then◌else◌, [], length, sum_by, Ok}
-use Rattle.mixed_graph.specs.Bits.{has}
-use Rattle.mixed_graph.specs.Graphs.{MixedGraph, IsMixedGraph}
-use Rattle.fractions.specs.Fractions.{Fraction}
-use Rattle.finite_models.specs.Models.{FiniteModel, Fits, IsAssignment, IsPositiveModel}
-use Rattle.prob_expr.specs.Tree.{Tree, PlainFormula}
-use Rattle.prob_expr.specs.Values.{Weights}
-use Rattle.quantity.specs.Kinds.{Pair, Kind}
-use Rattle.count_rows.specs.Rows.{Table, agrees}
-use Rattle.count_table.specs.Cells.{total}
-use Rattle.count_table.specs.Tables.{levels_in}
-use Rattle.count_eval.specs.Evaluated.{formula_value}
-use Rattle.count_eval.specs.Laws.{IsUsed, IsMatched}
-use Rattle.count_eval.specs.Programs.{weights_in, is_used}
-use Rattle.count_eval.specs.Rules.{plain}
-use Rattle.treated_models.specs.NamedOnce.{NamesOnce}
-use Rattle.treated_models.specs.Primes.{name_count, vertex_of, as_observed, plain_in, primed_in, with_primes, EqualsAmong}
-use Rattle.treated_models.specs.Treated.{effect_among}
+use Rattle.mixed_graph.specs.Vocabulary.{has, MixedGraph, IsMixedGraph}
+use Rattle.fractions.specs.Vocabulary.{Fraction}
+use Rattle.finite_models.specs.Vocabulary.{FiniteModel, Fits, IsAssignment, IsPositiveModel}
+use Rattle.prob_expr.specs.Tree.{Tree}
+use Rattle.prob_expr.specs.Vocabulary.{PlainFormula, Weights}
+use Rattle.quantity.specs.Kinds.{Pair}
+use Rattle.quantity.specs.Vocabulary.{Kind}
+use Rattle.count_rows.specs.Vocabulary.{Table, agrees}
+use Rattle.count_table.specs.Vocabulary.{total, levels_in}
+use Rattle.count_eval.specs.Vocabulary.{formula_value, IsUsed, IsMatched, weights_in, is_used, plain}
+use Rattle.treated_models.specs.Vocabulary.{NamesOnce, name_count, vertex_of, as_observed, plain_in, primed_in, with_primes, EqualsAmong, effect_among}
 
 -- the sum of the counts of the rows that agree with s on a, and with t on o
 abbrev pub counted_both : Table → (a o : ℕ → Bool) → (s t : ℕ → ℕ) → ℕ

@@ -4,34 +4,27 @@ use Rattle.std.specs.Prelude.{slice_index}
 use Rattle.std.proofs.lemmas.Bool.{false_from_ne_true}
 use Rattle.std.proofs.Math.Nat.{eq_of_mul-eq-mul_left}
 use mathlib.Core.Path.{fun_ext}
-use Rattle.mixed_graph.specs.Bits.{has}
-use Rattle.mixed_graph.specs.Graphs.{MixedGraph, IsMixedGraph, IsAncestor}
-use Rattle.mixed_graph.specs.Masks.{union}
+use Rattle.mixed_graph.specs.Vocabulary.{has, MixedGraph, IsMixedGraph, IsAncestor, union}
 use Rattle.mixed_graph.proofs.MaskLaws.{has_join}
 use Rattle.mixed_graph.proofs.Masks.{has-zero}
-use Rattle.fractions.specs.Fractions.{IsEqual}
+use Rattle.fractions.specs.Vocabulary.{IsEqual}
 use Rattle.fractions.proofs.FractionLaws.{equal_sym, equal_trans}
-use Rattle.finite_models.specs.Agreement.{AgreeObserved}
-use Rattle.finite_models.specs.Models.{FiniteModel, Fits, IsAssignment, IsPositiveModel, event_weight, weight_of, intervene, total}
+use Rattle.finite_models.specs.Vocabulary.{AgreeObserved, FiniteModel, Fits, IsAssignment, IsPositiveModel, event_weight, weight_of, intervene, total}
 use Rattle.finite_models.proofs.Bools.{either}
 use Rattle.finite_models.proofs.Following.{follows_of}
 use Rattle.finite_models.proofs.Positive.{positive_weight}
 use Rattle.finite_models.proofs.Tested.{tested}
 use Rattle.finite_models.proofs.Weights.{weight-none, weight_of-none}
-use Rattle.latent_projection.specs.Renumbering.{observed_below, IsObserved}
+use Rattle.latent_projection.specs.Vocabulary.{observed_below, IsObserved}
 use Rattle.latent_projection.proofs.Numbering.{IsMixedGraph-renumbered}
 use Rattle.latent_projection.proofs.Projected.{IsMixedGraph-projection}
-use Rattle.prob_expr.specs.Tree.{PlainFormula, effect_on}
-use Rattle.prob_expr.specs.Values.{weights_of, term_value, value_of}
+use Rattle.prob_expr.specs.Vocabulary.{PlainFormula, effect_on, weights_of, term_value, value_of}
 use Rattle.prob_expr.proofs.Alike.{left_positive, formula_alike}
-use Rattle.hidden_models.specs.Folding.{IsObservedPositive, set_before, values_before, drawn_weights}
-use Rattle.hidden_models.specs.Unfolding.{NotIdentifiableAsDrawn, DifferOnAsDrawn}
+use Rattle.hidden_models.specs.Vocabulary.{IsObservedPositive, set_before, values_before, drawn_weights, NotIdentifiableAsDrawn, DifferOnAsDrawn}
 use Rattle.hidden_models.proofs.Drawn.{drawn_weight, folded_is_positive, keeps_term}
 use Rattle.hidden_models.proofs.Statements.{one_fraction}
 use Rattle.hidden_models.proofs.Totals.{total_positive}
-use Rattle.treated_models.specs.NamedOnce.{AllNameOnce, NamesOnce, FormulaNamesOnce}
-use Rattle.treated_models.specs.Primes.{name_count, vertex_of, as_observed, plain_in, primed_in, with_primes}
-use Rattle.treated_models.specs.Treated.{weight_of_both, IsBefore}
+use Rattle.treated_models.specs.Vocabulary.{AllNameOnce, NamesOnce, FormulaNamesOnce, name_count, vertex_of, as_observed, plain_in, primed_in, with_primes, weight_of_both, IsBefore}
 use Rattle.treated_models.proofs.NamedOnce.{vertex_low, names_in_second, Once, asks_once, all_ask_once, weight_seen, weight_some, observed_fixes_named}
 use Rattle.treated_models.proofs.NoFormula.{among, names_fix_joint}
 use Rattle.treated_models.proofs.Primes.{plain_within, observed_within}

@@ -1,17 +1,14 @@
 -- The folded model gives events of two worlds the weights that the model gives them.
 use Rattle.std.proofs.Common.{ℕ, zero, suc, ◌*◌, ◌≡◌, Bool, true, false, not, cond, ◌&&◌, refl, sym, ap, ap₂, ◌∙◌, subst, arith}
 use mathlib.Core.Path.{fun_ext}
-use Rattle.mixed_graph.specs.Bits.{members_below}
-use Rattle.mixed_graph.specs.Graphs.{MixedGraph, IsMixedGraph}
-use Rattle.mixed_graph.specs.Sets.{Apart}
-use Rattle.finite_models.specs.Models.{FiniteModel, Fits, IsAssignment, rounds, solution, agree, intervene, world_weight, total}
+use Rattle.mixed_graph.specs.Vocabulary.{members_below, MixedGraph, IsMixedGraph, Apart}
+use Rattle.finite_models.specs.Vocabulary.{FiniteModel, Fits, IsAssignment, rounds, solution, agree, intervene, world_weight, total}
 use Rattle.finite_models.proofs.Following.{Follows, follows_of}
 use Rattle.finite_models.proofs.Indicators.{number, number-and, cond-number}
 use Rattle.finite_models.proofs.Ranks.{with_rank}
 use Rattle.finite_models.proofs.Solutions.{IsRanked}
 use Rattle.finite_models.proofs.SumLaws.{over-congr, over-congr_within, Ignores}
-use Rattle.latent_projection.specs.Projection.{IsProjection}
-use Rattle.latent_projection.specs.Renumbering.{observed_below, renumbered}
+use Rattle.latent_projection.specs.Vocabulary.{IsProjection, observed_below, renumbered}
 use Rattle.latent_projection.proofs.Numbering.{IsMixedGraph-renumbered}
 use Rattle.latent_projection.proofs.Treks.{ProjectsByTreks}
 use Rattle.hidden_models.proofs.Fold.{same_agree as fold_agree}
@@ -21,7 +18,7 @@ use Rattle.hidden_models.proofs.Folds.{agreed, agreed_ignores, sides, rest_total
 use Rattle.hidden_models.proofs.Positions.{spread}
 use Rattle.hidden_models.proofs.ReachingLaw.{reached, reaches_some, tells_reached, keeps_causes}
 use Rattle.hidden_models.proofs.Renumber.{same_agree as kept_agree, within}
-use Rattle.treated_models.specs.Treated.{is_both, weight_of_both}
+use Rattle.treated_models.specs.Vocabulary.{is_both, weight_of_both}
 use Rattle.treated_drawn.specs.Laws.{EachHasBothFolded}
 
 -- where nothing is set the solution is that of the model

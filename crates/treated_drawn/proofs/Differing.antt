@@ -1,19 +1,14 @@
 -- Two models of the observed graph that differ on the effect among the treated come from two of the diagram as drawn that do.
 use Rattle.std.proofs.Common.{ℕ, ◌≡◌, ◌<◌, Bool, true, ◌||◌}
-use Rattle.mixed_graph.specs.Bits.{has}
-use Rattle.mixed_graph.specs.Graphs.{MixedGraph, IsMixedGraph}
-use Rattle.fractions.specs.Fractions.{IsEqual}
+use Rattle.mixed_graph.specs.Vocabulary.{has, MixedGraph, IsMixedGraph}
+use Rattle.fractions.specs.Vocabulary.{IsEqual}
 use Rattle.fractions.proofs.FractionLaws.{equal_sym, equal_trans}
-use Rattle.finite_models.specs.Models.{FiniteModel, Fits, IsAssignment}
-use Rattle.latent_projection.specs.Renumbering.{IsObserved}
-use Rattle.prob_expr.specs.Tree.{PlainFormula}
-use Rattle.prob_expr.specs.Values.{value_of}
-use Rattle.hidden_models.specs.Folding.{IsObservedPositive}
-use Rattle.hidden_models.specs.Unfolding.{IsFoldedFrom}
+use Rattle.finite_models.specs.Vocabulary.{FiniteModel, Fits, IsAssignment}
+use Rattle.latent_projection.specs.Vocabulary.{IsObserved}
+use Rattle.prob_expr.specs.Vocabulary.{PlainFormula, value_of}
+use Rattle.hidden_models.specs.Vocabulary.{IsObservedPositive, IsFoldedFrom}
 use Rattle.hidden_models.proofs.Drawing.{agree_drawn, unfolded_is_positive}
-use Rattle.treated_models.specs.NamedOnce.{FormulaNamesOnce}
-use Rattle.treated_models.specs.NoFormula.{DifferAmong}
-use Rattle.treated_models.specs.Primes.{with_primes}
+use Rattle.treated_models.specs.Vocabulary.{FormulaNamesOnce, DifferAmong, with_primes}
 use Rattle.treated_models.proofs.NamedOnce.{names_in_second, observed_fixes_named}
 use Rattle.treated_models.proofs.NoFormula.{among, point, point_within, differ_there}
 use Rattle.treated_drawn.specs.Drawn.{drawn_with_primes, drawn_among, DifferAmongAsDrawn, EqualsAmongAsDrawn}

@@ -1,19 +1,16 @@
 -- A model of the observed graph whose causes serve two vertices at most folds a model of the diagram as drawn, two worlds at once.
 use Rattle.std.proofs.Common.{ℕ, ◌*◌, ◌≡◌, ◌<◌, Bool, true, false, not, cond, ◌&&◌, nat_lt, refl, sym, ap, ap₂, ◌∙◌, subst, arith}
 use Rattle.std.proofs.lemmas.Bool.{lt-ltb}
-use Rattle.mixed_graph.specs.Graphs.{MixedGraph, IsMixedGraph}
-use Rattle.mixed_graph.specs.Sets.{Apart}
-use Rattle.finite_models.specs.Models.{FiniteModel, Fits, IsAssignment, agree, intervene, solution, world_weight, total}
-use Rattle.finite_models.specs.Served.{ServesTwo}
+use Rattle.mixed_graph.specs.Vocabulary.{MixedGraph, IsMixedGraph, Apart}
+use Rattle.finite_models.specs.Vocabulary.{FiniteModel, Fits, IsAssignment, agree, intervene, solution, world_weight, total, ServesTwo}
 use Rattle.finite_models.proofs.Bools.{and_first}
 use Rattle.finite_models.proofs.Following.{follows_of}
 use Rattle.finite_models.proofs.Ranks.{with_rank}
 use Rattle.finite_models.proofs.SumLaws.{over-congr}
-use Rattle.latent_projection.specs.Projection.{IsProjection}
-use Rattle.latent_projection.specs.Renumbering.{observed_below, renumbered, renumbered_set}
+use Rattle.latent_projection.specs.Vocabulary.{IsProjection, observed_below, renumbered, renumbered_set}
 use Rattle.latent_projection.proofs.Numbering.{IsMixedGraph-renumbered}
 use Rattle.latent_projection.proofs.Projected.{IsMixedGraph-projection}
-use Rattle.hidden_models.specs.Folding.{set_before, values_before, values_after}
+use Rattle.hidden_models.specs.Vocabulary.{set_before, values_before, values_after}
 use Rattle.hidden_models.proofs.Depends.{same_agree}
 use Rattle.hidden_models.proofs.Drawing.{un, folds_model, shares_model}
 use Rattle.hidden_models.proofs.Expanded.{new, new_lt, expanded, agree_both}
@@ -22,7 +19,7 @@ use Rattle.hidden_models.proofs.Positions.{member_is}
 use Rattle.hidden_models.proofs.ReachingLaw.{observed_of}
 use Rattle.hidden_models.proofs.Unfolded.{two_weight}
 use Rattle.hidden_models.proofs.Unprojected.{IsUnprojected}
-use Rattle.treated_models.specs.Treated.{is_both, weight_of_both}
+use Rattle.treated_models.specs.Vocabulary.{is_both, weight_of_both}
 use Rattle.treated_drawn.specs.Drawn.{FoldsBoth}
 use Rattle.treated_drawn.specs.Laws.{EachIsBothFolded}
 use Rattle.treated_drawn.proofs.Both.{solution_none, no_member}

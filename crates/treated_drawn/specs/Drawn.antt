@@ -1,19 +1,13 @@
 -- The effect among those for whom values were observed, in the models of a diagram with hidden vertices. Vertices and names are those of the observed
 -- graph, in their new numbers.
 use Rattle.std.specs.Prelude.{ℕ, ◌*◌, ◌≡◌, Bool, ◌||◌, length, slice_index}
-use Rattle.mixed_graph.specs.Bits.{has}
-use Rattle.mixed_graph.specs.Graphs.{MixedGraph}
-use Rattle.mixed_graph.specs.Masks.{union}
-use Rattle.fractions.specs.Fractions.{Fraction, IsEqual}
-use Rattle.finite_models.specs.Models.{FiniteModel, Fits, IsAssignment, total}
-use Rattle.latent_projection.specs.Renumbering.{observed_below}
-use Rattle.prob_expr.specs.Tree.{PlainFormula, effect_on}
-use Rattle.prob_expr.specs.Values.{Weights, value_of}
-use Rattle.hidden_models.specs.Folding.{Folds, IsObservedPositive, set_before, values_before}
-use Rattle.hidden_models.specs.Unfolding.{NotIdentifiableAsDrawn, AgreeAsDrawn}
-use Rattle.treated_models.specs.NamedOnce.{FormulaNamesOnce}
-use Rattle.treated_models.specs.Primes.{name_count, vertex_of, as_observed, plain_in, primed_in}
-use Rattle.treated_models.specs.Treated.{weight_of_both, effect_among}
+use Rattle.mixed_graph.specs.Vocabulary.{has, MixedGraph, union}
+use Rattle.fractions.specs.Vocabulary.{Fraction, IsEqual}
+use Rattle.finite_models.specs.Vocabulary.{FiniteModel, Fits, IsAssignment, total}
+use Rattle.latent_projection.specs.Vocabulary.{observed_below}
+use Rattle.prob_expr.specs.Vocabulary.{PlainFormula, effect_on, Weights, value_of}
+use Rattle.hidden_models.specs.Vocabulary.{Folds, IsObservedPositive, set_before, values_before, NotIdentifiableAsDrawn, AgreeAsDrawn}
+use Rattle.treated_models.specs.Vocabulary.{FormulaNamesOnce, name_count, vertex_of, as_observed, plain_in, primed_in, weight_of_both, effect_among}
 
 -- how many observed vertices the model has
 abbrev pub observed_count : (ℕ → Bool) → FiniteModel → ℕ

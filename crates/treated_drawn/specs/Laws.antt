@@ -1,16 +1,11 @@
 -- What is true of the effect among those for whom values were observed in the diagram as drawn.
 use Rattle.std.specs.Prelude.{ℕ, ◌≡◌, ◌<◌, Bool, true, false, ◌||◌, List, ◌∷◌}
-use Rattle.mixed_graph.specs.Bits.{has}
-use Rattle.mixed_graph.specs.Graphs.{MixedGraph, IsMixedGraph, IsDirectedPath}
-use Rattle.mixed_graph.specs.Masks.{union}
-use Rattle.finite_models.specs.Models.{FiniteModel, Fits}
-use Rattle.finite_models.specs.Served.{ServesTwo}
-use Rattle.latent_projection.specs.Renumbering.{IsObserved}
-use Rattle.prob_expr.specs.Tree.{PlainFormula, effect_on}
-use Rattle.hidden_models.specs.Unfolding.{SharesWorlds, NotIdentifiableAsDrawn}
-use Rattle.treated_models.specs.NamedOnce.{FormulaNamesOnce}
-use Rattle.treated_models.specs.NoFormula.{DifferAmong}
-use Rattle.treated_models.specs.Primes.{EqualsAmong}
+use Rattle.mixed_graph.specs.Vocabulary.{has, MixedGraph, IsMixedGraph, IsDirectedPath, union}
+use Rattle.finite_models.specs.Vocabulary.{FiniteModel, Fits, ServesTwo}
+use Rattle.latent_projection.specs.Vocabulary.{IsObserved}
+use Rattle.prob_expr.specs.Vocabulary.{PlainFormula, effect_on}
+use Rattle.hidden_models.specs.Vocabulary.{SharesWorlds, NotIdentifiableAsDrawn}
+use Rattle.treated_models.specs.Vocabulary.{FormulaNamesOnce, DifferAmong, EqualsAmong}
 use Rattle.treated_drawn.specs.Drawn.{FoldsBoth, EqualsAmongAsDrawn, IsLostAmongAsDrawn, IsUnfixedAmongAsDrawn}
 
 -- a model of the observed graph q that folds m, two worlds at once

@@ -1,13 +1,11 @@
 -- From the two models of a hedge to no formula among the treated.
 use Rattle.std.proofs.Common.{ℕ, ◌*◌, ◌≡◌, ◌≢◌, ◌<◌, Bool, true, false, refl, ◌∙◌, ◌||◌, subst}
 use mathlib.Core.Path.{fun_ext}
-use Rattle.mixed_graph.specs.Bits.{has}
-use Rattle.mixed_graph.specs.Masks.{union}
+use Rattle.mixed_graph.specs.Vocabulary.{has, union}
 use Rattle.mixed_graph.proofs.MaskLaws.{has_join}
-use Rattle.finite_models.specs.Data.{meaning}
-use Rattle.finite_models.specs.Models.{weight_of, total}
+use Rattle.finite_models.specs.Vocabulary.{meaning, weight_of, total}
 use Rattle.finite_models.proofs.Bools.{either, not_both}
-use Rattle.treated_models.specs.Treated.{IsBefore}
+use Rattle.treated_models.specs.Vocabulary.{IsBefore}
 use Rattle.treated_models.proofs.NoFormula.{difference_excludes_among}
 use Rattle.treated_id.proofs.Ancestors.{ancestors_parents, ancestors_own, untouched}
 use Rattle.treated_hedges.specs.Excluded.{CounterModelsExcludeAmong}

@@ -1,11 +1,9 @@
 -- What comes after x: the descendants of its children.
 use Rattle.std.proofs.Common.{◌≡◌, ℕ, ◌<◌, Bool, true, ◌&&◌, List, [], ◌∷◌, sym, ◌∙◌, arith}
-use Rattle.mixed_graph.specs.Bits.{has}
-use Rattle.mixed_graph.specs.Graphs.{MixedGraph, IsMixedGraph, IsDescendant, IsDirectedPath}
-use Rattle.mixed_graph.specs.Masks.{union}
+use Rattle.mixed_graph.specs.Vocabulary.{has, MixedGraph, IsMixedGraph, IsDescendant, IsDirectedPath, union}
 use Rattle.mixed_graph.proofs.MaskLaws.{filled_has}
 use Rattle.finite_models.proofs.Bools.{and_first, and_second}
-use Rattle.hedge.specs.Linked.{IsSetOf}
+use Rattle.hedge.specs.Vocabulary.{IsSetOf}
 use Rattle.treated_id.specs.Sets.{IsAfter, AreBefore}
 
 -- a directed path from a vertex ends at one

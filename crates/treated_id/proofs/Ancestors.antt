@@ -1,10 +1,8 @@
 -- The ancestors of y, x and z, and those of x and z, into which no arrow leads from x.
 use Rattle.std.proofs.Common.{ℕ, ◌≡◌, ◌<◌, Bool, true, false, refl, ◌∷◌, []}
-use Rattle.mixed_graph.specs.Bits.{has}
-use Rattle.mixed_graph.specs.Graphs.{MixedGraph, IsMixedGraph, IsAncestor}
-use Rattle.mixed_graph.specs.Masks.{union}
-use Rattle.hedge.specs.Linked.{IsSetOf}
-use Rattle.treated_models.specs.Chain.{HasParents}
+use Rattle.mixed_graph.specs.Vocabulary.{has, MixedGraph, IsMixedGraph, IsAncestor, union}
+use Rattle.hedge.specs.Vocabulary.{IsSetOf}
+use Rattle.treated_models.specs.Vocabulary.{HasParents}
 use Rattle.treated_id.specs.Sets.{AreBefore, IsAfter}
 
 module _ (g : MixedGraph) (ok : IsMixedGraph g) (a : ℕ) (t : ℕ → Bool) (are : IsSetOf a (IsAncestor g t)) where

@@ -1,13 +1,11 @@
 -- From what was found to the answer.
 use Rattle.std.proofs.Common.{◌≡◌, ℕ, ◌<◌, Bool, true, ◌||◌, ◌==◌, ap, ◌∙◌, subst, arith}
 use Rattle.std.proofs.lemmas.Bool.{eqb-true}
-use Rattle.mixed_graph.specs.Bits.{has}
-use Rattle.mixed_graph.specs.Graphs.{MixedGraph, IsMixedGraph, IsAncestor}
-use Rattle.mixed_graph.specs.Masks.{union}
+use Rattle.mixed_graph.specs.Vocabulary.{has, MixedGraph, IsMixedGraph, IsAncestor, union}
 use Rattle.mixed_graph.proofs.Masks.{same_from_has}
 use Rattle.mixed_graph.proofs.MaskLaws.{has_join}
 use Rattle.finite_models.proofs.Bools.{same_truth}
-use Rattle.hedge.specs.Linked.{IsLinked, IsSetOf}
+use Rattle.hedge.specs.Vocabulary.{IsLinked, IsSetOf}
 use Rattle.hedge.proofs.Parts.{link_in}
 use Rattle.treated_id.specs.Answers.{IsPair, HasNoPair}
 use Rattle.treated_id.specs.Sets.{AreAncestors, IsConfounded}

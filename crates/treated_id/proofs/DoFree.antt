@@ -1,11 +1,10 @@
 -- The formula has no intervention.
 use Rattle.std.proofs.Common.{◌≡◌, ℕ, Bool, true, false, cond, ◌&&◌, List, [], ◌∷◌, refl, ap₂, ◌∙◌, arith}
-use Rattle.mixed_graph.specs.Graphs.{MixedGraph}
-use Rattle.mixed_graph.specs.Masks.{union, minus, one, is_empty}
-use Rattle.prob_expr.specs.Terms.{is_under, are_under, all_under, is_do_free}
-use Rattle.prob_expr.specs.Tree.{Tree, Trees, no_trees, tree, prob, sum, PlainFormula}
-use Rattle.do_derivation.specs.Shapes.{as_one}
-use Rattle.identification_theory.specs.Procedure.{sum_if}
+use Rattle.mixed_graph.specs.Vocabulary.{MixedGraph, union, minus, one, is_empty}
+use Rattle.prob_expr.specs.Vocabulary.{is_under, are_under, all_under, is_do_free, Trees, no_trees, PlainFormula}
+use Rattle.prob_expr.specs.Tree.{Tree, tree, prob, sum}
+use Rattle.do_derivation.specs.Vocabulary.{as_one}
+use Rattle.identification_theory.specs.Vocabulary.{sum_if}
 use Rattle.treated_id.specs.Terms.{AreTerms, with_first, IsFormula}
 use Rattle.treated_id.specs.Terms.AreTerms.{none, skip, take}
 

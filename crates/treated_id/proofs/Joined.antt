@@ -4,13 +4,11 @@ use Rattle.std.proofs.Common.{arith}
 use Rattle.std.proofs.Common.{append_assoc, append-nil}
 use Rattle.std.proofs.lemmas.Bool.{eqb-true, eq-eqb}
 use mathlib.Core.Path.{fun_ext}
-use Rattle.mixed_graph.specs.Bits.{has, members_below}
-use Rattle.mixed_graph.specs.Graphs.{MixedGraph, IsMixedGraph}
+use Rattle.mixed_graph.specs.Vocabulary.{has, members_below, MixedGraph, IsMixedGraph}
 use Rattle.mixed_graph.proofs.Masks.{has-pow, positive_from_has, lt_from_subset}
 use Rattle.mixed_graph.proofs.MemberLists.{AreMembers, is_in, members-are, is_in-members}
 use Rattle.finite_models.proofs.Bools.{and_first, and_second, not_both}
-use Rattle.hedge.specs.Linked.{IsLinked, IsDistrict}
-use Rattle.hedge.specs.Linked.IsLinked.{at, by}
+use Rattle.hedge.specs.Vocabulary.{IsLinked, IsDistrict, at, by}
 use Rattle.hedge.proofs.Parts.{link_in}
 use Rattle.treated_id.specs.Answers.{HasNoPair, IsJoinedPath}
 

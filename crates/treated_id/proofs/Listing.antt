@@ -5,15 +5,13 @@ use Rattle.std.proofs.Common.{take, refl, sym, ap, ◌∙◌, subst, arith}
 use Rattle.std.proofs.Math.Seq.{take-suc}
 use Rattle.std.proofs.lemmas.Bool.{and_parts, and_from, or_cases, or_left, or_right, ne_eqb, eq-eqb}
 use Rattle.std.proofs.lemmas.List.{at_drop_more, at_drop_all}
-use Rattle.mixed_graph.specs.Bits.{has}
-use Rattle.mixed_graph.specs.Graphs.{MixedGraph}
-use Rattle.mixed_graph.specs.Masks.{union, minus, one, common}
-use Rattle.mixed_graph.specs.Orders.{IsOrder}
-use Rattle.hedge.specs.Linked.{IsSetOf}
+use Rattle.mixed_graph.specs.Vocabulary.{has, MixedGraph, union, minus, one, common, IsOrder}
+use Rattle.hedge.specs.Vocabulary.{IsSetOf}
 use Rattle.hedge.proofs.Collecting.{entries, order_of_entries}
-use Rattle.prob_expr.specs.Tree.{Trees, no_trees, tree, prob}
-use Rattle.prob_expr.specs.View.{view, views}
+use Rattle.prob_expr.specs.Tree.{tree, prob}
 use Rattle.prob_expr.specs.declared.expr.Expr.{Expr}
+use Rattle.prob_expr.specs.Vocabulary.{Trees, no_trees, views}
+use Rattle.prob_expr.specs.View.{view}
 use Rattle.treated_id.specs.Terms.{IsParentOf, IsTerm, AreTerms}
 
 -- ---- the pillow

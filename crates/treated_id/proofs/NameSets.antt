@@ -3,11 +3,11 @@ use Rattle.std.proofs.Common.{ℕ, ◌^◌, ◌≡◌, ◌<◌, ◌≤◌, Bool,
 use Rattle.std.proofs.Common.{◌⊎◌, inl, inr}
 use Rattle.std.specs.List.{list_any}
 use Rattle.std.proofs.lemmas.Bool.{eqb-true, eq-eqb, or_cases}
-use Rattle.mixed_graph.specs.Bits.{has, members_below}
+use Rattle.mixed_graph.specs.Vocabulary.{has, members_below}
 use Rattle.mixed_graph.proofs.Masks.{below_64}
 use Rattle.mixed_graph.proofs.MemberLists.{AreMembers, members-are, some-member, member-some}
 use Rattle.latent_projection.proofs.Numbering.{length-members-cut}
-use Rattle.treated_models.specs.Primes.{prime_of}
+use Rattle.treated_models.specs.Vocabulary.{prime_of}
 use Rattle.treated_id.specs.Terms.{name_of, AreNames}
 
 -- the members of x below v

@@ -3,23 +3,19 @@ use Rattle.std.proofs.Common.{ℕ, ◌≡◌, ◌<◌, ◌≤◌, Bool, true, fa
 use Rattle.std.proofs.Common.{◌⊎◌, inl, inr}
 use Rattle.std.specs.Prelude.{None}
 use Rattle.std.proofs.lemmas.Bool.{eqb-true}
-use Rattle.mixed_graph.specs.Bits.{has}
-use Rattle.mixed_graph.specs.Graphs.{MixedGraph, IsMixedGraph}
-use Rattle.mixed_graph.specs.Masks.{union, minus, one, common, is_empty}
+use Rattle.mixed_graph.specs.Vocabulary.{has, MixedGraph, IsMixedGraph, union, minus, one, common, is_empty}
 use Rattle.mixed_graph.proofs.MaskLaws.{has_join, has_minus, has_none, has_one, empty_has}
 use Rattle.finite_models.proofs.Bools.{and_first, and_second, either, not_both}
-use Rattle.hedge.specs.Linked.{IsLinked}
-use Rattle.hedge.specs.Linked.IsLinked.{at, by}
-use Rattle.prob_expr.specs.Check.{fault_in}
-use Rattle.prob_expr.specs.Terms.{is_term}
-use Rattle.prob_expr.specs.Tree.{Tree, Trees, no_trees, tree, prob, sum, PlainFormula}
-use Rattle.do_derivation.specs.Shapes.{as_one, count_factors}
-use Rattle.identification_theory.specs.Procedure.{sum_if}
+use Rattle.hedge.specs.Vocabulary.{IsLinked, at, by}
+use Rattle.prob_expr.specs.Vocabulary.{fault_in, is_term, Trees, no_trees, PlainFormula}
+use Rattle.prob_expr.specs.Tree.{Tree, tree, prob, sum}
+use Rattle.do_derivation.specs.Vocabulary.{as_one, count_factors}
+use Rattle.identification_theory.specs.Vocabulary.{sum_if}
 use Rattle.identification_theory.proofs.Faults.{no_fault}
 use Rattle.identification_theory.proofs.Formed.{IsFormed, AreFormed, IsFormedFormula, is_term_from}
 use Rattle.identification_theory.proofs.Orders.{IsOrderFrom, order_of}
 use Rattle.identification_theory.proofs.Sets.{all-is, apart, below, not_empty, one-is, one-self}
-use Rattle.treated_models.specs.Primes.{name_count, prime_of}
+use Rattle.treated_models.specs.Vocabulary.{name_count, prime_of}
 use Rattle.treated_models.proofs.Primes.{prime_behind, prime_low}
 use Rattle.treated_id.specs.Right.{IsTreatedTarget}
 use Rattle.treated_id.specs.Terms.{name_of, AreNames, IsParentOf, IsTerm, AreTerms, with_first, IsFormula}

@@ -1,17 +1,15 @@
 -- Each term of the formula names each vertex once at most.
 use Rattle.std.proofs.Common.{ℕ, ◌≡◌, ◌<◌, Bool, true, false, cond, not, refl, sym, ap, ◌∙◌, ◌||◌, ◌&&◌, subst, arith, nat_lt, List, [], ◌∷◌}
 use Rattle.std.proofs.lemmas.Bool.{eqb-true}
-use Rattle.mixed_graph.specs.Bits.{has}
-use Rattle.mixed_graph.specs.Graphs.{MixedGraph, IsMixedGraph}
-use Rattle.mixed_graph.specs.Masks.{union, minus, one, common, is_empty}
+use Rattle.mixed_graph.specs.Vocabulary.{has, MixedGraph, IsMixedGraph, union, minus, one, common, is_empty}
 use Rattle.mixed_graph.proofs.MaskLaws.{has_join, has_minus, has_one}
 use Rattle.finite_models.proofs.Bools.{and_first, and_second, either}
-use Rattle.prob_expr.specs.Tree.{Tree, Trees, no_trees, tree, prob, sum, PlainFormula}
-use Rattle.do_derivation.specs.Shapes.{as_one}
-use Rattle.identification_theory.specs.Procedure.{sum_if}
+use Rattle.prob_expr.specs.Tree.{Tree, tree, prob, sum}
+use Rattle.prob_expr.specs.Vocabulary.{Trees, no_trees, PlainFormula}
+use Rattle.do_derivation.specs.Vocabulary.{as_one}
+use Rattle.identification_theory.specs.Vocabulary.{sum_if}
 use Rattle.identification_theory.proofs.Orders.{IsOrderFrom, order_of}
-use Rattle.treated_models.specs.NamedOnce.{IsSingle, NamesOnce, EachNamesOnce, FormulaNamesOnce}
-use Rattle.treated_models.specs.Primes.{prime_of}
+use Rattle.treated_models.specs.Vocabulary.{IsSingle, NamesOnce, EachNamesOnce, FormulaNamesOnce, prime_of}
 use Rattle.treated_models.proofs.Primes.{prime_behind}
 use Rattle.treated_id.specs.Right.{IsTreatedTarget}
 use Rattle.treated_id.specs.Terms.{AreNames, AreTerms, with_first, IsFormula}

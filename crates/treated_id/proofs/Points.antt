@@ -1,15 +1,14 @@
 -- Sums over names as sums over vertices, and events at equal values.
 use Rattle.std.proofs.Common.{ℕ, zero, suc, ◌≡◌, ◌<◌, ◌≤◌, Bool, true, false, cond, refl, sym, ap, ◌∙◌, arith, inl, inr, ◌⊎◌}
 use Rattle.std.proofs.lemmas.Bool.{cases_eq}
-use Rattle.mixed_graph.specs.Bits.{has}
-use Rattle.finite_models.specs.Sums.{sum_below, sum_over, set_at}
-use Rattle.finite_models.specs.Models.{FiniteModel, event_weight, solution, agree, world_weight}
+use Rattle.mixed_graph.specs.Vocabulary.{has}
+use Rattle.finite_models.specs.Vocabulary.{sum_below, sum_over, set_at, FiniteModel, event_weight, solution, agree, world_weight}
 use Rattle.finite_models.proofs.Bools.{same_truth}
 use Rattle.finite_models.proofs.Solutions.{agree_from, agree_gives}
 use Rattle.finite_models.proofs.SumLaws.{over-congr, sum_below-congr}
-use Rattle.fractions.specs.Fractions.{Fraction}
-use Rattle.prob_expr.specs.Values.{add_over}
-use Rattle.treated_models.specs.Primes.{as_observed, vertex_of}
+use Rattle.fractions.specs.Vocabulary.{Fraction}
+use Rattle.prob_expr.specs.Vocabulary.{add_over}
+use Rattle.treated_models.specs.Vocabulary.{as_observed, vertex_of}
 use Rattle.treated_models.proofs.Primes.{observed_set, vertex_plain}
 
 -- coordinates that aren't summed don't count

@@ -3,25 +3,20 @@ use Rattle.std.proofs.Common.{ℕ, ◌*◌, ◌≡◌, ◌<◌, ◌≤◌, Bool,
 use Rattle.std.proofs.Common.{List, [], ◌∷◌, inl, inr, ◌⊎◌}
 use Rattle.std.proofs.lemmas.Bool.{eqb-true, eq-eqb}
 use mathlib.Core.Path.{fun_ext}
-use Rattle.mixed_graph.specs.Bits.{has}
-use Rattle.mixed_graph.specs.Graphs.{MixedGraph, IsMixedGraph}
-use Rattle.mixed_graph.specs.Masks.{union, minus, one, common}
+use Rattle.mixed_graph.specs.Vocabulary.{has, MixedGraph, IsMixedGraph, union, minus, one, common}
 use Rattle.mixed_graph.proofs.Masks.{same_from_has}
 use Rattle.mixed_graph.proofs.MaskLaws.{has_join, has_meet, has_minus, has_one}
-use Rattle.hedge.specs.Linked.{IsLinked}
-use Rattle.hedge.specs.Linked.IsLinked.{at, by}
+use Rattle.hedge.specs.Vocabulary.{IsLinked, at, by}
 use Rattle.hedge.proofs.Parts.{link_in, district_maximal}
-use Rattle.finite_models.specs.Models.{FiniteModel, Fits, IsAssignment, IsPositiveModel, event_weight}
+use Rattle.finite_models.specs.Vocabulary.{FiniteModel, Fits, IsAssignment, IsPositiveModel, event_weight}
 use Rattle.finite_models.proofs.Bools.{and_first, and_second, either, not_both}
 use Rattle.finite_models.proofs.Following.{follows_of}
 use Rattle.finite_models.proofs.Positive.{positive_weight}
 use Rattle.finite_models.proofs.Weights.{weight_of-none}
-use Rattle.fractions.specs.Fractions.{Fraction}
-use Rattle.prob_expr.specs.Tree.{Trees, no_trees, tree, prob}
-use Rattle.prob_expr.specs.Values.{product_value}
-use Rattle.treated_models.specs.Treated.{held, factor_of}
-use Rattle.treated_models.specs.Chain.{without, with_one, HasParents, IsLast, IsAround, IsFree, read_near}
-use Rattle.treated_models.specs.Primes.{as_observed, with_primes}
+use Rattle.fractions.specs.Vocabulary.{Fraction}
+use Rattle.prob_expr.specs.Tree.{tree, prob}
+use Rattle.prob_expr.specs.Vocabulary.{Trees, no_trees, product_value}
+use Rattle.treated_models.specs.Vocabulary.{held, factor_of, without, with_one, HasParents, IsLast, IsAround, IsFree, read_near, as_observed, with_primes}
 use Rattle.treated_models.proofs.Chain.{next_factor, read_within}
 use Rattle.treated_id.specs.Sets.{AreAncestors, IsConfounded}
 use Rattle.treated_id.specs.Terms.{AreNames, IsTerm, AreTerms}

@@ -2,34 +2,30 @@
 use Rattle.std.proofs.Common.{ℕ, ◌*◌, ◌≡◌, ◌<◌, ◌≤◌, Bool, true, false, cond, not, refl, sym, ap, ap₂, ◌∙◌, ◌||◌, ◌&&◌, subst, arith, mul-pos}
 use Rattle.std.proofs.Common.{List}
 use mathlib.Core.Path.{fun_ext}
-use Rattle.mixed_graph.specs.Bits.{has}
-use Rattle.mixed_graph.specs.Graphs.{MixedGraph, IsMixedGraph}
-use Rattle.mixed_graph.specs.Masks.{union, minus, common, is_empty}
+use Rattle.mixed_graph.specs.Vocabulary.{has, MixedGraph, IsMixedGraph, union, minus, common, is_empty}
 use Rattle.mixed_graph.proofs.Masks.{same_from_has}
 use Rattle.mixed_graph.proofs.MaskLaws.{has_join, has_meet, has_minus, has_none, empty_has}
-use Rattle.do_rules.specs.Cuts.{cut_out}
-use Rattle.fractions.specs.Fractions.{Fraction, over, IsEqual}
+use Rattle.do_rules.specs.Vocabulary.{cut_out}
+use Rattle.fractions.specs.Vocabulary.{Fraction, over, IsEqual}
 use Rattle.fractions.proofs.FractionLaws.{mul-one}
-use Rattle.finite_models.specs.Sums.{sum_over}
-use Rattle.finite_models.specs.Models.{FiniteModel, Fits, IsAssignment, IsPositiveModel, event_weight}
+use Rattle.finite_models.specs.Vocabulary.{sum_over, FiniteModel, Fits, IsAssignment, IsPositiveModel, event_weight}
 use Rattle.finite_models.proofs.Bools.{and_first, either, not_both}
 use Rattle.finite_models.proofs.Following.{follows_of}
 use Rattle.finite_models.proofs.Positive.{positive_weight}
 use Rattle.finite_models.proofs.SumLaws.{set_at-other}
 use Rattle.finite_models.proofs.Weights.{weight_of-none}
-use Rattle.prob_expr.specs.Tree.{Tree, Trees, no_trees, tree, prob, sum, PlainFormula}
-use Rattle.prob_expr.specs.Values.{value, product_value, values_from, add_over}
+use Rattle.prob_expr.specs.Tree.{Tree, tree, prob, sum}
+use Rattle.prob_expr.specs.Vocabulary.{Trees, no_trees, PlainFormula, value, product_value, values_from, add_over}
 use Rattle.prob_expr.proofs.Boxes.{IsStable, add_over_whole, assignment_set}
-use Rattle.treated_models.specs.Treated.{held, factor_of, joined, weight_of_both, effect_among, IsBefore}
-use Rattle.treated_models.specs.Primes.{prime_of, as_observed, with_primes}
+use Rattle.treated_models.specs.Vocabulary.{held, factor_of, joined, weight_of_both, effect_among, IsBefore, prime_of, as_observed, with_primes}
 use Rattle.treated_models.proofs.Chain.{first_factor}
 use Rattle.treated_models.proofs.Factor.{held_event_is_sum}
 use Rattle.treated_models.proofs.Held.{treated_is_held}
 use Rattle.treated_models.proofs.Primes.{plain_within, observed_within, prime_behind}
 use Rattle.treated_id.specs.Right.{IsTreatedTarget, FormulaIsRight}
 use Rattle.treated_id.specs.Sets.{IsConfounded}
-use Rattle.do_derivation.specs.Shapes.{as_one}
-use Rattle.identification_theory.specs.Procedure.{sum_if}
+use Rattle.do_derivation.specs.Vocabulary.{as_one}
+use Rattle.identification_theory.specs.Vocabulary.{sum_if}
 use Rattle.treated_id.specs.Terms.{AreNames, with_first, IsFormulaBy}
 use Rattle.treated_id.proofs.Ancestors.{ancestors_low, ancestors_parents, ancestors_own, ancestors_more, untouched}
 use Rattle.treated_id.proofs.TermWeights.{first_bottom, first_top}

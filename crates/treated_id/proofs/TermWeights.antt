@@ -2,14 +2,11 @@
 use Rattle.std.proofs.Common.{ℕ, ◌≡◌, ◌≢◌, ◌<◌, Bool, true, false, cond, eqb, not, refl, sym, ap, ap₂, ◌∙◌, ◌||◌, ◌&&◌, arith, nat_lt, ltb-true}
 use Rattle.std.proofs.lemmas.Bool.{lt-ltb, ne_eqb, eqb-true}
 use mathlib.Core.Path.{fun_ext}
-use Rattle.mixed_graph.specs.Bits.{has}
-use Rattle.mixed_graph.specs.Graphs.{MixedGraph, IsMixedGraph}
-use Rattle.mixed_graph.specs.Masks.{one, minus}
+use Rattle.mixed_graph.specs.Vocabulary.{has, MixedGraph, IsMixedGraph, one, minus}
 use Rattle.mixed_graph.proofs.MaskLaws.{has_one, has_minus}
-use Rattle.finite_models.specs.Models.{FiniteModel, Fits, IsAssignment, event_weight}
+use Rattle.finite_models.specs.Vocabulary.{FiniteModel, Fits, IsAssignment, event_weight}
 use Rattle.finite_models.proofs.Bools.{and_first, and_second, not_both, same_truth}
-use Rattle.treated_models.specs.Chain.{with_one, read_near}
-use Rattle.treated_models.specs.Primes.{prime_of, as_observed, plain_in, primed_in, with_primes}
+use Rattle.treated_models.specs.Vocabulary.{with_one, read_near, prime_of, as_observed, plain_in, primed_in, with_primes}
 use Rattle.treated_models.proofs.Primes.{prime_behind, prime_one, observed_weight}
 use Rattle.treated_id.specs.Terms.{name_of, AreNames}
 

@@ -1,11 +1,9 @@
 -- Right answers to the question for P(y under do(x) | x and z as observed).
 use Rattle.std.specs.Prelude.{ℕ, ◌≡◌, Bool, true, false, [], ◌∷◌, List, ◌==◌, IsTrue, Option, Some, None}
-use Rattle.mixed_graph.specs.Bits.{has}
-use Rattle.mixed_graph.specs.Graphs.{MixedGraph}
-use Rattle.hedge.specs.Linked.{IsLinked}
-use Rattle.prob_expr.specs.Tree.{PlainFormula}
-use Rattle.prob_expr.specs.View.{formula_view}
-use Rattle.treated_models.specs.Primes.{EqualsAmong}
+use Rattle.mixed_graph.specs.Vocabulary.{has, MixedGraph}
+use Rattle.hedge.specs.Vocabulary.{IsLinked}
+use Rattle.prob_expr.specs.Vocabulary.{PlainFormula, formula_view}
+use Rattle.treated_models.specs.Vocabulary.{EqualsAmong}
 use Rattle.treated_id.specs.Sets.{AreAncestors}
 use Rattle.treated_id.specs.declared.answers.Confounding.{Confounding}
 use Rattle.treated_id.specs.declared.answers.Treated.{Treated}

@@ -1,9 +1,8 @@
 -- What is proved of the formula.
 use Rattle.std.specs.Prelude.{ℕ, ◌<◌, ◌≡◌, false, IsTrue}
-use Rattle.mixed_graph.specs.Bits.{has}
-use Rattle.mixed_graph.specs.Graphs.{MixedGraph, IsMixedGraph}
-use Rattle.prob_expr.specs.Tree.{PlainFormula}
-use Rattle.treated_models.specs.Primes.{EqualsAmong}
+use Rattle.mixed_graph.specs.Vocabulary.{has, MixedGraph, IsMixedGraph}
+use Rattle.prob_expr.specs.Vocabulary.{PlainFormula}
+use Rattle.treated_models.specs.Vocabulary.{EqualsAmong}
 use Rattle.treated_id.specs.Sets.{AreBefore, IsConfounded}
 use Rattle.treated_id.specs.Terms.{IsFormula}
 

@@ -1,9 +1,7 @@
 -- When an effect among the treated is confounded: the criterion (Shpitser and Pearl 2009).
 use Rattle.std.specs.Prelude.{ℕ, ◌∷◌, ◌==◌, List, IsTrue}
-use Rattle.mixed_graph.specs.Bits.{has}
-use Rattle.mixed_graph.specs.Graphs.{MixedGraph, IsAncestor, IsDirectedPath}
-use Rattle.mixed_graph.specs.Masks.{union}
-use Rattle.hedge.specs.Linked.{IsLinked, IsSetOf}
+use Rattle.mixed_graph.specs.Vocabulary.{has, MixedGraph, IsAncestor, IsDirectedPath, union}
+use Rattle.hedge.specs.Vocabulary.{IsLinked, IsSetOf}
 
 -- a directed path of two or more vertices leads from a member of x to v
 pub record IsAfter (g : MixedGraph) (x : ℕ) (v : ℕ) : Type 0 where

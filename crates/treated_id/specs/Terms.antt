@@ -1,15 +1,13 @@
 -- The formula of an effect among the treated: a sum of a product of conditional probabilities, in which a treatment is read as observed exactly in the terms of
 -- its own district (Shpitser and Pearl 2009; for the terms Tian and Pearl 2002).
 use Rattle.std.specs.Prelude.{ℕ, ◌≡◌, ◌≢◌, ◌&&◌, ◌⊎◌, false, if◌then◌else◌, List, [], ◌∷◌, length, IsTrue}
-use Rattle.mixed_graph.specs.Bits.{has}
-use Rattle.mixed_graph.specs.Graphs.{MixedGraph, IsAncestor}
-use Rattle.mixed_graph.specs.Masks.{union, minus, one, common, is_empty}
-use Rattle.mixed_graph.specs.Orders.{IsOrder}
-use Rattle.hedge.specs.Linked.{IsDistrict, IsSetOf}
-use Rattle.prob_expr.specs.Tree.{prob, Trees, no_trees, tree, PlainFormula}
-use Rattle.treated_models.specs.Primes.{prime_of}
-use Rattle.do_derivation.specs.Shapes.{as_one}
-use Rattle.identification_theory.specs.Procedure.{sum_if}
+use Rattle.mixed_graph.specs.Vocabulary.{has, MixedGraph, IsAncestor, union, minus, one, common, is_empty, IsOrder}
+use Rattle.hedge.specs.Vocabulary.{IsDistrict, IsSetOf}
+use Rattle.prob_expr.specs.Tree.{prob, tree}
+use Rattle.prob_expr.specs.Vocabulary.{Trees, no_trees, PlainFormula}
+use Rattle.treated_models.specs.Vocabulary.{prime_of}
+use Rattle.do_derivation.specs.Vocabulary.{as_one}
+use Rattle.identification_theory.specs.Vocabulary.{sum_if}
 use Rattle.treated_id.specs.Sets.{AreAncestors}
 
 -- the name by which u is read where the treatments in `seen` are as observed

@@ -1,8 +1,9 @@
 //! Sums and terms that are left out where their set is empty.
 
 ghost use Rattle.std.specs.Prelude.{◌≡◌, IfOk};
-ghost use Rattle.identification_theory.specs.Procedure.{sum_if};
-ghost use Rattle.prob_expr.specs.View.{view, views};
+ghost use Rattle.identification_theory.specs.Vocabulary.{sum_if};
+ghost use Rattle.prob_expr.specs.View.{view};
+ghost use Rattle.prob_expr.specs.Vocabulary.{views};
 ghost use Rattle.treated_id.specs.Terms.{with_first};
 
 use mixed_graph::VSet;

@@ -1,11 +1,9 @@
 //! The formula of an effect among the treated.
 
 ghost use Rattle.std.specs.Prelude.{◌≤◌, IfOk, length};
-ghost use Rattle.mixed_graph.specs.Bits.{has};
-ghost use Rattle.mixed_graph.specs.Sets.{Within};
-ghost use Rattle.mixed_graph.specs.Shown.{graph_of};
-ghost use Rattle.prob_expr.specs.View.{formula_view};
-ghost use Rattle.treated_models.specs.Primes.{name_count};
+ghost use Rattle.mixed_graph.specs.Vocabulary.{has, Within, graph_of};
+ghost use Rattle.prob_expr.specs.Vocabulary.{formula_view};
+ghost use Rattle.treated_models.specs.Vocabulary.{name_count};
 ghost use Rattle.treated_id.specs.Sets.{AreAncestors};
 ghost use Rattle.treated_id.specs.Terms.{IsFormula};
 

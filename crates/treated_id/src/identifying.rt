@@ -1,15 +1,10 @@
 //! Identification of an effect among the treated from a graph.
 
 ghost use Rattle.std.specs.Prelude.{◌≡◌, ◌<◌, ◌≤◌, ◌↔◌, true, IsTrue, IfOk, None};
-ghost use Rattle.hedge.specs.Linked.{IsSetOf};
-ghost use Rattle.mixed_graph.specs.Bits.{has};
-ghost use Rattle.mixed_graph.specs.Masks.{union};
-ghost use Rattle.mixed_graph.specs.Sets.{Within, Apart};
-ghost use Rattle.mixed_graph.specs.Shown.{graph_of};
-ghost use Rattle.prob_expr.specs.Check.{fault_in};
-ghost use Rattle.prob_expr.specs.Terms.{is_do_free};
-ghost use Rattle.treated_models.specs.NamedOnce.{FormulaNamesOnce};
-ghost use Rattle.treated_models.specs.Primes.{name_count};
+ghost use Rattle.hedge.specs.Vocabulary.{IsSetOf};
+ghost use Rattle.mixed_graph.specs.Vocabulary.{has, union, Within, Apart, graph_of};
+ghost use Rattle.prob_expr.specs.Vocabulary.{fault_in, is_do_free};
+ghost use Rattle.treated_models.specs.Vocabulary.{FormulaNamesOnce, name_count};
 ghost use Rattle.treated_id.specs.Answers.{IsRight, IfFormula, is_confounded};
 ghost use Rattle.treated_id.specs.Sets.{IsAfter, AreBefore, AreAncestors, IsConfounded};
 ghost use Rattle.treated_id.specs.Terms.{IsFormula};

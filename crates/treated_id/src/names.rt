@@ -1,9 +1,8 @@
 //! Names and primed names as sets.
 
 ghost use Rattle.std.specs.Prelude.{◌≡◌, ◌≤◌, ◌↔◌, ℕ, IsTrue};
-ghost use Rattle.mixed_graph.specs.Bits.{has};
-ghost use Rattle.mixed_graph.specs.Sets.{Within};
-ghost use Rattle.treated_models.specs.Primes.{name_count, prime_of};
+ghost use Rattle.mixed_graph.specs.Vocabulary.{has, Within};
+ghost use Rattle.treated_models.specs.Vocabulary.{name_count, prime_of};
 ghost use Rattle.treated_id.specs.Terms.{AreNames};
 
 use mixed_graph::VSet;

@@ -1,9 +1,7 @@
 //! Treatments that are confounded with a child of their own.
 
 ghost use Rattle.std.specs.Prelude.{ℕ, IsTrue};
-ghost use Rattle.mixed_graph.specs.Bits.{has};
-ghost use Rattle.mixed_graph.specs.Sets.{Within};
-ghost use Rattle.mixed_graph.specs.Shown.{graph_of};
+ghost use Rattle.mixed_graph.specs.Vocabulary.{has, Within, graph_of};
 ghost use Rattle.treated_id.specs.Answers.{IsPairOrNone};
 
 use hedge::joined_sets::district_of;

@@ -1,10 +1,8 @@
 //! Paths of bidirected edges.
 
 ghost use Rattle.std.specs.Prelude.{ℕ, ◌≡◌, ◌<◌, ◌==◌, IsTrue, IfOk};
-ghost use Rattle.mixed_graph.specs.Bits.{has};
-ghost use Rattle.mixed_graph.specs.Sets.{Within};
-ghost use Rattle.mixed_graph.specs.Shown.{graph_of};
-ghost use Rattle.hedge.specs.Linked.{IsLinked};
+ghost use Rattle.mixed_graph.specs.Vocabulary.{has, Within, graph_of};
+ghost use Rattle.hedge.specs.Vocabulary.{IsLinked};
 ghost use Rattle.treated_id.specs.Answers.{IsJoinedPath};
 
 use hedge::joined_sets::district_of;

@@ -1,13 +1,11 @@
 //! The terms of the formula.
 
 ghost use Rattle.std.specs.Prelude.{◌≡◌, ◌≤◌, ◌<◌, ℕ, IsTrue, IfOk, All};
-ghost use Rattle.mixed_graph.specs.Bits.{has};
-ghost use Rattle.mixed_graph.specs.Masks.{one};
-ghost use Rattle.mixed_graph.specs.Sets.{Within};
-ghost use Rattle.mixed_graph.specs.Shown.{graph_of};
+ghost use Rattle.mixed_graph.specs.Vocabulary.{has, one, Within, graph_of};
 ghost use Rattle.prob_expr.specs.Tree.{prob};
-ghost use Rattle.prob_expr.specs.View.{view, views};
-ghost use Rattle.treated_models.specs.Primes.{name_count};
+ghost use Rattle.prob_expr.specs.View.{view};
+ghost use Rattle.prob_expr.specs.Vocabulary.{views};
+ghost use Rattle.treated_models.specs.Vocabulary.{name_count};
 ghost use Rattle.treated_id.specs.Terms.{IsTerm, AreTerms};
 
 use crate::names::names_of;

@@ -2,9 +2,8 @@
 use Rattle.std.proofs.Common.{ℕ, ◌*◌, ◌≡◌, ◌<◌, ◌≤◌, Bool, true, false, cond, eqb, not, refl, sym, ap, ap₂, ◌∙◌, ◌||◌, ◌&&◌, arith, eqb-true}
 use Rattle.std.proofs.Math.Nat.{eq_of_mul-eq-mul_left}
 use mathlib.Core.Path.{fun_ext}
-use Rattle.mixed_graph.specs.Graphs.{MixedGraph, IsMixedGraph}
-use Rattle.finite_models.specs.Sums.{sum_over, set_at}
-use Rattle.finite_models.specs.Models.{FiniteModel, Fits, IsAssignment, IsPositiveModel, event_weight, world_weight, total}
+use Rattle.mixed_graph.specs.Vocabulary.{MixedGraph, IsMixedGraph}
+use Rattle.finite_models.specs.Vocabulary.{sum_over, set_at, FiniteModel, Fits, IsAssignment, IsPositiveModel, event_weight, world_weight, total}
 use Rattle.finite_models.proofs.Bools.{not_both}
 use Rattle.finite_models.proofs.Factors.{marginal, weight_by_checks}
 use Rattle.finite_models.proofs.Following.{follows_of}

@@ -1,7 +1,6 @@
 -- Two models that differ on the effect differ on it among some of the observed.
 use Rattle.std.proofs.Common.{ℕ, zero, suc, ◌*◌, ◌≡◌, ◌<◌, Bool, true, false, cond, refl, sym, ap, ◌∙◌, arith}
-use Rattle.finite_models.specs.Sums.{sum_below, sum_over, set_at}
-use Rattle.finite_models.specs.Models.{total}
+use Rattle.finite_models.specs.Vocabulary.{sum_below, sum_over, set_at, total}
 use Rattle.finite_models.proofs.SumLaws.{sum_below-congr, over-scale}
 use Rattle.treated_models.specs.Treated.{weight_of_both, AmongFixesEffect}
 use Rattle.treated_models.proofs.Product.{over-congr_assigned}

@@ -2,9 +2,8 @@
 use Rattle.std.proofs.Common.{ℕ, zero, suc, ◌*◌, ◌^◌, ◌≡◌, ◌<◌, true, false, refl, ap, ◌∙◌, [], ◌∷◌, length, arith}
 use native.Mathlib.Nat.{pow-zero, pow-suc}
 use Rattle.std.proofs.lemmas.Bool.{false_from_ne_true}
-use Rattle.mixed_graph.specs.Bits.{has}
-use Rattle.finite_models.specs.Sums.{product_below}
-use Rattle.finite_models.specs.Models.{FiniteModel, world_weight, total}
+use Rattle.mixed_graph.specs.Vocabulary.{has}
+use Rattle.finite_models.specs.Vocabulary.{product_below, FiniteModel, world_weight, total}
 use Rattle.finite_models.proofs.SumLaws.{over-congr}
 use Rattle.treated_models.specs.Treated.{factor_of, factors_of, obeyed, is_in, DistrictsMultiply}
 use Rattle.treated_models.proofs.Apart.{apart_sets_multiply}

@@ -1,9 +1,8 @@
 -- Factors as effects, and events with held arrows as sums of factors.
 use Rattle.std.proofs.Common.{ℕ, ◌*◌, ◌≡◌, ◌<◌, Bool, true, false, cond, eqb, not, refl, sym, ap, ◌∙◌, ◌||◌, eqb-true, eq-eqb}
 use Rattle.std.proofs.lemmas.Bool.{cond-false, cond-true}
-use Rattle.mixed_graph.specs.Graphs.{MixedGraph}
-use Rattle.finite_models.specs.Sums.{sum_over}
-use Rattle.finite_models.specs.Models.{FiniteModel, IsAssignment, solution, agree, event_weight, world_weight, intervene, weight_of}
+use Rattle.mixed_graph.specs.Vocabulary.{MixedGraph}
+use Rattle.finite_models.specs.Vocabulary.{sum_over, FiniteModel, IsAssignment, solution, agree, event_weight, world_weight, intervene, weight_of}
 use Rattle.finite_models.proofs.Bools.{same_truth}
 use Rattle.finite_models.proofs.Factors.{marginal, weight_by_checks}
 use Rattle.finite_models.proofs.Following.{Follows, follows_of, follows_intervene}
@@ -11,7 +10,7 @@ use Rattle.finite_models.proofs.Indicators.{number, number-all, cond-number, all
 use Rattle.finite_models.proofs.Ranks.{with_rank}
 use Rattle.finite_models.proofs.Solutions.{IsRanked, obeys, solution_is, unique, agree_from, agree_gives}
 use Rattle.finite_models.proofs.SumLaws.{over-congr}
-use Rattle.do_rules.specs.Cuts.{cut_out}
+use Rattle.do_rules.specs.Vocabulary.{cut_out}
 use Rattle.do_rules.proofs.Altered.{ranked_out, follows_hold}
 use Rattle.treated_models.specs.Treated.{held, factor_of, obeyed, FactorIsEffect, HeldEventIsSum}
 

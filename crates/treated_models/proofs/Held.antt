@@ -1,15 +1,15 @@
 -- Worlds under do(x) and without intervention as one model with held arrows.
 use Rattle.std.proofs.Common.{ℕ, zero, suc, ◌*◌, ◌≡◌, ◌<◌, Bool, true, false, cond, eqb, not, refl, sym, ap, ap₂, ◌∙◌, ◌||◌, ◌&&◌, arith}
 use Rattle.std.proofs.lemmas.Bool.{and_from, cond-false, cond-true, or_left, or_right}
-use Rattle.mixed_graph.specs.Graphs.{MixedGraph}
-use Rattle.finite_models.specs.Models.{FiniteModel, Fits, IsAssignment, IsSolution, solution, agree, event_weight, world_weight, intervene}
+use Rattle.mixed_graph.specs.Vocabulary.{MixedGraph}
+use Rattle.finite_models.specs.Vocabulary.{FiniteModel, Fits, IsAssignment, IsSolution, solution, agree, event_weight, world_weight, intervene}
 use Rattle.finite_models.proofs.Bools.{and_first, and_second, either, not_both, same_truth}
 use Rattle.finite_models.proofs.Following.{Follows, follows_of}
 use Rattle.finite_models.proofs.Indicators.{number}
 use Rattle.finite_models.proofs.Ranks.{with_rank}
 use Rattle.finite_models.proofs.Solutions.{IsRanked, solution_is, unique, agree_from, agree_gives}
 use Rattle.finite_models.proofs.SumLaws.{over-congr, product_below-congr}
-use Rattle.do_rules.specs.Cuts.{cut_into, cut_out}
+use Rattle.do_rules.specs.Vocabulary.{cut_into, cut_out}
 use Rattle.do_rules.proofs.Altered.{ranked_into, ranked_out, follows_into, follows_hold}
 use Rattle.treated_models.specs.Treated.{held, is_both, weight_of_both, IsBefore, joined, TreatedIsHeld, UntouchedFactors, obeyed}
 

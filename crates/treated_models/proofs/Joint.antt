@@ -2,11 +2,9 @@
 use Rattle.std.proofs.Common.{ℕ, ◌*◌, ◌≡◌, Bool, true, false, cond, refl, sym, ap, ap₂, ◌∙◌, ◌||◌, arith}
 use Rattle.std.proofs.Math.Nat.{eq_of_mul-eq-mul_left}
 use mathlib.Core.Path.{fun_ext}
-use Rattle.mixed_graph.specs.Graphs.{MixedGraph, IsMixedGraph}
-use Rattle.fractions.specs.Fractions.{IsEqual}
-use Rattle.finite_models.specs.Agreement.{AgreeObserved}
-use Rattle.finite_models.specs.Models.{FiniteModel, Fits, IsAssignment, event_weight, weight_of, total}
-use Rattle.finite_models.specs.Sums.{sum_over}
+use Rattle.mixed_graph.specs.Vocabulary.{MixedGraph, IsMixedGraph}
+use Rattle.fractions.specs.Vocabulary.{IsEqual}
+use Rattle.finite_models.specs.Vocabulary.{AgreeObserved, FiniteModel, Fits, IsAssignment, event_weight, weight_of, total, sum_over}
 use Rattle.finite_models.proofs.Bools.{either, not_both}
 use Rattle.finite_models.proofs.SumLaws.{over-scale, set_at-other}
 use Rattle.finite_models.proofs.Weights.{weight_of-none}

@@ -3,14 +3,14 @@ use Rattle.std.proofs.Common.{ℕ, zero, suc, ◌+◌, ◌-◌, ◌*◌, ◌≡�
 use Rattle.std.proofs.Common.{mul-pos}
 use Rattle.std.proofs.Common.{List, [], ◌∷◌, length, get_or, ltb-true}
 use Rattle.std.proofs.lemmas.Bool.{lt-ltb}
-use Rattle.mixed_graph.specs.Bits.{has, members_below}
-use Rattle.mixed_graph.specs.Graphs.{MixedGraph, IsMixedGraph}
+use Rattle.mixed_graph.specs.Vocabulary.{has, members_below, MixedGraph, IsMixedGraph}
 use Rattle.mixed_graph.proofs.MemberLists.{AreMembers, members-are}
-use Rattle.finite_models.specs.Models.{FiniteModel, Fits, IsAssignment, IsPositiveModel, event_weight, total}
+use Rattle.finite_models.specs.Vocabulary.{FiniteModel, Fits, IsAssignment, IsPositiveModel, event_weight, total}
 use Rattle.finite_models.proofs.Following.{follows_of}
 use Rattle.finite_models.proofs.Positive.{positive_weight}
 use Rattle.finite_models.proofs.Weights.{weight_of-none}
-use Rattle.prob_expr.specs.Tree.{Tree, prob, sum, product, quotient, named, Trees, no_trees, tree}
+use Rattle.prob_expr.specs.Tree.{Tree, prob, sum, product, quotient, named, tree}
+use Rattle.prob_expr.specs.Vocabulary.{Trees, no_trees}
 use Rattle.prob_expr.proofs.Alike.{Events, Asks, AskEach, AllAsk, formula_alike}
 use Rattle.prob_expr.proofs.Allowed.{events_under, in_second}
 use Rattle.treated_models.specs.NamedOnce.{IsSingle, NamesOnce, EachNamesOnce, AllNameOnce, ObservedFixesNamed}

@@ -1,18 +1,15 @@
 -- Two models that differ on the joint effect, or on the effect among the treated, leave no formula for the latter.
 use Rattle.std.proofs.Common.{ℕ, ◌*◌, ◌≡◌, ◌<◌, Bool, true, false, cond, refl, sym, ap, ap₂, ◌∙◌, ◌||◌, ◌&&◌, subst, nat_lt, ltb-true}
 use Rattle.std.proofs.lemmas.Bool.{lt-ltb, le-ltb, cond-false}
-use Rattle.mixed_graph.specs.Bits.{has}
-use Rattle.mixed_graph.specs.Graphs.{MixedGraph, IsMixedGraph}
-use Rattle.fractions.specs.Fractions.{Fraction, IsEqual, over}
+use Rattle.mixed_graph.specs.Vocabulary.{has, MixedGraph, IsMixedGraph}
+use Rattle.fractions.specs.Vocabulary.{Fraction, IsEqual, over}
 use Rattle.fractions.proofs.FractionLaws.{equal_sym, equal_trans}
-use Rattle.finite_models.specs.Agreement.{AgreeObserved}
-use Rattle.finite_models.specs.Models.{FiniteModel, Fits, IsAssignment, IsPositiveModel, solution, agree, intervene, weight_of, world_weight, total}
+use Rattle.finite_models.specs.Vocabulary.{AgreeObserved, FiniteModel, Fits, IsAssignment, IsPositiveModel, solution, agree, intervene, weight_of, world_weight, total}
 use Rattle.finite_models.proofs.Bools.{same_truth}
 use Rattle.finite_models.proofs.Following.{intervene_alike}
 use Rattle.finite_models.proofs.Solutions.{agree_from, agree_gives}
 use Rattle.finite_models.proofs.SumLaws.{over-congr}
-use Rattle.prob_expr.specs.Tree.{PlainFormula}
-use Rattle.prob_expr.specs.Values.{value_of}
+use Rattle.prob_expr.specs.Vocabulary.{PlainFormula, value_of}
 use Rattle.treated_models.specs.NoFormula.{DifferenceExcludesAmong, DifferingExcludesAmong, DifferAmong, among_at}
 use Rattle.treated_models.specs.NamedOnce.{FormulaNamesOnce}
 use Rattle.treated_models.specs.Primes.{EqualsAmong, name_count, prime_of, vertex_of, as_observed, with_primes}

@@ -3,12 +3,10 @@ use Rattle.std.proofs.Common.{ℕ, ◌-◌, ◌≡◌, ◌<◌, ◌≤◌, Bool,
 use Rattle.std.proofs.Common.{length}
 use Rattle.std.proofs.lemmas.Bool.{lt-ltb, le-ltb, ne_eqb}
 use mathlib.Core.Path.{fun_ext}
-use Rattle.mixed_graph.specs.Bits.{has, members_below}
-use Rattle.mixed_graph.specs.Graphs.{MixedGraph, IsMixedGraph}
+use Rattle.mixed_graph.specs.Vocabulary.{has, members_below, MixedGraph, IsMixedGraph}
 use Rattle.mixed_graph.proofs.Masks.{has-zero}
 use Rattle.latent_projection.proofs.Numbering.{at_place}
-use Rattle.finite_models.specs.Sums.{set_at}
-use Rattle.finite_models.specs.Models.{FiniteModel, Fits, IsAssignment, event_weight}
+use Rattle.finite_models.specs.Vocabulary.{set_at, FiniteModel, Fits, IsAssignment, event_weight}
 use Rattle.finite_models.proofs.Bools.{not_both}
 use Rattle.finite_models.proofs.SumLaws.{set_at-other}
 use Rattle.treated_models.specs.Treated.{held, joined, IsBefore}

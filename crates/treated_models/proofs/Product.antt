@@ -2,10 +2,8 @@
 use Rattle.std.proofs.Common.{ℕ, zero, suc, ◌*◌, ◌^◌, ◌≡◌, ◌<◌, ◌≤◌, Bool, true, false, cond, eqb, not, refl, sym, ap, ap₂, ◌∙◌, ◌||◌, ◌&&◌, List, [], ◌∷◌}
 use Rattle.std.proofs.Common.{length, arith, eqb-true}
 use mathlib.Core.Path.{fun_ext}
-use Rattle.mixed_graph.specs.Bits.{has}
-use Rattle.mixed_graph.specs.Graphs.{MixedGraph, IsMixedGraph}
-use Rattle.finite_models.specs.Sums.{sum_below, sum_over, set_at}
-use Rattle.finite_models.specs.Models.{FiniteModel, Fits, IsAssignment, total}
+use Rattle.mixed_graph.specs.Vocabulary.{has, MixedGraph, IsMixedGraph}
+use Rattle.finite_models.specs.Vocabulary.{sum_below, sum_over, set_at, FiniteModel, Fits, IsAssignment, total}
 use Rattle.finite_models.proofs.SumLaws.{sum_below-congr, over-scale}
 use Rattle.treated_models.specs.Treated.{held, joined, factor_of, factors_of, AreFree, read_at, weights_at, TreatedIsProduct}
 use Rattle.treated_models.proofs.Held.{treated_is_held, untouched_factors}

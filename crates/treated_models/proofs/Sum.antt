@@ -1,7 +1,6 @@
 -- The effect as a sum over what may have been observed of x.
 use Rattle.std.proofs.Common.{ℕ, zero, suc, ◌*◌, ◌≡◌, Bool, true, false, cond, refl, ap, ◌∙◌, ◌&&◌, arith}
-use Rattle.finite_models.specs.Sums.{sum_over}
-use Rattle.finite_models.specs.Models.{solution, agree, world_weight, intervene}
+use Rattle.finite_models.specs.Vocabulary.{sum_over, solution, agree, world_weight, intervene}
 use Rattle.finite_models.proofs.Following.{follows_of}
 use Rattle.finite_models.proofs.Indicators.{number, matches, agree-matches, over-matches}
 use Rattle.finite_models.proofs.Solutions.{solution_within}

@@ -1,8 +1,8 @@
 -- With two values each world shows the one or the other.
 use Rattle.std.proofs.Common.{ℕ, ◌+◌, ◌≡◌, ◌<◌, Bool, true, false, cond, eqb, eqb-true, ◌||◌, ◌&&◌, refl, sym, ap, ◌∙◌, arith}
 use Rattle.std.proofs.lemmas.Bool.{false_from_ne_true, or_left, or_right}
-use Rattle.mixed_graph.specs.Graphs.{MixedGraph}
-use Rattle.finite_models.specs.Models.{FiniteModel, Fits, IsAssignment, IsSolution, solution, agree, intervene, event_weight, weight_of, world_weight}
+use Rattle.mixed_graph.specs.Vocabulary.{MixedGraph}
+use Rattle.finite_models.specs.Vocabulary.{FiniteModel, Fits, IsAssignment, IsSolution, solution, agree, intervene, event_weight, weight_of, world_weight}
 use Rattle.finite_models.proofs.Bools.{same_truth, either}
 use Rattle.finite_models.proofs.Following.{Follows, follows_of, follows_intervene}
 use Rattle.finite_models.proofs.Ranks.{with_rank}

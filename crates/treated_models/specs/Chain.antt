@@ -1,7 +1,7 @@
 -- How the weight of a set that has its parents grows by one vertex, where arrows are held: by the probability of the vertex given its pillow.
 use Rattle.std.specs.Prelude.{ℕ, ◌*◌, ◌≡◌, ◌≢◌, Bool, true, false, not, ◌&&◌, ◌||◌, if◌then◌else◌, ◌==◌}
-use Rattle.mixed_graph.specs.Graphs.{MixedGraph, IsMixedGraph}
-use Rattle.finite_models.specs.Models.{FiniteModel, Fits, IsAssignment, IsPositiveModel, event_weight}
+use Rattle.mixed_graph.specs.Vocabulary.{MixedGraph, IsMixedGraph}
+use Rattle.finite_models.specs.Vocabulary.{FiniteModel, Fits, IsAssignment, IsPositiveModel, event_weight}
 use Rattle.treated_models.specs.Treated.{held, factor_of}
 
 -- the set without v

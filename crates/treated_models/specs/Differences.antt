@@ -1,10 +1,8 @@
 -- Two models that differ on a joint effect differ among some of the observed.
 use Rattle.std.specs.Prelude.{ℕ, ◌*◌, ◌≡◌, true, false, Bool, ◌||◌}
-use Rattle.mixed_graph.specs.Graphs.{MixedGraph, IsMixedGraph}
-use Rattle.fractions.specs.Fractions.{IsEqual}
-use Rattle.finite_models.specs.Agreement.{AgreeObserved}
-use Rattle.finite_models.specs.Models.{FiniteModel, Fits, IsAssignment, weight_of, total}
-use Rattle.finite_models.specs.Sums.{sum_over}
+use Rattle.mixed_graph.specs.Vocabulary.{MixedGraph, IsMixedGraph}
+use Rattle.fractions.specs.Vocabulary.{IsEqual}
+use Rattle.finite_models.specs.Vocabulary.{AgreeObserved, FiniteModel, Fits, IsAssignment, weight_of, total, sum_over}
 use Rattle.treated_models.specs.Treated.{weight_of_both, effect_among, IsBefore}
 
 -- summed over the values of x that may have been observed, y under do(x) beside x and z as observed is the effect of x on y and z, where z isn't after x

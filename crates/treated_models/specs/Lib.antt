@@ -5,3 +5,4 @@ pub mod Differences
 pub mod NamedOnce
 pub mod NoFormula
 pub mod TwoValues
+pub mod Vocabulary

@@ -1,12 +1,10 @@
 -- Formulas over names and primed names whose terms are observed.
 use Rattle.std.specs.Prelude.{ℕ, ◌≡◌, Bool, true, false, ◌||◌, List, [], ◌∷◌}
-use Rattle.mixed_graph.specs.Bits.{has}
-use Rattle.mixed_graph.specs.Graphs.{MixedGraph, IsMixedGraph}
-use Rattle.fractions.specs.Fractions.{IsEqual}
-use Rattle.finite_models.specs.Agreement.{AgreeObserved}
-use Rattle.finite_models.specs.Models.{FiniteModel, Fits, IsAssignment, IsPositiveModel}
-use Rattle.prob_expr.specs.Tree.{Tree, prob, sum, product, quotient, named, Trees, no_trees, tree, PlainFormula}
-use Rattle.prob_expr.specs.Values.{value_of}
+use Rattle.mixed_graph.specs.Vocabulary.{has, MixedGraph, IsMixedGraph}
+use Rattle.fractions.specs.Vocabulary.{IsEqual}
+use Rattle.finite_models.specs.Vocabulary.{AgreeObserved, FiniteModel, Fits, IsAssignment, IsPositiveModel}
+use Rattle.prob_expr.specs.Tree.{Tree, prob, sum, product, quotient, named, tree}
+use Rattle.prob_expr.specs.Vocabulary.{Trees, no_trees, PlainFormula, value_of}
 use Rattle.treated_models.specs.Primes.{plain_in, primed_in, with_primes}
 
 -- no vertex has both of its names in the set: an event can't give it two values

@@ -1,12 +1,9 @@
 -- When no formula equals the effect among those whose treatment was observed.
 use Rattle.std.specs.Prelude.{ℕ, ◌*◌, ◌≢◌, ◌≡◌, ◌<◌, true, false, ◌||◌}
-use Rattle.mixed_graph.specs.Bits.{has}
-use Rattle.mixed_graph.specs.Graphs.{MixedGraph, IsMixedGraph}
-use Rattle.fractions.specs.Fractions.{Fraction, IsEqual}
-use Rattle.finite_models.specs.Agreement.{AgreeObserved}
-use Rattle.finite_models.specs.Models.{FiniteModel, Fits, IsAssignment, IsPositiveModel, weight_of, total}
-use Rattle.finite_models.specs.Served.{ServesTwo}
-use Rattle.prob_expr.specs.Tree.{PlainFormula}
+use Rattle.mixed_graph.specs.Vocabulary.{has, MixedGraph, IsMixedGraph}
+use Rattle.fractions.specs.Vocabulary.{Fraction, IsEqual}
+use Rattle.finite_models.specs.Vocabulary.{AgreeObserved, FiniteModel, Fits, IsAssignment, IsPositiveModel, weight_of, total, ServesTwo}
+use Rattle.prob_expr.specs.Vocabulary.{PlainFormula}
 use Rattle.treated_models.specs.NamedOnce.{FormulaNamesOnce}
 use Rattle.treated_models.specs.Primes.{EqualsAmong}
 use Rattle.treated_models.specs.Treated.{IsBefore, effect_among, joined}

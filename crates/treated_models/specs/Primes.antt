@@ -1,11 +1,9 @@
 -- Primed names: each treatment has a second name, for the value that was observed beside the one that is set (Pearl, Causality, chapter 7).
 use Rattle.std.specs.Prelude.{ℕ, ◌+◌, ◌-◌, Bool, ◌&&◌, ◌||◌, nat_lt, if◌then◌else◌, length, get_or}
-use Rattle.mixed_graph.specs.Bits.{has, members_below}
-use Rattle.mixed_graph.specs.Graphs.{MixedGraph}
-use Rattle.fractions.specs.Fractions.{IsEqual}
-use Rattle.finite_models.specs.Models.{FiniteModel, Fits, IsAssignment, IsPositiveModel}
-use Rattle.prob_expr.specs.Tree.{PlainFormula}
-use Rattle.prob_expr.specs.Values.{Weights, value_of}
+use Rattle.mixed_graph.specs.Vocabulary.{has, members_below, MixedGraph}
+use Rattle.fractions.specs.Vocabulary.{IsEqual}
+use Rattle.finite_models.specs.Vocabulary.{FiniteModel, Fits, IsAssignment, IsPositiveModel}
+use Rattle.prob_expr.specs.Vocabulary.{PlainFormula, Weights, value_of}
 use Rattle.treated_models.specs.Treated.{weight_of_both, effect_among}
 
 -- how many names there are: a name for each of n vertices, and a primed name for each member of x

@@ -1,7 +1,7 @@
 -- A treatment of two values: what is observed, and the effect among those with the other value, make up the effect.
 use Rattle.std.specs.Prelude.{ℕ, ◌+◌, ◌≡◌, ◌≢◌, ◌<◌, ◌==◌, ◌||◌, Bool}
-use Rattle.mixed_graph.specs.Graphs.{MixedGraph, IsMixedGraph}
-use Rattle.finite_models.specs.Models.{FiniteModel, Fits, IsAssignment, event_weight, weight_of}
+use Rattle.mixed_graph.specs.Vocabulary.{MixedGraph, IsMixedGraph}
+use Rattle.finite_models.specs.Vocabulary.{FiniteModel, Fits, IsAssignment, event_weight, weight_of}
 use Rattle.treated_models.specs.Treated.{weight_of_both}
 
 -- the vertex has two values, and t has the one that s hasn't

@@ -2,12 +2,8 @@
 -- second model what it gets in the first.
 use Rattle.std.proofs.Common.{ℕ, zero, suc, ◌+◌, ◌-◌, ◌*◌, ◌^◌, ◌≡◌, ◌<◌, ◌≤◌, Bool, true, false, cond, eqb, ltb, not, ◌&&◌, refl, sym, ap, ap₂, ◌∙◌}
 use Rattle.std.proofs.Common.{arith, lt-ltb, le-ltb, ltb-true, ltb-false, eqb-true}
-use Rattle.mixed_graph.specs.Bits.{has}
-use Rattle.mixed_graph.specs.Graphs.{MixedGraph, IsMixedGraph}
-use Rattle.finite_models.specs.Agreement.{AgreeObserved}
-use Rattle.finite_models.specs.Models.{FiniteModel, event_weight, world_weight, total}
-use Rattle.finite_models.specs.Parities.{differ}
-use Rattle.finite_models.specs.Sums.{product_below}
+use Rattle.mixed_graph.specs.Vocabulary.{has, MixedGraph, IsMixedGraph}
+use Rattle.finite_models.specs.Vocabulary.{AgreeObserved, FiniteModel, event_weight, world_weight, total, differ, product_below}
 use Rattle.finite_models.proofs.Factors.{checks, weight_by_checks}
 use Rattle.finite_models.proofs.Following.{follows_of}
 use Rattle.finite_models.proofs.Indicators.{number}

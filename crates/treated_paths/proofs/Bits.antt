@@ -3,9 +3,9 @@ use Rattle.std.proofs.Common.{ℕ, ◌-◌, ◌^◌, ◌≡◌, ◌<◌, ◌≤�
 use Rattle.std.proofs.lemmas.Bool.{cases_lt}
 use Rattle.std.proofs.lemmas.Nat.{pow_pos}
 use Rattle.std.proofs.lemmas.Nat.Bits.{bit_at_above}
-use Rattle.mixed_graph.specs.Bits.{has}
+use Rattle.mixed_graph.specs.Vocabulary.{has}
 use Rattle.mixed_graph.proofs.Masks.{has-ones, le_from_subset, same_from_has}
-use Rattle.finite_models.specs.Packed.{mask_of}
+use Rattle.finite_models.specs.Vocabulary.{mask_of}
 use Rattle.finite_models.proofs.Bools.{and_second}
 use Rattle.finite_models.proofs.Packed.{has-mask}
 

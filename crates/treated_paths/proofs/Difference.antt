@@ -2,16 +2,15 @@
 use Rattle.std.proofs.Common.{ℕ, zero, suc, ◌+◌, ◌*◌, ◌^◌, ◌≡◌, ◌<◌, ◌≤◌, Bool, true, false, cond, eqb, ltb, ◌&&◌, ◌||◌, refl, sym, ap, ◌∙◌, subst, arith}
 use Rattle.std.proofs.Common.{lt-ltb, eqb-true}
 use Rattle.std.proofs.Math.Nat.{eq_of_mul-eq-mul_left}
-use Rattle.mixed_graph.specs.Graphs.{MixedGraph, IsMixedGraph}
-use Rattle.fractions.specs.Fractions.{IsEqual}
-use Rattle.finite_models.specs.Models.{FiniteModel, IsAssignment, world_weight, event_weight, sum_worlds, total}
-use Rattle.finite_models.specs.Sums.{sum_over, product_below, all_below}
+use Rattle.mixed_graph.specs.Vocabulary.{MixedGraph, IsMixedGraph}
+use Rattle.fractions.specs.Vocabulary.{IsEqual}
+use Rattle.finite_models.specs.Vocabulary.{FiniteModel, IsAssignment, world_weight, event_weight, sum_worlds, total, sum_over, product_below, all_below}
 use Rattle.finite_models.proofs.Positive.{over-mono}
 use Rattle.finite_models.proofs.Ranks.{with_rank}
 use Rattle.finite_models.proofs.SumLaws.{over-scale, over-term}
 use Rattle.finite_models.proofs.Weights.{weight_of-none}
 use Rattle.prob_expr.proofs.Allowed.{events_under}
-use Rattle.treated_models.specs.Treated.{is_both, weight_of_both, effect_among}
+use Rattle.treated_models.specs.Vocabulary.{is_both, weight_of_both, effect_among}
 use Rattle.treated_paths.proofs.Agreeing.{paths_agree}
 use Rattle.treated_paths.proofs.Event.{IsReadPath, at, seen, observed, at_within, seen_within, first_shows, noise_needed}
 use Rattle.treated_paths.proofs.Fits.{path_fits}

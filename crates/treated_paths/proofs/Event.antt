@@ -3,19 +3,15 @@ use Rattle.std.proofs.Common.{ℕ, zero, suc, ◌+◌, ◌^◌, ◌≡◌, ◌<�
 use Rattle.std.proofs.Common.{ap, ◌∙◌, arith, le-ltb, eqb-true}
 use Rattle.std.proofs.lemmas.Bool.{and_from, cond-false, cond-true, false_from_ne_true}
 use Rattle.std.proofs.lemmas.Nat.{pow_pos, pow_below}
-use Rattle.mixed_graph.specs.Bits.{has}
-use Rattle.mixed_graph.specs.Graphs.{MixedGraph, IsMixedGraph}
+use Rattle.mixed_graph.specs.Vocabulary.{has, MixedGraph, IsMixedGraph}
 use Rattle.mixed_graph.proofs.Masks.{has-pow}
-use Rattle.finite_models.specs.Models.{FiniteModel, IsAssignment, solution, agree, intervene}
-use Rattle.finite_models.specs.Packed.{mask_of}
-use Rattle.finite_models.specs.Parities.{differ}
-use Rattle.finite_models.specs.Sums.{all_below}
+use Rattle.finite_models.specs.Vocabulary.{FiniteModel, IsAssignment, solution, agree, intervene, mask_of, differ, all_below}
 use Rattle.finite_models.proofs.Bools.{and_first, and_second, not_both}
 use Rattle.finite_models.proofs.Following.{Follows, follows_of, follows_intervene, intervene_alike}
 use Rattle.finite_models.proofs.Indicators.{all_below_each}
 use Rattle.finite_models.proofs.Solutions.{IsRanked, solution_is, solution_within, agree_from, agree_gives}
 use Rattle.finite_models.proofs.SumLaws.{eqb-refl}
-use Rattle.treated_models.specs.Treated.{is_both, joined}
+use Rattle.treated_models.specs.Vocabulary.{is_both, joined}
 use Rattle.treated_paths.proofs.Fits.{IsPath, path_fits}
 use Rattle.treated_paths.proofs.Models.{coin_in, own, new_bit, path_model}
 use Rattle.treated_paths.proofs.Reading.{Carries, shown}

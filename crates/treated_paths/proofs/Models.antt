@@ -1,11 +1,8 @@
 -- The two models of a path of bidirected edges from a child of a treatment to the treatment. Each visit of the path has a bit, which the arrows that
 -- aren't out of x carry on; in the first model the bit of the child has the treatment's, too.
 use Rattle.std.proofs.Common.{ℕ, zero, suc, ◌+◌, ◌-◌, ◌^◌, Bool, false, cond, eqb, ltb, not, ◌&&◌, ◌||◌}
-use Rattle.mixed_graph.specs.Bits.{has}
-use Rattle.mixed_graph.specs.Graphs.{MixedGraph}
-use Rattle.finite_models.specs.Models.{FiniteModel}
-use Rattle.finite_models.specs.Packed.{mask_of}
-use Rattle.finite_models.specs.Parities.{differ}
+use Rattle.mixed_graph.specs.Vocabulary.{has, MixedGraph}
+use Rattle.finite_models.specs.Vocabulary.{FiniteModel, mask_of, differ}
 use Rattle.finite_models.proofs.Factors.{any_below}
 
 -- visit i of the path is at w i, for i up to k, and its last edge leads to the treatment, w (k + 1)

@@ -1,9 +1,8 @@
 -- A treatment that is joined to a child of its own by bidirected edges has two models that differ.
 use Rattle.std.proofs.Common.{ℕ, suc, ◌-◌, ◌≡◌, Bool, true, false, cond, eqb, ltb, ◌||◌, refl}
-use Rattle.mixed_graph.specs.Bits.{has}
-use Rattle.mixed_graph.specs.Graphs.{MixedGraph, IsMixedGraph}
-use Rattle.finite_models.specs.Served.{ServesTwo}
-use Rattle.treated_models.specs.NoFormula.{DifferAmong}
+use Rattle.mixed_graph.specs.Vocabulary.{has, MixedGraph, IsMixedGraph}
+use Rattle.finite_models.specs.Vocabulary.{ServesTwo}
+use Rattle.treated_models.specs.Vocabulary.{DifferAmong}
 use Rattle.treated_models.proofs.NoFormula.{differing_excludes_among}
 use Rattle.treated_paths.specs.Paths.{PathsDifferAmong, PathsExcludeAmong}
 use Rattle.treated_paths.proofs.Agreeing.{paths_agree}

@@ -1,10 +1,8 @@
 -- The two models are positive: noise shows each assignment.
 use Rattle.std.proofs.Common.{ℕ, zero, suc, ◌+◌, ◌-◌, ◌*◌, ◌^◌, ◌≡◌, ◌<◌, ◌≤◌, Bool, true, false, cond, eqb, ltb, ◌&&◌, refl, sym, ap, ap₂, ◌∙◌, arith}
 use Rattle.std.proofs.Common.{lt-ltb, le-ltb, ltb-true, eqb-true, ne_eqb}
-use Rattle.mixed_graph.specs.Bits.{has}
-use Rattle.mixed_graph.specs.Graphs.{MixedGraph}
-use Rattle.finite_models.specs.Sums.{product_below}
-use Rattle.finite_models.specs.Models.{FiniteModel, IsAssignment, IsPositiveModel, agree, rounds, solution, world_weight, event_weight}
+use Rattle.mixed_graph.specs.Vocabulary.{has, MixedGraph}
+use Rattle.finite_models.specs.Vocabulary.{product_below, FiniteModel, IsAssignment, IsPositiveModel, agree, rounds, solution, world_weight, event_weight}
 use Rattle.finite_models.proofs.Bools.{and_first, and_second}
 use Rattle.finite_models.proofs.Solutions.{agree_from}
 use Rattle.finite_models.proofs.SumLaws.{over-base, over-term, eqb-refl}

@@ -1,9 +1,8 @@
 -- Without noise a vertex shows the bit of each visit from which arrows lead to it, none of them out of x.
 use Rattle.std.proofs.Common.{ℕ, zero, suc, ◌-◌, ◌≡◌, ◌<◌, Bool, true, false, cond, eqb, not, ◌&&◌, refl, sym, ap, ◌∙◌, arith, ne_eqb}
 use Rattle.std.proofs.lemmas.Bool.{and_from, false_from_ne_true}
-use Rattle.mixed_graph.specs.Bits.{has}
-use Rattle.mixed_graph.specs.Graphs.{MixedGraph}
-use Rattle.finite_models.specs.Packed.{mask_of}
+use Rattle.mixed_graph.specs.Vocabulary.{has, MixedGraph}
+use Rattle.finite_models.specs.Vocabulary.{mask_of}
 use Rattle.finite_models.proofs.Bools.{and_first, and_second, not_both, same_truth}
 use Rattle.finite_models.proofs.Factors.{any_below_from, any_below_gives}
 use Rattle.finite_models.proofs.Solutions.{IsRanked}

@@ -1,10 +1,10 @@
 -- The joint effect of a treatment of two values.
 use Rattle.std.proofs.Common.{ℕ, ◌+◌, ◌≡◌, ◌==◌, ◌||◌, Bool, true, false, cond, refl, sym, ap, ap₂, ◌∙◌, arith}
 use mathlib.Core.Path.{fun_ext}
-use Rattle.mixed_graph.specs.Graphs.{MixedGraph, IsMixedGraph}
-use Rattle.finite_models.specs.Models.{FiniteModel, Fits, IsAssignment, event_weight}
+use Rattle.mixed_graph.specs.Vocabulary.{MixedGraph, IsMixedGraph}
+use Rattle.finite_models.specs.Vocabulary.{FiniteModel, Fits, IsAssignment, event_weight}
 use Rattle.finite_models.proofs.Bools.{either}
-use Rattle.treated_models.specs.Treated.{held, weight_of_both, IsBefore}
+use Rattle.treated_models.specs.Vocabulary.{held, weight_of_both, IsBefore}
 use Rattle.treated_models.proofs.Held.{treated_is_held}
 use Rattle.treated_models.proofs.TwoValues.{two_values_split}
 use Rattle.treated_paths.specs.TwoValues.{TwoValuesSplitJoint}

@@ -2,15 +2,11 @@
 use Rattle.std.proofs.Common.{ℕ, zero, suc, ◌≡◌, ◌<◌, ◌⊎◌, inl, inr, Bool, true, false, eqb, ◌||◌, ◌==◌, List, [], ◌∷◌, refl, sym, ap, ◌∙◌, subst, arith}
 use Rattle.std.proofs.Common.{eqb-true}
 use Rattle.std.proofs.lemmas.Bool.{or_cases, or_left}
-use Rattle.mixed_graph.specs.Bits.{has}
-use Rattle.mixed_graph.specs.Graphs.{MixedGraph, IsMixedGraph, IsDirectedPath}
-use Rattle.mixed_graph.specs.Masks.{union}
+use Rattle.mixed_graph.specs.Vocabulary.{has, MixedGraph, IsMixedGraph, IsDirectedPath, union}
 use Rattle.mixed_graph.proofs.MaskLaws.{has_join}
 use Rattle.finite_models.proofs.Bools.{not_both}
-use Rattle.hedge.specs.Linked.{IsLinked}
-use Rattle.hedge.specs.Linked.IsLinked.{at, by}
-use Rattle.treated_id.specs.Right.{IsTreatedTarget}
-use Rattle.treated_id.specs.Sets.{IsConfounded, IsAfter, AreBefore}
+use Rattle.hedge.specs.Vocabulary.{IsLinked, at, by}
+use Rattle.treated_id.specs.Vocabulary.{IsTreatedTarget, IsConfounded, IsAfter, AreBefore}
 use Rattle.treated_paths.proofs.Event.{IsRead, IsReadPath}
 use Rattle.treated_paths.proofs.Fits.{unequal}
 use Rattle.treated_paths.proofs.Reading.{Carries}

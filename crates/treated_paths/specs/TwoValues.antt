@@ -1,9 +1,8 @@
 -- A treatment of two values: how the joint effect is made up of the effect among the treated.
 use Rattle.std.specs.Prelude.{ℕ, ◌+◌, ◌≡◌, ◌==◌, ◌||◌, Bool, true, false}
-use Rattle.mixed_graph.specs.Graphs.{MixedGraph, IsMixedGraph}
-use Rattle.finite_models.specs.Models.{FiniteModel, Fits, IsAssignment, event_weight, weight_of}
-use Rattle.treated_models.specs.Treated.{weight_of_both, IsBefore}
-use Rattle.treated_models.specs.TwoValues.{IsOtherValue}
+use Rattle.mixed_graph.specs.Vocabulary.{MixedGraph, IsMixedGraph}
+use Rattle.finite_models.specs.Vocabulary.{FiniteModel, Fits, IsAssignment, event_weight, weight_of}
+use Rattle.treated_models.specs.Vocabulary.{weight_of_both, IsBefore, IsOtherValue}
 
 -- P(y, z under do(v)) is P(y, z, v) and, of those who have z and the other value of v, the share that would have y: P(v', z) * P(y under do(v) | v', z),
 -- where z isn't after v

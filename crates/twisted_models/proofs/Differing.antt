@@ -1,11 +1,9 @@
 -- A model and a twist of it become positive by noise, and an event that has a world in one of them alone keeps two weights.
 use Rattle.std.proofs.Common.{ℕ, suc, ◌+◌, ◌*◌, ◌≡◌, ◌≢◌, ◌<◌, ◌≤◌, Bool, false, refl, sym, ap, ◌∙◌, arith}
 use Rattle.std.proofs.Math.Nat.{eq_of_mul-eq-mul_left}
-use Rattle.mixed_graph.specs.Bits.{has}
-use Rattle.mixed_graph.specs.Graphs.{MixedGraph, IsMixedGraph}
-use Rattle.fractions.specs.Fractions.{IsEqual, over}
-use Rattle.finite_models.specs.Agreement.{AgreeObserved}
-use Rattle.finite_models.specs.Models.{FiniteModel, Fits, IsAssignment, IsPositiveModel, event_weight, total}
+use Rattle.mixed_graph.specs.Vocabulary.{has, MixedGraph, IsMixedGraph}
+use Rattle.fractions.specs.Vocabulary.{IsEqual, over}
+use Rattle.finite_models.specs.Vocabulary.{AgreeObserved, FiniteModel, Fits, IsAssignment, IsPositiveModel, event_weight, total}
 use Rattle.finite_models.proofs.Weights.{weight_of-none}
 use Rattle.prob_expr.proofs.Allowed.{events_under}
 use Rattle.walk_models.specs.Noisy.{noisy}
@@ -13,7 +11,7 @@ use Rattle.walk_models.proofs.Near.{noisy_fits, noisy_two}
 use Rattle.walk_models.proofs.Nearness.{extra_of, weight_where, has_weight, least, most}
 use Rattle.walk_models.proofs.Rare.{scale_of, scale-some}
 use Rattle.treated_models.proofs.Chain.{total_positive}
-use Rattle.nested_models.specs.Nested.{is_nested}
+use Rattle.nested_models.specs.Vocabulary.{is_nested}
 use Rattle.twisted_models.specs.Twisted.{with_mechanism, IsTwist}
 use Rattle.twisted_models.specs.Pairs.{ApartDiffer}
 use Rattle.twisted_models.proofs.Agreeing.{twists_agree}

@@ -1,12 +1,13 @@
 -- The twist of a model with noise, and what noise leaves of a nested event.
 use Rattle.std.proofs.Common.{ℕ, zero, suc, ◌+◌, ◌-◌, ◌≡◌, ◌<◌, ◌≤◌, Bool, false, cond, eqb, ◌&&◌, ◌||◌, refl, sym, ap, ap₂, ◌∙◌, arith, lt-ltb}
 use Rattle.std.proofs.lemmas.Bool.{false_from_ne_true}
-use Rattle.mixed_graph.specs.Graphs.{MixedGraph, IsMixedGraph}
-use Rattle.finite_models.specs.Models.{FiniteModel, Fits, solution, rounds, intervene}
+use Rattle.mixed_graph.specs.Vocabulary.{MixedGraph, IsMixedGraph}
+use Rattle.finite_models.specs.Vocabulary.{FiniteModel, Fits, solution, rounds, intervene}
 use Rattle.finite_models.proofs.Agreeing.{agree-congr}
 use Rattle.walk_models.specs.Noisy.{noisy}
 use Rattle.walk_models.proofs.Near.{solution_same}
-use Rattle.nested_models.specs.Nested.{nested, is_nested}
+use Rattle.nested_models.specs.Nested.{nested}
+use Rattle.nested_models.specs.Vocabulary.{is_nested}
 use Rattle.twisted_models.specs.Twisted.{IsCoin, IsTwist, flipped, with_mechanism}
 
 module _ (m : FiniteModel) (f : ℕ → (ℕ → ℕ) → (ℕ → ℕ) → ℕ) (twist : IsTwist m f) (k : ℕ) where

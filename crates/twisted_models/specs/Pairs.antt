@@ -1,12 +1,9 @@
 -- Pairs of a model and a twist of it in which a nested effect differs.
 use Rattle.std.specs.Prelude.{ℕ, ◌≡◌, ◌≢◌}
-use Rattle.mixed_graph.specs.Bits.{has}
-use Rattle.mixed_graph.specs.Graphs.{MixedGraph, IsMixedGraph}
-use Rattle.fractions.specs.Fractions.{IsEqual}
-use Rattle.finite_models.specs.Agreement.{AgreeObserved}
-use Rattle.finite_models.specs.Models.{FiniteModel, Fits, IsAssignment, IsPositiveModel}
-use Rattle.finite_models.specs.Served.{ServesTwo}
-use Rattle.nested_models.specs.Nested.{weight_of_nested, nested_effect}
+use Rattle.mixed_graph.specs.Vocabulary.{has, MixedGraph, IsMixedGraph}
+use Rattle.fractions.specs.Vocabulary.{IsEqual}
+use Rattle.finite_models.specs.Vocabulary.{AgreeObserved, FiniteModel, Fits, IsAssignment, IsPositiveModel, ServesTwo}
+use Rattle.nested_models.specs.Vocabulary.{weight_of_nested, nested_effect}
 use Rattle.twisted_models.specs.Twisted.{with_mechanism, IsTwist}
 
 -- A model and a twist of it that fit the graph, each cause of which serves one vertex or two, where the nested event has a world in the one, and none in

@@ -3,9 +3,9 @@ use Rattle.std.proofs.Common.{ℕ, zero, suc, ◌≡◌, ◌<◌, ◌≤◌, Boo
 use Rattle.std.proofs.lemmas.Bool.{cases_lt}
 use Rattle.m_separation.specs.declared.marks.Mark.{Mark}
 use Rattle.m_separation.specs.declared.marks.Mark.TheVariants.{Out, Into, Both}
-use Rattle.m_separation.specs.Walks.{heads_first, heads_second}
+use Rattle.m_separation.specs.Vocabulary.{heads_first, heads_second}
 use Rattle.walk_models.specs.Visits.{Walk, head_before, is_collider}
-use Rattle.finite_models.specs.Parities.{differ}
+use Rattle.finite_models.specs.Vocabulary.{differ}
 use Rattle.walk_models.specs.WalkModels.{coin, is_both, sent_on, sent_back, has_own, has_coin, bit_of, new_bit}
 
 -- the bit that goes along an edge

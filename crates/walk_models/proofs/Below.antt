@@ -2,16 +2,14 @@
 use Rattle.std.proofs.Common.{ℕ, zero, suc, ◌≡◌, ◌≢◌, ◌<◌, ◌≤◌, ◌⊎◌, inl, inr, Bool, true, false, cond, eqb, ltb, not, ◌&&◌, ◌||◌, nat_lt, refl, sym}
 use Rattle.std.proofs.Common.{ap, ap₂, ◌∙◌, arith, lt-ltb, le-ltb, ltb-true, eqb-true}
 use Rattle.std.proofs.lemmas.Bool.{cases_lt}
-use Rattle.mixed_graph.specs.Graphs.{MixedGraph, IsMixedGraph}
+use Rattle.mixed_graph.specs.Vocabulary.{MixedGraph, IsMixedGraph}
 use Rattle.m_separation.specs.declared.marks.Mark.{Mark}
 use Rattle.m_separation.specs.declared.marks.Mark.TheVariants.{Out, Into, Both}
-use Rattle.m_separation.specs.Walks.{heads_first, heads_second}
-use Rattle.finite_models.specs.Models.{FiniteModel, IsSolution, intervene}
+use Rattle.m_separation.specs.Vocabulary.{heads_first, heads_second}
+use Rattle.finite_models.specs.Vocabulary.{FiniteModel, IsSolution, intervene, mask_of, differ}
 use Rattle.finite_models.proofs.SumLaws.{eqb-refl}
 use Rattle.finite_models.proofs.Bools.{not_both}
 use Rattle.walk_models.specs.Visits.{Walk, IsWalkIn, IsPlain, head_before, head_after, is_collider}
-use Rattle.finite_models.specs.Packed.{mask_of}
-use Rattle.finite_models.specs.Parities.{differ}
 use Rattle.walk_models.specs.WalkModels.{coin, is_both, sent_on, sent_back, has_own, bit_of, from_before, from_after, new_bit, walk_model}
 use Rattle.finite_models.proofs.Packed.{has-mask}
 use Rattle.walk_models.proofs.WalkFits.{mask-congr, when}

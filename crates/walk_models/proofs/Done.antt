@@ -1,11 +1,10 @@
 -- Where the last edge of a walk comes out of z, doing z tells more than nothing.
 use Rattle.std.proofs.Common.{ℕ, zero, suc, ◌≡◌, ◌<◌, ◌≤◌, ◌⊎◌, inl, inr, Bool, true, false, cond, eqb, ◌||◌, refl, sym, ap, ◌∙◌, subst, arith}
 use Rattle.std.proofs.lemmas.Bool.{or_right, cases_lt}
-use Rattle.mixed_graph.specs.Bits.{has}
-use Rattle.mixed_graph.specs.Graphs.{MixedGraph, IsMixedGraph}
+use Rattle.mixed_graph.specs.Vocabulary.{has, MixedGraph, IsMixedGraph}
 use Rattle.mixed_graph.proofs.Masks.{has-zero}
 use Rattle.m_separation.specs.declared.marks.Mark.TheVariants.{Into}
-use Rattle.finite_models.specs.Models.{FiniteModel, IsWorld, agree, weight_of, world_weight}
+use Rattle.finite_models.specs.Vocabulary.{FiniteModel, IsWorld, agree, weight_of, world_weight}
 use Rattle.finite_models.proofs.Bools.{not_both, same_truth}
 use Rattle.finite_models.proofs.SumLaws.{over-congr_within}
 use Rattle.finite_models.proofs.Solutions.{agree_gives, agree_from}

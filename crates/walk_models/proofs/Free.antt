@@ -2,18 +2,16 @@
 use Rattle.std.proofs.Common.{ℕ, zero, suc, ◌≡◌, ◌≢◌, ◌<◌, ◌≤◌, ◌⊎◌, inl, inr, Bool, true, false, cond, eqb, ltb, not, ◌&&◌, ◌||◌, refl, sym, ap, ◌∙◌}
 use Rattle.std.proofs.Common.{subst, IsTrue, arith, lt-ltb, le-ltb, ltb-true}
 use Rattle.std.proofs.lemmas.Bool.{or_left, or_right, false_from_ne_true, cases_lt}
-use Rattle.mixed_graph.specs.Bits.{has}
-use Rattle.mixed_graph.specs.Graphs.{MixedGraph, IsMixedGraph}
+use Rattle.mixed_graph.specs.Vocabulary.{has, MixedGraph, IsMixedGraph}
 use Rattle.mixed_graph.proofs.Masks.{has-zero}
 use Rattle.m_separation.specs.declared.marks.Mark.{Mark}
 use Rattle.m_separation.specs.declared.marks.Mark.TheVariants.{Out, Into, Both}
-use Rattle.m_separation.specs.Walks.{heads_first, heads_second}
-use Rattle.finite_models.specs.Models.{FiniteModel, IsWorld, agree, weight_of, world_weight}
+use Rattle.m_separation.specs.Vocabulary.{heads_first, heads_second}
+use Rattle.finite_models.specs.Vocabulary.{FiniteModel, IsWorld, agree, weight_of, world_weight, differ}
 use Rattle.finite_models.proofs.Bools.{not_both, same_truth}
 use Rattle.finite_models.proofs.SumLaws.{over-congr_within}
 use Rattle.finite_models.proofs.Solutions.{agree_gives, agree_from}
 use Rattle.walk_models.specs.Visits.{Walk, IsWalkIn, IsPlain, head_before, is_collider}
-use Rattle.finite_models.specs.Parities.{differ}
 use Rattle.walk_models.specs.WalkModels.{bit_of, coin, has_coin, sent_on, sent_back, new_bit, walk_model}
 use Rattle.walk_models.specs.Laws.{DoneEndsAreFree, GivenEndsTell, IsWalkTo, IsFirstIn, IsBelowIn, event}
 use Rattle.walk_models.proofs.Along.{last_bit, coins}

@@ -2,19 +2,17 @@
 use Rattle.std.proofs.Common.{ℕ, zero, suc, ◌+◌, ◌-◌, ◌≡◌, ◌≢◌, ◌<◌, ◌≤◌, Bool, true, false, cond, eqb, ltb, not, ◌&&◌, ◌||◌, refl, sym, ap, ◌∙◌}
 use Rattle.std.proofs.Common.{IsTrue, arith, lt-ltb, le-ltb, ltb-true, eqb-true}
 use Rattle.std.proofs.lemmas.Bool.{or_left, or_right}
-use Rattle.mixed_graph.specs.Bits.{has}
-use Rattle.mixed_graph.specs.Graphs.{MixedGraph, IsMixedGraph}
+use Rattle.mixed_graph.specs.Vocabulary.{has, MixedGraph, IsMixedGraph}
 use Rattle.mixed_graph.proofs.Masks.{has-zero}
 use Rattle.m_separation.specs.declared.marks.Mark.{Mark}
 use Rattle.m_separation.specs.declared.marks.Mark.TheVariants.{Out, Into, Both}
-use Rattle.m_separation.specs.Walks.{heads_first, heads_second}
-use Rattle.finite_models.specs.Models.{FiniteModel, IsAssignment, IsWorld, solution, intervene, agree, weight_of, world_weight, sum_worlds}
+use Rattle.m_separation.specs.Vocabulary.{heads_first, heads_second}
+use Rattle.finite_models.specs.Vocabulary.{FiniteModel, IsAssignment, IsWorld, solution, intervene, agree, weight_of, world_weight, sum_worlds, differ}
 use Rattle.finite_models.proofs.Bools.{same_truth}
 use Rattle.finite_models.proofs.Positive.{over-mono}
 use Rattle.finite_models.proofs.SumLaws.{over-congr_within, over-base, over-term}
 use Rattle.finite_models.proofs.Solutions.{agree_gives, agree_from}
 use Rattle.walk_models.specs.Visits.{Walk, IsWalkIn, IsPlain, IsStrict, head_before, is_collider}
-use Rattle.finite_models.specs.Parities.{differ}
 use Rattle.walk_models.specs.WalkModels.{is_both, bit_of, coin, has_coin, sent_on, sent_back, new_bit, walk_model}
 use Rattle.walk_models.specs.Laws.{IsBelowIn, IsBelowSomewhere, event}
 use Rattle.walk_models.proofs.Along.{coins}

@@ -1,7 +1,7 @@
 -- Late steps by numbers.
 use Rattle.std.proofs.Common.{ℕ, zero, suc, ◌≡◌, ◌≢◌, ◌<◌, ◌≤◌, inl, inr, Bool, false, List, [], ◌∷◌, length, refl, sym, ap, ◌∙◌, subst, IsTrue, arith}
 use Rattle.m_separation.specs.declared.marks.Mark.TheVariants.{Out}
-use Rattle.m_separation.specs.Walks.{Step}
+use Rattle.m_separation.specs.Vocabulary.{Step}
 use Rattle.walk_models.specs.Visits.{vertex_at, mark_at}
 use Rattle.walk_models.specs.Strict.{IsCausalOutside, IsLate}
 use Rattle.walk_models.specs.Laws.{LateWalksExceed}

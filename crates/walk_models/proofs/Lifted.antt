@@ -1,6 +1,6 @@
 -- An inequality of weights in a model that fits holds in a positive one.
 use Rattle.std.proofs.Common.{ℕ, suc, ◌+◌, ◌*◌, ◌≡◌, ◌<◌, ◌≤◌, refl, sym, ap, subst, arith}
-use Rattle.finite_models.specs.Models.{weight_of}
+use Rattle.finite_models.specs.Vocabulary.{weight_of}
 use Rattle.walk_models.specs.Laws.{BelowIsPositive}
 use Rattle.walk_models.proofs.Nearness.{each_is_near}
 

@@ -2,20 +2,18 @@
 use Rattle.std.proofs.Common.{ℕ, zero, suc, ◌+◌, ◌-◌, ◌≡◌, ◌<◌, ◌≤◌, inl, inr, Bool, true, false, cond, eqb, ltb, not, ◌&&◌, ◌||◌, ◌==◌, refl, sym}
 use Rattle.std.proofs.Common.{ap, ap₂, ◌∙◌, subst, IsTrue, arith, lt-ltb, ltb-true, eqb-true, ne_eqb}
 use Rattle.std.proofs.lemmas.Bool.{or_left, or_right, cases_lt}
-use Rattle.mixed_graph.specs.Bits.{has}
-use Rattle.mixed_graph.specs.Graphs.{MixedGraph, IsMixedGraph}
+use Rattle.mixed_graph.specs.Vocabulary.{has, MixedGraph, IsMixedGraph}
 use Rattle.mixed_graph.proofs.Masks.{has-zero}
 use Rattle.m_separation.specs.declared.marks.Mark.{Mark}
 use Rattle.m_separation.specs.declared.marks.Mark.TheVariants.{Out, Into, Both}
-use Rattle.m_separation.specs.Walks.{heads_first, heads_second}
-use Rattle.finite_models.specs.Models.{FiniteModel, IsAssignment, IsWorld, solution, intervene, agree, weight_of, world_weight, sum_worlds}
+use Rattle.m_separation.specs.Vocabulary.{heads_first, heads_second}
+use Rattle.finite_models.specs.Vocabulary.{FiniteModel, IsAssignment, IsWorld, solution, intervene, agree, weight_of, world_weight, sum_worlds, differ}
 use Rattle.finite_models.proofs.Bools.{not_both, same_truth}
 use Rattle.finite_models.proofs.Following.{follows_of, follows_intervene}
 use Rattle.finite_models.proofs.Positive.{over-mono}
 use Rattle.finite_models.proofs.SumLaws.{eqb-refl, over-congr_within, over-base, over-term}
 use Rattle.finite_models.proofs.Solutions.{solution_within, agree_gives, agree_from}
 use Rattle.walk_models.specs.Visits.{Walk, IsWalkIn}
-use Rattle.finite_models.specs.Parities.{differ}
 use Rattle.walk_models.specs.WalkModels.{is_both, bit_of, coin, has_coin, sent_on, sent_back, new_bit, walk_model}
 use Rattle.walk_models.specs.Laws.{MiddlesExceed, IsBelowIn, event}
 use Rattle.walk_models.proofs.Solved.{sizes, light, weighs, heavy, heads, heads_world, heads_beyond, solves_under, only_under, bit_under}

@@ -1,14 +1,12 @@
 -- The model with noise fits, is positive, and is near.
 use Rattle.std.proofs.Common.{ℕ, zero, suc, ◌+◌, ◌-◌, ◌*◌, ◌≡◌, ◌≢◌, ◌<◌, ◌≤◌, Bool, true, false, cond, eqb, ltb, refl, sym, ap, ap₂, ◌∙◌, subst}
 use Rattle.std.proofs.Common.{IsTrue, ◌||◌, arith, lt-ltb, le-ltb, ltb-true, eqb-true}
-use Rattle.mixed_graph.specs.Graphs.{MixedGraph, IsMixedGraph}
-use Rattle.finite_models.specs.Sums.{sum_below}
-use Rattle.finite_models.specs.Models.{FiniteModel, Fits, IsAssignment, IsWorld, world_weight, agree, solution, rounds, intervene}
+use Rattle.mixed_graph.specs.Vocabulary.{MixedGraph, IsMixedGraph}
+use Rattle.finite_models.specs.Vocabulary.{sum_below, FiniteModel, Fits, IsAssignment, IsWorld, world_weight, agree, solution, rounds, intervene, ServesTwo}
 use Rattle.finite_models.proofs.SumLaws.{eqb-refl, product_below-congr, product-split}
 use Rattle.finite_models.proofs.Agreeing.{agree-congr}
 use Rattle.walk_models.proofs.Rare.{noise_weight}
 use Rattle.finite_models.proofs.Totals.{sum_below-positive}
-use Rattle.finite_models.specs.Served.{ServesTwo}
 use Rattle.walk_models.specs.Noisy.{noisy}
 
 twice : (e : Bool) → e ≡ (e || e)

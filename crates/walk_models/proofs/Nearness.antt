@@ -1,9 +1,8 @@
 -- Each model that fits has positive ones as near as one likes.
 use Rattle.std.proofs.Common.{ℕ, zero, suc, ◌+◌, ◌-◌, ◌*◌, ◌≡◌, ◌<◌, ◌≤◌, Bool, true, false, cond, eqb, ltb, refl, ap, ◌∙◌, subst, arith, lt-ltb}
 use Rattle.std.proofs.Common.{le-ltb, ltb-true, eqb-true, ne_eqb}
-use Rattle.mixed_graph.specs.Graphs.{MixedGraph, IsMixedGraph}
-use Rattle.finite_models.specs.Sums.{sum_below, product_below, sum_over}
-use Rattle.finite_models.specs.Models.{FiniteModel, Fits, IsAssignment, world_weight, sum_worlds, agree, solution, rounds, event_weight, intervene}
+use Rattle.mixed_graph.specs.Vocabulary.{MixedGraph, IsMixedGraph}
+use Rattle.finite_models.specs.Vocabulary.{sum_below, product_below, sum_over, FiniteModel, Fits, IsAssignment, world_weight, sum_worlds, agree, solution, rounds, event_weight, intervene}
 use Rattle.finite_models.proofs.SumLaws.{over-base, over-term, over-add, over-scale, over-sizes}
 use Rattle.finite_models.proofs.Indicators.{number, all_below_each}
 use Rattle.finite_models.proofs.Positive.{over-mono}

@@ -1,7 +1,7 @@
 -- Sums in which the noise is rare.
 use Rattle.std.proofs.Common.{ℕ, zero, suc, ◌+◌, ◌*◌, ◌≡◌, ◌<◌, ◌≤◌, Bool, true, false, cond, eqb, refl, sym, ap, ◌∙◌, ◌&&◌, arith, eq-eqb, ne_eqb}
 use mathlib.Core.Path.{fun_ext}
-use Rattle.finite_models.specs.Sums.{sum_below, product_below, sum_over, set_at, all_below}
+use Rattle.finite_models.specs.Vocabulary.{sum_below, product_below, sum_over, set_at, all_below}
 use Rattle.finite_models.proofs.SumLaws.{along, sum_below-congr, sum_below-zero, set_at-same, over-congr_within}
 use Rattle.finite_models.proofs.Indicators.{number}
 

@@ -2,11 +2,8 @@
 use Rattle.std.proofs.Common.{ℕ, zero, suc, ◌≡◌, ◌<◌, ◌≤◌, inl, inr, Bool, true, false, cond, eqb, ltb, ◌&&◌, ◌==◌, ◌*◌, nat_lt, refl, ap, ◌∙◌, subst}
 use Rattle.std.proofs.Common.{arith, lt-ltb, le-ltb, eqb-true}
 use Rattle.std.proofs.lemmas.Bool.{cases_eq}
-use Rattle.mixed_graph.specs.Bits.{has}
-use Rattle.mixed_graph.specs.Graphs.{MixedGraph, IsMixedGraph}
-use Rattle.finite_models.specs.Sums.{product_below}
-use Rattle.finite_models.specs.Models.{FiniteModel, IsAssignment, IsSolution, IsWorld, intervene, solution, world_weight}
-use Rattle.finite_models.specs.Packed.{mask_of}
+use Rattle.mixed_graph.specs.Vocabulary.{has, MixedGraph, IsMixedGraph}
+use Rattle.finite_models.specs.Vocabulary.{product_below, FiniteModel, IsAssignment, IsSolution, IsWorld, intervene, solution, world_weight, mask_of}
 use Rattle.finite_models.proofs.Following.{follows_of, follows_intervene}
 use Rattle.finite_models.proofs.Packed.{has-mask}
 use Rattle.finite_models.proofs.Ranks.{with_rank}

@@ -1,10 +1,10 @@
 -- An open walk gives one whose colliders are in w, by going down to w and back at each collider outside w.
 use Rattle.std.proofs.Common.{◌⊎◌, inl, inr, ℕ, zero, suc, ◌≡◌, ◌<◌, ◌≤◌, Bool, true, false, ltb, ◌&&◌, List, [], ◌∷◌, length, refl, sym, ap, ap₂}
 use Rattle.std.proofs.Common.{◌∙◌, subst, IsTrue, arith, lt-ltb}
-use Rattle.mixed_graph.specs.Graphs.{MixedGraph, IsMixedGraph, IsDirectedPath}
+use Rattle.mixed_graph.specs.Vocabulary.{MixedGraph, IsMixedGraph, IsDirectedPath}
 use Rattle.m_separation.specs.declared.marks.Mark.{Mark}
 use Rattle.m_separation.specs.declared.marks.Mark.TheVariants.{Out, Into, Both}
-use Rattle.m_separation.specs.Walks.{Step, IsJoined, IsWalk, last, heads_first, heads_second, IsPassed, ArePassedFrom}
+use Rattle.m_separation.specs.Vocabulary.{Step, IsJoined, IsWalk, last, heads_first, heads_second, IsPassed, ArePassedFrom}
 use Rattle.m_separation.proofs.Going.{passed_from_start}
 use Rattle.walk_models.specs.Visits.{Walk, IsWalkIn, IsStrict, vertex_at, mark_at, head_before}
 use Rattle.walk_models.specs.Strict.{AreStrictFrom, IsCausalOutside, IsLate}

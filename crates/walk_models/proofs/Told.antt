@@ -1,10 +1,9 @@
 -- What is seen at one end of a walk tells of the other.
 use Rattle.std.proofs.Common.{ℕ, suc, ◌+◌, ◌*◌, ◌≡◌, ◌<◌, ◌≤◌, Bool, true, false, cond, not, ◌&&◌, ◌||◌, refl, sym, ap, ◌∙◌, arith}
 use Rattle.std.proofs.lemmas.Bool.{or_left, or_right, false_from_ne_true}
-use Rattle.mixed_graph.specs.Bits.{has}
-use Rattle.mixed_graph.specs.Graphs.{MixedGraph, IsMixedGraph}
+use Rattle.mixed_graph.specs.Vocabulary.{has, MixedGraph, IsMixedGraph}
 use Rattle.mixed_graph.proofs.Masks.{has-zero}
-use Rattle.finite_models.specs.Models.{FiniteModel, IsWorld, solution, intervene, agree, weight_of, world_weight}
+use Rattle.finite_models.specs.Vocabulary.{FiniteModel, IsWorld, solution, intervene, agree, weight_of, world_weight}
 use Rattle.finite_models.proofs.Bools.{not_both, same_truth}
 use Rattle.finite_models.proofs.SumLaws.{over-congr_within, over-base, over-term, over-add}
 use Rattle.finite_models.proofs.Positive.{over-mono}

@@ -1,22 +1,17 @@
 -- The model of a walk fits the graph.
 use Rattle.std.proofs.Common.{ℕ, zero, suc, ◌^◌, ◌≡◌, ◌≢◌, ◌<◌, ◌≤◌, ◌⊎◌, inl, inr, Bool, true, false, cond, eqb, ltb, ◌&&◌, ◌||◌, ◌==◌, bit_or}
 use Rattle.std.proofs.Common.{nat_lt, refl, sym, ap, ap₂, ◌∙◌, subst, IsTrue, arith, lt-ltb, ltb-true, eqb-true}
-use Rattle.mixed_graph.specs.Bits.{has}
-use Rattle.mixed_graph.specs.Graphs.{MixedGraph, IsMixedGraph}
+use Rattle.mixed_graph.specs.Vocabulary.{has, MixedGraph, IsMixedGraph}
 use Rattle.mixed_graph.proofs.Masks.{le_from_subset}
 use Rattle.m_separation.specs.declared.marks.Mark.{Mark}
 use Rattle.m_separation.specs.declared.marks.Mark.TheVariants.{Out, Into, Both}
-use Rattle.m_separation.specs.Walks.{IsJoined}
-use Rattle.finite_models.specs.Sums.{sum_below}
-use Rattle.finite_models.specs.Models.{FiniteModel, Fits}
+use Rattle.m_separation.specs.Vocabulary.{IsJoined}
+use Rattle.finite_models.specs.Vocabulary.{sum_below, FiniteModel, Fits, mask_of, differ, ServesTwo}
 use Rattle.finite_models.proofs.SumLaws.{eqb-refl}
 use Rattle.finite_models.proofs.Totals.{sum_below-positive}
 use Rattle.finite_models.proofs.Bools.{and_first, and_second}
 use Rattle.walk_models.specs.Visits.{Walk, IsWalkIn}
 use Rattle.finite_models.proofs.Packed.{has-mask}
-use Rattle.finite_models.specs.Packed.{mask_of}
-use Rattle.finite_models.specs.Parities.{differ}
-use Rattle.finite_models.specs.Served.{ServesTwo}
 use Rattle.walk_models.specs.WalkModels.{coin, is_both, sent_on, sent_back, has_own, has_coin, bit_of, from_before, from_after, new_bit, walk_model}
 
 pub mask-congr : (t r : ℕ → Bool) (n : ℕ) → ((i : ℕ) → i < n → t i ≡ r i) → mask_of t n ≡ mask_of r n

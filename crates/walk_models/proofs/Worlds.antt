@@ -2,19 +2,16 @@
 use Rattle.std.proofs.Common.{ℕ, zero, suc, ◌≡◌, ◌<◌, ◌≤◌, ◌⊎◌, inl, inr, Bool, true, false, cond, eqb, ltb, not, ◌&&◌, ◌||◌, ◌==◌, nat_lt, refl, sym}
 use Rattle.std.proofs.Common.{ap, ap₂, ◌∙◌, arith, lt-ltb, ltb-true, eqb-true}
 use Rattle.std.proofs.lemmas.Bool.{cases_lt}
-use Rattle.mixed_graph.specs.Bits.{has}
-use Rattle.mixed_graph.specs.Graphs.{MixedGraph, IsMixedGraph}
+use Rattle.mixed_graph.specs.Vocabulary.{has, MixedGraph, IsMixedGraph}
 use Rattle.mixed_graph.proofs.Masks.{has-zero, zero_from_empty}
 use Rattle.m_separation.specs.declared.marks.Mark.{Mark}
 use Rattle.m_separation.specs.declared.marks.Mark.TheVariants.{Out, Into, Both}
-use Rattle.m_separation.specs.Walks.{heads_first, heads_second}
-use Rattle.finite_models.specs.Models.{FiniteModel, IsAssignment, IsWorld, IsSolution, solution, intervene, agree}
+use Rattle.m_separation.specs.Vocabulary.{heads_first, heads_second}
+use Rattle.finite_models.specs.Vocabulary.{FiniteModel, IsAssignment, IsWorld, IsSolution, solution, intervene, agree, mask_of, differ}
 use Rattle.finite_models.proofs.SumLaws.{eqb-refl}
 use Rattle.finite_models.proofs.Bools.{not_both}
 use Rattle.finite_models.proofs.Solutions.{agree_gives}
 use Rattle.walk_models.specs.Visits.{Walk, IsWalkIn, IsPlain, IsStrict, head_before, head_after, is_collider}
-use Rattle.finite_models.specs.Packed.{mask_of}
-use Rattle.finite_models.specs.Parities.{differ}
 use Rattle.walk_models.specs.WalkModels.{coin, is_both, sent_on, sent_back, has_own, has_coin, bit_of, from_before, from_after, new_bit, walk_model}
 use Rattle.walk_models.proofs.Along.{last_bit, coins}
 use Rattle.finite_models.proofs.Packed.{has-mask}

@@ -1,10 +1,9 @@
 -- What the models of walks show.
 use Rattle.std.specs.Prelude.{ℕ, suc, ◌*◌, ◌≡◌, ◌≢◌, ◌<◌, ◌≤◌, Bool, false, ◌||◌, List, IsTrue}
-use Rattle.mixed_graph.specs.Graphs.{MixedGraph, IsMixedGraph}
+use Rattle.mixed_graph.specs.Vocabulary.{MixedGraph, IsMixedGraph}
 use Rattle.m_separation.specs.declared.marks.Mark.TheVariants.{Out, Into}
-use Rattle.m_separation.specs.Walks.{Step, IsWalk, last, HasOpenWalk}
-use Rattle.finite_models.specs.Models.{FiniteModel, Fits, IsAssignment, IsPositiveModel, weight_of}
-use Rattle.finite_models.specs.Served.{ServesTwo}
+use Rattle.m_separation.specs.Vocabulary.{Step, IsWalk, last, HasOpenWalk}
+use Rattle.finite_models.specs.Vocabulary.{FiniteModel, Fits, IsAssignment, IsPositiveModel, weight_of, ServesTwo}
 use Rattle.walk_models.specs.Noisy.{IsNear}
 use Rattle.walk_models.specs.Visits.{Walk, IsWalkIn, IsStrict, IsPlain, is_collider}
 use Rattle.walk_models.specs.Strict.{AreStrictFrom, IsLate}

@@ -1,8 +1,7 @@
 -- A model with noise at each vertex: it is positive, and near the model where the noise is rare.
 use Rattle.std.specs.Prelude.{ℕ, ◌+◌, ◌-◌, ◌*◌, ◌≤◌, ◌≡◌, Bool, if◌then◌else◌, ◌==◌, ltb}
-use Rattle.mixed_graph.specs.Graphs.{MixedGraph}
-use Rattle.finite_models.specs.Models.{FiniteModel, Fits, IsAssignment, IsPositiveModel, weight_of}
-use Rattle.finite_models.specs.Served.{ServesTwo}
+use Rattle.mixed_graph.specs.Vocabulary.{MixedGraph}
+use Rattle.finite_models.specs.Vocabulary.{FiniteModel, Fits, IsAssignment, IsPositiveModel, weight_of, ServesTwo}
 
 -- Each vertex v gets a cause of its own, number causes + v.
 -- With value 0, of weight k, v follows its mechanism; with value i + 1, of weight 1, it has the value i.

@@ -1,11 +1,9 @@
 -- The model of a walk: each visit has a bit, and each vertex has as its value the bits of all its visits.
 use Rattle.std.specs.Prelude.{ℕ, zero, suc, Bool, true, false, ◌&&◌, ◌||◌, not, ◌==◌, ltb, if◌then◌else◌}
-use Rattle.mixed_graph.specs.Bits.{has}
+use Rattle.mixed_graph.specs.Vocabulary.{has}
 use Rattle.m_separation.specs.declared.marks.Mark.{Mark}
 use Rattle.m_separation.specs.declared.marks.Mark.TheVariants.{Out, Into, Both}
-use Rattle.finite_models.specs.Models.{FiniteModel}
-use Rattle.finite_models.specs.Packed.{mask_of}
-use Rattle.finite_models.specs.Parities.{differ}
+use Rattle.finite_models.specs.Vocabulary.{FiniteModel, mask_of, differ}
 use Rattle.walk_models.specs.Visits.{Walk, head_before, head_after}
 
 -- value 1 is the bit true

@@ -2,34 +2,27 @@
 use Rattle.std.proofs.Common.{ℕ, zero, suc, ◌*◌, ◌≡◌, ◌<◌, ◌≤◌, Bool, true, false, cond, eqb, not, ◌||◌, ◌&&◌, refl, sym, ap, ap₂, ◌∙◌, subst, IsTrue, arith}
 use Rattle.std.proofs.Common.{List, [], eqb-true, ne_eqb}
 use mathlib.Core.Path.{fun_ext}
-use Rattle.mixed_graph.specs.Bits.{has}
-use Rattle.mixed_graph.specs.Graphs.{MixedGraph, IsMixedGraph}
-use Rattle.mixed_graph.specs.Masks.{union, is_empty}
+use Rattle.mixed_graph.specs.Vocabulary.{has, MixedGraph, IsMixedGraph, union, is_empty}
 use Rattle.mixed_graph.proofs.Masks.{has-zero}
 use Rattle.mixed_graph.proofs.MaskLaws.{has_join}
-use Rattle.fractions.specs.Fractions.{Fraction, over, IsEqual, mul}
-use Rattle.finite_models.specs.Sums.{set_at, all_below}
-use Rattle.finite_models.specs.Models.{FiniteModel, Fits, IsAssignment, event_weight, weight_of, probability, total}
+use Rattle.fractions.specs.Vocabulary.{Fraction, over, IsEqual, mul}
+use Rattle.finite_models.specs.Vocabulary.{set_at, all_below, FiniteModel, Fits, IsAssignment, event_weight, weight_of, probability, total}
 use Rattle.finite_models.proofs.Indicators.{all_below_from}
 use Rattle.finite_models.proofs.Weights.{weight-none, weight_of-none}
-use Rattle.do_rules.specs.Rules.{AreThreeSets}
-use Rattle.prob_expr.specs.Tree.{Tree, prob, product, no_trees, tree, PlainFormula, effect_on}
-use Rattle.prob_expr.specs.Values.{Weights, weights_of, add_over, effect}
+use Rattle.do_rules.specs.Vocabulary.{AreThreeSets}
+use Rattle.prob_expr.specs.Tree.{Tree, prob, product, tree}
+use Rattle.prob_expr.specs.Vocabulary.{no_trees, PlainFormula, effect_on, Weights, weights_of, add_over, effect}
 use Rattle.prob_expr.proofs.Boxes.{assignment_set, IsStable, add_over_equal}
-use Rattle.adjustment.specs.Criteria.{IsAdmissible}
-use Rattle.adjustment.specs.Formulas.{adjusted_sum, adjustment_formula}
-use Rattle.count_eval.specs.Laws.{IsMatched}
-use Rattle.count_eval.specs.Supported.{all_over}
-use Rattle.count_eval.specs.WithZeros.{has_value_with_zeros, value_with_zeros}
+use Rattle.adjustment.specs.Vocabulary.{IsAdmissible, adjusted_sum, adjustment_formula}
+use Rattle.count_eval.specs.Vocabulary.{IsMatched, all_over, has_value_with_zeros, value_with_zeros}
 use Rattle.natural_bounds.specs.declared.ends.End.{End}
 use Rattle.natural_bounds.specs.declared.ends.End.TheVariants.{AtLeast, AtMost}
-use Rattle.natural_bounds.specs.Natural.{nothing}
-use Rattle.natural_bounds.specs.Orders.{IsAtMost, Bounds, trivial}
-use Rattle.natural_bounds.specs.Bounds.{Asked, stratum, condition, treated, joint, share}
+use Rattle.natural_bounds.specs.Vocabulary.{nothing, IsAtMost, trivial, Asked, stratum, condition, treated, joint, share}
+use Rattle.natural_bounds.specs.Orders.{Bounds}
 use Rattle.natural_bounds.proofs.Effects.{positive_left}
 use Rattle.natural_bounds.proofs.Orders.{positive-times, trivial_bottom, at_most_trans, equal_at_most, equal_at_least}
 use Rattle.hidden_models.proofs.Totals.{total_positive}
-use Rattle.adjusted_bounds.specs.Adjusted.{IsAdjusted, adjusted_at, adjusted_bound, AdjustedBoundsHold}
+use Rattle.adjusted_bounds.specs.Vocabulary.{IsAdjusted, adjusted_at, adjusted_bound, AdjustedBoundsHold}
 use Rattle.weak_adjustment.specs.Weakly.{IsWeaklyPositive, IsEffectWithZeros, AdmissibleAdjustsMatched, AdmissibleAdjustsWeakly}
 
 -- ---- one stratum, by its numbers: c of all, z in the stratum, x with the arm, j with the arm and y; and by which of them are 0

@@ -1,1 +1,2 @@
 pub mod Weakly
+pub mod Vocabulary

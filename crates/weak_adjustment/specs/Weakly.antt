@@ -1,17 +1,13 @@
 -- The adjustment formula in models that are positive where it needs them to be, and nowhere else (the positivity of Hernan and Robins, Causal Inference,
 -- section 3.2, for the values of the set that occur).
 use Rattle.std.specs.Prelude.{ℕ, ◌≡◌, ◌≤◌, Bool, true, ◌||◌, IsTrue}
-use Rattle.mixed_graph.specs.Bits.{has}
-use Rattle.mixed_graph.specs.Graphs.{MixedGraph, IsMixedGraph}
-use Rattle.fractions.specs.Fractions.{IsEqual}
-use Rattle.finite_models.specs.Models.{FiniteModel, Fits, IsAssignment, event_weight}
-use Rattle.do_rules.specs.Rules.{AreThreeSets}
-use Rattle.prob_expr.specs.Tree.{PlainFormula, effect_on}
-use Rattle.prob_expr.specs.Values.{Weights, weights_of, effect}
-use Rattle.adjustment.specs.Criteria.{IsAdmissible}
-use Rattle.adjustment.specs.Formulas.{adjustment_formula}
-use Rattle.count_eval.specs.Laws.{IsMatched}
-use Rattle.count_eval.specs.WithZeros.{is_supported_with_zeros, value_of_with_zeros}
+use Rattle.mixed_graph.specs.Vocabulary.{has, MixedGraph, IsMixedGraph}
+use Rattle.fractions.specs.Vocabulary.{IsEqual}
+use Rattle.finite_models.specs.Vocabulary.{FiniteModel, Fits, IsAssignment, event_weight}
+use Rattle.do_rules.specs.Vocabulary.{AreThreeSets}
+use Rattle.prob_expr.specs.Vocabulary.{PlainFormula, effect_on, Weights, weights_of, effect}
+use Rattle.adjustment.specs.Vocabulary.{IsAdmissible, adjustment_formula}
+use Rattle.count_eval.specs.Vocabulary.{IsMatched, is_supported_with_zeros, value_of_with_zeros}
 
 -- P(x given z) is above 0 wherever P(z) is
 abbrev pub IsWeaklyPositive : FiniteModel → (x z : ℕ → Bool) → Type 0

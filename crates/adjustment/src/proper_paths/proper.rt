@@ -1,9 +1,7 @@
 //! The vertices on proper causal paths, and the graph without the first edges of these.
 
 ghost use Rattle.std.specs.Prelude.{◌≡◌, ℕ, ◌↔◌, ◌&&◌, IsTrue, slice_index};
-ghost use Rattle.mixed_graph.specs.Bits.{has};
-ghost use Rattle.mixed_graph.specs.Sets.{Within};
-ghost use Rattle.mixed_graph.specs.Shown.{graph_of};
+ghost use Rattle.mixed_graph.specs.Vocabulary.{has, Within, graph_of};
 ghost use Rattle.adjustment.specs.Proper.{IsBetween, IsBackDoorGraph};
 
 use do_rules::cuts::{EdgeSet, cut_edges, cut_into};

@@ -1,5 +1,5 @@
 use Rattle.std.proofs.Common.{◌++◌, sym, ap, ◌∙◌, arith, append-nil}
-use Rattle.mixed_graph.specs.Bits.{has}
+use Rattle.mixed_graph.specs.Vocabulary.{has}
 use Rattle.mixed_graph.proofs.FirstMembers.{members-empty, members-some}
 use Rattle.answer_text.specs.Notations.{sign_text}
 use Rattle.answer_text.specs.Texts.{names_in, member_names}

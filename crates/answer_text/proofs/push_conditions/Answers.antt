@@ -1,5 +1,5 @@
 use Rattle.std.proofs.Common.{◌≡◌, ◌++◌, OnOk, sym, ap, subst, ◌∙◌, arith, codes}
-use Rattle.mixed_graph.specs.Bits.{has}
+use Rattle.mixed_graph.specs.Vocabulary.{has}
 use Rattle.mixed_graph.proofs.FirstMembers.{members-empty, members-some}
 use Rattle.answer_text.specs.declared.signs.Sign.TheVariants.{Comma, Bar, Do}
 use Rattle.answer_text.specs.Notations.{sign_text}

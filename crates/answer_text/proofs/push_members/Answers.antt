@@ -1,5 +1,5 @@
 use Rattle.std.proofs.Common.{◌++◌, length, sym, ap, ◌∙◌, arith, subst}
-use Rattle.mixed_graph.specs.Bits.{has}
+use Rattle.mixed_graph.specs.Vocabulary.{has}
 use Rattle.mixed_graph.proofs.MemberLists.{AreMembers, members-are}
 use Rattle.answer_text.specs.Texts.{comma_in}
 use Rattle.answer_text.proofs.Lists.{IsWriting, writing_begun, writing_more, writing_done}

@@ -1,6 +1,6 @@
 use Rattle.std.proofs.Common.{◌+◌, ◌-◌, ◌++◌, ap, ◌∙◌, arith}
 use Rattle.std.specs.Prelude.{slice_index}
-use Rattle.mixed_graph.specs.Names.{name_of}
+use Rattle.mixed_graph.specs.Vocabulary.{name_of}
 use Rattle.answer_text.specs.Printing.{printed}
 use Rattle.answer_text.specs.Texts.{mark_text}
 use Rattle.answer_text.proofs.Lists.{steps_more, path_done}

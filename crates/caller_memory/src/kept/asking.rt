@@ -1,16 +1,11 @@
 //! Separations, effects and sets to adjust for, asked of a kept diagram.
 
 ghost use Rattle.std.specs.Prelude.{◌≡◌, ◌↔◌, IsTrue};
-ghost use Rattle.mixed_graph.specs.Bits.{has};
-ghost use Rattle.mixed_graph.specs.Sets.{Within, Apart};
-ghost use Rattle.mixed_graph.specs.Shown.{graph_of};
-ghost use Rattle.m_separation.specs.Walks.{IsSeparated, HasOpenWalk};
-ghost use Rattle.prob_expr.specs.Failing.{FailsSomewhere};
-ghost use Rattle.prob_expr.specs.Tree.{effect_on};
-ghost use Rattle.prob_expr.specs.Values.{EqualsEffect};
-ghost use Rattle.adjustment.specs.Criteria.{IsAdmissible};
-ghost use Rattle.adjustment.specs.Formulas.{adjustment_formula};
-ghost use Rattle.identify.specs.Deciding.{IsIdentifiable, IsNotIdentifiable};
+ghost use Rattle.mixed_graph.specs.Vocabulary.{has, Within, Apart, graph_of};
+ghost use Rattle.m_separation.specs.Vocabulary.{IsSeparated, HasOpenWalk};
+ghost use Rattle.prob_expr.specs.Vocabulary.{FailsSomewhere, effect_on, EqualsEffect};
+ghost use Rattle.adjustment.specs.Vocabulary.{IsAdmissible, adjustment_formula};
+ghost use Rattle.identify.specs.Vocabulary.{IsIdentifiable, IsNotIdentifiable};
 ghost use Rattle.caller_memory.specs.Kept.{AreAskable, AreEffectSets, graph_in};
 
 use crate::kept::kept::KeptGraph;

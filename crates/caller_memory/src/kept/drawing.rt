@@ -1,11 +1,10 @@
 //! The diagram that is kept, as questions with names have it: nothing is projected.
 
 ghost use Rattle.std.specs.Prelude.{◌≡◌, IfOk, IsErrOf, length};
-ghost use Rattle.mixed_graph.specs.Bits.{has};
-ghost use Rattle.mixed_graph.specs.Shown.{graph_of};
+ghost use Rattle.mixed_graph.specs.Vocabulary.{has, graph_of};
 ghost use Rattle.dag_reader.specs.declared.graph.ReadGraph.{ReadGraph as Read};
-ghost use Rattle.latent_projection.specs.Renumbering.{observed_below, names_at};
-ghost use Rattle.diagram.specs.Observed.{IsObservedGraph, IsObservedPart, observed_names};
+ghost use Rattle.latent_projection.specs.Vocabulary.{observed_below, names_at};
+ghost use Rattle.diagram.specs.Vocabulary.{IsObservedGraph, IsObservedPart, observed_names};
 ghost use Rattle.caller_memory.specs.Kept.{Keeps, graph_in};
 
 use crate::kept::kept::KeptDiagram;

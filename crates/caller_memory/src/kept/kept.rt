@@ -1,10 +1,9 @@
 //! A diagram in memory of the caller.
 
 ghost use Rattle.std.specs.Prelude.{◌≡◌, ◌≤◌};
-ghost use Rattle.mixed_graph.specs.Bits.{has};
-ghost use Rattle.mixed_graph.specs.Graphs.{Agree, IsMixedGraph, graph_from};
-ghost use Rattle.dag_reader.specs.RoleSets.{AreRoleSets};
-ghost use Rattle.latent_projection.specs.Renumbering.{IsObserved};
+ghost use Rattle.mixed_graph.specs.Vocabulary.{has, Agree, IsMixedGraph, graph_from};
+ghost use Rattle.dag_reader.specs.Vocabulary.{AreRoleSets};
+ghost use Rattle.latent_projection.specs.Vocabulary.{IsObserved};
 
 use mixed_graph::Rows;
 

@@ -2,7 +2,7 @@
 
 ghost use Rattle.std.specs.Prelude.{◌≡◌, ◌<◌, ◌≤◌, ◌++◌, [], ◌∷◌, ℕ, List, false, length, position, IfOk, OnOk, OnSome, IfSome, IsNone, IsErrOf};
 ghost use Rattle.std.specs.List.{before_first, after_first, position_or_len};
-ghost use Rattle.mixed_graph.specs.Names.{AreNames, IsName, is_named};
+ghost use Rattle.mixed_graph.specs.Vocabulary.{AreNames, IsName, is_named};
 ghost use Rattle.caller_memory.specs.Kept.{lines_of};
 ghost use Rattle.caller_memory.specs.Lines.{is_feed};
 

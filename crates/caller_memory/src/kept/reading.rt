@@ -1,8 +1,8 @@
 //! A diagram read to be kept.
 
 ghost use Rattle.std.specs.Prelude.{◌≡◌, ◌↔◌, IsTrue, IfErr, IfOk};
-ghost use Rattle.mixed_graph.specs.Shown.{graph_of};
-ghost use Rattle.diagram.specs.Observed.{IsObservedGraph};
+ghost use Rattle.mixed_graph.specs.Vocabulary.{graph_of};
+ghost use Rattle.diagram.specs.Vocabulary.{IsObservedGraph};
 ghost use Rattle.caller_memory.specs.Kept.{graph_in, KeepsText, IsNoGraphText, Keeps, lines_of};
 
 use crate::kept::kept::{KeptDiagram, KeptGraph};

@@ -1,7 +1,6 @@
 // A shelf over inputs that a caller passes.
 ghost use Rattle.std.specs.Prelude.{◌≡◌, ◌≢◌, ◌≤◌, ◌<◌, ◌-◌, ◌^◌, List, ℕ, true, false, length, is_err, is_none, IsErr, IfOk, IfSome, OnOk, OnErr, option_copied};
-ghost use Rattle.causal_io.specs.Shelf.{GivesFrom};
-ghost use Rattle.causal_io.specs.Causes.{risen, Rose};
+ghost use Rattle.causal_io.specs.Vocabulary.{GivesFrom, risen, Rose};
 ghost use Rattle.caller_memory.specs.Parts.{place_named, content_named};
 
 use crate::spans::{Input, copy_front, part_of};

@@ -1,5 +1,5 @@
 use Rattle.std.proofs.Common.{sym, ◌∙◌}
-use Rattle.prob_expr.specs.Values.{value_of, weights_of, effect}
+use Rattle.prob_expr.specs.Vocabulary.{value_of, weights_of, effect}
 use Rattle.count_eval.proofs.Covered.{formula_good, zeros_are_covered}
 use Rattle.count_eval.proofs.Matched.{matched_has_value}
 use Rattle.count_eval.proofs.Zeros.{zero_keeps_values, matched_is_same, either_rule}

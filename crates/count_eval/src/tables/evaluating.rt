@@ -1,8 +1,8 @@
 //! The value of a formula over a table of counts.
 
 ghost use Rattle.std.specs.Prelude.{◌≡◌, false, length, IfOk, IfErr};
-ghost use Rattle.prob_expr.specs.View.{formula_view};
-ghost use Rattle.count_table.specs.Tables.{HasLevels};
+ghost use Rattle.prob_expr.specs.Vocabulary.{formula_view};
+ghost use Rattle.count_table.specs.Vocabulary.{HasLevels};
 ghost use Rattle.count_eval.specs.Evaluated.{formula_value};
 ghost use Rattle.count_eval.specs.Rules.{rule};
 ghost use Rattle.count_eval.specs.Programs.{weights_in, is_used, cell_of};

@@ -2,7 +2,7 @@
 
 ghost use Rattle.std.specs.Prelude.{◌≡◌, None, get_or};
 ghost use Rattle.count_eval.specs.Programs.{cell_of};
-ghost use Rattle.count_table.specs.Axes.{HasCell, place_at};
+ghost use Rattle.count_table.specs.Vocabulary.{HasCell, place_at};
 
 use count_table::sum_tables::Places;
 use quantity::Quantity;

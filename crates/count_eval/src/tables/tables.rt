@@ -1,15 +1,13 @@
 //! The tables of a formula: of sums, and of the values of its definitions.
 
 ghost use Rattle.std.specs.Prelude.{ℕ, ◌≡◌, ◌<◌, ◌≤◌, ◌+◌, ◌^◌, [], length, map, Ok, IfOk, IfSome, get_or};
-ghost use Rattle.mixed_graph.specs.Bits.{has};
-ghost use Rattle.prob_expr.specs.View.{view, formula_view};
-ghost use Rattle.prob_expr.specs.Free.{free_in_defs};
-ghost use Rattle.count_table.specs.Tables.{AreCounts, HasLevels};
+ghost use Rattle.mixed_graph.specs.Vocabulary.{has};
+ghost use Rattle.prob_expr.specs.View.{view};
+ghost use Rattle.prob_expr.specs.Vocabulary.{formula_view, free_in_defs};
+ghost use Rattle.count_table.specs.Vocabulary.{AreCounts, HasLevels, axes_of, cells_over, cells_in};
 ghost use Rattle.count_eval.specs.Answers.{IsEvaluable};
 ghost use Rattle.count_eval.specs.Rules.{rule};
 ghost use Rattle.count_eval.specs.Programs.{weights_in, is_used, cell_of, known};
-ghost use Rattle.count_table.specs.Axes.{axes_of, cells_over};
-ghost use Rattle.count_table.specs.Sums.{cells_in};
 ghost use Rattle.count_eval.specs.Tables.{IsTableOf, AreKeptTables, cells_of};
 
 use crate::tables::table::DefinitionTable;

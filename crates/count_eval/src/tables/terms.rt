@@ -1,7 +1,7 @@
 //! The sums that the terms of a formula are made of.
 
 ghost use Rattle.std.specs.Prelude.{◌≡◌, ◌≤◌};
-ghost use Rattle.count_table.specs.Sums.{cells_in};
+ghost use Rattle.count_table.specs.Vocabulary.{cells_in};
 
 use count_table::sum_tables::SumTables;
 use mixed_graph::VSet;

@@ -1,7 +1,7 @@
 //! The cells of a set of vertices, numbered.
 
 ghost use Rattle.std.specs.Prelude.{ℕ, ◌≡◌, ◌≢◌, ◌<◌, ◌≤◌, ◌^◌, All, IfOk, length, map, slice_index};
-ghost use Rattle.mixed_graph.specs.Bits.{has};
+ghost use Rattle.mixed_graph.specs.Vocabulary.{has};
 ghost use Rattle.count_table.specs.Cells.{IsCell};
 ghost use Rattle.count_table.specs.Axes.{axes_of, cell_at, place_at, cells_over, HasCell, AreAxes};
 

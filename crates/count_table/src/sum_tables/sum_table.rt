@@ -1,8 +1,8 @@
 //! The sums for one set of vertices.
 
 ghost use Rattle.std.specs.Prelude.{ℕ, ◌≡◌, IfOk, slice_index};
-ghost use Rattle.mixed_graph.specs.Bits.{has};
-ghost use Rattle.count_rows.specs.Rows.{counted};
+ghost use Rattle.mixed_graph.specs.Vocabulary.{has};
+ghost use Rattle.count_rows.specs.Vocabulary.{counted};
 ghost use Rattle.count_table.specs.Tables.{HasLevels};
 ghost use Rattle.count_table.specs.Sums.{AreSums};
 

@@ -2,8 +2,8 @@
 
 ghost use Rattle.std.specs.Prelude.{ℕ, ◌≡◌, ◌≢◌, ◌≤◌, ◌+◌, [], All, MatchOption, MatchResult, nat_le, slice_index};
 ghost use Rattle.std.specs.List.{Contains};
-ghost use Rattle.mixed_graph.specs.Bits.{has};
-ghost use Rattle.count_rows.specs.Rows.{counted};
+ghost use Rattle.mixed_graph.specs.Vocabulary.{has};
+ghost use Rattle.count_rows.specs.Vocabulary.{counted};
 ghost use Rattle.count_table.specs.Tables.{HasLevels};
 ghost use Rattle.count_table.specs.Sums.{cells_in, sets_with};
 

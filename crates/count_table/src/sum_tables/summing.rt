@@ -1,7 +1,7 @@
 //! Sums along one axis after the other.
 
 ghost use Rattle.std.specs.Prelude.{ℕ, ◌≡◌, ◌<◌, ◌+◌, ◌*◌, ◌^◌, IfOk, length, sum, slice_index};
-ghost use Rattle.mixed_graph.specs.Bits.{has};
+ghost use Rattle.mixed_graph.specs.Vocabulary.{has};
 ghost use Rattle.count_table.specs.LaneSums.{axis_total};
 ghost use Rattle.count_table.specs.Sums.{AreSums};
 

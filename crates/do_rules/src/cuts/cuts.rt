@@ -1,9 +1,7 @@
 //! Graphs without the edges into, or out of, a set.
 
 ghost use Rattle.std.specs.Prelude.{◌≡◌, ℕ};
-ghost use Rattle.mixed_graph.specs.Bits.{has};
-ghost use Rattle.mixed_graph.specs.Sets.{Within};
-ghost use Rattle.mixed_graph.specs.Shown.{graph_of};
+ghost use Rattle.mixed_graph.specs.Vocabulary.{has, Within, graph_of};
 ghost use Rattle.do_rules.specs.Cuts.{cut_into, cut_out, cut_edges};
 
 use crate::cuts::rows::{transposed, without};

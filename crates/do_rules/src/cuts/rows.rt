@@ -1,7 +1,7 @@
 //! Rows without some of their entries.
 
 ghost use Rattle.std.specs.Prelude.{◌≡◌, ℕ, ◌<◌, ◌&&◌, not, slice_index};
-ghost use Rattle.mixed_graph.specs.Bits.{has};
+ghost use Rattle.mixed_graph.specs.Vocabulary.{has};
 
 use mixed_graph::{Rows, VSet};
 

@@ -1,6 +1,6 @@
 use Rattle.std.proofs.Common.{◌∙◌, ap, map, subst, arith}
 use Rattle.std.specs.Prelude.{string_bytes}
-use Rattle.span_call.specs.Rooms.{ShowsText}
+use Rattle.span_call.specs.Vocabulary.{ShowsText}
 use Rattle.span_call.proofs.CallEnds.{ended}
 use Rattle.explain_call.specs.Ends.{Ends}
 use Rattle.explain_call.proofs.explain_spans.Goals as goal

@@ -1,8 +1,6 @@
 // The texts of graphs.
 ghost use Rattle.std.specs.Prelude.{◌≡◌, IfOk, length};
-ghost use Rattle.mixed_graph.specs.Bits.{has};
-ghost use Rattle.mixed_graph.specs.Sets.{Within};
-ghost use Rattle.mixed_graph.specs.Shown.{graph_of};
+ghost use Rattle.mixed_graph.specs.Vocabulary.{has, Within, graph_of};
 ghost use Rattle.explain_call.specs.Graphs.{graph_text, IsRuleGraphText};
 
 use dag_reader::{ReadGraph, write_graph};

@@ -1,13 +1,11 @@
 //! The steps of a formula and of its lemmas, part by part.
 
 ghost use Rattle.std.specs.Prelude.{◌≡◌, ◌++◌, [], true, map, length, None, IfOk, IfErr, OnOk};
-ghost use Rattle.mixed_graph.specs.Shown.{graph_of};
-ghost use Rattle.prob_expr.specs.Listed.{masks_of};
-ghost use Rattle.prob_expr.specs.Terms.{is_term};
-ghost use Rattle.prob_expr.specs.View.{view, target_view};
-ghost use Rattle.expr_text.specs.Sound.{is_sound};
-ghost use Rattle.do_derivation.specs.Accepts.{are_sets, sets_of, start_of};
-ghost use Rattle.do_derivation.specs.View.{step_view, lemma_view, derivation_view};
+ghost use Rattle.mixed_graph.specs.Vocabulary.{graph_of};
+ghost use Rattle.prob_expr.specs.Vocabulary.{masks_of, is_term, target_view};
+ghost use Rattle.prob_expr.specs.View.{view};
+ghost use Rattle.expr_text.specs.Vocabulary.{is_sound};
+ghost use Rattle.do_derivation.specs.Vocabulary.{are_sets, sets_of, start_of, step_view, lemma_view, derivation_view};
 ghost use Rattle.explain_call.specs.Moves.{moves_of};
 ghost use Rattle.explain_call.specs.Trace.{Stops};
 ghost use Rattle.explain_call.specs.Parts.{heading, part_start, IsPart, LemmaParts, Explains, LemmasStop, DerivationStops, UnlessNoMemory};

@@ -1,8 +1,7 @@
 // The rule for which a step asks.
 ghost use Rattle.std.specs.Prelude.{◌≡◌, option_map};
 ghost use Rattle.prob_expr.specs.View.{view};
-ghost use Rattle.do_derivation.specs.Shapes.{child};
-ghost use Rattle.do_derivation.specs.View.{move_view, step_view};
+ghost use Rattle.do_derivation.specs.Vocabulary.{child, move_view, step_view};
 ghost use Rattle.explain_call.specs.Questions.{asked_of, beside, of_given, of_doing, on_sets, set_question, move_question, question_of};
 
 use do_derivation::{Move, SetMove, Step};

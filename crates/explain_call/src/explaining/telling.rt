@@ -1,9 +1,7 @@
 // What is told of a rule.
 ghost use Rattle.std.specs.Prelude.{◌≡◌, ◌++◌, IfOk, IfSome, OnOk, length, option_map};
-ghost use Rattle.mixed_graph.specs.Bits.{has};
-ghost use Rattle.mixed_graph.specs.Sets.{Within};
-ghost use Rattle.mixed_graph.specs.Shown.{graph_of};
-ghost use Rattle.answer_text.specs.Texts.{set_text};
+ghost use Rattle.mixed_graph.specs.Vocabulary.{has, Within, graph_of};
+ghost use Rattle.answer_text.specs.Vocabulary.{set_text};
 ghost use Rattle.explain_call.specs.Questions.{asked_of, IsBelow};
 ghost use Rattle.explain_call.specs.ToldRules.{question_line, TellsQuestion, TellsAsked};
 

@@ -1,11 +1,11 @@
 //! The expressions that moves make in turn.
 
 ghost use Rattle.std.specs.Prelude.{◌≡◌, ◌++◌, true, map, length, IfOk, IfErr, OnOk};
-ghost use Rattle.mixed_graph.specs.Shown.{graph_of};
-ghost use Rattle.prob_expr.specs.Listed.{masks_of};
+ghost use Rattle.mixed_graph.specs.Vocabulary.{graph_of};
+ghost use Rattle.prob_expr.specs.Vocabulary.{masks_of};
 ghost use Rattle.prob_expr.specs.View.{view};
-ghost use Rattle.expr_text.specs.Sound.{is_sound};
-ghost use Rattle.do_derivation.specs.View.{step_view};
+ghost use Rattle.expr_text.specs.Vocabulary.{is_sound};
+ghost use Rattle.do_derivation.specs.Vocabulary.{step_view};
 ghost use Rattle.explain_call.specs.Trace.{word_of, made_line, Traces, Stops};
 
 use crate::explaining::questions::question_of;

@@ -1,9 +1,7 @@
 //! Districts (Tian and Pearl 2002).
 
 ghost use Rattle.std.specs.Prelude.{◌≡◌, ℕ, ◌^◌, ◌<◌, IsTrue, All};
-ghost use Rattle.mixed_graph.specs.Bits.{has};
-ghost use Rattle.mixed_graph.specs.Sets.{Within};
-ghost use Rattle.mixed_graph.specs.Shown.{graph_of};
+ghost use Rattle.mixed_graph.specs.Vocabulary.{has, Within, graph_of};
 ghost use Rattle.hedge.specs.Linked.{IsDistrict, IsMaximalJoined, AreDistrictsOf, IsPartition};
 ghost use Rattle.hedge.specs.Listed.{first_masks};
 

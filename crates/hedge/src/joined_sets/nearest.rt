@@ -1,9 +1,7 @@
 //! For each vertex the child that is nearest to a goal.
 
 ghost use Rattle.std.specs.Prelude.{◌≡◌, ℕ, ◌<◌, ◌&&◌, ◌↔◌, false, IsTrue, slice_index};
-ghost use Rattle.mixed_graph.specs.Bits.{has};
-ghost use Rattle.mixed_graph.specs.Sets.{Within};
-ghost use Rattle.mixed_graph.specs.Shown.{graph_of};
+ghost use Rattle.mixed_graph.specs.Vocabulary.{has, Within, graph_of};
 ghost use Rattle.hedge.specs.Spanning.{IsLowest};
 ghost use Rattle.hedge.specs.Nearest.{IsChoiceOf};
 

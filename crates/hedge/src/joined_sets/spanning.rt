@@ -1,9 +1,7 @@
 //! A tree of links over a set.
 
 ghost use Rattle.std.specs.Prelude.{◌≡◌, ℕ, ◌<◌, ◌≤◌, ◌⊎◌, ◌&&◌, not, false, IsTrue, slice_index};
-ghost use Rattle.mixed_graph.specs.Bits.{has};
-ghost use Rattle.mixed_graph.specs.Sets.{Within};
-ghost use Rattle.mixed_graph.specs.Shown.{graph_of};
+ghost use Rattle.mixed_graph.specs.Vocabulary.{has, Within, graph_of};
 ghost use Rattle.hedge.specs.Linked.{IsInside, IsJoinedSet};
 ghost use Rattle.hedge.specs.Spanning.{IsEarliest, AreLinks};
 

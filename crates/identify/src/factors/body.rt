@@ -2,12 +2,10 @@
 //! vertices' factors.
 
 ghost use Rattle.std.specs.Prelude.{◌≡◌, ◌<◌, ◌≤◌, ℕ, All, length, IfOk};
-ghost use Rattle.mixed_graph.specs.Bits.{has};
-ghost use Rattle.mixed_graph.specs.Sets.{Within};
-ghost use Rattle.mixed_graph.specs.Shown.{graph_of};
-ghost use Rattle.do_derivation.specs.Plans.{no_plans, plan};
-ghost use Rattle.do_derivation.specs.View.{listed, step_view, steps_view};
-ghost use Rattle.identification_theory.specs.Derivations.{at_each, body_steps, in_order};
+ghost use Rattle.mixed_graph.specs.Vocabulary.{has, Within, graph_of};
+ghost use Rattle.do_derivation.specs.Plans.{plan};
+ghost use Rattle.do_derivation.specs.Vocabulary.{no_plans, listed, step_view, steps_view};
+ghost use Rattle.identification_theory.specs.Vocabulary.{at_each, body_steps, in_order};
 ghost use Rattle.identify.specs.Lists.{lists_view};
 ghost use Rattle.identify.specs.Parts.{source_of};
 ghost use Rattle.identify.specs.Bodies.{ArePlaces, IsBodyOf};

@@ -1,8 +1,8 @@
 //! The steps that make the expressions of a factor.
 
 ghost use Rattle.std.specs.Prelude.{◌≡◌, ◌<◌, ◌≤◌, All, length, IfOk};
-ghost use Rattle.do_derivation.specs.View.{listed, steps_view};
-ghost use Rattle.identification_theory.specs.Derivations.{marginal_steps, source_steps, place_list, cut_steps, in_order};
+ghost use Rattle.do_derivation.specs.Vocabulary.{listed, steps_view};
+ghost use Rattle.identification_theory.specs.Vocabulary.{marginal_steps, source_steps, place_list, cut_steps, in_order};
 ghost use Rattle.identify.specs.Parts.{source_of};
 
 use crate::factors::pushing::{at, push_at, push_with};

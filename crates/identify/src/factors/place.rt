@@ -1,11 +1,9 @@
 //! One vertex of a district: its factor, and the steps to it.
 
 ghost use Rattle.std.specs.Prelude.{◌≡◌, ◌<◌, ◌≤◌, IfOk};
-ghost use Rattle.mixed_graph.specs.Bits.{has};
-ghost use Rattle.mixed_graph.specs.Sets.{Within};
-ghost use Rattle.mixed_graph.specs.Shown.{graph_of};
-ghost use Rattle.do_derivation.specs.View.{steps_view};
-ghost use Rattle.identification_theory.specs.Derivations.{universe, source_steps, place_list};
+ghost use Rattle.mixed_graph.specs.Vocabulary.{has, Within, graph_of};
+ghost use Rattle.do_derivation.specs.Vocabulary.{steps_view};
+ghost use Rattle.identification_theory.specs.Vocabulary.{universe, source_steps, place_list};
 ghost use Rattle.identify.specs.Parts.{source_of};
 ghost use Rattle.identify.specs.Bodies.{IsPlaceOf};
 

@@ -1,10 +1,10 @@
 //! Lists of steps, built from the front.
 
 ghost use Rattle.std.specs.Prelude.{◌≡◌, ℕ, ◌≤◌, ◌++◌, [], ◌∷◌, if◌then◌else◌, IfOk, OnOk, length};
-ghost use Rattle.mixed_graph.specs.Masks.{is_empty};
+ghost use Rattle.mixed_graph.specs.Vocabulary.{is_empty};
 ghost use Rattle.do_derivation.specs.Plans.{Plan, Plans};
-ghost use Rattle.do_derivation.specs.View.{step_view, steps_view};
-ghost use Rattle.identification_theory.specs.Derivations.{at_place, at_each};
+ghost use Rattle.do_derivation.specs.Vocabulary.{step_view, steps_view};
+ghost use Rattle.identification_theory.specs.Vocabulary.{at_place, at_each};
 ghost use Rattle.identify.specs.Lists.{onto, lists_view};
 
 use do_derivation::Step;

@@ -1,15 +1,12 @@
 //! The rounds in which a factor is found.
 
 ghost use Rattle.std.specs.Prelude.{◌≡◌, ◌<◌, ◌≤◌, ◌+◌, ◌^◌, ℕ, All, IsTrue, IfOk, IfErr, length};
-ghost use Rattle.mixed_graph.specs.Bits.{has};
-ghost use Rattle.mixed_graph.specs.Orders.{IsOrder};
-ghost use Rattle.mixed_graph.specs.Sets.{Within};
-ghost use Rattle.mixed_graph.specs.Shown.{graph_of};
-ghost use Rattle.hedge.specs.Linked.{IsInside, IsJoinedSet};
+ghost use Rattle.mixed_graph.specs.Vocabulary.{has, IsOrder, Within, graph_of};
+ghost use Rattle.hedge.specs.Vocabulary.{IsInside, IsJoinedSet};
 ghost use Rattle.prob_expr.specs.Tree.{sum};
 ghost use Rattle.prob_expr.specs.View.{view};
-ghost use Rattle.do_derivation.specs.View.{listed, steps_view};
-ghost use Rattle.identification_theory.specs.Derivations.{cut_steps};
+ghost use Rattle.do_derivation.specs.Vocabulary.{listed, steps_view};
+ghost use Rattle.identification_theory.specs.Vocabulary.{cut_steps};
 ghost use Rattle.identify.specs.Factors.{IsFactorOf, IsMadeFactor, IsFactorFault};
 ghost use Rattle.identify.specs.Parts.{source_of};
 ghost use Rattle.identify.specs.Rounds.{IsSummed, IsRound, IsRoundFault};

@@ -1,10 +1,8 @@
 //! Sets of vertices that the procedure reads off the graph.
 
 ghost use Rattle.std.specs.Prelude.{◌≡◌, ◌<◌, ℕ, IsTrue};
-ghost use Rattle.mixed_graph.specs.Bits.{has};
-ghost use Rattle.mixed_graph.specs.Sets.{Within};
-ghost use Rattle.mixed_graph.specs.Shown.{graph_of};
-ghost use Rattle.identification_theory.specs.Procedure.{AreAncestorsIn, IsPillow};
+ghost use Rattle.mixed_graph.specs.Vocabulary.{has, Within, graph_of};
+ghost use Rattle.identification_theory.specs.Vocabulary.{AreAncestorsIn, IsPillow};
 
 use hedge::joined_sets::district_of;
 use mixed_graph::{Graph, VSet};

@@ -2,7 +2,7 @@
 
 ghost use Rattle.std.specs.Prelude.{◌≡◌, ◌<◌, IfOk};
 ghost use Rattle.prob_expr.specs.View.{view};
-ghost use Rattle.identification_theory.specs.Procedure.{sum_if, marginal, conditional};
+ghost use Rattle.identification_theory.specs.Vocabulary.{sum_if, marginal, conditional};
 ghost use Rattle.identify.specs.Parts.{source_of};
 
 use mixed_graph::VSet;

@@ -1,7 +1,7 @@
 //! The branches of the listing of separators.
 
 ghost use Rattle.std.specs.Prelude.{◌≡◌, ℕ, ◌+◌, ◌<◌, ◌≤◌, not, IsTrue, false, IfSome, IfNone, OnOk, IfOk, List, [], ◌∷◌, ◌++◌};
-ghost use Rattle.mixed_graph.specs.Bits.{has};
+ghost use Rattle.mixed_graph.specs.Vocabulary.{has};
 ghost use Rattle.minimal_sets.specs.Branches.{IsNode, IsForked, IsStill};
 ghost use Rattle.minimal_sets.specs.Separators.{Reached, IsPart, IsClosest, IsInseparable};
 ghost use Rattle.minimal_sets.specs.Progress.{IsSoFar, IsAtWork};

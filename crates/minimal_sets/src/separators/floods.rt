@@ -1,7 +1,7 @@
 //! What is reached in an undirected graph.
 
 ghost use Rattle.std.specs.Prelude.{◌≡◌, ℕ, ◌↔◌, IsTrue};
-ghost use Rattle.mixed_graph.specs.Bits.{has};
+ghost use Rattle.mixed_graph.specs.Vocabulary.{has};
 ghost use Rattle.minimal_sets.specs.Separators.{Reached};
 ghost use Rattle.minimal_sets.specs.Rows.{is_near};
 

@@ -1,7 +1,7 @@
 //! The minimal separators, listed (Takata).
 
 ghost use Rattle.std.specs.Prelude.{◌≡◌, ◌+◌, ◌*◌, ◌≤◌, OnOk, IfOk, length};
-ghost use Rattle.mixed_graph.specs.Bits.{has};
+ghost use Rattle.mixed_graph.specs.Vocabulary.{has};
 ghost use Rattle.minimal_sets.specs.Separators.{IsMinimalSeparator};
 ghost use Rattle.minimal_sets.specs.Listings.{IsListingOf};
 ghost use Rattle.minimal_sets.specs.Progress.{IsSoFar, IsAtWork, AreGathered};

@@ -1,8 +1,7 @@
 //! What is to be separated, and by which vertices.
 
 ghost use Rattle.std.specs.Prelude.{◌≤◌};
-ghost use Rattle.mixed_graph.specs.Bits.{has};
-ghost use Rattle.mixed_graph.specs.Sets.{Within};
+ghost use Rattle.mixed_graph.specs.Vocabulary.{has, Within};
 ghost use Rattle.minimal_sets.specs.Frames.{IsFrame};
 ghost use Rattle.minimal_sets.specs.Rows.{is_near};
 

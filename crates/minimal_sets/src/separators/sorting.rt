@@ -5,7 +5,7 @@ ghost use Rattle.std.specs.List.{AllPairs};
 ghost use Rattle.std.specs.List.Sorted.{IsPermutation};
 ghost use Rattle.std.specs.Ordering.{nat_cmp};
 ghost use Rattle.std.specs.Cmp.Lexicographic.{slice_cmp};
-ghost use Rattle.mixed_graph.specs.Bits.{has, members_below};
+ghost use Rattle.mixed_graph.specs.Vocabulary.{has, members_below};
 ghost use Rattle.minimal_sets.specs.Listings.{IsBefore};
 ghost use Rattle.minimal_sets.specs.Lists.{Pairwise};
 ghost use Rattle.minimal_sets.specs.Progress.{AreOther};

@@ -5,7 +5,7 @@ use Rattle.std.proofs.Math.Nat.{div-eq_of_eq-mul_right, eq_of_mul-eq-mul_left}
 use Rattle.fractions.proofs.FractionLaws.{equal_trans}
 use Rattle.quantity.specs.declared.fault.QuantityFault.{QuantityFault}
 use Rattle.quantity.specs.declared.fault.QuantityFault.TheVariants.{TooWide, ZeroBelow}
-use Rattle.fractions.specs.Fractions.{Fraction, over, add, mul, div}
+use Rattle.fractions.specs.Vocabulary.{Fraction, over, add, mul, div}
 use Rattle.quantity.specs.Divisors.{gcd_of}
 use Rattle.quantity.specs.Laws.Gcd.{gcd_left, gcd_right, gcd_positive}
 use Rattle.quantity.specs.Kinds.{Pair, pair, most}

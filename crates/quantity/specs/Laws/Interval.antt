@@ -3,7 +3,7 @@ use Rattle.std.proofs.Common.{ℕ, zero, suc, ◌+◌, ◌*◌, ◌/◌, ◌≡�
 use Rattle.std.proofs.Common.{mul-pos, eqb-true, Result, Ok, Err}
 use Rattle.quantity.specs.declared.fault.QuantityFault.{QuantityFault}
 use Rattle.quantity.specs.declared.fault.QuantityFault.TheVariants.{TooWide, TooFine, ZeroBelow}
-use Rattle.fractions.specs.Fractions.{Fraction, over, IsEqual, add, mul, div}
+use Rattle.fractions.specs.Vocabulary.{Fraction, over, IsEqual, add, mul, div}
 use Rattle.quantity.specs.Kinds.{Pair, pair, most}
 use Rattle.quantity.specs.Intervals.{unit, ceiling, bounds, bounds_ratio, bounds_add, bounds_mul, bounds_div, Encloses, Covers}
 use Rattle.quantity.specs.Lawful.{Keeps, IsLawful}

@@ -1,11 +1,9 @@
 //! The edges of a graph as JSON.
 
 ghost use Rattle.std.specs.Prelude.{◌≡◌, ◌<◌, All, OnOk, length, map};
-ghost use Rattle.mixed_graph.specs.Bits.{has, members_below};
-ghost use Rattle.mixed_graph.specs.Sets.{Within};
-ghost use Rattle.dag_reader.specs.Written.{drawn_of};
-ghost use Rattle.answer_json.specs.Progress.{with_values};
-ghost use Rattle.answer_json.specs.Values.{pair_json};
+ghost use Rattle.mixed_graph.specs.Vocabulary.{has, members_below, Within};
+ghost use Rattle.dag_reader.specs.Vocabulary.{drawn_of};
+ghost use Rattle.answer_json.specs.Vocabulary.{with_values, pair_json};
 
 use answer_json::Object;
 use dag_reader::ReadGraph;

@@ -1,10 +1,8 @@
 //! The members of the object of a graph.
 
 ghost use Rattle.std.specs.Prelude.{◌≡◌, ◌<◌, OnOk, length, map, codes};
-ghost use Rattle.dag_reader.specs.Rows.{count_up};
-ghost use Rattle.dag_reader.specs.Written.{role_at, drawn_of};
-ghost use Rattle.answer_json.specs.Progress.{with_value, with_values, with_member, with_members};
-ghost use Rattle.answer_json.specs.Values.{pairs_json};
+ghost use Rattle.dag_reader.specs.Vocabulary.{count_up, role_at, drawn_of};
+ghost use Rattle.answer_json.specs.Vocabulary.{with_value, with_values, with_member, with_members, pairs_json};
 ghost use Rattle.separation_commands.specs.GraphObjects.{role_json, named_vertex_json, named_vertices_json, graph_members};
 
 use crate::graph::edges::{push_bidirected, push_directed};

@@ -1,10 +1,8 @@
 //! The answer of `graph`.
 
 ghost use Rattle.std.specs.Prelude.{◌≡◌, IfOk};
-ghost use Rattle.replies.specs.Told.{told_of};
-ghost use Rattle.told.specs.Forms.{plain_form};
-ghost use Rattle.told.specs.Refusals.{target_refusal};
-ghost use Rattle.told.specs.Telling.{Tells};
+ghost use Rattle.replies.specs.Vocabulary.{told_of};
+ghost use Rattle.told.specs.Vocabulary.{plain_form, target_refusal, Tells};
 ghost use Rattle.separation_commands.specs.GraphRight.{IsGraphAnswer, shown_of};
 ghost use Rattle.separation_commands.specs.GraphTelling.{graph_telling};
 

@@ -1,8 +1,7 @@
 //! What `graph` is asked.
 
 ghost use Rattle.std.specs.Prelude.{◌≡◌, List, IfOk, IsErrOf};
-ghost use Rattle.command_words.specs.Form.{Use};
-ghost use Rattle.command_words.specs.Gives.{HoldsCall};
+ghost use Rattle.command_words.specs.Vocabulary.{Use, HoldsCall};
 
 use command_words::forms::Entry;
 use command_words::typed::{RequestFault, required_word};

@@ -1,11 +1,10 @@
 //! The parts of what is told of a rule.
 
 ghost use Rattle.std.specs.Prelude.{◌≡◌, ◌++◌, IfOk, OnOk, length, codes, decimal};
-ghost use Rattle.mixed_graph.specs.Bits.{has};
+ghost use Rattle.mixed_graph.specs.Vocabulary.{has};
 ghost use Rattle.json.specs.Json.{number};
-ghost use Rattle.do_rules.specs.Rules.{number_of};
-ghost use Rattle.answer_json.specs.Progress.{with_member, with_members};
-ghost use Rattle.answer_json.specs.Values.{text_json};
+ghost use Rattle.do_rules.specs.Vocabulary.{number_of};
+ghost use Rattle.answer_json.specs.Vocabulary.{with_member, with_members, text_json};
 ghost use Rattle.separation_commands.specs.RuleLines.{equation_text, side_text, side_of};
 ghost use Rattle.separation_commands.specs.RuleObjects.{rule_members, side_members};
 ghost use Rattle.separation_commands.specs.RuleSentences.{rule_sentence, asked_members};

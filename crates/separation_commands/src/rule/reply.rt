@@ -1,15 +1,12 @@
 //! The answer of `rule`.
 
 ghost use Rattle.std.specs.Prelude.{◌<◌, IfOk, IfErr};
-ghost use Rattle.mixed_graph.specs.Bits.{has};
-ghost use Rattle.mixed_graph.specs.Shown.{graph_of};
-ghost use Rattle.do_rules.specs.Rules.{AreFourSets};
-ghost use Rattle.targets.specs.Targets.{OrMemory, IsRuleFault};
-ghost use Rattle.diagram.specs.Sets.{rule_lists};
-ghost use Rattle.replies.specs.Told.{told_of};
-ghost use Rattle.told.specs.Forms.{plain_form};
-ghost use Rattle.told.specs.Refusals.{target_refusal};
-ghost use Rattle.told.specs.Telling.{Tells};
+ghost use Rattle.mixed_graph.specs.Vocabulary.{has, graph_of};
+ghost use Rattle.do_rules.specs.Vocabulary.{AreFourSets};
+ghost use Rattle.targets.specs.Vocabulary.{OrMemory, IsRuleFault};
+ghost use Rattle.diagram.specs.Vocabulary.{rule_lists};
+ghost use Rattle.replies.specs.Vocabulary.{told_of};
+ghost use Rattle.told.specs.Vocabulary.{plain_form, target_refusal, Tells};
 ghost use Rattle.separation_commands.specs.RuleRight.{Decides, IsForLists, IsRuleAnswer};
 ghost use Rattle.separation_commands.specs.RuleTelling.{rule_telling};
 ghost use Rattle.separation_commands.specs.RuleRequests.{request_of};

@@ -1,9 +1,8 @@
 //! The two sides of a rule.
 
 ghost use Rattle.std.specs.Prelude.{◌≡◌, ◌++◌, ℕ, OnOk, length};
-ghost use Rattle.mixed_graph.specs.Bits.{has};
-ghost use Rattle.mixed_graph.specs.Sets.{Within};
-ghost use Rattle.do_rules.specs.Rules.{left_of, right_of};
+ghost use Rattle.mixed_graph.specs.Vocabulary.{has, Within};
+ghost use Rattle.do_rules.specs.Vocabulary.{left_of, right_of};
 ghost use Rattle.separation_commands.specs.RuleLines.{side_text, side_of};
 
 use answer_text::{Term, push_term};

@@ -1,7 +1,7 @@
 //! What is answered of a separation.
 
 ghost use Rattle.std.specs.Prelude.{◌≡◌, IfOk, OnOk, length};
-ghost use Rattle.answer_json.specs.Progress.{with_members};
+ghost use Rattle.answer_json.specs.Vocabulary.{with_members};
 ghost use Rattle.separation_commands.specs.SeparateSentences.{sentence_text, sets_members};
 
 use answer_json::Object;

@@ -1,8 +1,7 @@
 //! Counts of edges.
 
 ghost use Rattle.std.specs.Prelude.{◌≡◌, ℕ, ◌<◌, ◌≤◌, ◌*◌, ◌&&◌, nat_lt, slice_index};
-ghost use Rattle.mixed_graph.specs.Bits.{has};
-ghost use Rattle.mixed_graph.specs.Shown.{graph_of};
+ghost use Rattle.mixed_graph.specs.Vocabulary.{has, graph_of};
 ghost use Rattle.survey_command.specs.Counts.{pairs_from, arrow_count, spouse_count};
 
 use mixed_graph::{Graph, Rows, VSet};

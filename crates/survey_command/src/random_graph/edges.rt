@@ -1,8 +1,7 @@
 //! Edges that are drawn.
 
 ghost use Rattle.std.specs.Prelude.{◌≡◌, ℕ, ◌<◌, ◌&&◌, ◌||◌, ◌==◌, false, slice_index};
-ghost use Rattle.mixed_graph.specs.Bits.{has};
-ghost use Rattle.mixed_graph.specs.Graphs.{Agree};
+ghost use Rattle.mixed_graph.specs.Vocabulary.{has, Agree};
 
 use mixed_graph::Rows;
 

@@ -1,8 +1,7 @@
 //! A graph in the making.
 
 ghost use Rattle.std.specs.Prelude.{◌≡◌, ℕ, ◌-◌, ◌<◌, ◌&&◌, ◌||◌, ◌==◌, false, nat_lt, slice_index};
-ghost use Rattle.mixed_graph.specs.Bits.{has};
-ghost use Rattle.mixed_graph.specs.Shown.{graph_of};
+ghost use Rattle.mixed_graph.specs.Vocabulary.{has, graph_of};
 ghost use Rattle.survey_command.specs.Draws.{next_state, state_after, draw_of};
 ghost use Rattle.survey_command.specs.Drawn.{drawn_graph};
 ghost use Rattle.survey_command.specs.Rows.{is_in_row};

@@ -1,9 +1,8 @@
 use Rattle.std.proofs.Common.{◌≡◌, ℕ, ◌+◌, ◌<◌, bit_or, ◌||◌, ◌==◌, ◌∷◌, length, drop, sym, ap, subst, ◌∙◌, arith}
 use Rattle.std.specs.Prelude.{get_or}
 use Rattle.std.specs.Global.{Vec}
-use Rattle.mixed_graph.specs.Bits.{has}
+use Rattle.mixed_graph.specs.Vocabulary.{has, texts}
 use Rattle.mixed_graph.proofs.Masks.{has-or}
-use Rattle.mixed_graph.specs.Names.{texts}
 use Rattle.targets.specs.Targets.{IsNameFault, first_fault, walked_in}
 use Rattle.targets.proofs.Walking.{IsWalking, walking_more, fault_first, texts-drop, texts-drop_end}
 use Rattle.targets.proofs.walk.Goals as goal

@@ -1,5 +1,5 @@
 use Rattle.std.proofs.Common.{drop}
-use Rattle.mixed_graph.specs.Names.{texts}
+use Rattle.mixed_graph.specs.Vocabulary.{texts}
 use Rattle.targets.proofs.Walking.{IsWalking}
 use Rattle.targets.proofs.walk.Given as goal
 

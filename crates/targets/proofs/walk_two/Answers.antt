@@ -1,5 +1,5 @@
 use Rattle.std.proofs.Common.{sym, subst, ◌∙◌}
-use Rattle.mixed_graph.specs.Names.{texts}
+use Rattle.mixed_graph.specs.Vocabulary.{texts}
 use Rattle.targets.specs.Targets.{IsNameFault, walked_in}
 use Rattle.targets.proofs.Walking.{fault_first}
 use Rattle.targets.proofs.Queries.{first_fault-append, after_list}

@@ -1,9 +1,7 @@
 use Rattle.std.proofs.Common.{◌≡◌, sym, subst}
-use Rattle.mixed_graph.specs.Shown.{graph_of}
-use Rattle.mixed_graph.specs.Masks.{one}
-use Rattle.prob_expr.specs.Values.{EqualsEffect}
-use Rattle.prob_expr.specs.Tree.{effect_on}
-use Rattle.adjustment.specs.Formulas.{adjustment_formula}
+use Rattle.mixed_graph.specs.Vocabulary.{graph_of, one}
+use Rattle.prob_expr.specs.Vocabulary.{EqualsEffect, effect_on}
+use Rattle.adjustment.specs.Vocabulary.{adjustment_formula}
 use Rattle.adjust_command.proofs.Exposures.{is_one, is_not_one}
 use Rattle.adjust_command.proofs.criteria.back_door_verdict.Goals as goal
 use Rattle.adjust_command.proofs.criteria.back_door_verdict.Goals.{After-back_door}

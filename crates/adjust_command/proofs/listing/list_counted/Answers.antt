@@ -1,6 +1,5 @@
 use Rattle.std.proofs.Common.{◌≡◌, length, ap, refl, arith}
-use Rattle.mixed_graph.specs.Bits.{has}
-use Rattle.mixed_graph.specs.Shown.{graph_of}
+use Rattle.mixed_graph.specs.Vocabulary.{has, graph_of}
 use Rattle.adjustment.proofs.FaultWalks.{adjusts_exactly}
 use Rattle.minimal_sets.proofs.Exact.{minimal_is_exact}
 use Rattle.adjust_command.proofs.Minimal.{none_admissible}

@@ -1,9 +1,8 @@
 use Rattle.std.proofs.Common.{◌∙◌, codes, ap}
-use Rattle.prob_expr.specs.Tree.{PlainFormula, effect_on}
-use Rattle.adjustment.specs.Formulas.{adjustment_formula}
-use Rattle.answer_json.specs.Progress.{with_member, with_members}
-use Rattle.answer_json.specs.Values.{set_json}
-use Rattle.effect_answers.specs.Objects.{formula_members}
+use Rattle.prob_expr.specs.Vocabulary.{PlainFormula, effect_on}
+use Rattle.adjustment.specs.Vocabulary.{adjustment_formula}
+use Rattle.answer_json.specs.Vocabulary.{with_member, with_members, set_json}
+use Rattle.effect_answers.specs.Vocabulary.{formula_members}
 use Rattle.adjust_command.proofs.objects.push_admissible.Goals as goal
 
 pub returns : goal.returns

@@ -1,10 +1,9 @@
 use Rattle.std.proofs.Common.{◌≡◌, Some, List, ℕ, ap, subst, ◌∙◌}
 use Rattle.std.proofs.lemmas.Result.{err_from_is_err_and}
-use Rattle.mixed_graph.specs.Names.{texts}
-use Rattle.mixed_graph.specs.Shown.{graph_of}
-use Rattle.targets.specs.Targets.{Lists, AreSets, IsTargetFault, OrMemory}
+use Rattle.mixed_graph.specs.Vocabulary.{texts, graph_of}
+use Rattle.targets.specs.Vocabulary.{Lists, AreSets, IsTargetFault, OrMemory}
 use Rattle.targets.proofs.Effects.{query_exposure}
-use Rattle.diagram.specs.Sets.{Names, lent, query_lists}
+use Rattle.diagram.specs.Vocabulary.{Names, lent, query_lists}
 use Rattle.diagram.proofs.Lent.{lent_owned}
 use Rattle.adjust_command.specs.Answers.{adjust_lists}
 use Rattle.adjust_command.specs.Queries.{query_of}

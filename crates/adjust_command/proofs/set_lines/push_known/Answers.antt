@@ -1,5 +1,5 @@
 use Rattle.std.proofs.Common.{◌++◌, sym, ap, ◌∙◌}
-use Rattle.mixed_graph.specs.Bits.{has}
+use Rattle.mixed_graph.specs.Vocabulary.{has}
 use Rattle.adjust_command.proofs.NameLists.{known_name}
 use Rattle.adjust_command.proofs.set_lines.push_known.Goals as goal
 

@@ -1,7 +1,7 @@
 use Rattle.std.proofs.Common.{◌++◌, length, sym, ap, ◌∙◌, arith, subst}
-use Rattle.mixed_graph.specs.Bits.{has}
+use Rattle.mixed_graph.specs.Vocabulary.{has}
 use Rattle.mixed_graph.proofs.MemberLists.{AreMembers, members-are}
-use Rattle.answer_text.specs.Texts.{comma_before}
+use Rattle.answer_text.specs.Vocabulary.{comma_before}
 use Rattle.adjust_command.proofs.NameLists.{IsWriting, writing_begun, writing_more, writing_done}
 use Rattle.adjust_command.proofs.set_lines.push_members.Goals as goal
 

@@ -1,5 +1,5 @@
 use Rattle.std.proofs.Common.{length}
-use Rattle.mixed_graph.specs.Bits.{has}
+use Rattle.mixed_graph.specs.Vocabulary.{has}
 use Rattle.mixed_graph.proofs.MemberLists.{AreMembers}
 use Rattle.adjust_command.proofs.NameLists.{IsWriting}
 use Rattle.adjust_command.proofs.set_lines.push_members.Given as goal

@@ -1,12 +1,10 @@
 use Rattle.std.proofs.Common.{ℕ, ◌≡◌, ◌↔◌, IsTrue, subst}
-use Rattle.mixed_graph.specs.Bits.{has}
-use Rattle.mixed_graph.specs.Shown.{graph_of}
-use Rattle.m_separation.specs.Paths.{IsOpenPath}
-use Rattle.m_separation.specs.Walks.{IsSeparated}
+use Rattle.mixed_graph.specs.Vocabulary.{has, graph_of}
+use Rattle.m_separation.specs.declared.paths.OpenPath.{OpenPath}
+use Rattle.m_separation.specs.Vocabulary.{IsOpenPath, IsSeparated}
 use Rattle.adjustment.proofs.Causal.{below_from}
 use Rattle.adjustment.proofs.FirstEdges.{cut_arrows, firsts, back_door_graph_is}
 use Rattle.adjustment.specs.Criteria.{IsForbidden}
-use Rattle.m_separation.specs.declared.paths.OpenPath.{OpenPath}
 use Rattle.adjustment.specs.declared.criteria.AdjFault.TheVariants.{Forbidden, Unblocked}
 use Rattle.adjustment.specs.Faults.{IsClearOf, IsLowestIn, IsAdjustmentFault}
 use Rattle.adjustment.specs.Parts.{IsLastPart}

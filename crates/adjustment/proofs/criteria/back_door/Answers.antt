@@ -1,15 +1,10 @@
 use Rattle.std.proofs.Common.{ℕ, ◌≡◌, refl, sym, subst}
 use mathlib.Core.Path.{fun_ext}
 use Rattle.std.proofs.lemmas.Bool.{eq-eqb}
-use Rattle.mixed_graph.specs.Bits.{has}
-use Rattle.mixed_graph.specs.Graphs.{IsDescendant}
-use Rattle.mixed_graph.specs.Shown.{graph_of}
+use Rattle.mixed_graph.specs.Vocabulary.{has, IsDescendant, graph_of, one}
 use Rattle.mixed_graph.proofs.Masks.{has-pow}
-use Rattle.m_separation.specs.Paths.{IsOpenPath}
-use Rattle.m_separation.specs.Walks.{IsSeparated}
-use Rattle.do_rules.specs.Cuts.{cut_out}
-use Rattle.do_rules.specs.Rules.{AreThreeSets}
-use Rattle.mixed_graph.specs.Masks.{one}
+use Rattle.m_separation.specs.Vocabulary.{IsOpenPath, IsSeparated}
+use Rattle.do_rules.specs.Vocabulary.{cut_out, AreThreeSets}
 use Rattle.adjustment.specs.Faults.{IsClearOf}
 use Rattle.adjustment.proofs.Effects.{unconfounded_adjusts}
 use Rattle.adjustment.proofs.Separating.{only, back_door_from, back_door_path}

@@ -1,4 +1,4 @@
-use Rattle.mixed_graph.specs.Bits.{has}
+use Rattle.mixed_graph.specs.Vocabulary.{has}
 use Rattle.finite_models.proofs.Bools.{not_both}
 use Rattle.mixed_graph.proofs.Masks.{apart_from_meet}
 use Rattle.adjustment.proofs.criteria.lowest_forbidden.Goals as goal

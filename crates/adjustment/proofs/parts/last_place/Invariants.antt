@@ -1,5 +1,5 @@
 use Rattle.std.proofs.Common.{◌<◌, ◌≡◌, ℕ, false, get_or, IsTrue}
-use Rattle.mixed_graph.specs.Bits.{has}
+use Rattle.mixed_graph.specs.Vocabulary.{has}
 use Rattle.adjustment.proofs.parts.last_place.Given as goal
 
 abbrev pub invariant-loop-i : goal.invariant-loop-i

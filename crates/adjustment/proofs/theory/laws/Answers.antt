@@ -1,13 +1,11 @@
 use Rattle.std.proofs.Common.{ℕ, ◌↔◌, Bool, IsTrue, sym, refl, ◌∙◌, subst}
 use mathlib.Core.Path.{fun_ext}
 use Rattle.std.proofs.lemmas.Bool.{eq-eqb}
-use Rattle.mixed_graph.specs.Bits.{has}
-use Rattle.mixed_graph.specs.Graphs.{MixedGraph, IsMixedGraph}
+use Rattle.mixed_graph.specs.Vocabulary.{has, MixedGraph, IsMixedGraph}
 use Rattle.mixed_graph.proofs.Masks.{has-pow}
-use Rattle.m_separation.specs.Walks.{IsOpenWalk, IsSeparated}
-use Rattle.do_rules.specs.Cuts.{cut_out}
+use Rattle.m_separation.specs.Vocabulary.{IsOpenWalk, IsSeparated}
+use Rattle.do_rules.specs.Vocabulary.{cut_out, AreThreeSets}
 use Rattle.finite_models.proofs.Tested.{Test, tested}
-use Rattle.do_rules.specs.Rules.{AreThreeSets}
 use Rattle.adjustment.specs.Proper.{IsBetween}
 use Rattle.adjustment.proofs.Causal.{below_from}
 use Rattle.adjustment.proofs.FirstEdges.{back_door_graph_is}

@@ -1,8 +1,7 @@
 use Rattle.std.proofs.Common.{◌≡◌, ◌<◌, ◌-◌, ◌∙◌, ap, sym, set, length, arith}
-use Rattle.mixed_graph.specs.Bits.{has}
-use Rattle.count_eval.specs.Programs.{weights_in, cell_of}
-use Rattle.natural_bounds.specs.Bounds.{bound_at}
-use Rattle.natural_bounds.specs.Orders.{tightest_below, tightest_over}
+use Rattle.mixed_graph.specs.Vocabulary.{has}
+use Rattle.count_eval.specs.Vocabulary.{weights_in, cell_of}
+use Rattle.natural_bounds.specs.Vocabulary.{bound_at, tightest_below, tightest_over}
 use Rattle.bound_values.specs.Questions.{asked_of}
 use Rattle.bound_values.specs.Values.{fraction_of}
 use Rattle.bound_values.proofs.Boxes.{tightest_done}

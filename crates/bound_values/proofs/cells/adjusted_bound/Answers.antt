@@ -1,7 +1,7 @@
 use Rattle.std.proofs.Common.{◌≡◌, ◌∙◌, ap₂, arith}
-use Rattle.fractions.specs.Fractions.{over}
-use Rattle.count_eval.specs.Programs.{weights_in, cell_of}
-use Rattle.natural_bounds.specs.Bounds.{joint, treated}
+use Rattle.fractions.specs.Vocabulary.{over}
+use Rattle.count_eval.specs.Vocabulary.{weights_in, cell_of}
+use Rattle.natural_bounds.specs.Vocabulary.{joint, treated}
 use Rattle.bound_values.specs.Questions.{asked_of, joint_set, treated_set}
 use Rattle.bound_values.proofs.Parts.{adjusted_said}
 use Rattle.bound_values.proofs.Sums.{sum_is, joint_less, small}

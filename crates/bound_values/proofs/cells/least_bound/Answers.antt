@@ -1,7 +1,7 @@
 use Rattle.std.proofs.Common.{◌≡◌, ap₂, arith}
-use Rattle.fractions.specs.Fractions.{over}
-use Rattle.count_eval.specs.Programs.{weights_in, cell_of}
-use Rattle.natural_bounds.specs.Bounds.{joint}
+use Rattle.fractions.specs.Vocabulary.{over}
+use Rattle.count_eval.specs.Vocabulary.{weights_in, cell_of}
+use Rattle.natural_bounds.specs.Vocabulary.{joint}
 use Rattle.bound_values.specs.Questions.{asked_of, joint_set, level_set}
 use Rattle.bound_values.proofs.Sums.{sum_is, joint_less, treated_less, small}
 use Rattle.bound_values.proofs.cells.least_bound.Goals as goal

@@ -1,6 +1,6 @@
 use Rattle.std.proofs.Common.{◌∙◌, sym, ap}
 use Rattle.std.specs.Prelude.{not}
-use Rattle.count_eval.specs.Programs.{weights_in, cell_of}
+use Rattle.count_eval.specs.Vocabulary.{weights_in, cell_of}
 use Rattle.bound_values.specs.Questions.{asked_of}
 use Rattle.bound_values.proofs.Parts.{crossed_is, denied}
 use Rattle.bound_values.proofs.crossings.crossing_at.Goals as goal

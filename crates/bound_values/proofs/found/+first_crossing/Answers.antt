@@ -1,7 +1,7 @@
 use Rattle.std.proofs.Common.{◌≡◌, ◌<◌, ◌≤◌, ◌-◌, ℕ, true, List, All, length, set, get_or, take, drop, refl, sym, ap, subst, arith, rules}
 use Rattle.std.proofs.lemmas.List.{length-drop, take_rest}
 use Rattle.std.proofs.lemmas.List.Elements.{All-drop, All-take, All-get_or}
-use Rattle.count_eval.specs.Programs.{weights_in, is_used, cell_of}
+use Rattle.count_eval.specs.Vocabulary.{weights_in, is_used, cell_of}
 use Rattle.bound_values.specs.Cells.{IsCell}
 use Rattle.bound_values.specs.Questions.{asked_of}
 use Rattle.bound_values.specs.Found.{are_crossed, IsFirstCrossing}

@@ -1,7 +1,7 @@
 use Rattle.std.proofs.Common.{◌≡◌, ◌<◌, ◌≤◌, ◌-◌, ℕ, true, List, All, OnOk, IfErr, length, set, get_or, take, drop, refl, sym, ap, subst, arith, rules}
 use Rattle.std.proofs.lemmas.List.{length-drop, take_rest}
 use Rattle.std.proofs.lemmas.List.Elements.{All-drop, All-take, All-get_or}
-use Rattle.count_eval.specs.Programs.{is_used}
+use Rattle.count_eval.specs.Vocabulary.{is_used}
 use Rattle.bound_values.specs.Cells.{IsCell}
 use Rattle.bound_values.specs.Questions.{asked_of}
 use Rattle.bound_values.specs.Told.{Appends, IsFaultAt}

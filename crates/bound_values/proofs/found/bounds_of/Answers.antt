@@ -1,5 +1,5 @@
 use Rattle.std.proofs.Common.{◌≡◌, ◌∙◌, ℕ, true, List, All, sym, subst, arith}
-use Rattle.count_eval.specs.Programs.{is_used}
+use Rattle.count_eval.specs.Vocabulary.{is_used}
 use Rattle.bound_values.specs.Cells.{cells_along, first_cell}
 use Rattle.bound_values.specs.Told.{Appends, IsFaultAt}
 use Rattle.bound_values.proofs.Ends.{are_bounds}

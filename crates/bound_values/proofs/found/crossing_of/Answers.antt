@@ -1,6 +1,6 @@
 use Rattle.std.proofs.Common.{rules, refl, ◌≢◌, ◌≡◌, ◌∙◌, ℕ, true, List, All, Option, Some, None, sym, subst, arith}
-use Rattle.count_rows.specs.Rows.{Table}
-use Rattle.count_eval.specs.Programs.{is_used}
+use Rattle.count_rows.specs.Vocabulary.{Table}
+use Rattle.count_eval.specs.Vocabulary.{is_used}
 use Rattle.bound_values.specs.declared.found.CellCrossing.{CellCrossing}
 use Rattle.bound_values.specs.declared.questions.Method.{Method}
 use Rattle.bound_values.specs.declared.questions.Method.TheVariants.{Instruments, LevelPairs, Adjustment}

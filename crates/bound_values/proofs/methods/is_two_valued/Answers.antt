@@ -1,6 +1,6 @@
 use Rattle.bound_values.proofs.TwoValued.{some_mask, two_valued_is, has_two_values}
 use Rattle.std.proofs.Common.{eqb, ap, sym, ◌∙◌, arith}
-use Rattle.mixed_graph.specs.Bits.{has}
+use Rattle.mixed_graph.specs.Vocabulary.{has}
 use Rattle.bound_values.proofs.methods.is_two_valued.Goals as goal
 
 pub lowest-requires : goal.lowest-requires

@@ -1,9 +1,9 @@
 use Rattle.std.proofs.Common.{ℕ, suc, ◌+◌, ◌-◌, ◌*◌, ◌≡◌, set, refl, sym, ap, ap₂, ◌∙◌, arith, rules}
-use Rattle.mixed_graph.specs.Bits.{has}
-use Rattle.finite_models.specs.Sums.{sum_below, sum_over}
-use Rattle.count_eval.specs.Programs.{weights_in, cell_of}
-use Rattle.natural_bounds.specs.Bounds.{joint, level}
-use Rattle.crossed_bounds.specs.Crossed.{chosen}
+use Rattle.mixed_graph.specs.Vocabulary.{has}
+use Rattle.finite_models.specs.Vocabulary.{sum_below, sum_over}
+use Rattle.count_eval.specs.Vocabulary.{weights_in, cell_of}
+use Rattle.natural_bounds.specs.Vocabulary.{joint, level}
+use Rattle.crossed_bounds.specs.Vocabulary.{chosen}
 use Rattle.bound_values.specs.Questions.{asked_of, joint_set, AreAlikeOutside}
 use Rattle.bound_values.proofs.Pairing.{pair_term, sum_none, sum_skip, sum_done, sum_longer, at_own, at_alike, set_term, set_level, set_alike, y_outside, terms_most, records_most}
 use Rattle.bound_values.proofs.Sums.{sum_is}

@@ -1,7 +1,7 @@
 use Rattle.std.proofs.Common.{◌≡◌, set}
-use Rattle.mixed_graph.specs.Bits.{has}
-use Rattle.finite_models.specs.Sums.{sum_below, sum_over}
-use Rattle.count_eval.specs.Programs.{weights_in, cell_of}
+use Rattle.mixed_graph.specs.Vocabulary.{has}
+use Rattle.finite_models.specs.Vocabulary.{sum_below, sum_over}
+use Rattle.count_eval.specs.Vocabulary.{weights_in, cell_of}
 use Rattle.bound_values.specs.Questions.{asked_of}
 use Rattle.bound_values.proofs.Pairing.{pair_term}
 use Rattle.bound_values.proofs.pairs.+chosen_below.Given as goal

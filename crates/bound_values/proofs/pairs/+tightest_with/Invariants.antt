@@ -1,8 +1,8 @@
 use Rattle.std.proofs.Common.{◌≡◌, set}
-use Rattle.mixed_graph.specs.Bits.{has}
-use Rattle.count_eval.specs.Programs.{weights_in, cell_of}
-use Rattle.natural_bounds.specs.Orders.{tightest_below, tightest_over}
-use Rattle.crossed_bounds.specs.Crossed.{levels_bound}
+use Rattle.mixed_graph.specs.Vocabulary.{has}
+use Rattle.count_eval.specs.Vocabulary.{weights_in, cell_of}
+use Rattle.natural_bounds.specs.Vocabulary.{tightest_below, tightest_over}
+use Rattle.crossed_bounds.specs.Vocabulary.{levels_bound}
 use Rattle.bound_values.specs.Questions.{asked_of}
 use Rattle.bound_values.specs.Values.{fraction_of}
 use Rattle.bound_values.proofs.pairs.+tightest_with.Given as goal

@@ -1,6 +1,6 @@
 use Rattle.std.proofs.Common.{ℕ, ◌*◌, ◌≡◌, ◌≤◌, sym, ap₂, subst, ◌∙◌}
-use Rattle.count_eval.specs.Programs.{weights_in, cell_of}
-use Rattle.natural_bounds.specs.Bounds.{level}
+use Rattle.count_eval.specs.Vocabulary.{weights_in, cell_of}
+use Rattle.natural_bounds.specs.Vocabulary.{level}
 use Rattle.bound_values.specs.Questions.{asked_of, level_set}
 use Rattle.bound_values.proofs.Pairing.{levels_none, least_said, most_said, records_most}
 use Rattle.bound_values.proofs.Sums.{sum_is}

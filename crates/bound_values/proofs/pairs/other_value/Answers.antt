@@ -1,5 +1,5 @@
 use Rattle.std.proofs.Common.{refl}
-use Rattle.mixed_graph.specs.Bits.{has}
+use Rattle.mixed_graph.specs.Vocabulary.{has}
 use Rattle.bound_values.proofs.TwoValued.{some_vertex}
 use Rattle.bound_values.proofs.pairs.other_value.Goals as goal
 

@@ -1,8 +1,8 @@
 use Rattle.std.proofs.Common.{◌∙◌, ap, ap₂}
-use Rattle.mixed_graph.specs.Bits.{has}
-use Rattle.count_eval.specs.Programs.{weights_in, cell_of}
-use Rattle.natural_bounds.specs.Orders.{tighter, tightest_over}
-use Rattle.crossed_bounds.specs.Crossed.{levels_bound}
+use Rattle.mixed_graph.specs.Vocabulary.{has}
+use Rattle.count_eval.specs.Vocabulary.{weights_in, cell_of}
+use Rattle.natural_bounds.specs.Vocabulary.{tighter, tightest_over}
+use Rattle.crossed_bounds.specs.Vocabulary.{levels_bound}
 use Rattle.bound_values.specs.Questions.{asked_of}
 use Rattle.bound_values.proofs.pairs.paired_bound.Goals as goal
 

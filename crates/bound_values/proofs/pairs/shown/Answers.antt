@@ -1,8 +1,8 @@
 use Rattle.std.proofs.Common.{ℕ, ◌+◌, ◌*◌, ◌≡◌, ◌≤◌, sym, ap, ap₂, subst, ◌∙◌, arith}
-use Rattle.finite_models.specs.Sums.{sum_over}
-use Rattle.count_eval.specs.Programs.{weights_in, cell_of}
-use Rattle.natural_bounds.specs.Bounds.{joint, level}
-use Rattle.crossed_bounds.specs.Crossed.{other}
+use Rattle.finite_models.specs.Vocabulary.{sum_over}
+use Rattle.count_eval.specs.Vocabulary.{weights_in, cell_of}
+use Rattle.natural_bounds.specs.Vocabulary.{joint, level}
+use Rattle.crossed_bounds.specs.Vocabulary.{other}
 use Rattle.bound_values.specs.Questions.{asked_of, joint_set, AreAlikeOutside}
 use Rattle.bound_values.proofs.Pairing.{pair_term, other_term, other_level, other_alike, terms_most, records_most, shown_most}
 use Rattle.bound_values.proofs.Sums.{sum_is, joint_less, treated_less}

@@ -1,8 +1,8 @@
 use Rattle.std.proofs.Common.{◌≡◌, ◌≤◌, ◌<◌, ◌-◌, ◌∙◌, ap, sym, subst, set, length, Ok, Err, rules, arith}
-use Rattle.mixed_graph.specs.Bits.{has}
-use Rattle.quantity.specs.Kinds.{gives}
-use Rattle.count_eval.specs.Programs.{weights_in, cell_of}
-use Rattle.natural_bounds.specs.Bounds.{condition}
+use Rattle.mixed_graph.specs.Vocabulary.{has}
+use Rattle.quantity.specs.Vocabulary.{gives}
+use Rattle.count_eval.specs.Vocabulary.{weights_in, cell_of}
+use Rattle.natural_bounds.specs.Vocabulary.{condition}
 use Rattle.bound_values.specs.Questions.{asked_of}
 use Rattle.bound_values.specs.Values.{total_below, total_over, term_value}
 use Rattle.bound_values.proofs.Boxes.{total_done, total_err, total_err_add}

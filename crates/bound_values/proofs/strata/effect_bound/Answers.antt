@@ -1,6 +1,6 @@
 use Rattle.std.proofs.Common.{◌∙◌, ap}
-use Rattle.mixed_graph.specs.Bits.{has}
-use Rattle.count_eval.specs.Programs.{weights_in, cell_of}
+use Rattle.mixed_graph.specs.Vocabulary.{has}
+use Rattle.count_eval.specs.Vocabulary.{weights_in, cell_of}
 use Rattle.bound_values.specs.Questions.{asked_of}
 use Rattle.bound_values.specs.Values.{total_over, term_value}
 use Rattle.bound_values.proofs.Covered.{bounds_in_models}

@@ -1,7 +1,7 @@
 use Rattle.std.proofs.Common.{◌∙◌, ap, ap₂, refl, arith}
-use Rattle.mixed_graph.specs.Bits.{has}
-use Rattle.count_eval.specs.Programs.{cell_of}
-use Rattle.natural_bounds.specs.Bounds.{fixed}
+use Rattle.mixed_graph.specs.Vocabulary.{has}
+use Rattle.count_eval.specs.Vocabulary.{cell_of}
+use Rattle.natural_bounds.specs.Vocabulary.{fixed}
 use Rattle.bound_values.specs.Questions.{asked_of}
 use Rattle.bound_values.specs.Values.{in_kind}
 use Rattle.bound_values.proofs.Sums.{sum_is, stratum_less, small}

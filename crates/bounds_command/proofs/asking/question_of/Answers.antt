@@ -1,8 +1,7 @@
 use Rattle.std.proofs.Common.{◌≡◌, ◌++◌, ◌∙◌, ◌||◌, ap, sym, subst, refl}
-use Rattle.mixed_graph.specs.Bits.{has}
-use Rattle.mixed_graph.specs.Names.{texts}
-use Rattle.targets.specs.Targets.{IsNameFault}
-use Rattle.diagram.specs.Sets.{lent}
+use Rattle.mixed_graph.specs.Vocabulary.{has, texts}
+use Rattle.targets.specs.Vocabulary.{IsNameFault}
+use Rattle.diagram.specs.Vocabulary.{lent}
 use Rattle.bounds_command.specs.Asking.{bound_lists}
 use Rattle.bounds_command.proofs.AskedSets.{walked_names}
 use Rattle.bounds_command.proofs.NameFaults.{query_fault, later_named}

@@ -1,8 +1,7 @@
 use Rattle.std.proofs.Common.{◌∙◌, ap}
-use Rattle.mixed_graph.specs.Shown.{graph_of}
+use Rattle.mixed_graph.specs.Vocabulary.{graph_of}
 use Rattle.told.specs.declared.form.Form.{Form}
-use Rattle.told.specs.Refusals.{target_refusal}
-use Rattle.told.specs.Telling.{told_in}
+use Rattle.told.specs.Vocabulary.{target_refusal, told_in}
 use Rattle.bounds_command.specs.Requests.{request_of}
 use Rattle.bounds_command.specs.First.{lists_of, unmet_telling}
 use Rattle.bounds_command.proofs.FirstReplies.{right_answer}

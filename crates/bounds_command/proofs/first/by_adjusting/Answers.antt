@@ -1,6 +1,6 @@
 use Rattle.std.proofs.Common.{Some}
-use Rattle.mixed_graph.specs.Names.{texts}
-use Rattle.diagram.specs.Sets.{lent, query_lists}
+use Rattle.mixed_graph.specs.Vocabulary.{texts}
+use Rattle.diagram.specs.Vocabulary.{lent, query_lists}
 use Rattle.adjust_command.proofs.Lists.{three_sets}
 use Rattle.bounds_command.proofs.first.by_adjusting.Goals as goal
 

@@ -1,13 +1,10 @@
 use Rattle.std.proofs.Common.{◌≡◌, ℕ, Bool, subst}
 use mathlib.Core.Path.{fun_ext}
-use Rattle.mixed_graph.specs.Bits.{has}
-use Rattle.mixed_graph.specs.Graphs.{MixedGraph}
-use Rattle.mixed_graph.specs.Shown.{graph_of}
-use Rattle.natural_bounds.specs.Bounds.{fixed}
-use Rattle.natural_bounds.specs.Instruments.{IsInstrument, IsInstrumentFault}
+use Rattle.mixed_graph.specs.Vocabulary.{has, MixedGraph, graph_of}
 use Rattle.natural_bounds.specs.declared.instruments.InstrumentFault.{InstrumentFault}
+use Rattle.natural_bounds.specs.Vocabulary.{fixed, IsInstrument, IsInstrumentFault}
 use Rattle.bound_values.specs.declared.questions.Question.{Question}
-use Rattle.bound_values.specs.Questions.{asked_of}
+use Rattle.bound_values.specs.Vocabulary.{asked_of}
 use Rattle.bounds_command.specs.Asking.{HasInstrument}
 use Rattle.bounds_command.specs.First.{HasNoInstrument}
 use Rattle.bounds_command.proofs.first.by_instrument.Goals as goal

@@ -1,5 +1,5 @@
-use Rattle.mixed_graph.specs.Names.{texts}
-use Rattle.diagram.specs.Sets.{lent}
+use Rattle.mixed_graph.specs.Vocabulary.{texts}
+use Rattle.diagram.specs.Vocabulary.{lent}
 use Rattle.bounds_command.specs.Asking.{bound_lists}
 use Rattle.bounds_command.proofs.AskedSets.{four_sets}
 use Rattle.bounds_command.proofs.first.by_instruments.Goals as goal

@@ -1,5 +1,5 @@
 use Rattle.std.proofs.Common.{◌∙◌, sym, ap}
-use Rattle.mixed_graph.specs.Names.{texts}
+use Rattle.mixed_graph.specs.Vocabulary.{texts}
 use Rattle.diagram.proofs.Lent.{lent_owned}
 use Rattle.bounds_command.specs.Ways.{by_instruments, by_adjusting, way_of}
 use Rattle.bounds_command.proofs.FirstReplies.{as_asked}

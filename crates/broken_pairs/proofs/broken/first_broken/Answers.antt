@@ -1,7 +1,7 @@
 use Rattle.std.proofs.Common.{◌≡◌, sym, subst, rules}
 use Rattle.std.specs.Prelude.{All}
-use Rattle.mixed_graph.specs.Shown.{graph_of}
-use Rattle.implications.specs.Implications.{IsImplication}
+use Rattle.mixed_graph.specs.Vocabulary.{graph_of}
+use Rattle.implications.specs.Vocabulary.{IsImplication}
 use Rattle.broken_pairs.proofs.Walking.{no_model}
 use Rattle.broken_pairs.proofs.broken.first_broken.Goals as goal
 

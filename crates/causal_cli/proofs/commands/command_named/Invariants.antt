@@ -1,5 +1,5 @@
 use Rattle.std.proofs.Common.{◌≡◌, drop, map}
-use Rattle.command_words.specs.Form.{row_named}
+use Rattle.command_words.specs.Vocabulary.{row_named}
 use Rattle.causal_cli.specs.Commands.{table, row_for}
 use Rattle.causal_cli.proofs.commands.command_named.Given as goal
 

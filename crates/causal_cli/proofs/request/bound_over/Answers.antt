@@ -1,6 +1,6 @@
 use Rattle.bounds_command.proofs.Known.{is_known}
 use Rattle.bounds_command.proofs.Lawful.{bounds_is_left}
-use Rattle.bounds_command.specs.Requests.{request_of}
+use Rattle.bounds_command.specs.Vocabulary.{request_of}
 use Rattle.causal_cli.proofs.request.bound_over.Goals as goal
 
 pub returns : goal.returns

@@ -1,4 +1,4 @@
-use Rattle.told.specs.Forms.{plain_form}
+use Rattle.told.specs.Vocabulary.{plain_form}
 use Rattle.causal_cli.proofs.request.compare_with.Goals as goal
 
 pub returns-in-Refused : goal.returns-in-Refused

@@ -1,5 +1,4 @@
-use Rattle.evaluate_command.specs.Effects.{effect_in}
-use Rattle.evaluate_command.specs.Requests.{request_of}
+use Rattle.evaluate_command.specs.Vocabulary.{effect_in, request_of}
 use Rattle.evaluate_command.proofs.Lawful.{evaluate_is_left}
 use Rattle.causal_cli.specs.Commands as all
 use Rattle.causal_cli.specs.declared.request.Request.TheVariants.{Evaluate}

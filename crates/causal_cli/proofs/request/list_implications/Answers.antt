@@ -1,11 +1,8 @@
 use Rattle.std.proofs.Common.{List, ℕ, Option, IfOk, option_map, sym, subst}
 use Rattle.std.specs.Borrow.{Bor}
-use Rattle.replies.specs.Told.{told_of}
-use Rattle.told.specs.Forms.{plain_form}
-use Rattle.told.specs.Refusals.{target_refusal}
-use Rattle.told.specs.Telling.{Tells}
-use Rattle.implications_command.specs.Right.{IsForGraph}
-use Rattle.implications_command.specs.Telling.{implications_telling}
+use Rattle.replies.specs.Vocabulary.{told_of}
+use Rattle.told.specs.Vocabulary.{plain_form, target_refusal, Tells}
+use Rattle.implications_command.specs.Vocabulary.{IsForGraph, implications_telling}
 use Rattle.causal_cli.specs.Commands.{request_of}
 use Rattle.causal_cli.specs.declared.request.Request.TheVariants.{Implications}
 use Rattle.causal_cli.proofs.request.list_implications.Goals as goal

@@ -1,5 +1,5 @@
 use Rattle.std.proofs.Common.{subst}
-use Rattle.command_words.specs.Gives.{HoldsCall}
+use Rattle.command_words.specs.Vocabulary.{HoldsCall}
 use Rattle.causal_cli.specs.Commands.{row_for}
 use Rattle.causal_cli.proofs.request.read_values.Goals as goal
 

@@ -1,5 +1,5 @@
 use Rattle.std.proofs.Common.{IfOk, sym, subst}
-use Rattle.command_run.specs.Answers.{GivesOn}
+use Rattle.command_run.specs.Vocabulary.{GivesOn}
 use Rattle.causal_cli.specs.Commands.{commands, request_of, left_of}
 use Rattle.causal_cli.specs.declared.request.Request.TheVariants.{Graph, Separate, Rule, Identify, Adjust, Surrogate, Treated, Instruments, Natural}
 use Rattle.causal_cli.proofs.request.reply_on.Goals as goal

@@ -1,7 +1,7 @@
 use Rattle.std.proofs.Common.{◌≡◌, drop, map, []}
 use Rattle.serde_json.specs.View.{items_view}
-use Rattle.do_derivation.specs.View.{lemma_view}
-use Rattle.step_json.specs.Reading.{each}
+use Rattle.do_derivation.specs.Vocabulary.{lemma_view}
+use Rattle.step_json.specs.Vocabulary.{each}
 use Rattle.certificate.specs.Reading.{lemma_in}
 use Rattle.certificate.proofs.formulas.each_lemma.Given as goal
 

@@ -1,6 +1,6 @@
-use Rattle.prob_expr.specs.View.{formula_view, target_view}
-use Rattle.do_derivation.specs.View.{derivation_view}
-use Rattle.certificate.specs.Plain.{formula}
+use Rattle.prob_expr.specs.Vocabulary.{formula_view, target_view}
+use Rattle.do_derivation.specs.Vocabulary.{derivation_view}
+use Rattle.certificate.specs.Vocabulary.{formula}
 use Rattle.certificate_json.specs.Certificates.{certificate_members}
 use Rattle.certificate_json.proofs.Members.{line_written}
 use Rattle.certificate_json.proofs.ReadsBack.{written_back}

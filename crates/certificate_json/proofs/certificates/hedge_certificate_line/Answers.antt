@@ -1,5 +1,5 @@
-use Rattle.prob_expr.specs.View.{target_view}
-use Rattle.certificate.specs.Plain.{hedge_view, hedge}
+use Rattle.prob_expr.specs.Vocabulary.{target_view}
+use Rattle.certificate.specs.Vocabulary.{hedge_view, hedge}
 use Rattle.certificate_json.specs.Certificates.{certificate_members}
 use Rattle.certificate_json.proofs.Members.{line_written}
 use Rattle.certificate_json.proofs.ReadsBack.{written_back}

@@ -1,6 +1,6 @@
 use Rattle.std.proofs.Common.{◌≡◌, drop, map}
 use Rattle.prob_expr.specs.View.{view}
-use Rattle.answer_json.specs.Progress.{with_values}
+use Rattle.answer_json.specs.Vocabulary.{with_values}
 use Rattle.certificate_json.specs.Certificates.{expr_json}
 use Rattle.certificate_json.proofs.formulas.push_exprs.Given as goal
 

@@ -1,7 +1,7 @@
 use Rattle.std.proofs.Common.{ℕ, Bool, List, length, map, refl, ap, arith}
 use Rattle.json.specs.Json.{Json}
-use Rattle.do_derivation.specs.View.{lemma_view, step_view}
 use Rattle.do_derivation.specs.declared.steps.Lemma.{Lemma}
+use Rattle.do_derivation.specs.Vocabulary.{lemma_view, step_view}
 use Rattle.certificate_json.specs.StepSizes.{is_short}
 use Rattle.certificate_json.specs.Kept.{are_steps_short}
 use Rattle.certificate_json.specs.Certificates.{lemma_json}

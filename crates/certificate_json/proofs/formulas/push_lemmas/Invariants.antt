@@ -1,6 +1,6 @@
 use Rattle.std.proofs.Common.{List, map}
-use Rattle.do_derivation.specs.View.{lemma_view}
 use Rattle.do_derivation.specs.declared.steps.Lemma.{Lemma}
+use Rattle.do_derivation.specs.Vocabulary.{lemma_view}
 use Rattle.certificate_json.specs.Kept.{are_steps_short}
 use Rattle.certificate_json.specs.Certificates.{lemma_json}
 use Rattle.certificate_json.proofs.Keeping.{IsOnTheWay}

@@ -1,6 +1,5 @@
 use Rattle.std.proofs.Common.{◌≡◌, drop, map}
-use Rattle.answer_json.specs.Progress.{with_values}
-use Rattle.answer_json.specs.Values.{pair_json}
+use Rattle.answer_json.specs.Vocabulary.{with_values, pair_json}
 use Rattle.certificate_json.proofs.hedges.push_each.Given as goal
 
 abbrev pub invariant-loop-pair : goal.invariant-loop-pair

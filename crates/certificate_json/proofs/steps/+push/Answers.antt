@@ -1,6 +1,6 @@
 use Rattle.std.proofs.Common.{ℕ, Bool, List, length, refl, ap, arith}
 use Rattle.json.specs.Json.{Json}
-use Rattle.do_derivation.specs.View.{step_view, steps_view}
+use Rattle.do_derivation.specs.Vocabulary.{step_view, steps_view}
 use Rattle.do_derivation.specs.declared.steps.Step.{Step}
 use Rattle.certificate_json.specs.StepSizes.{is_short, are_short}
 use Rattle.certificate_json.specs.Steps.{step_json, steps_json}

@@ -1,5 +1,5 @@
 use Rattle.std.proofs.Common.{List}
-use Rattle.do_derivation.specs.View.{steps_view}
+use Rattle.do_derivation.specs.Vocabulary.{steps_view}
 use Rattle.do_derivation.specs.declared.steps.Step.{Step}
 use Rattle.certificate_json.specs.StepSizes.{are_short}
 use Rattle.certificate_json.specs.Steps.{steps_json}

@@ -1,7 +1,7 @@
 use Rattle.std.proofs.Common.{◌^◌, ℕ, Bool, List, length, map, refl, ap, arith}
 use Rattle.std.specs.Global.{Vec}
 use Rattle.json.specs.Json.{Json}
-use Rattle.do_derivation.specs.View.{numbers_of}
+use Rattle.do_derivation.specs.Vocabulary.{numbers_of}
 use Rattle.certificate_json.specs.StepSizes.{are_below, groups_below}
 use Rattle.certificate_json.specs.Steps.{numbers_json}
 use Rattle.certificate_json.proofs.Keeping.{next_written, all_written, all_short}

@@ -1,6 +1,6 @@
 use Rattle.std.proofs.Common.{ℕ, ◌^◌, List, map}
 use Rattle.std.specs.Global.{Vec}
-use Rattle.do_derivation.specs.View.{numbers_of}
+use Rattle.do_derivation.specs.Vocabulary.{numbers_of}
 use Rattle.certificate_json.specs.StepSizes.{groups_below}
 use Rattle.certificate_json.specs.Steps.{numbers_json}
 use Rattle.certificate_json.proofs.Keeping.{IsOnTheWay}

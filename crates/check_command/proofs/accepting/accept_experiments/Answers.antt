@@ -1,8 +1,8 @@
 use Rattle.std.proofs.Common.{◌≡◌, None, Err, map, subst}
-use Rattle.prob_expr.specs.Listed.{masks_of}
-use Rattle.command_words.specs.ListViews.{names_in}
-use Rattle.targets.specs.Targets.{IsNameFault}
-use Rattle.experiment_lists.specs.Sets.{experiments_fault, AreExperimentSets}
+use Rattle.prob_expr.specs.Vocabulary.{masks_of}
+use Rattle.command_words.specs.Vocabulary.{names_in}
+use Rattle.targets.specs.Vocabulary.{IsNameFault}
+use Rattle.experiment_lists.specs.Vocabulary.{experiments_fault, AreExperimentSets}
 use Rattle.check_command.proofs.accepting.accept_experiments.Goals as goal
 
 pub returns-in-Ok : goal.returns-in-Ok

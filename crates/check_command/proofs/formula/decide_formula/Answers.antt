@@ -1,9 +1,8 @@
 use Rattle.std.proofs.Common.{sym, ◌∙◌}
 use Rattle.std.proofs.lemmas.List.{length-map}
-use Rattle.mixed_graph.specs.Shown.{graph_of}
-use Rattle.prob_expr.specs.Listed.{masks_of}
-use Rattle.prob_expr.specs.View.{formula_view, target_view}
-use Rattle.do_derivation.specs.View.{lemma_view, derivation_view}
+use Rattle.mixed_graph.specs.Vocabulary.{graph_of}
+use Rattle.prob_expr.specs.Vocabulary.{masks_of, formula_view, target_view}
+use Rattle.do_derivation.specs.Vocabulary.{lemma_view, derivation_view}
 use Rattle.check_command.proofs.Deciding.{refused_decided}
 use Rattle.check_command.proofs.formula.decide_formula.Goals as goal
 

@@ -1,15 +1,11 @@
 use Rattle.std.proofs.Common.{◌≡◌, ℕ, true, length, refl}
-use Rattle.mixed_graph.specs.Shown.{graph_of}
+use Rattle.mixed_graph.specs.Vocabulary.{graph_of}
 use Rattle.mixed_graph.proofs.MaskLaws.{below_from}
-use Rattle.finite_models.specs.Data.{meaning}
+use Rattle.finite_models.specs.Vocabulary.{meaning}
 use Rattle.hedge.proofs.Shaping.{sets_form_hedge}
-use Rattle.prob_expr.specs.Experiments.{AgreeUnderAll}
-use Rattle.prob_expr.specs.Listed.{masks_of}
-use Rattle.prob_expr.specs.Terms.{is_listed}
-use Rattle.prob_expr.specs.Tree.{effect_on}
-use Rattle.prob_expr.specs.View.{target_view}
+use Rattle.prob_expr.specs.Vocabulary.{AgreeUnderAll, masks_of, is_listed, effect_on, target_view}
 use Rattle.prob_expr.proofs.Excluded.{experiments_exclude_formula}
-use Rattle.counter_models.specs.Experiments.{IsHarmlessTo}
+use Rattle.counter_models.specs.Vocabulary.{IsHarmlessTo}
 use Rattle.counter_models.proofs.Excluded.{differ_on, no_formula}
 use Rattle.check_command.proofs.Deciding.{some_sets}
 use Rattle.check_command.proofs.Harmless.{each_harmless, harmless_from}

@@ -1,6 +1,6 @@
 use Rattle.std.proofs.Common.{◌≡◌, drop}
 use Rattle.std.specs.List.{list_all}
-use Rattle.prob_expr.specs.Listed.{masks_of}
+use Rattle.prob_expr.specs.Vocabulary.{masks_of}
 use Rattle.check_command.specs.Replies.{is_harmless}
 use Rattle.check_command.proofs.hedge_data.are_harmless.Given as goal
 

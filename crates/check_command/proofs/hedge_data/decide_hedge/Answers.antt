@@ -1,7 +1,6 @@
 use Rattle.std.proofs.Common.{length, subst}
-use Rattle.mixed_graph.specs.Bits.{has}
-use Rattle.mixed_graph.specs.Sets.{Within}
-use Rattle.prob_expr.specs.View.{target_view}
+use Rattle.mixed_graph.specs.Vocabulary.{has, Within}
+use Rattle.prob_expr.specs.Vocabulary.{target_view}
 use Rattle.check_command.proofs.Using.{y_within}
 use Rattle.check_command.proofs.hedge_data.decide_hedge.Goals as goal
 

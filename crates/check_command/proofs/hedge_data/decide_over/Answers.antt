@@ -1,6 +1,6 @@
 use Rattle.std.proofs.Common.{sym, ◌∙◌}
 use Rattle.std.proofs.lemmas.Bool.{both_ways}
-use Rattle.prob_expr.specs.Listed.{masks_of}
+use Rattle.prob_expr.specs.Vocabulary.{masks_of}
 use Rattle.check_command.specs.Replies.{is_harmless}
 use Rattle.check_command.proofs.Harmless.{is_harmless_to, one_meets}
 use Rattle.check_command.proofs.hedge_data.decide_over.Goals as goal

@@ -1,10 +1,9 @@
 use Rattle.std.proofs.Common.{List, subst}
-use Rattle.mixed_graph.specs.Shown.{graph_of}
 use Rattle.mixed_graph.specs.declared.sets.VSet.{VSet}
-use Rattle.prob_expr.specs.Listed.{masks_of}
-use Rattle.prob_expr.specs.View.{formula_view, target_view}
-use Rattle.do_derivation.specs.View.{derivation_view}
-use Rattle.certificate.specs.Plain.{hedge, hedge_view, formula}
+use Rattle.mixed_graph.specs.Vocabulary.{graph_of}
+use Rattle.prob_expr.specs.Vocabulary.{masks_of, formula_view, target_view}
+use Rattle.do_derivation.specs.Vocabulary.{derivation_view}
+use Rattle.certificate.specs.Vocabulary.{hedge, hedge_view, formula}
 use Rattle.check_command.specs.Right.{IsForText, of_formula, of_hedge}
 use Rattle.check_command.proofs.Deciding.{is_faulty}
 use Rattle.check_command.proofs.ReadFormulas.{read_sound}

@@ -1,9 +1,9 @@
 use Rattle.std.proofs.Common.{IfOk, subst}
-use Rattle.mixed_graph.specs.Shown.{graph_of}
-use Rattle.prob_expr.specs.Listed.{masks_of}
-use Rattle.replies.specs.Told.{told_of}
+use Rattle.mixed_graph.specs.Vocabulary.{graph_of}
+use Rattle.prob_expr.specs.Vocabulary.{masks_of}
+use Rattle.replies.specs.Vocabulary.{told_of}
 use Rattle.told.specs.declared.form.Form.{Form}
-use Rattle.told.specs.Telling.{Tells}
+use Rattle.told.specs.Vocabulary.{Tells}
 use Rattle.check_command.specs.CertificateFaults.{certificate_refusal}
 use Rattle.check_command.specs.Right.{IsForCertificate}
 use Rattle.check_command.specs.Telling.{check_telling}

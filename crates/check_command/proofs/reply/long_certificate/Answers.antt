@@ -1,10 +1,10 @@
 use Rattle.std.proofs.Common.{◌≡◌, ◌<◌, ℕ, List, Result, Ok, Err, IfOk, length}
-use Rattle.mixed_graph.specs.Graphs.{MixedGraph}
+use Rattle.mixed_graph.specs.Vocabulary.{MixedGraph}
 use Rattle.replies.specs.declared.outcome.Outcome.TheVariants.{Second}
 use Rattle.replies.specs.declared.outcome.Reply.{Reply}
-use Rattle.replies.specs.Told.{told_of}
+use Rattle.replies.specs.Vocabulary.{told_of}
 use Rattle.told.specs.declared.form.Form.{Form}
-use Rattle.told.specs.Telling.{Tells}
+use Rattle.told.specs.Vocabulary.{Tells}
 use Rattle.check_command.specs.CertificateFaults.{certificate_refusal}
 use Rattle.check_command.specs.Refusals.{cert_size_told}
 use Rattle.check_command.specs.Right.{IsForCertificate}

@@ -1,7 +1,6 @@
 use Rattle.std.proofs.Common.{ap, map, sym, subst}
-use Rattle.command_words.specs.ListViews.{names_in}
-use Rattle.experiment_lists.specs.Views.{lists_in}
-use Rattle.experiment_lists.specs.Words.{AreOptionalExperiments}
+use Rattle.command_words.specs.Vocabulary.{names_in}
+use Rattle.experiment_lists.specs.Vocabulary.{lists_in, AreOptionalExperiments}
 use Rattle.check_command.proofs.request.optional_experiments.Goals as goal
 
 pub returns-in-None-clause-ok : goal.returns-in-None-clause-ok

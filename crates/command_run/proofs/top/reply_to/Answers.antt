@@ -1,8 +1,8 @@
 use Rattle.std.proofs.Common.{Option, option_map, refl, ap, sym, subst, arith, Err}
 use Rattle.std.specs.Borrow.{Bor}
-use Rattle.command_words.specs.Views.{texts_of}
+use Rattle.command_words.specs.Vocabulary.{texts_of}
 use Rattle.diagram.specs.declared.diagram.Diagram.{Diagram}
-use Rattle.replies.specs.Outcomes.{IsAnswered}
+use Rattle.replies.specs.Vocabulary.{IsAnswered}
 use Rattle.command_run.specs.Ends.{RepliesWith}
 use Rattle.command_run.specs.Run.{run_with, reads_of, ReadsAsAsked}
 use Rattle.command_run.proofs.OneRequest.{asked_format}

@@ -1,7 +1,6 @@
 use Rattle.std.proofs.Common.{◌≡◌, Err, ap, ◌∙◌}
-use Rattle.command_words.specs.Form.{row_named}
-use Rattle.command_words.specs.Views.{texts_of}
 use Rattle.command_words.specs.declared.typed.RequestFault.TheVariants.{NotUnderstood}
+use Rattle.command_words.specs.Vocabulary.{row_named, texts_of}
 use Rattle.command_words.proofs.Asking.{named, no_form, asked, not_asked}
 use Rattle.command_run.specs.Commands.{table, command_of, IsRequest}
 use Rattle.command_run.proofs.words.read_request.Goals as goal

@@ -1,6 +1,6 @@
 use Rattle.std.proofs.Common.{◌≡◌, sym, ap, ◌∙◌, subst, option_map}
 use Rattle.std.proofs.lemmas.Option.{same_Some}
-use Rattle.command_words.specs.Gives.{HoldsCall}
+use Rattle.command_words.specs.Vocabulary.{HoldsCall}
 use Rattle.command_run.proofs.OneCommand.{nothing_asked}
 use Rattle.command_run.proofs.words.request_named.Goals as goal
 

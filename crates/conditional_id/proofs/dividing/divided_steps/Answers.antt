@@ -1,11 +1,11 @@
 use Rattle.std.proofs.Common.{sym, ap, ◌∙◌}
-use Rattle.do_derivation.specs.Plans.{Plan, no_plans, plan}
-use Rattle.do_derivation.specs.View.{step_view}
+use Rattle.do_derivation.specs.Plans.{Plan, plan}
 use Rattle.do_derivation.specs.declared.steps.Step.{Make, Then}
 use Rattle.do_derivation.specs.declared.moves.Move.TheVariants.{Bare}
+use Rattle.do_derivation.specs.Vocabulary.{no_plans, step_view}
 use Rattle.do_derivation.specs.declared.moves.BareMove.TheVariants as bare_move
-use Rattle.identification_theory.specs.Derivations.{single}
-use Rattle.identify.specs.Lists.{onto}
+use Rattle.identification_theory.specs.Vocabulary.{single}
+use Rattle.identify.specs.Vocabulary.{onto}
 use Rattle.identify.proofs.Steps.{onto_more, onto_nothing}
 use Rattle.conditional_id.specs.Conditionals.{summed_steps}
 use Rattle.conditional_id.proofs.Lists.{parted, whole_steps}

@@ -1,8 +1,8 @@
 use Rattle.std.proofs.Common.{ap, ◌∙◌}
 use Rattle.do_derivation.specs.Plans.{Plan, plan}
-use Rattle.do_derivation.specs.View.{step_view}
 use Rattle.do_derivation.specs.declared.steps.Step.{At}
-use Rattle.identify.specs.Lists.{onto}
+use Rattle.do_derivation.specs.Vocabulary.{step_view}
+use Rattle.identify.specs.Vocabulary.{onto}
 use Rattle.identify.proofs.Steps.{onto_more, step-At}
 use Rattle.conditional_id.proofs.dividing.push_at.Goals as goal
 

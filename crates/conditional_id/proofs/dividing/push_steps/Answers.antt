@@ -1,6 +1,6 @@
 use Rattle.std.proofs.Common.{sym, ap, ◌∙◌}
-use Rattle.do_derivation.specs.View.{step_view, steps_view}
-use Rattle.identify.specs.Lists.{onto}
+use Rattle.do_derivation.specs.Vocabulary.{step_view, steps_view}
+use Rattle.identify.specs.Vocabulary.{onto}
 use Rattle.conditional_id.specs.Conditionals.{steps_of}
 use Rattle.conditional_id.proofs.Lists.{alone_steps, list_steps}
 use Rattle.conditional_id.proofs.StepCases.{alone_from}

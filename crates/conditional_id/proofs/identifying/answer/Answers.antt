@@ -1,6 +1,6 @@
 use Rattle.std.proofs.Common.{false, refl, sym, ◌∙◌, eqb-true, arith}
-use Rattle.mixed_graph.specs.Shown.{graph_of}
-use Rattle.prob_expr.specs.View.{target_view}
+use Rattle.mixed_graph.specs.Vocabulary.{graph_of}
+use Rattle.prob_expr.specs.Vocabulary.{target_view}
 use Rattle.identification_theory.proofs.Bools.{clash}
 use Rattle.conditional_id.specs.Conditionals.{IsConditionalTarget}
 use Rattle.conditional_id.proofs.Found.{target_with}

@@ -1,5 +1,5 @@
-use Rattle.mixed_graph.specs.Shown.{graph_of}
-use Rattle.prob_expr.specs.View.{target_view}
+use Rattle.mixed_graph.specs.Vocabulary.{graph_of}
+use Rattle.prob_expr.specs.Vocabulary.{target_view}
 use Rattle.identify.proofs.RightAnswers.{if_ok}
 use Rattle.conditional_id.proofs.Answered.{conditional_is_right, conditional_is_shallow, derived_is_conditional}
 use Rattle.conditional_id.specs.Answers.{IsAnswerGiven}

@@ -1,5 +1,5 @@
 use Rattle.std.proofs.Common.{IsTrue, ◌↔◌, subst, sym, eq-eqb, ◌∙◌}
-use Rattle.mixed_graph.specs.Shown.{graph_of}
+use Rattle.mixed_graph.specs.Vocabulary.{graph_of}
 use Rattle.conditional_id.specs.Settled.{IsSettled}
 use Rattle.identification_theory.proofs.Bools.{clash}
 use Rattle.conditional_id.proofs.Found.{hedge_by, settled_by}

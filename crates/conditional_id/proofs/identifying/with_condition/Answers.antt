@@ -1,9 +1,9 @@
 use Rattle.std.proofs.Common.{◌≤◌, subst, inr, length, arith}
-use Rattle.mixed_graph.specs.Shown.{graph_of}
-use Rattle.prob_expr.specs.View.{formula_view, target_view}
-use Rattle.do_derivation.specs.View.{derivation_view}
-use Rattle.identification_theory.specs.Derivations.{IsDerived}
-use Rattle.identify.specs.Answers.{IfFormula}
+use Rattle.mixed_graph.specs.Vocabulary.{graph_of}
+use Rattle.prob_expr.specs.Vocabulary.{formula_view, target_view}
+use Rattle.do_derivation.specs.Vocabulary.{derivation_view}
+use Rattle.identification_theory.specs.Vocabulary.{IsDerived}
+use Rattle.identify.specs.Vocabulary.{IfFormula}
 use Rattle.conditional_id.proofs.TurningLaw.{targeted, turned_target}
 use Rattle.conditional_id.specs.Conditionals.{IsConditionalTarget}
 use Rattle.conditional_id.proofs.Found.{exact_for, given_formula, joint_sets, some_positive, target_with}

@@ -1,12 +1,11 @@
 use Rattle.std.proofs.Common.{true, refl, sym, subst, inl, []}
-use Rattle.mixed_graph.specs.Shown.{graph_of}
-use Rattle.hedge.specs.Hedges.{IsHedge}
-use Rattle.counter_models.specs.Pairs.{IsPairOf}
+use Rattle.mixed_graph.specs.Vocabulary.{graph_of}
+use Rattle.hedge.specs.Vocabulary.{IsHedge}
+use Rattle.counter_models.specs.Vocabulary.{IsPairOf}
 use Rattle.identification_theory.proofs.Bools.{clash}
-use Rattle.identification_theory.specs.Procedure.{IsUnidentified}
-use Rattle.prob_expr.specs.Tree.{effect_on}
-use Rattle.identify.specs.Answers.{IfHedge, IsRight}
-use Rattle.identify.specs.Hedged.{IsHedgeOf}
+use Rattle.identification_theory.specs.Vocabulary.{IsUnidentified}
+use Rattle.prob_expr.specs.Vocabulary.{effect_on}
+use Rattle.identify.specs.Vocabulary.{IfHedge, IsRight, IsHedgeOf}
 use Rattle.conditional_id.proofs.DividingLaw.{join-zero}
 use Rattle.conditional_id.proofs.Found.{exact_plain, turned_none}
 use Rattle.conditional_id.proofs.identifying.without_condition.Goals as goal

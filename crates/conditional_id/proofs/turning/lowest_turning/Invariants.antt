@@ -1,6 +1,5 @@
 use Rattle.std.proofs.Common.{ℕ, ◌<◌, IsTrue}
-use Rattle.mixed_graph.specs.Bits.{has}
-use Rattle.mixed_graph.specs.Shown.{graph_of}
+use Rattle.mixed_graph.specs.Vocabulary.{has, graph_of}
 use Rattle.conditional_id.specs.HedgeLaws.{HasOpenWalkTo}
 use Rattle.conditional_id.proofs.turning.lowest_turning.Given as goal
 

@@ -1,6 +1,5 @@
 use Rattle.std.proofs.Common.{◌<◌, sym, subst, ap, ◌∙◌, arith}
-use Rattle.mixed_graph.specs.Shown.{graph_of}
-use Rattle.mixed_graph.specs.Masks.{minus}
+use Rattle.mixed_graph.specs.Vocabulary.{graph_of, minus}
 use Rattle.conditional_id.proofs.Found.{target_with}
 use Rattle.conditional_id.proofs.Moving.{move_smaller, moving_all, moving_more, moving_none}
 use Rattle.conditional_id.proofs.turning.turned.Goals as goal

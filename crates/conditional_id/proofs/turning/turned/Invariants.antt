@@ -1,4 +1,4 @@
-use Rattle.mixed_graph.specs.Shown.{graph_of}
+use Rattle.mixed_graph.specs.Vocabulary.{graph_of}
 use Rattle.conditional_id.proofs.Moving.{Moving}
 use Rattle.conditional_id.proofs.turning.turned.Given as goal
 

@@ -1,10 +1,8 @@
 use Rattle.std.proofs.Common.{false, sym, ◌∙◌, refl}
-use Rattle.mixed_graph.specs.Bits.{has}
-use Rattle.mixed_graph.specs.Shown.{graph_of}
+use Rattle.mixed_graph.specs.Vocabulary.{has, graph_of, minus, one}
 use Rattle.do_rules.specs.declared.rules.Rule.TheVariants.{Two}
 use Rattle.do_derivation.proofs.Exact.{holds_or_fails}
 use Rattle.identification_theory.proofs.Bools.{clash}
-use Rattle.mixed_graph.specs.Masks.{minus, one}
 use Rattle.conditional_id.proofs.Moving.{blocked_to, four_of, open_to, walk_of}
 use Rattle.conditional_id.proofs.turning.turns.Goals as goal
 

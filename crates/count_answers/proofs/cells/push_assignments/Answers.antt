@@ -1,7 +1,7 @@
 use Rattle.std.proofs.Common.{◌++◌, length, sym, ap, ◌∙◌, arith, subst, slice_index}
-use Rattle.mixed_graph.specs.Bits.{has}
+use Rattle.mixed_graph.specs.Vocabulary.{has}
 use Rattle.mixed_graph.proofs.MemberLists.{AreMembers, members-are}
-use Rattle.answer_text.specs.Texts.{comma_before}
+use Rattle.answer_text.specs.Vocabulary.{comma_before}
 use Rattle.count_answers.specs.Lines.{assignment}
 use Rattle.count_answers.proofs.Texts.{IsWriting, writing_begun, writing_more, writing_done}
 use Rattle.count_answers.proofs.cells.push_assignments.Goals as goal

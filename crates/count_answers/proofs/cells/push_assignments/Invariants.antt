@@ -1,5 +1,5 @@
 use Rattle.std.proofs.Common.{length, slice_index}
-use Rattle.mixed_graph.specs.Bits.{has}
+use Rattle.mixed_graph.specs.Vocabulary.{has}
 use Rattle.mixed_graph.proofs.MemberLists.{AreMembers}
 use Rattle.count_answers.specs.Lines.{assignment}
 use Rattle.count_answers.proofs.Texts.{IsWriting}

@@ -1,6 +1,6 @@
 use Rattle.std.proofs.Common.{ℕ, ◌≡◌, ◌<◌, length, true, slice_index}
-use Rattle.mixed_graph.specs.Bits.{has}
-use Rattle.count_table.specs.Tables.{levels_in}
+use Rattle.mixed_graph.specs.Vocabulary.{has}
+use Rattle.count_table.specs.Vocabulary.{levels_in}
 use Rattle.count_cases.proofs.sources.has_levels.Given as goal
 
 abbrev pub invariant-loop-v : goal.invariant-loop-v

@@ -1,8 +1,8 @@
 use Rattle.std.proofs.Common.{◌≡◌, ◌+◌, ◌<◌, ◌≤◌, ◌||◌, ◌∙◌, ap, ap₂, sym, subst, arith, rules, map, drop, length, Some, None}
 use Rattle.std.proofs.lemmas.List.{length-map}
 use Rattle.prob_expr.specs.Tree.{product}
-use Rattle.prob_expr.specs.View.{view, views}
-use Rattle.prob_expr.specs.Check.{cap}
+use Rattle.prob_expr.specs.View.{view}
+use Rattle.prob_expr.specs.Vocabulary.{views, cap}
 use Rattle.prob_expr.proofs.Views.{views_more, none_after}
 use Rattle.count_eval.specs.Rules.{rule, is_zero, or_zero}
 use Rattle.count_eval.specs.Steps.{one_more, each_level, whole}

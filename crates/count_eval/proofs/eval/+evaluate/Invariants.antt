@@ -1,8 +1,7 @@
 use Rattle.std.proofs.Common.{ℕ, ◌≡◌, ◌+◌, ◌-◌, ◌*◌, ◌≤◌, ◌||◌, drop, map, set, None, Ok, List, Option, Result, Bool}
-use Rattle.prob_expr.specs.Tree.{Tree, Trees}
-use Rattle.prob_expr.specs.Values.{Weights}
-use Rattle.prob_expr.specs.View.{view, views}
-use Rattle.prob_expr.specs.Check.{next_node}
+use Rattle.prob_expr.specs.Tree.{Tree}
+use Rattle.prob_expr.specs.Vocabulary.{Trees, Weights, views, next_node}
+use Rattle.prob_expr.specs.View.{view}
 use Rattle.quantity.specs.Kinds.{Pair}
 use Rattle.count_eval.specs.Rules.{Rule, rule}
 use Rattle.count_eval.specs.declared.spot.Spot.{Spot}

@@ -1,8 +1,8 @@
 use Rattle.std.proofs.Common.{ℕ, ◌≡◌, ◌∙◌, Ok, true, sym, ap, arith}
-use Rattle.mixed_graph.specs.Bits.{has}
+use Rattle.mixed_graph.specs.Vocabulary.{has}
 use Rattle.finite_models.proofs.Bools.{either}
 use Rattle.mixed_graph.proofs.MaskLaws.{has_join}
-use Rattle.count_rows.specs.Rows.{counted}
+use Rattle.count_rows.specs.Vocabulary.{counted}
 use Rattle.count_eval.specs.Programs.{cell_of, is_used}
 use Rattle.count_eval.proofs.CountedLaws.{counted_shrinks, counted_small, term_is, given_joined}
 use Rattle.count_eval.proofs.eval.term.Goals as goal

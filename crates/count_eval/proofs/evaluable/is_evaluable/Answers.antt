@@ -1,6 +1,6 @@
 use Rattle.std.proofs.Common.{◌≡◌, ◌∙◌, Bool, true, false, sym, refl}
 use Rattle.std.specs.Bool.{OnTrue, OnFalse}
-use Rattle.prob_expr.specs.View.{formula_view}
+use Rattle.prob_expr.specs.Vocabulary.{formula_view}
 use Rattle.count_eval.specs.Answers.{IsEvaluable}
 use Rattle.count_eval.proofs.Uses.{evaluable, not_low, not_only, no_error}
 use Rattle.count_eval.proofs.evaluable.is_evaluable.Goals as goal

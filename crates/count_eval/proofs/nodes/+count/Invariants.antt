@@ -1,5 +1,5 @@
 use Rattle.std.proofs.Common.{◌≡◌, drop}
-use Rattle.prob_expr.specs.View.{views}
+use Rattle.prob_expr.specs.Vocabulary.{views}
 use Rattle.count_eval.specs.Evaluated.{node_behind_all}
 use Rattle.count_eval.proofs.nodes.+count.Given as goal
 

@@ -1,5 +1,5 @@
 use Rattle.std.proofs.Common.{ℕ, ◌+◌, ◌≡◌, ◌∙◌, List, true, false, get_or, sym, subst, arith}
-use Rattle.mixed_graph.specs.Bits.{has}
+use Rattle.mixed_graph.specs.Vocabulary.{has}
 use Rattle.count_eval.proofs.CellSteps.{zeros, length-zeros}
 use Rattle.count_eval.proofs.Within.{IsWithin, within_more, within_skip}
 use Rattle.count_eval.proofs.values.cell_within.Goals as goal

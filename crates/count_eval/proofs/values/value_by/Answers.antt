@@ -1,7 +1,8 @@
 use Rattle.std.proofs.Common.{List, sym, subst, map, length, Ok, Err, arith}
 use Rattle.std.proofs.lemmas.List.{length-map}
-use Rattle.prob_expr.specs.View.{view, formula_view}
+use Rattle.prob_expr.specs.View.{view}
 use Rattle.prob_expr.specs.declared.expr.Expr.{Expr}
+use Rattle.prob_expr.specs.Vocabulary.{formula_view}
 use Rattle.count_eval.specs.Laws.{AllUsed}
 use Rattle.count_eval.specs.Rules.{rule}
 use Rattle.count_eval.specs.Programs.{weights_in, is_used, cell_of, stop_of, AreValues, IsBelow, AreOrdered}

@@ -1,6 +1,6 @@
 use Rattle.std.proofs.Common.{◌≡◌, drop, map}
-use Rattle.count_eval.specs.Programs.{cell_of}
-use Rattle.answer_json.specs.Progress.{with_values}
+use Rattle.count_eval.specs.Vocabulary.{cell_of}
+use Rattle.answer_json.specs.Vocabulary.{with_values}
 use Rattle.count_json.specs.Cells.{level_json}
 use Rattle.count_json.proofs.cells.push_levels.Given as goal
 

@@ -1,6 +1,6 @@
 use Rattle.std.proofs.Common.{◌≡◌, ◌∙◌, ℕ, List, [], map, codes, ap}
-use Rattle.count_eval.specs.Programs.{cell_of}
-use Rattle.answer_json.specs.Progress.{items, with_key, with_values, ended_array}
+use Rattle.count_eval.specs.Vocabulary.{cell_of}
+use Rattle.answer_json.specs.Vocabulary.{items, with_key, with_values, ended_array}
 use Rattle.answer_json.proofs.Arrays.{array_written}
 use Rattle.count_json.specs.Cells.{level_json}
 use Rattle.count_json.proofs.stops.push_support.Goals as goal

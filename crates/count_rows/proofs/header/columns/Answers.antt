@@ -1,7 +1,7 @@
 use Rattle.std.proofs.Common.{◌≡◌, ◌∙◌, take, arith, sym, ap, rules, true, List, ℕ, [], ◌∷◌, ◌++◌, map}
 use Rattle.std.specs.Prelude.{is_ok}
 use Rattle.std.proofs.lemmas.List.{map-append}
-use Rattle.mixed_graph.specs.Names.{name_of, index_of}
+use Rattle.mixed_graph.specs.Vocabulary.{name_of, index_of}
 use Rattle.count_rows.specs.Faults.{header_fault}
 use Rattle.count_rows.proofs.HeaderSteps.{header_fault-last, header_fault-first, header_fault-nil, names-more, names-split}
 use Rattle.count_rows.proofs.header.columns.Goals as goal

@@ -1,5 +1,5 @@
 use Rattle.std.proofs.Common.{◌≡◌, map, take, None}
-use Rattle.mixed_graph.specs.Names.{index_of, name_of}
+use Rattle.mixed_graph.specs.Vocabulary.{index_of, name_of}
 use Rattle.count_rows.specs.Faults.{header_fault}
 use Rattle.count_rows.proofs.header.columns.Given as goal
 

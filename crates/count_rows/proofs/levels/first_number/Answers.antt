@@ -2,7 +2,7 @@ use Rattle.std.proofs.Common.{◌≡◌, ◌∙◌, ◌<◌, arith, sym, ap, tru
 use Rattle.std.specs.Str.{bytes_eq}
 use Rattle.std.proofs.lemmas.List.{length-map}
 use Rattle.std.proofs.lemmas.List.Folds.{list_any_at}
-use Rattle.mixed_graph.specs.Names.{texts}
+use Rattle.mixed_graph.specs.Vocabulary.{texts}
 use Rattle.count_rows.proofs.HeaderSteps.{found_at, not_at}
 use Rattle.count_rows.proofs.LevelLists.{text_at}
 use Rattle.count_rows.proofs.levels.first_number.Goals as goal

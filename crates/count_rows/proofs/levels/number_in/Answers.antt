@@ -3,7 +3,7 @@ use Rattle.std.specs.Prelude.{Option, Some, None, IfSome, position}
 use Rattle.std.specs.Global.{Vec}
 use Rattle.std.specs.Str.{bytes_eq}
 use Rattle.std.proofs.lemmas.List.{length-map}
-use Rattle.mixed_graph.specs.Names.{texts, index_of}
+use Rattle.mixed_graph.specs.Vocabulary.{texts, index_of}
 use Rattle.mixed_graph.proofs.NameLists.{list_any-texts, position_or_len-texts, position-index}
 use Rattle.count_rows.proofs.levels.number_in.Goals as goal
 

@@ -1,5 +1,5 @@
 use Rattle.std.proofs.Common.{◌≡◌, ◌∙◌, length, arith}
-use Rattle.mixed_graph.specs.Bits.{has, members_below}
+use Rattle.mixed_graph.specs.Vocabulary.{has, members_below}
 use Rattle.mixed_graph.proofs.MemberLists.{members-all, members-pos}
 use Rattle.count_rows.proofs.rows.read_rows.Goals as goal
 

@@ -1,6 +1,6 @@
 use Rattle.std.proofs.Common.{◌≡◌, ◌∙◌, sym, ap, subst, List, ℕ, [], map, Bor}
 use Rattle.std.specs.Prelude.{option_map}
-use Rattle.mixed_graph.specs.Names.{name_of}
+use Rattle.mixed_graph.specs.Vocabulary.{name_of}
 use Rattle.count_rows.specs.declared.fault.CountFault.{CountFault}
 use Rattle.count_rows.specs.declared.tally.Tally.{Tally}
 use Rattle.count_rows.specs.Records.{Record, Layout, records_of, rows_of, header_of, layout_of}

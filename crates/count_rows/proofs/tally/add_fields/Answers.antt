@@ -1,5 +1,5 @@
 use Rattle.std.proofs.Common.{◌≡◌, ◌∙◌, arith, ap, List, ℕ, [], get_or}
-use Rattle.mixed_graph.specs.Names.{with_name, index_of}
+use Rattle.mixed_graph.specs.Vocabulary.{with_name, index_of}
 use Rattle.count_rows.specs.Records.{field_in}
 use Rattle.count_rows.proofs.TallySteps.{written_here, cells_more}
 use Rattle.std.proofs.lemmas.List.{get_or-set_other, get_or_default}

@@ -1,5 +1,5 @@
 use Rattle.std.proofs.Common.{◌≡◌, ◌<◌, ◌≤◌, ◌++◌, ℕ, [], get_or}
-use Rattle.mixed_graph.specs.Names.{with_name, index_of}
+use Rattle.mixed_graph.specs.Vocabulary.{with_name, index_of}
 use Rattle.count_rows.specs.Records.{field_in}
 use Rattle.count_rows.specs.Rows.{list_below}
 use Rattle.count_rows.proofs.tally.add_fields.Given as goal

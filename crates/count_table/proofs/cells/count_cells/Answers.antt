@@ -1,8 +1,7 @@
 use Rattle.std.proofs.Common.{◌*◌, ap, subst, [], arith}
 use Rattle.std.proofs.lemmas.List.{get_or_read}
 use Rattle.std.proofs.lemmas.List.Elements.{All-more}
-use Rattle.count_rows.specs.Levels.{AreLevels}
-use Rattle.count_rows.specs.Records.{cell_count}
+use Rattle.count_rows.specs.Vocabulary.{AreLevels, cell_count}
 use Rattle.count_table.proofs.TableSteps.{count_more, count_fits, item_length}
 use Rattle.count_table.proofs.cells.count_cells.Goals as goal
 

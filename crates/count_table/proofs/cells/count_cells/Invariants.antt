@@ -1,6 +1,5 @@
 use Rattle.std.proofs.Common.{◌≡◌, ◌*◌, drop, take, All}
-use Rattle.count_rows.specs.Levels.{AreLevels}
-use Rattle.count_rows.specs.Records.{cell_count}
+use Rattle.count_rows.specs.Vocabulary.{AreLevels, cell_count}
 use Rattle.count_table.proofs.cells.count_cells.Given as goal
 
 abbrev pub invariant-loop-level : goal.invariant-loop-level

@@ -1,6 +1,6 @@
 use Rattle.std.proofs.Common.{◌+◌, length, get_or, set, ap, sym, arith}
 use Rattle.std.proofs.lemmas.List.{get_or_read}
-use Rattle.count_rows.specs.Records.{cell_count}
+use Rattle.count_rows.specs.Vocabulary.{cell_count}
 use Rattle.count_table.specs.Cells.{sizes_of}
 use Rattle.count_table.proofs.Filling.{filling-cell, filling-fits, filling-more, filling-end}
 use Rattle.count_table.proofs.cells.counts_of.Goals as goal

@@ -1,5 +1,5 @@
 use Rattle.std.proofs.Common.{length}
-use Rattle.count_rows.specs.Records.{cell_count}
+use Rattle.count_rows.specs.Vocabulary.{cell_count}
 use Rattle.count_table.specs.Cells.{sizes_of}
 use Rattle.count_table.proofs.Filling.{IsFilling}
 use Rattle.count_table.proofs.cells.counts_of.Given as goal

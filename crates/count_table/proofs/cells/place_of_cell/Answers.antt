@@ -1,6 +1,6 @@
 use Rattle.std.proofs.Common.{ℕ, ◌≡◌, ◌+◌, ◌*◌, ◌^◌, ◌<◌, List, [], length, get_or, ap, ◌∙◌, arith}
 use Rattle.std.proofs.lemmas.List.{length-map}
-use Rattle.count_rows.specs.Records.{Field}
+use Rattle.count_rows.specs.Vocabulary.{Field}
 use Rattle.count_table.specs.Cells.{sizes_of, place_of}
 use Rattle.count_table.proofs.CellLists.{place_of-lt}
 use Rattle.count_table.proofs.TableSteps.{IsPlacedMore, place_more, placed_end, item_length, IsCell-length}

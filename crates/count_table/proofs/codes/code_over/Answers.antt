@@ -1,7 +1,7 @@
 use Rattle.std.proofs.Common.{ℕ, ◌≡◌, ◌+◌, ◌*◌, ◌<◌, ◌-◌, ◌^◌, List, [], length, get_or, drop, ap, sym, ◌∙◌, arith, slice_index}
 use Rattle.std.proofs.lemmas.List.{get_or-map}
-use Rattle.mixed_graph.specs.Bits.{has}
-use Rattle.count_rows.specs.Records.{Field}
+use Rattle.mixed_graph.specs.Vocabulary.{has}
+use Rattle.count_rows.specs.Vocabulary.{Field}
 use Rattle.count_table.specs.Cells.{sizes_of}
 use Rattle.count_table.specs.Codes.{room}
 use Rattle.count_table.proofs.TableSteps.{AreFew, few-one, few-drop, item_length, code-small, code_next, code_end, field_fits, kept-small, below_from}

@@ -1,5 +1,5 @@
 use Rattle.std.proofs.Common.{ℕ, ◌≡◌, ◌<◌, ◌*◌, ◌+◌, ◌-◌, ◌^◌, [], length, get_or, drop, ap, sym, ◌∙◌, arith}
-use Rattle.mixed_graph.specs.Bits.{has}
+use Rattle.mixed_graph.specs.Vocabulary.{has}
 use Rattle.count_table.specs.Codes.{room}
 use Rattle.count_table.proofs.TableSteps.{AreFew, few-one, few-drop, item_length, mask-small, mask_next, mask_end, field_fits, kept-small}
 use Rattle.count_table.proofs.codes.mask_over.Goals as goal

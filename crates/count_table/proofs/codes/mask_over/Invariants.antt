@@ -1,5 +1,5 @@
 use Rattle.std.proofs.Common.{◌≡◌, ◌≤◌, length, drop}
-use Rattle.mixed_graph.specs.Bits.{has}
+use Rattle.mixed_graph.specs.Vocabulary.{has}
 use Rattle.count_table.specs.Cells.{sizes_of}
 use Rattle.count_table.specs.Codes.{mask_under}
 use Rattle.count_table.proofs.codes.mask_over.Given as goal

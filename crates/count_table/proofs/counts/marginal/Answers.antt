@@ -1,9 +1,9 @@
 use Rattle.std.proofs.Common.{ℕ, ◌∙◌, List, length, map, sum, sym, ap, arith}
 use Rattle.std.proofs.lemmas.List.{length-map}
 use Rattle.std.proofs.lemmas.List.Sums.{sum-map}
-use Rattle.mixed_graph.specs.Bits.{has}
+use Rattle.mixed_graph.specs.Vocabulary.{has}
 use Rattle.count_table.specs.LaneSums.{matched_sum}
-use Rattle.count_rows.specs.Rows.{Row}
+use Rattle.count_rows.specs.Vocabulary.{Row}
 use Rattle.count_table.specs.Cells.{sizes_of}
 use Rattle.count_table.specs.Codes.{code_of_cell, mask_under}
 use Rattle.count_table.proofs.RowLists.{masked_is_counted}

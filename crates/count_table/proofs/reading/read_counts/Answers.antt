@@ -1,8 +1,6 @@
 use Rattle.std.proofs.Common.{ℕ, ◌∙◌, List, ap, Bor}
 use Rattle.std.specs.Prelude.{option_map}
-use Rattle.count_rows.specs.Records.{records_of, rows_of}
-use Rattle.count_rows.specs.Rows.{Row, counted}
-use Rattle.count_rows.specs.Faults.{used_names}
+use Rattle.count_rows.specs.Vocabulary.{records_of, rows_of, Row, counted, used_names}
 use Rattle.count_table.specs.Reading.{layout_in}
 use Rattle.count_table.proofs.ReadRows.{read_are_rows, rows-read}
 use Rattle.count_table.proofs.reading.read_counts.Goals as goal

@@ -1,8 +1,7 @@
 use Rattle.std.proofs.Common.{ℕ, Bool, ◌∙◌, ◌≡◌, ap, ◌&&◌, not, slice_index, subst}
 use mathlib.Core.Path.{fun_ext}
-use Rattle.mixed_graph.specs.Bits.{has}
-use Rattle.mixed_graph.specs.Shown.{graph_of}
-use Rattle.hedge.specs.Nearest.{IsChoiceOf}
+use Rattle.mixed_graph.specs.Vocabulary.{has, graph_of}
+use Rattle.hedge.specs.Vocabulary.{IsChoiceOf}
 use Rattle.counter_models.specs.Kept.{free}
 use Rattle.counter_models.proofs.Choosing.{are_kept}
 use Rattle.counter_models.proofs.carrying.carry_toward.Goals as goal

@@ -1,5 +1,5 @@
 use Rattle.std.proofs.Common.{◌∙◌, arith, ap, ◌&&◌, not}
-use Rattle.mixed_graph.specs.Bits.{has}
+use Rattle.mixed_graph.specs.Vocabulary.{has}
 use Rattle.mixed_graph.proofs.Masks.{below_64, has-zero}
 use Rattle.mixed_graph.proofs.Searches.{Step, searching_none, searching_more, searching_smaller}
 use Rattle.counter_models.proofs.Following.{choosing, choosing_low, reached_from, held_by_reached}

@@ -1,6 +1,5 @@
 use Rattle.std.proofs.Common.{arith}
-use Rattle.mixed_graph.specs.Bits.{has}
-use Rattle.mixed_graph.specs.Shown.{graph_of}
+use Rattle.mixed_graph.specs.Vocabulary.{has, graph_of}
 use Rattle.mixed_graph.proofs.Members.{length-members-le}
 use Rattle.counter_models.proofs.Lists.{low_links}
 use Rattle.counter_models.proofs.pairs.build.Goals as goal

@@ -1,5 +1,5 @@
 use Rattle.std.proofs.Common.{◌∙◌, ap, ◌&&◌, arith}
-use Rattle.mixed_graph.specs.Bits.{has}
+use Rattle.mixed_graph.specs.Vocabulary.{has}
 use Rattle.counter_models.proofs.Lists.{count-cut}
 use Rattle.counter_models.proofs.parts.count_before.Goals as goal
 

@@ -1,5 +1,5 @@
 use Rattle.std.proofs.Common.{suc, ◌∙◌, sym, ap, ◌&&◌, slice_index}
-use Rattle.mixed_graph.specs.Bits.{has}
+use Rattle.mixed_graph.specs.Vocabulary.{has}
 use Rattle.counter_models.specs.Pairs.{is_linked}
 use Rattle.counter_models.proofs.Lists.{members-none, members-more, members-skip}
 use Rattle.counter_models.proofs.parts.links_at.Goals as goal

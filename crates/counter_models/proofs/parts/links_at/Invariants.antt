@@ -1,5 +1,5 @@
 use Rattle.std.proofs.Common.{◌≡◌, suc, ◌&&◌, slice_index}
-use Rattle.mixed_graph.specs.Bits.{has, members_below}
+use Rattle.mixed_graph.specs.Vocabulary.{has, members_below}
 use Rattle.counter_models.specs.Pairs.{is_linked}
 use Rattle.counter_models.proofs.parts.links_at.Given as goal
 

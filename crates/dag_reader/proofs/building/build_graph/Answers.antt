@@ -1,6 +1,6 @@
 use Rattle.std.proofs.Common.{◌≡◌, ℕ, true, List, sym, ap, ◌∙◌, subst}
 use Rattle.std.specs.List.{list_all}
-use Rattle.mixed_graph.specs.Pairs.{has_pair}
+use Rattle.mixed_graph.specs.Vocabulary.{has_pair}
 use Rattle.dag_reader.specs.MarkEnds.{is_inside}
 use Rattle.dag_reader.specs.Passes.{arrows_of, doubles_of}
 use Rattle.dag_reader.specs.Rows.{row_has, pairs_below}

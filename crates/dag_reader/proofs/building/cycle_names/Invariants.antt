@@ -1,5 +1,5 @@
 use Rattle.std.proofs.Common.{◌≡◌, map, take}
-use Rattle.mixed_graph.specs.Names.{name_of}
+use Rattle.mixed_graph.specs.Vocabulary.{name_of}
 use Rattle.dag_reader.proofs.building.cycle_names.Given as goal
 
 abbrev pub invariant-loop-i : goal.invariant-loop-i

@@ -1,5 +1,5 @@
 use Rattle.std.proofs.Common.{map, ap, ◌∙◌, ◌++◌, ◌&&◌}
-use Rattle.mixed_graph.specs.Bits.{has, members_below}
+use Rattle.mixed_graph.specs.Vocabulary.{has, members_below}
 use Rattle.dag_reader.specs.Rows.{row_has}
 use Rattle.dag_reader.proofs.RowPairs.{rows_begin, rows_more}
 use Rattle.dag_reader.proofs.Joined.{members-cut}

@@ -1,6 +1,6 @@
 use Rattle.std.proofs.Common.{◌≡◌, map}
 use Rattle.std.specs.List.{flat_map}
-use Rattle.mixed_graph.specs.Bits.{members_below}
+use Rattle.mixed_graph.specs.Vocabulary.{members_below}
 use Rattle.dag_reader.specs.Rows.{row_has, count_up}
 use Rattle.dag_reader.proofs.edges.pairs_below.Given as goal
 

@@ -1,5 +1,5 @@
 use Rattle.std.proofs.Common.{◌∙◌, refl}
-use Rattle.mixed_graph.specs.Bits.{has}
+use Rattle.mixed_graph.specs.Vocabulary.{has}
 use Rattle.dag_reader.proofs.Loops.{at_found, at_lost}
 use Rattle.dag_reader.proofs.MarkLists.{inside_behind}
 use Rattle.dag_reader.proofs.edges.self_loop.Goals as goal

@@ -1,5 +1,5 @@
 use Rattle.std.proofs.Common.{◌+◌, suc, sym, subst, ◌∙◌, arith}
-use Rattle.answer_text.specs.Printing.{is_name_byte}
+use Rattle.answer_text.specs.Vocabulary.{is_name_byte}
 use Rattle.dag_reader.proofs.NameRuns.{IsRun, run_begins, run_more, run_ends, run_bytes, whole_run, whole_same, whole_bytes}
 use Rattle.dag_reader.proofs.tokens.name_len.Goals as goal
 

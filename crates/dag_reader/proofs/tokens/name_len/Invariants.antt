@@ -1,4 +1,4 @@
-use Rattle.answer_text.specs.Printing.{is_name_byte}
+use Rattle.answer_text.specs.Vocabulary.{is_name_byte}
 use Rattle.dag_reader.proofs.NameRuns.{IsRun}
 use Rattle.dag_reader.proofs.tokens.name_len.Given as goal
 

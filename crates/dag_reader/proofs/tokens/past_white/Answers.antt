@@ -1,5 +1,5 @@
 use Rattle.std.proofs.Common.{◌≡◌, ◌∙◌, true, false, sym, get_or, arith}
-use Rattle.answer_text.specs.Printing.{is_white}
+use Rattle.answer_text.specs.Vocabulary.{is_white}
 use Rattle.dag_reader.proofs.TextForm.{behind_first, length-behind, white_goes, white_stays, white_none, white_low}
 use Rattle.dag_reader.proofs.tokens.past_white.Goals as goal
 

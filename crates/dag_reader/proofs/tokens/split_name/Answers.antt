@@ -1,7 +1,7 @@
 use Rattle.std.proofs.Common.{◌≤◌, length, sym, ap, subst, ◌∙◌, arith}
 use Rattle.std.proofs.lemmas.List.{length-take-le}
-use Rattle.answer_text.specs.Printing.{is_name_byte}
-use Rattle.mixed_graph.specs.NameKeys.{AreBytes, digits_on}
+use Rattle.answer_text.specs.Vocabulary.{is_name_byte}
+use Rattle.mixed_graph.specs.Vocabulary.{AreBytes, digits_on}
 use Rattle.dag_reader.specs.declared.tokens.Class.TheVariants as classes
 use Rattle.dag_reader.proofs.TextForm.{taken_pass, run_cut}
 use Rattle.dag_reader.proofs.tokens.split_name.Goals as goal

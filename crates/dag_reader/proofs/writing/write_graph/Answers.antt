@@ -1,7 +1,7 @@
 use Rattle.std.proofs.Common.{◌≡◌, ◌<◌, ◌++◌, ◌∷◌, [], ℕ, List, Option, map, length, refl, sym, ap, ◌∙◌, subst}
 use Rattle.std.specs.Prelude.{All, ◌&&◌, nat_lt, codes}
 use Rattle.dag_reader.specs.declared.marks.Role.{Role}
-use Rattle.mixed_graph.specs.Shown.{graph_of}
+use Rattle.mixed_graph.specs.Vocabulary.{graph_of}
 use Rattle.dag_reader.specs.Rows.{row_has, count_up, pairs_below}
 use Rattle.dag_reader.specs.Written.{role_at, vertex_lines, edge_lines}
 use Rattle.dag_reader.proofs.PairLists.{pairs_below-ends}

@@ -1,12 +1,11 @@
 use Rattle.std.proofs.Common.{ℕ, ◌≡◌, ◌∙◌, List, None, ap, sym, subst, rules}
-use Rattle.mixed_graph.specs.Shown.{graph_of}
-use Rattle.prob_expr.specs.Listed.{masks_of}
-use Rattle.prob_expr.specs.Tree.{Tree, term_of}
-use Rattle.prob_expr.specs.View.{view, target_view}
+use Rattle.mixed_graph.specs.Vocabulary.{graph_of}
 use Rattle.prob_expr.specs.declared.expr.Expr.{the_lemmas}
+use Rattle.prob_expr.specs.Vocabulary.{masks_of, term_of, target_view}
+use Rattle.prob_expr.specs.Tree.{Tree}
+use Rattle.prob_expr.specs.View.{view}
 use Rattle.prob_expr.specs.declared.expr.Expr as expr
-use Rattle.do_derivation.specs.Steps.{Makes}
-use Rattle.do_derivation.specs.View.{step_view}
+use Rattle.do_derivation.specs.Vocabulary.{Makes, step_view}
 use Rattle.derivation_steps.specs.Parts.{IsPart}
 use Rattle.derivation_steps.proofs.parts.explain.Goals as goal
 

@@ -1,14 +1,11 @@
 use Rattle.std.proofs.Common.{ℕ, ◌≡◌, ◌<◌, ◌+◌, ◌∙◌, true, List, [], ◌∷◌, ◌++◌, Some, length, map, drop, ap, sym, subst, rules}
 use Rattle.std.proofs.Math.ListN.{drop_of_length-le}
 use Rattle.std.proofs.lemmas.List.{map-append}
-use Rattle.mixed_graph.specs.Shown.{graph_of}
 use Rattle.mixed_graph.specs.declared.sets.VSet.{VSet}
-use Rattle.prob_expr.specs.Listed.{masks_of}
-use Rattle.prob_expr.specs.Terms.{are_terms}
+use Rattle.mixed_graph.specs.Vocabulary.{graph_of}
+use Rattle.prob_expr.specs.Vocabulary.{masks_of, are_terms}
 use Rattle.prob_expr.specs.Tree.{Tree}
-use Rattle.do_derivation.specs.Accepts.{start_of}
-use Rattle.do_derivation.specs.Steps.{Makes}
-use Rattle.do_derivation.specs.View.{step_view, lemma_view}
+use Rattle.do_derivation.specs.Vocabulary.{start_of, Makes, step_view, lemma_view}
 use Rattle.do_derivation.proofs.Defining.{start_is_term}
 use Rattle.derivation_steps.specs.Parts.{IsPart}
 use Rattle.derivation_steps.specs.declared.parts.Part.{Part}

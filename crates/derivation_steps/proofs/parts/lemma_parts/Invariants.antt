@@ -1,7 +1,7 @@
 use Rattle.std.proofs.Common.{map, drop}
-use Rattle.mixed_graph.specs.Shown.{graph_of}
-use Rattle.prob_expr.specs.Listed.{masks_of}
-use Rattle.do_derivation.specs.View.{lemma_view}
+use Rattle.mixed_graph.specs.Vocabulary.{graph_of}
+use Rattle.prob_expr.specs.Vocabulary.{masks_of}
+use Rattle.do_derivation.specs.Vocabulary.{lemma_view}
 use Rattle.derivation_steps.proofs.LemmaTurns.{IsLeft}
 use Rattle.derivation_steps.proofs.parts.lemma_parts.Given as goal
 

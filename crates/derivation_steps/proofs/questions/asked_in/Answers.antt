@@ -1,5 +1,5 @@
 use Rattle.std.proofs.Common.{Option, Some, option_map, refl, sym, subst}
-use Rattle.mixed_graph.specs.Shown.{graph_of}
+use Rattle.mixed_graph.specs.Vocabulary.{graph_of}
 use Rattle.derivation_steps.specs.Asked.{IsAskedIn}
 use Rattle.derivation_steps.specs.Questions.{asked_of}
 use Rattle.derivation_steps.specs.declared.questions.AskedRule.{AskedRule}

@@ -1,8 +1,9 @@
 use Rattle.std.proofs.Common.{◌≡◌, ◌∙◌, ap, sym, rules}
 use Rattle.prob_expr.specs.Tree.{product}
-use Rattle.prob_expr.specs.View.{view, views}
+use Rattle.prob_expr.specs.View.{view}
 use Rattle.prob_expr.specs.declared.expr.Expr.{the_lemmas}
-use Rattle.do_derivation.specs.Shapes.{child, factor_at}
+use Rattle.prob_expr.specs.Vocabulary.{views}
+use Rattle.do_derivation.specs.Vocabulary.{child, factor_at}
 use Rattle.derivation_steps.proofs.Factors.{factor_found}
 use Rattle.derivation_steps.proofs.questions.child_at.Goals as goal
 

@@ -1,11 +1,10 @@
 use Rattle.std.proofs.Common.{Option, refl, sym, subst}
 use Rattle.std.specs.Prelude.{IfSome}
-use Rattle.mixed_graph.specs.Shown.{graph_of}
-use Rattle.prob_expr.specs.Listed.{masks_of}
+use Rattle.mixed_graph.specs.Vocabulary.{graph_of}
+use Rattle.prob_expr.specs.Vocabulary.{masks_of}
 use Rattle.prob_expr.specs.Tree.{Tree}
 use Rattle.prob_expr.specs.View.{view}
-use Rattle.do_derivation.specs.Steps.{Makes}
-use Rattle.do_derivation.specs.View.{step_view}
+use Rattle.do_derivation.specs.Vocabulary.{Makes, step_view}
 use Rattle.do_derivation.proofs.TreeTerms.{terms_of}
 use Rattle.derivation_steps.specs.Asked.{IsAskedIn}
 use Rattle.derivation_steps.specs.Questions.{Asked, IsBelow}

@@ -1,8 +1,9 @@
 use Rattle.std.proofs.Common.{◌≡◌, true, false, ◌&&◌, [], Some, sym, ap, subst, ◌∙◌, arith}
 use Rattle.std.proofs.lemmas.Option.{get_or_from_slice_get}
-use Rattle.mixed_graph.specs.Bits.{has}
+use Rattle.mixed_graph.specs.Vocabulary.{has}
 use Rattle.mixed_graph.proofs.Masks.{has-zero}
-use Rattle.targets.specs.Targets.{twice, IsNameFault}
+use Rattle.targets.specs.Targets.{twice}
+use Rattle.targets.specs.Vocabulary.{IsNameFault}
 use Rattle.diagram.proofs.Defaults.{known_names, apart_clear, lowest_twice}
 use Rattle.diagram.proofs.sets.apart_from.Goals as goal
 

@@ -1,5 +1,5 @@
 use Rattle.std.proofs.Common.{◌≡◌, ◌++◌, None, sym, subst, ◌∙◌}
-use Rattle.targets.specs.Targets.{Lists, fault_in, first_fault, walked_in, IsNameFault}
+use Rattle.targets.specs.Vocabulary.{Lists, fault_in, first_fault, walked_in, IsNameFault}
 use Rattle.targets.proofs.Faults.{list_fault_named}
 use Rattle.targets.proofs.Queries.{after_list}
 use Rattle.diagram.specs.Sets.{lent, query_lists}

@@ -1,5 +1,5 @@
 use Rattle.std.proofs.Common.{◌≡◌, ◌++◌, None, sym, subst, ◌∙◌}
-use Rattle.targets.specs.Targets.{EffectLists, effect_fault, first_fault, walked_in, IsNameFault}
+use Rattle.targets.specs.Vocabulary.{EffectLists, effect_fault, first_fault, walked_in, IsNameFault}
 use Rattle.targets.proofs.Faults.{effect_fault_named}
 use Rattle.diagram.specs.Sets.{lent, effect_lists}
 use Rattle.diagram.proofs.Asking.{first_of_all, behind_first, empty_list, no_list}

@@ -1,5 +1,5 @@
 use Rattle.std.proofs.Common.{◌≡◌}
-use Rattle.targets.specs.Targets.{Lists}
+use Rattle.targets.specs.Vocabulary.{Lists}
 use Rattle.diagram.specs.Sets.{lent, query_lists}
 use Rattle.diagram.proofs.Asking.{empty_exposures, no_list}
 use Rattle.diagram.proofs.sets.asked_query.Goals as goal

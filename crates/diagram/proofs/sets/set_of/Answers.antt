@@ -1,7 +1,6 @@
 use Rattle.std.proofs.Common.{◌≡◌, ◌<◌, IfErr, OnOk, None, sym, ap, subst, ◌∙◌, IfOk, length}
-use Rattle.mixed_graph.specs.Bits.{has}
-use Rattle.mixed_graph.specs.Sets.{Within}
-use Rattle.targets.specs.Targets.{first_fault, walked_in, listed, IsListedSet, IsNameFault}
+use Rattle.mixed_graph.specs.Vocabulary.{has, Within}
+use Rattle.targets.specs.Vocabulary.{first_fault, walked_in, listed, IsListedSet, IsNameFault}
 use Rattle.diagram.specs.Sets.{lent, names_or}
 use Rattle.diagram.proofs.Defaults.{default_names, marked_inside}
 use Rattle.diagram.proofs.Asking.{given_set}

@@ -1,8 +1,8 @@
 use Rattle.std.proofs.Common.{◌≡◌, Some, refl, ap, ◌∙◌, rules, arith}
-use Rattle.mixed_graph.specs.Shown.{graph_of}
-use Rattle.prob_expr.specs.Listed.{masks_of}
+use Rattle.mixed_graph.specs.Vocabulary.{graph_of}
+use Rattle.prob_expr.specs.Vocabulary.{masks_of, views}
 use Rattle.prob_expr.specs.Tree.{sum, quotient}
-use Rattle.prob_expr.specs.View.{view, views}
+use Rattle.prob_expr.specs.View.{view}
 use Rattle.prob_expr.proofs.Views.{view-Product}
 use Rattle.do_derivation.specs.Shapes.{child}
 use Rattle.do_derivation.specs.View.{step_view}

@@ -1,6 +1,6 @@
 use Rattle.std.proofs.Common.{sym, ap, subst}
-use Rattle.mixed_graph.specs.Shown.{graph_of}
-use Rattle.prob_expr.specs.Listed.{masks_of}
+use Rattle.mixed_graph.specs.Vocabulary.{graph_of}
+use Rattle.prob_expr.specs.Vocabulary.{masks_of}
 use Rattle.prob_expr.specs.View.{view}
 use Rattle.do_derivation.specs.Applied.{IsRow}
 use Rattle.do_derivation.specs.Table.{row}

@@ -1,12 +1,9 @@
 use Rattle.std.proofs.Common.{◌≡◌, true, length, None, sym, subst, ap, ◌∙◌, rules}
 use Rattle.std.proofs.lemmas.Result.{err_from_is_err_and}
-use Rattle.prob_expr.specs.Check.{cap}
-use Rattle.prob_expr.specs.Tree.{term_of}
+use Rattle.prob_expr.specs.Vocabulary.{cap, term_of, masks_of, is_allowed, formula_view, target_view}
 use Rattle.prob_expr.specs.declared.expr.Expr.{Prob}
-use Rattle.mixed_graph.specs.Shown.{graph_of}
-use Rattle.prob_expr.specs.Listed.{masks_of}
-use Rattle.prob_expr.specs.Terms.{is_allowed}
-use Rattle.prob_expr.specs.View.{view, formula_view, target_view}
+use Rattle.mixed_graph.specs.Vocabulary.{graph_of}
+use Rattle.prob_expr.specs.View.{view}
 use Rattle.do_derivation.specs.Accepts.{AcceptsNot}
 use Rattle.do_derivation.specs.Answers.{StopsAtStep}
 use Rattle.do_derivation.specs.Steps.{Makes}

@@ -1,10 +1,8 @@
 use Rattle.std.proofs.Common.{◌≡◌, ◌<◌, ◌≤◌, true, [], length, map, Some, sym, subst, ap, ◌∙◌, rules}
 use Rattle.std.proofs.lemmas.Result.{err_from_is_err_and}
 use Rattle.prob_expr.specs.declared.expr.Expr.{Named}
-use Rattle.mixed_graph.specs.Shown.{graph_of}
-use Rattle.prob_expr.specs.Check.{cap}
-use Rattle.prob_expr.specs.Listed.{masks_of}
-use Rattle.prob_expr.specs.Terms.{are_terms}
+use Rattle.mixed_graph.specs.Vocabulary.{graph_of}
+use Rattle.prob_expr.specs.Vocabulary.{cap, masks_of, are_terms}
 use Rattle.prob_expr.specs.View.{view}
 use Rattle.do_derivation.specs.Accepts.{DefinesNot, start_of}
 use Rattle.do_derivation.specs.Answers.{StopsAtStep}

@@ -1,4 +1,4 @@
-use Rattle.mixed_graph.specs.Shown.{graph_of}
+use Rattle.mixed_graph.specs.Vocabulary.{graph_of}
 use Rattle.do_derivation.proofs.Defining.{IsDefining}
 use Rattle.do_derivation.proofs.checking.define.Given as goal
 

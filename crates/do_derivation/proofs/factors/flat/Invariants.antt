@@ -1,5 +1,5 @@
 use Rattle.std.proofs.Common.{◌≡◌}
-use Rattle.prob_expr.specs.View.{views}
+use Rattle.prob_expr.specs.Vocabulary.{views}
 use Rattle.do_derivation.specs.Shapes.{flat}
 use Rattle.do_derivation.proofs.factors.flat.Given as goal
 

@@ -1,6 +1,7 @@
 use Rattle.std.proofs.Common.{◌≡◌, false, [], ◌∷◌, sym, ap, ◌∙◌, rules}
-use Rattle.prob_expr.specs.Tree.{no_trees, tree}
-use Rattle.prob_expr.specs.View.{view, views}
+use Rattle.prob_expr.specs.Tree.{tree}
+use Rattle.prob_expr.specs.Vocabulary.{no_trees, views}
+use Rattle.prob_expr.specs.View.{view}
 use Rattle.do_derivation.specs.Shapes.{appended, has_product}
 use Rattle.do_derivation.proofs.Lists
 use Rattle.do_derivation.proofs.Walks

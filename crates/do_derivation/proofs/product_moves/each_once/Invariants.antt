@@ -1,5 +1,5 @@
 use Rattle.std.proofs.Common.{◌≡◌, true, eqb}
-use Rattle.finite_models.specs.Sums.{all_below}
+use Rattle.finite_models.specs.Vocabulary.{all_below}
 use Rattle.do_derivation.specs.View.{numbers_of}
 use Rattle.do_derivation.specs.Shapes.{times_in, all_of}
 use Rattle.do_derivation.proofs.product_moves.each_once.Given as goal

@@ -1,5 +1,5 @@
 use Rattle.std.proofs.Common.{◌≡◌, true, false, length, ap, ◌∙◌, rules}
-use Rattle.mixed_graph.specs.Shown.{graph_of}
+use Rattle.mixed_graph.specs.Vocabulary.{graph_of}
 use Rattle.prob_expr.specs.Tree.{product}
 use Rattle.prob_expr.specs.View.{view}
 use Rattle.prob_expr.proofs.Views.{view-Product}

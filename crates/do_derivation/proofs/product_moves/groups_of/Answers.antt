@@ -1,5 +1,5 @@
 use Rattle.std.proofs.Common.{◌≡◌, ◌+◌, true, length, drop, refl, sym, ap, ◌∙◌, arith}
-use Rattle.prob_expr.specs.View.{views}
+use Rattle.prob_expr.specs.Vocabulary.{views}
 use Rattle.do_derivation.specs.View.{numbers_of}
 use Rattle.do_derivation.specs.Shapes.{appended, as_one, groups_of, each_below, all_of}
 use Rattle.do_derivation.proofs.Walks

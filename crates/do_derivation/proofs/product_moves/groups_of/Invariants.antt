@@ -1,5 +1,5 @@
 use Rattle.std.proofs.Common.{◌≡◌, drop}
-use Rattle.prob_expr.specs.View.{views}
+use Rattle.prob_expr.specs.Vocabulary.{views}
 use Rattle.do_derivation.specs.View.{numbers_of}
 use Rattle.do_derivation.specs.Shapes.{groups_of, appended}
 use Rattle.do_derivation.proofs.product_moves.groups_of.Given as goal

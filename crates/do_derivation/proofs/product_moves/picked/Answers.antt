@@ -1,5 +1,5 @@
 use Rattle.std.proofs.Common.{◌≡◌, ◌+◌, true, length, drop, refl, sym, ap, ◌∙◌, rules, arith}
-use Rattle.prob_expr.specs.View.{views}
+use Rattle.prob_expr.specs.Vocabulary.{views}
 use Rattle.do_derivation.specs.Shapes.{appended, picked, each_below}
 use Rattle.do_derivation.proofs.Walks
 use Rattle.do_derivation.proofs.product_moves.picked.Goals as goal

@@ -1,10 +1,8 @@
 use Rattle.std.proofs.Common.{◌≡◌, true, ap, ◌∙◌, subst, rules}
 use Rattle.std.proofs.Common.{[], sym, ap₂}
-use Rattle.mixed_graph.specs.Bits.{has}
-use Rattle.mixed_graph.specs.Shown.{graph_of}
-use Rattle.do_rules.specs.Rules.{IsBlockedFor, IsOpenFor}
+use Rattle.mixed_graph.specs.Vocabulary.{has, graph_of, union, minus}
 use Rattle.do_rules.specs.declared.rules.Rule.TheVariants.{Two}
-use Rattle.mixed_graph.specs.Masks.{union, minus}
+use Rattle.do_rules.specs.Vocabulary.{IsBlockedFor, IsOpenFor}
 use Rattle.prob_expr.specs.Tree.{prob}
 use Rattle.prob_expr.specs.declared.expr.Expr.{Prob}
 use Rattle.prob_expr.specs.View.{view}

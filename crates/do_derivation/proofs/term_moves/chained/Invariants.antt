@@ -1,5 +1,5 @@
 use Rattle.std.proofs.Common.{◌≡◌, drop}
-use Rattle.prob_expr.specs.View.{views}
+use Rattle.prob_expr.specs.Vocabulary.{views}
 use Rattle.do_derivation.specs.Shapes.{chained, appended}
 use Rattle.do_derivation.proofs.term_moves.chained.Given as goal
 

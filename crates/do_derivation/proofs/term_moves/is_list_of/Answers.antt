@@ -1,6 +1,5 @@
 use Rattle.std.proofs.Common.{◌≡◌, ◌<◌, true, false, get_or, sym, ap, ◌∙◌, rules, arith}
-use Rattle.mixed_graph.specs.Bits.{has}
-use Rattle.mixed_graph.specs.Masks.{minus}
+use Rattle.mixed_graph.specs.Vocabulary.{has, minus}
 use Rattle.do_derivation.proofs.Walks
 use Rattle.do_derivation.proofs.term_moves.is_list_of.Goals as goal
 

@@ -1,7 +1,6 @@
 use Rattle.std.proofs.lemmas.Result.{on_ok_weaker, IfErr-weaker}
-use Rattle.mixed_graph.specs.Bits.{has}
-use Rattle.mixed_graph.specs.Shown.{graph_of}
-use Rattle.m_separation.specs.Paths.{IsOpenPath}
+use Rattle.mixed_graph.specs.Vocabulary.{has, graph_of}
+use Rattle.m_separation.specs.Vocabulary.{IsOpenPath}
 use Rattle.do_rules.specs.Rules.{AreDependent}
 use Rattle.do_rules.proofs.Failing.{dependent, open_walk}
 use Rattle.do_rules.proofs.Holds.{independent_holds}

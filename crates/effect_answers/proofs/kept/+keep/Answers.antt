@@ -1,7 +1,7 @@
 use Rattle.std.proofs.Common.{Bool, List, length, refl, ap, arith}
-use Rattle.do_derivation.specs.View.{step_view, steps_view}
+use Rattle.do_derivation.specs.Vocabulary.{step_view, steps_view}
 use Rattle.do_derivation.specs.declared.steps.Step.{Step}
-use Rattle.certificate_json.specs.StepSizes.{is_short, are_short}
+use Rattle.certificate_json.specs.Vocabulary.{is_short, are_short}
 use Rattle.effect_answers.proofs.Keeping.{next_kept, all_kept}
 use Rattle.effect_answers.proofs.kept.+keep.Goals as goal
 

@@ -1,6 +1,6 @@
 use Rattle.std.proofs.Common.{◌≡◌, drop}
-use Rattle.do_derivation.specs.View.{steps_view}
-use Rattle.certificate_json.specs.StepSizes.{are_short}
+use Rattle.do_derivation.specs.Vocabulary.{steps_view}
+use Rattle.certificate_json.specs.Vocabulary.{are_short}
 use Rattle.effect_answers.proofs.kept.+keep.Given as goal
 
 abbrev pub invariant-steps_kept-loop-step : goal.invariant-steps_kept-loop-step

@@ -1,7 +1,7 @@
 use Rattle.std.proofs.Common.{◌^◌, ℕ, Bool, List, length, refl, ap, arith}
 use Rattle.std.specs.Global.{Vec}
-use Rattle.do_derivation.specs.View.{numbers_of}
-use Rattle.certificate_json.specs.StepSizes.{are_below, groups_below}
+use Rattle.do_derivation.specs.Vocabulary.{numbers_of}
+use Rattle.certificate_json.specs.Vocabulary.{are_below, groups_below}
 use Rattle.effect_answers.proofs.Keeping.{next_kept, all_kept}
 use Rattle.effect_answers.proofs.kept.groups_kept.Goals as goal
 

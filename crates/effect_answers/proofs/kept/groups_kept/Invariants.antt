@@ -1,6 +1,6 @@
 use Rattle.std.proofs.Common.{◌≡◌, ◌^◌, drop}
-use Rattle.do_derivation.specs.View.{numbers_of}
-use Rattle.certificate_json.specs.StepSizes.{groups_below}
+use Rattle.do_derivation.specs.Vocabulary.{numbers_of}
+use Rattle.certificate_json.specs.Vocabulary.{groups_below}
 use Rattle.effect_answers.proofs.kept.groups_kept.Given as goal
 
 abbrev pub invariant-loop-group : goal.invariant-loop-group

@@ -1,8 +1,7 @@
 use Rattle.std.proofs.Common.{Bool, List, length, map, refl, ap, arith}
-use Rattle.do_derivation.specs.View.{lemma_view, step_view}
 use Rattle.do_derivation.specs.declared.steps.Lemma.{Lemma}
-use Rattle.certificate_json.specs.StepSizes.{is_short}
-use Rattle.certificate_json.specs.Kept.{are_steps_short}
+use Rattle.do_derivation.specs.Vocabulary.{lemma_view, step_view}
+use Rattle.certificate_json.specs.Vocabulary.{is_short, are_steps_short}
 use Rattle.effect_answers.proofs.Keeping.{next_kept, all_kept}
 use Rattle.effect_answers.proofs.kept.lemmas_kept.Goals as goal
 

@@ -1,6 +1,6 @@
 use Rattle.std.proofs.Common.{◌≡◌, drop, map}
-use Rattle.do_derivation.specs.View.{lemma_view}
-use Rattle.certificate_json.specs.Kept.{are_steps_short}
+use Rattle.do_derivation.specs.Vocabulary.{lemma_view}
+use Rattle.certificate_json.specs.Vocabulary.{are_steps_short}
 use Rattle.effect_answers.proofs.kept.lemmas_kept.Given as goal
 
 abbrev pub invariant-loop-lemma : goal.invariant-loop-lemma

@@ -1,5 +1,5 @@
 use Rattle.std.proofs.Common.{◌≡◌, ◌<◌, ◌^◌, true, ltb, length, get_or, refl, ap, subst, arith}
-use Rattle.certificate_json.specs.StepSizes.{are_below}
+use Rattle.certificate_json.specs.Vocabulary.{are_below}
 use Rattle.effect_answers.proofs.Keeping.{one_more_kept, all_kept}
 use Rattle.effect_answers.proofs.kept.numbers_kept.Goals as goal
 

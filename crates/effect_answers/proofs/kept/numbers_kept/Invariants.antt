@@ -1,5 +1,5 @@
 use Rattle.std.proofs.Common.{◌≡◌, ◌^◌, drop}
-use Rattle.certificate_json.specs.StepSizes.{are_below}
+use Rattle.certificate_json.specs.Vocabulary.{are_below}
 use Rattle.effect_answers.proofs.kept.numbers_kept.Given as goal
 
 abbrev pub invariant-loop-k : goal.invariant-loop-k

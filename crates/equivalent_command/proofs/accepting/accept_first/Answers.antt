@@ -1,5 +1,5 @@
 use Rattle.std.proofs.Common.{Option, Some, None, Err, IfOk, option_map, sym, subst}
-use Rattle.targets.specs.Targets.{Lists, AreSets, IsTargetFault, OrMemory}
+use Rattle.targets.specs.Vocabulary.{Lists, AreSets, IsTargetFault, OrMemory}
 use Rattle.targets.proofs.Faults.{not_memory}
 use Rattle.equivalent_command.specs.Requests.{query_of}
 use Rattle.equivalent_command.specs.Queries.{lists_on, IsListsFault}

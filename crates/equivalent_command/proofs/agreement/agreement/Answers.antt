@@ -1,5 +1,4 @@
-use Rattle.mixed_graph.specs.Bits.{has}
-use Rattle.mixed_graph.specs.Shown.{graph_of}
+use Rattle.mixed_graph.specs.Vocabulary.{has, graph_of}
 use Rattle.markov_equivalence.proofs.Separations.{same_separations}
 use Rattle.equivalent_command.proofs.Queries.{own_ends}
 use Rattle.equivalent_command.proofs.agreement.agreement.Goals as goal

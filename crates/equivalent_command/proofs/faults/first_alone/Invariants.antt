@@ -1,5 +1,5 @@
 use Rattle.std.proofs.Common.{◌≡◌, ◌<◌, ℕ, true}
-use Rattle.mixed_graph.specs.Names.{is_named, name_of}
+use Rattle.mixed_graph.specs.Vocabulary.{is_named, name_of}
 use Rattle.equivalent_command.proofs.faults.first_alone.Given as goal
 
 abbrev pub invariant-loop-v : goal.invariant-loop-v

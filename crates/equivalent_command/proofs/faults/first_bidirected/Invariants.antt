@@ -1,5 +1,5 @@
 use Rattle.std.proofs.Common.{◌≡◌, ◌<◌, ℕ, false}
-use Rattle.mixed_graph.specs.Shown.{graph_of}
+use Rattle.mixed_graph.specs.Vocabulary.{graph_of}
 use Rattle.equivalent_command.proofs.faults.first_bidirected.Given as goal
 
 abbrev pub invariant-loop-a : goal.invariant-loop-a

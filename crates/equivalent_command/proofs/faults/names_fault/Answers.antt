@@ -1,6 +1,6 @@
 use Rattle.std.proofs.Common.{List, ℕ, [], ap, ◌∙◌, sym, refl}
 use Rattle.std.proofs.lemmas.Option.{get_or_from_slice_get}
-use Rattle.mixed_graph.specs.Names.{name_of}
+use Rattle.mixed_graph.specs.Vocabulary.{name_of}
 use Rattle.targets.specs.declared.fault.TargetFault.TheVariants.{OtherNames}
 use Rattle.equivalent_command.specs.Faults.{in_first, in_second}
 use Rattle.equivalent_command.proofs.faults.names_fault.Goals as goal

@@ -1,7 +1,6 @@
 use Rattle.std.proofs.Common.{◌≡◌, ap, ◌∙◌, arith, sym, refl, subst, length, get_or}
 use Rattle.std.proofs.lemmas.List.{length-map}
-use Rattle.mixed_graph.specs.Graphs.{IsMixedGraph, graph_from}
-use Rattle.mixed_graph.specs.Shown.{graph_of}
+use Rattle.mixed_graph.specs.Vocabulary.{IsMixedGraph, graph_from, graph_of}
 use Rattle.mixed_graph.proofs.Restricting.{same_graph}
 use Rattle.latent_projection.proofs.Numbering.{IsMixedGraph-renumbered}
 use Rattle.equivalent_command.specs.Numbers.{places, on_names}

@@ -1,5 +1,5 @@
 use Rattle.std.proofs.Common.{◌≡◌, ◌&&◌, ◌||◌, nat_lt, get_or, ap, ◌∙◌, arith}
-use Rattle.mixed_graph.specs.Bits.{has}
+use Rattle.mixed_graph.specs.Vocabulary.{has}
 use Rattle.equivalent_command.proofs.Placing.{no_member, member_more}
 use Rattle.equivalent_command.proofs.numbers.members_at.Goals as goal
 

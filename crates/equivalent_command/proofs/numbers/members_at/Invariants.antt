@@ -1,5 +1,5 @@
 use Rattle.std.proofs.Common.{◌≡◌, ℕ, ◌&&◌, nat_lt, get_or}
-use Rattle.mixed_graph.specs.Bits.{has}
+use Rattle.mixed_graph.specs.Vocabulary.{has}
 use Rattle.equivalent_command.proofs.numbers.members_at.Given as goal
 
 abbrev pub invariant-loop-k : goal.invariant-loop-k

@@ -1,6 +1,6 @@
 use Rattle.std.proofs.Common.{◌≡◌, ◌∙◌, ap, ◌&&◌, true, nat_lt, get_or, arith}
 use Rattle.std.proofs.lemmas.Bool.{lt-ltb, le-ltb, and_left}
-use Rattle.mixed_graph.specs.Bits.{has}
+use Rattle.mixed_graph.specs.Vocabulary.{has}
 use Rattle.latent_projection.proofs.Rows.{no_row, row_more, rows_whole}
 use Rattle.equivalent_command.proofs.Placing.{row_at}
 use Rattle.equivalent_command.proofs.numbers.rows_at.Goals as goal

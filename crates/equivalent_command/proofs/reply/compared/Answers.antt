@@ -1,10 +1,7 @@
 use Rattle.std.proofs.Common.{ℕ, ◌≡◌, ◌∙◌, List, length, Option, ap, refl, sym, subst}
 use Rattle.std.proofs.lemmas.List.{length-map}
-use Rattle.mixed_graph.specs.Bits.{has}
-use Rattle.mixed_graph.specs.Graphs.{MixedGraph}
-use Rattle.mixed_graph.specs.Shown.{graph_of}
-use Rattle.markov_equivalence.specs.Comparisons.{IsEdgeDifference, IsColliderDifference}
-use Rattle.markov_equivalence.specs.Skeletons.{HasArrowsAlone}
+use Rattle.mixed_graph.specs.Vocabulary.{has, MixedGraph, graph_of}
+use Rattle.markov_equivalence.specs.Vocabulary.{IsEdgeDifference, IsColliderDifference, HasArrowsAlone}
 use Rattle.markov_equivalence.proofs.Independences.{same_independences, differ_in_models}
 use Rattle.markov_equivalence.proofs.Separations.{same_separations}
 use Rattle.targets.specs.declared.query.Sets.{Sets}

@@ -3,9 +3,9 @@ use Rattle.diagram.specs.declared.diagram.Diagram.{Diagram}
 use Rattle.targets.specs.declared.query.Sets.{Sets}
 use Rattle.replies.specs.declared.outcome.Outcome.TheVariants.{Second}
 use Rattle.replies.specs.declared.outcome.Reply.{Reply}
-use Rattle.replies.specs.Told.{told_of}
+use Rattle.replies.specs.Vocabulary.{told_of}
 use Rattle.told.specs.declared.form.Form.{Form}
-use Rattle.told.specs.Telling.{Tells}
+use Rattle.told.specs.Vocabulary.{Tells}
 use Rattle.equivalent_command.specs.Refusals.{second_size_told}
 use Rattle.equivalent_command.specs.Right.{IsForSecond}
 use Rattle.equivalent_command.specs.SecondFaults.{second_refusal}

@@ -1,5 +1,5 @@
 use Rattle.std.proofs.Common.{sym}
-use Rattle.command_words.specs.Form.{value_of}
+use Rattle.command_words.specs.Vocabulary.{value_of}
 use Rattle.equivalent_command.specs.Requests.{equivalent_row}
 use Rattle.equivalent_command.proofs.Asked.{not_missing}
 use Rattle.equivalent_command.proofs.request.is_given.Goals as goal

@@ -1,5 +1,5 @@
 use Rattle.std.proofs.Common.{refl, codes, rules}
-use Rattle.command_words.specs.Form.{value_of}
+use Rattle.command_words.specs.Vocabulary.{value_of}
 use Rattle.equivalent_command.specs.Requests.{equivalent_row}
 use Rattle.equivalent_command.proofs.Asked.{no_query}
 use Rattle.equivalent_command.proofs.request.read_query.Goals as goal

@@ -1,5 +1,5 @@
 use Rattle.std.proofs.Common.{◌≡◌, ◌++◌, List, ℕ, [], ◌∷◌, ap, ◌∙◌, append_assoc, codes}
-use Rattle.answer_text.specs.Texts.{path_text}
+use Rattle.answer_text.specs.Vocabulary.{path_text}
 use Rattle.equivalent_command.specs.Lines.{which}
 use Rattle.equivalent_command.proofs.texts.push_open_in.Goals as goal
 

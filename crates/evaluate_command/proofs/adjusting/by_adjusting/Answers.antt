@@ -1,7 +1,7 @@
 use Rattle.std.proofs.Common.{Some}
-use Rattle.mixed_graph.specs.Names.{texts}
+use Rattle.mixed_graph.specs.Vocabulary.{texts}
 use Rattle.targets.proofs.Effects.{query_exposure, query_outcome}
-use Rattle.diagram.specs.Sets.{lent, query_lists}
+use Rattle.diagram.specs.Vocabulary.{lent, query_lists}
 use Rattle.adjust_command.proofs.Lists.{three_sets}
 use Rattle.evaluate_command.specs.Ways.{by_adjusting, criterion_query}
 use Rattle.evaluate_command.proofs.Unmet.{listed_fault}

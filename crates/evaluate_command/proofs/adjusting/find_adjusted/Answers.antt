@@ -1,7 +1,7 @@
 use Rattle.std.proofs.Common.{refl, sym, subst}
-use Rattle.mixed_graph.specs.Shown.{graph_of}
-use Rattle.prob_expr.specs.Tree.{PlainFormula, effect_on}
-use Rattle.adjust_command.specs.Verdicts.{IsVerdict}
+use Rattle.mixed_graph.specs.Vocabulary.{graph_of}
+use Rattle.prob_expr.specs.Vocabulary.{PlainFormula, effect_on}
+use Rattle.adjust_command.specs.Vocabulary.{IsVerdict}
 use Rattle.evaluate_command.specs.Effects.{effect_for, IsIdentified, IsByAdjusting}
 use Rattle.evaluate_command.proofs.RightFormulas.{found_by_adjusting}
 use Rattle.evaluate_command.proofs.Unmet.{not_one_fault}

@@ -1,8 +1,8 @@
 use Rattle.std.proofs.Common.{◌≡◌, ◌∙◌, ◌<◌, ◌≤◌, ℕ, true, false, List, All, OnOk, IfErr, length, set, get_or, take, drop, ◌-◌, refl, sym, ap, subst, arith, rules}
 use Rattle.std.proofs.lemmas.List.{set-set, set-get_or, length-drop, take_rest}
 use Rattle.std.proofs.lemmas.List.Elements.{All-drop, All-take, All-get_or}
-use Rattle.count_rows.specs.Rows.{Table}
-use Rattle.count_eval.specs.Programs.{is_used}
+use Rattle.count_rows.specs.Vocabulary.{Table}
+use Rattle.count_eval.specs.Vocabulary.{is_used}
 use Rattle.count_eval.specs.Rules.{rule}
 use Rattle.evaluate_command.specs.Cells.{IsCell}
 use Rattle.evaluate_command.specs.Listed.{plain_in}

@@ -1,6 +1,6 @@
 use Rattle.std.proofs.Common.{◌∙◌, sym, ap, List, ℕ, [], ◌∷◌, ◌++◌, append-nil, append_assoc}
 use Rattle.std.specs.Global.{Vec}
-use Rattle.mixed_graph.specs.Bits.{has, members_below}
+use Rattle.mixed_graph.specs.Vocabulary.{has, members_below}
 use Rattle.mixed_graph.proofs.MemberLists.{members-nil, members-in, members-out}
 use Rattle.evaluate_command.proofs.cells.push_members.Goals as goal
 use Rattle.evaluate_command.proofs.cells.push_members.Goals.{then-has+in_ok-push, else-has}

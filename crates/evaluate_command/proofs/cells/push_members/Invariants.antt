@@ -1,5 +1,5 @@
 use Rattle.std.proofs.Common.{◌≡◌, ◌++◌}
-use Rattle.mixed_graph.specs.Bits.{has, members_below}
+use Rattle.mixed_graph.specs.Vocabulary.{has, members_below}
 use Rattle.evaluate_command.proofs.cells.push_members.Given as goal
 
 abbrev pub invariant-loop-v : goal.invariant-loop-v

@@ -1,6 +1,6 @@
-use Rattle.mixed_graph.specs.Names.{texts}
+use Rattle.mixed_graph.specs.Vocabulary.{texts}
 use Rattle.targets.proofs.Effects.{listed_outcome}
-use Rattle.diagram.specs.Sets.{lent}
+use Rattle.diagram.specs.Vocabulary.{lent}
 use Rattle.identify_command.proofs.Lists.{three_sets}
 use Rattle.evaluate_command.specs.Ways.{by_condition}
 use Rattle.evaluate_command.proofs.conditional.by_condition.Goals as goal

@@ -1,11 +1,9 @@
 use Rattle.std.proofs.Common.{◌≤◌, length, refl, subst}
-use Rattle.mixed_graph.specs.Shown.{graph_of}
-use Rattle.prob_expr.specs.View.{formula_view, target_view}
-use Rattle.do_derivation.specs.View.{derivation_view}
-use Rattle.conditional_id.specs.Conditionals.{IsConditionalBySteps}
-use Rattle.conditional_id.specs.TurnLaws.{IsShallowGiven}
+use Rattle.mixed_graph.specs.Vocabulary.{graph_of}
+use Rattle.prob_expr.specs.Vocabulary.{formula_view, target_view}
+use Rattle.do_derivation.specs.Vocabulary.{derivation_view}
+use Rattle.conditional_id.specs.Vocabulary.{IsConditionalBySteps, IsShallowGiven, IsRight, IsJointEffect, IsJointShown, IfFormula, IfJoint}
 use Rattle.short_formulas.proofs.Usable.{usable_given, or_shorter}
-use Rattle.conditional_id.specs.Answers.{IsRight, IsJointEffect, IsJointShown, IfFormula, IfJoint}
 use Rattle.effect_answers.proofs.ReadBack.{hedge_back}
 use Rattle.effect_answers.proofs.Writing.{bare_target}
 use Rattle.identify_command.proofs.Lists.{with_member}

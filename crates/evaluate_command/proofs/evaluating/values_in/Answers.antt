@@ -1,5 +1,5 @@
 use Rattle.std.proofs.Common.{◌≡◌, ℕ, true, List, All, sym, ap, subst, ◌∙◌}
-use Rattle.count_eval.specs.Programs.{is_used}
+use Rattle.count_eval.specs.Vocabulary.{is_used}
 use Rattle.count_eval.specs.Rules.{rule}
 use Rattle.evaluate_command.specs.Cells.{cells_along, IsCell}
 use Rattle.evaluate_command.specs.Effects.{effect_in}

@@ -1,9 +1,9 @@
 use Rattle.std.proofs.Common.{◌≡◌, ◌++◌, List, ℕ, Result, Ok, Err, codes, sym, ap, ◌∙◌, append_assoc}
 use Rattle.std.specs.Prelude.{OnOk}
-use Rattle.mixed_graph.specs.Bits.{has, members_below}
-use Rattle.count_eval.specs.Programs.{cell_of}
+use Rattle.mixed_graph.specs.Vocabulary.{has, members_below}
 use Rattle.count_eval.specs.declared.failure.EvalFault.{EvalFault}
-use Rattle.count_answers.specs.Lines.{assignments}
+use Rattle.count_eval.specs.Vocabulary.{cell_of}
+use Rattle.count_answers.specs.Vocabulary.{assignments}
 use Rattle.evaluate_command.specs.Stopped.{place_text, stop_words}
 use Rattle.evaluate_command.proofs.faults.push_stop.Goals as goal
 

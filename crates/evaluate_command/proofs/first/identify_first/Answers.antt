@@ -1,7 +1,7 @@
 use Rattle.std.proofs.Common.{◌≡◌, sym, ap, subst, ◌∙◌}
-use Rattle.mixed_graph.specs.Names.{texts}
-use Rattle.diagram.specs.Sets.{Names}
+use Rattle.mixed_graph.specs.Vocabulary.{texts}
 use Rattle.diagram.specs.declared.diagram.Diagram.{Diagram}
+use Rattle.diagram.specs.Vocabulary.{Names}
 use Rattle.diagram.proofs.Lent.{lent_owned}
 use Rattle.evaluate_command.specs.Firsts.{IsFirst}
 use Rattle.evaluate_command.specs.Ways.{Way, by_adjusting, by_condition, way_of}

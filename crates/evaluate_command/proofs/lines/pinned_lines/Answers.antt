@@ -1,5 +1,5 @@
 use Rattle.std.proofs.Common.{[], ◌∙◌}
-use Rattle.mixed_graph.specs.Bits.{has}
+use Rattle.mixed_graph.specs.Vocabulary.{has}
 use Rattle.identify_text.proofs.Lines.{written_more, texts_none}
 use Rattle.evaluate_command.specs.Lines.{pinned_line}
 use Rattle.evaluate_command.proofs.lines.pinned_lines.Goals as goal

@@ -1,6 +1,6 @@
 use Rattle.std.proofs.Common.{◌≡◌}
 use Rattle.std.specs.List.{flat_map}
-use Rattle.mixed_graph.specs.Bits.{has, members_below}
+use Rattle.mixed_graph.specs.Vocabulary.{has, members_below}
 use Rattle.evaluate_command.specs.Lines.{pinned_line}
 use Rattle.evaluate_command.proofs.lines.pinned_lines.Given as goal
 

@@ -1,5 +1,5 @@
 use Rattle.std.proofs.Common.{◌≡◌, ◌++◌, take}
-use Rattle.prob_expr.specs.View.{target_view}
+use Rattle.prob_expr.specs.Vocabulary.{target_view}
 use Rattle.evaluate_command.specs.Lines.{cells_text}
 use Rattle.evaluate_command.proofs.lines.push_lines.Given as goal
 

@@ -1,6 +1,6 @@
 use Rattle.std.proofs.Common.{◌≡◌, drop}
-use Rattle.prob_expr.specs.View.{target_view}
-use Rattle.answer_json.specs.Progress.{with_values}
+use Rattle.prob_expr.specs.Vocabulary.{target_view}
+use Rattle.answer_json.specs.Vocabulary.{with_values}
 use Rattle.evaluate_command.specs.Objects.{cells_json}
 use Rattle.evaluate_command.proofs.objects.push_all.Given as goal
 

@@ -1,7 +1,7 @@
 use Rattle.std.proofs.Common.{◌++◌, List, ℕ, ap, ◌∙◌}
 use Rattle.json.specs.Json.{Json}
-use Rattle.prob_expr.specs.View.{target_view}
-use Rattle.answer_json.specs.Progress.{ended_object, with_members, with_value, object_of}
+use Rattle.prob_expr.specs.Vocabulary.{target_view}
+use Rattle.answer_json.specs.Vocabulary.{ended_object, with_members, with_value, object_of}
 use Rattle.evaluate_command.specs.Objects.{cell_members, quantity_members}
 use Rattle.evaluate_command.proofs.Members.{object_written}
 use Rattle.evaluate_command.proofs.objects.push_value.Goals as goal

@@ -1,8 +1,7 @@
 use Rattle.std.proofs.Common.{subst}
-use Rattle.mixed_graph.specs.Bits.{has}
-use Rattle.mixed_graph.specs.Sets.{Within}
+use Rattle.mixed_graph.specs.Vocabulary.{has, Within}
 use Rattle.targets.proofs.Effects.{effect_within_x, effect_within_y, effect_apart, effect_outcome}
-use Rattle.diagram.specs.Sets.{lent}
+use Rattle.diagram.specs.Vocabulary.{lent}
 use Rattle.evaluate_command.specs.Ways.{by_procedure}
 use Rattle.evaluate_command.proofs.procedure.by_procedure.Goals as goal
 

@@ -1,10 +1,10 @@
 use Rattle.std.proofs.Common.{false, refl, subst}
-use Rattle.mixed_graph.specs.Shown.{graph_of}
-use Rattle.identify.specs.Answers.{IsRightAlone}
+use Rattle.mixed_graph.specs.Vocabulary.{graph_of}
+use Rattle.identify.specs.Vocabulary.{IsRightAlone}
 use Rattle.effect_answers.proofs.Found.{found_alone}
 use Rattle.effect_answers.proofs.ReadBack.{hedge_back}
 use Rattle.effect_answers.proofs.Writing.{bare_target}
-use Rattle.prob_expr.specs.View.{formula_view}
+use Rattle.prob_expr.specs.Vocabulary.{formula_view}
 use Rattle.evaluate_command.proofs.RightFormulas.{bare_sets, found_by_procedure}
 use Rattle.evaluate_command.proofs.procedure.first_formula.Goals as goal
 

@@ -1,13 +1,13 @@
 use Rattle.std.proofs.Common.{◌≤◌, true, length, refl, subst}
-use Rattle.mixed_graph.specs.Shown.{graph_of}
-use Rattle.do_derivation.specs.View.{derivation_view}
-use Rattle.identification_theory.specs.Derivations.{IsDerived}
-use Rattle.identify.specs.Answers.{IsRight, IfFormula, AreShallowSteps, IsShallowFormula}
+use Rattle.mixed_graph.specs.Vocabulary.{graph_of}
+use Rattle.do_derivation.specs.Vocabulary.{derivation_view}
+use Rattle.identification_theory.specs.Vocabulary.{IsDerived}
+use Rattle.identify.specs.Vocabulary.{IsRight, IfFormula, AreShallowSteps, IsShallowFormula}
 use Rattle.short_formulas.proofs.Usable.{usable_plain, right_bare}
 use Rattle.effect_answers.proofs.Found.{found}
 use Rattle.effect_answers.proofs.ReadBack.{hedge_back}
 use Rattle.effect_answers.proofs.Writing.{bare_target}
-use Rattle.prob_expr.specs.View.{formula_view}
+use Rattle.prob_expr.specs.Vocabulary.{formula_view}
 use Rattle.evaluate_command.proofs.RightFormulas.{bare_sets, found_by_procedure}
 use Rattle.evaluate_command.proofs.procedure.short_formula.Goals as goal
 

@@ -1,5 +1,5 @@
 use Rattle.std.proofs.Common.{◌<◌, sym, ap, subst, ◌∙◌, arith}
-use Rattle.mixed_graph.specs.Bits.{has}
+use Rattle.mixed_graph.specs.Vocabulary.{has}
 use Rattle.evaluate_command.specs.Effects.{effect_in}
 use Rattle.evaluate_command.proofs.Evaluable.{used_some}
 use Rattle.evaluate_command.proofs.reply.evaluate_answer.Goals as goal

@@ -1,6 +1,6 @@
 use Rattle.std.proofs.Common.{◌≡◌, ◌∙◌, string_bytes}
 use Rattle.std.proofs.lemmas.Result.{IfOk-weaker}
-use Rattle.quantity.specs.Texts.{units_text}
+use Rattle.quantity.specs.Vocabulary.{units_text}
 use Rattle.quantity.proofs.TextSteps.{units_written}
 use Rattle.evaluate_command.proofs.shown.units.Goals as goal
 

@@ -1,9 +1,9 @@
 use Rattle.std.proofs.Common.{◌+◌, drop, map, sym, ap, subst, ◌∙◌, arith}
 use Rattle.std.proofs.Math.ListN.{drop_of_length-le}
-use Rattle.mixed_graph.specs.Names.{texts}
-use Rattle.prob_expr.specs.Listed.{masks_of}
-use Rattle.command_words.specs.ListViews.{names_in}
-use Rattle.targets.specs.Targets.{first_fault, walked_in, IsNameFault, IsListedSet}
+use Rattle.mixed_graph.specs.Vocabulary.{texts}
+use Rattle.prob_expr.specs.Vocabulary.{masks_of}
+use Rattle.command_words.specs.Vocabulary.{names_in}
+use Rattle.targets.specs.Vocabulary.{first_fault, walked_in, IsNameFault, IsListedSet}
 use Rattle.targets.proofs.Queries.{from_empty}
 use Rattle.experiment_lists.proofs.Walked.{AreWalked, walked_more, walked_done, fault_next, lists-drop, masks_pushed}
 use Rattle.experiment_lists.proofs.sets.experiment_sets.Goals as goal

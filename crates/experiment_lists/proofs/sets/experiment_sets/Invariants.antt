@@ -1,6 +1,6 @@
 use Rattle.std.proofs.Common.{drop, map}
-use Rattle.prob_expr.specs.Listed.{masks_of}
-use Rattle.command_words.specs.ListViews.{names_in}
+use Rattle.prob_expr.specs.Vocabulary.{masks_of}
+use Rattle.command_words.specs.Vocabulary.{names_in}
 use Rattle.experiment_lists.proofs.Walked.{AreWalked}
 use Rattle.experiment_lists.proofs.sets.experiment_sets.Given as goal
 

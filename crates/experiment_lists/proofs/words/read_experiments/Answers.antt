@@ -1,6 +1,6 @@
 use Rattle.std.proofs.Common.{◌≡◌, ◌+◌, [], ◌∷◌, length, map, option_map, sym, ap, subst, ◌∙◌, arith, rules, length-append}
 use Rattle.std.proofs.lemmas.List.{length-map}
-use Rattle.command_words.specs.ListViews.{names_in}
+use Rattle.command_words.specs.Vocabulary.{names_in}
 use Rattle.experiment_lists.specs.Words.{AreJoinedBySemicolons}
 use Rattle.experiment_lists.specs.Parts.{IsCut}
 use Rattle.experiment_lists.specs.Views.{lists_in}

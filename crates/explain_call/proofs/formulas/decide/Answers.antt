@@ -1,9 +1,8 @@
 use Rattle.std.proofs.Common.{codes, ap, refl, subst}
-use Rattle.mixed_graph.specs.Shown.{graph_of}
+use Rattle.mixed_graph.specs.Vocabulary.{graph_of}
 use Rattle.replies.specs.declared.outcome.Outcome.TheVariants.{Yes, No}
-use Rattle.replies.specs.Told.{answer_of}
-use Rattle.adjust_command.specs.Answers.{CriterionAnswer}
-use Rattle.adjust_command.specs.Verdicts.{IsVerdict}
+use Rattle.replies.specs.Vocabulary.{answer_of}
+use Rattle.adjust_command.specs.Vocabulary.{CriterionAnswer, IsVerdict}
 use Rattle.adjust_command.proofs.Verdicts.{shown, broken, refused}
 use Rattle.explain_call.specs.Formulas.{latex_texts}
 use Rattle.explain_call.proofs.Replying.{replied, replied_if}

@@ -1,12 +1,10 @@
 use Rattle.std.proofs.Common.{◌≡◌, ℕ, List, Some, IfOk, ap, subst, ◌∙◌}
-use Rattle.mixed_graph.specs.Names.{texts}
-use Rattle.mixed_graph.specs.Shown.{graph_of}
-use Rattle.targets.specs.Targets.{Lists}
+use Rattle.mixed_graph.specs.Vocabulary.{texts, graph_of}
+use Rattle.targets.specs.Vocabulary.{Lists}
 use Rattle.targets.proofs.Effects.{query_exposure, query_outcome}
-use Rattle.diagram.specs.Sets.{Names, lent, query_lists}
+use Rattle.diagram.specs.Vocabulary.{Names, lent, query_lists}
 use Rattle.diagram.proofs.Lent.{lent_owned}
-use Rattle.replies.specs.Observed.{AnswerForSets}
-use Rattle.replies.specs.Told.{told_of}
+use Rattle.replies.specs.Vocabulary.{AnswerForSets, told_of}
 use Rattle.adjust_command.proofs.Lists.{three_sets, lists_answered, lists_refused}
 use Rattle.explain_call.specs.Formulas.{FormulaFor}
 use Rattle.explain_call.specs.Requests.{formula_of}

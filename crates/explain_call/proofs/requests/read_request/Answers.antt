@@ -1,6 +1,6 @@
 use Rattle.std.proofs.Common.{◌≡◌, Err, ap}
-use Rattle.command_words.specs.Views.{texts_of}
 use Rattle.command_words.specs.declared.typed.RequestFault.TheVariants.{NotUnderstood}
+use Rattle.command_words.specs.Vocabulary.{texts_of}
 use Rattle.command_words.proofs.Asking.{named, no_form, asked, not_asked}
 use Rattle.explain_call.specs.Requests.{table, row_for, kind_of, IsRequest, request_of}
 use Rattle.explain_call.proofs.requests.read_request.Goals as goal

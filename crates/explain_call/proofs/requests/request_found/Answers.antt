@@ -1,7 +1,6 @@
 use Rattle.std.proofs.Common.{◌≡◌, sym, ap, ◌∙◌, subst, option_map}
 use Rattle.std.proofs.lemmas.Option.{same_Some}
-use Rattle.command_words.specs.Views.{row_of}
-use Rattle.command_words.specs.Gives.{HoldsCall}
+use Rattle.command_words.specs.Vocabulary.{row_of, HoldsCall}
 use Rattle.explain_call.specs.Requests.{row_for}
 use Rattle.explain_call.proofs.OneKind.{nothing_asked}
 use Rattle.explain_call.proofs.requests.request_found.Goals as goal

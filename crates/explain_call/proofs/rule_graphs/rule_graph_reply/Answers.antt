@@ -1,7 +1,7 @@
-use Rattle.mixed_graph.specs.Shown.{graph_of}
-use Rattle.targets.specs.Targets.{IsRuleFault}
+use Rattle.mixed_graph.specs.Vocabulary.{graph_of}
+use Rattle.targets.specs.Vocabulary.{IsRuleFault}
 use Rattle.targets.proofs.Disjoint.{disjoint_rule_sets}
-use Rattle.diagram.specs.Sets.{rule_lists}
+use Rattle.diagram.specs.Vocabulary.{rule_lists}
 use Rattle.separation_commands.specs.RuleRequests.{request_of}
 use Rattle.explain_call.specs.RuleGraphs.{RuleGraphIn}
 use Rattle.explain_call.proofs.Refusing.{refused_lists}

@@ -1,6 +1,6 @@
 use Rattle.std.proofs.Common.{sym, ap, subst, ◌∙◌}
-use Rattle.mixed_graph.specs.Shown.{graph_of}
-use Rattle.replies.specs.Told.{answer_of}
+use Rattle.mixed_graph.specs.Vocabulary.{graph_of}
+use Rattle.replies.specs.Vocabulary.{answer_of}
 use Rattle.explain_call.specs.Graphs.{IsRuleGraphText}
 use Rattle.explain_call.proofs.rule_graphs.show.Goals as goal
 

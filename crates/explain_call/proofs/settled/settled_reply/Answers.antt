@@ -1,12 +1,11 @@
 use Rattle.std.proofs.Common.{◌≡◌, ℕ, List, Some, IfOk, ap, subst, ◌∙◌}
-use Rattle.mixed_graph.specs.Names.{texts}
-use Rattle.mixed_graph.specs.Shown.{graph_of}
-use Rattle.prob_expr.specs.Tree.{PlainTarget}
-use Rattle.targets.specs.Targets.{Lists, IsListFault}
+use Rattle.mixed_graph.specs.Vocabulary.{texts, graph_of}
+use Rattle.prob_expr.specs.Vocabulary.{PlainTarget}
+use Rattle.targets.specs.Vocabulary.{Lists, IsListFault}
 use Rattle.targets.proofs.Effects.{listed_outcome}
-use Rattle.diagram.specs.Sets.{Names, lent, query_lists}
+use Rattle.diagram.specs.Vocabulary.{Names, lent, query_lists}
 use Rattle.diagram.proofs.Lent.{lent_owned}
-use Rattle.replies.specs.Told.{told_of}
+use Rattle.replies.specs.Vocabulary.{told_of}
 use Rattle.identify_command.proofs.Lists.{three_sets}
 use Rattle.explain_call.specs.Requests.{settled_of}
 use Rattle.explain_call.specs.Settled.{KindIn}

@@ -1,9 +1,9 @@
 use Rattle.std.proofs.Common.{◌≡◌, true, false, inl, inr, codes, ap, refl, rules}
-use Rattle.mixed_graph.specs.Shown.{graph_of}
-use Rattle.prob_expr.specs.View.{target_view}
-use Rattle.conditional_id.specs.Answers.{is_joint}
+use Rattle.mixed_graph.specs.Vocabulary.{graph_of}
+use Rattle.prob_expr.specs.Vocabulary.{target_view}
+use Rattle.conditional_id.specs.Vocabulary.{is_joint}
 use Rattle.replies.specs.declared.outcome.Outcome.TheVariants.{Yes, No}
-use Rattle.replies.specs.Told.{answer_of}
+use Rattle.replies.specs.Vocabulary.{answer_of}
 use Rattle.explain_call.specs.Settled.{KindFor}
 use Rattle.explain_call.proofs.Replying.{replied_if}
 use Rattle.explain_call.proofs.Settling.{joint}

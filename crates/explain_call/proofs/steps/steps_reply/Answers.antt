@@ -1,10 +1,10 @@
 use Rattle.std.proofs.Common.{codes, refl, rules}
-use Rattle.mixed_graph.specs.Shown.{graph_of}
-use Rattle.prob_expr.specs.View.{formula_view, target_view}
-use Rattle.do_derivation.specs.View.{derivation_view}
-use Rattle.certificate.specs.Plain.{hedge_view, formula}
+use Rattle.mixed_graph.specs.Vocabulary.{graph_of}
+use Rattle.prob_expr.specs.Vocabulary.{formula_view, target_view}
+use Rattle.do_derivation.specs.Vocabulary.{derivation_view}
+use Rattle.certificate.specs.Vocabulary.{hedge_view, formula}
 use Rattle.replies.specs.declared.outcome.Outcome.TheVariants.{No}
-use Rattle.replies.specs.Told.{answer_of}
+use Rattle.replies.specs.Vocabulary.{answer_of}
 use Rattle.check_command.proofs.ReadFormulas.{read_sound}
 use Rattle.explain_call.specs.Steps.{StepsIn}
 use Rattle.explain_call.proofs.Replying.{replied_if}

@@ -1,9 +1,9 @@
 use Rattle.std.proofs.Common.{codes, refl}
-use Rattle.mixed_graph.specs.Shown.{graph_of}
-use Rattle.prob_expr.specs.View.{target_view}
-use Rattle.do_derivation.specs.View.{derivation_view}
+use Rattle.mixed_graph.specs.Vocabulary.{graph_of}
+use Rattle.prob_expr.specs.Vocabulary.{target_view}
+use Rattle.do_derivation.specs.Vocabulary.{derivation_view}
 use Rattle.replies.specs.declared.outcome.Outcome.TheVariants.{Yes, No}
-use Rattle.replies.specs.Told.{answer_of}
+use Rattle.replies.specs.Vocabulary.{answer_of}
 use Rattle.explain_call.specs.Told.{TellsSteps}
 use Rattle.explain_call.proofs.Replying.{replied, replied_if}
 use Rattle.explain_call.proofs.steps.tell.Goals as goal

@@ -1,5 +1,5 @@
 use Rattle.std.proofs.Common.{◌≡◌, ◌++◌, drop}
-use Rattle.prob_expr.specs.View.{views}
+use Rattle.prob_expr.specs.Vocabulary.{views}
 use Rattle.expr_text.specs.declared.writing.Place.TheVariants.{First}
 use Rattle.expr_text.specs.Write.{factors_in}
 use Rattle.expr_text.proofs.writing.+put.Given as goal

@@ -1,6 +1,5 @@
 use Rattle.std.proofs.Common.{◌≡◌, ℕ, ◌<◌, IsTrue}
-use Rattle.mixed_graph.specs.Bits.{has}
-use Rattle.mixed_graph.specs.Shown.{graph_of}
+use Rattle.mixed_graph.specs.Vocabulary.{has, graph_of}
 use Rattle.finite_models.proofs.causes.are_joined.Given as goal
 
 abbrev pub invariant-loop-v : goal.invariant-loop-v

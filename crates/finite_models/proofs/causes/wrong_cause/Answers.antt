@@ -1,6 +1,6 @@
 use Rattle.std.proofs.Common.{arith}
 use borrow.Author.Count.{below_more}
-use Rattle.mixed_graph.specs.Shown.{graph_of}
+use Rattle.mixed_graph.specs.Vocabulary.{graph_of}
 use Rattle.finite_models.proofs.Places.{sound_at}
 use Rattle.finite_models.proofs.causes.wrong_cause.Goals as goal
 

@@ -1,5 +1,5 @@
 use Rattle.std.proofs.Common.{ℕ, ◌<◌}
-use Rattle.mixed_graph.specs.Shown.{graph_of}
+use Rattle.mixed_graph.specs.Vocabulary.{graph_of}
 use Rattle.finite_models.specs.Sound.{IsSoundAt}
 use Rattle.finite_models.proofs.causes.wrong_cause.Given as goal
 

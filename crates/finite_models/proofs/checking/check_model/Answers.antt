@@ -1,5 +1,5 @@
 use Rattle.std.proofs.Common.{refl}
-use Rattle.mixed_graph.specs.Shown.{graph_of}
+use Rattle.mixed_graph.specs.Vocabulary.{graph_of}
 use Rattle.finite_models.proofs.DataFits.{data_fits}
 use Rattle.finite_models.proofs.DataSound.{data_sound, form_of}
 use Rattle.finite_models.proofs.checking.check_model.Goals as goal

@@ -1,6 +1,6 @@
 use Rattle.std.proofs.Common.{◌≡◌, false, inl, inr, arith}
 use Rattle.std.proofs.lemmas.Bool.{cases_Bool}
-use Rattle.mixed_graph.specs.Bits.{has}
+use Rattle.mixed_graph.specs.Vocabulary.{has}
 use Rattle.mixed_graph.proofs.Masks.{has-zero, zero_from_empty}
 use Rattle.finite_models.proofs.inputs.lies_in.Goals as goal
 

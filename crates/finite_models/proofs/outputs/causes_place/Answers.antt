@@ -1,5 +1,5 @@
 use Rattle.std.proofs.Common.{◌<◌, ◌%◌, ◌∙◌, ap, ap₂, sym, length, arith}
-use Rattle.mixed_graph.specs.Bits.{has}
+use Rattle.mixed_graph.specs.Vocabulary.{has}
 use Rattle.finite_models.specs.Data.{children_of}
 use Rattle.finite_models.specs.Worlds.{values_of, value_in_world}
 use Rattle.finite_models.proofs.CauseValues.{values_at, positive_values, value_below}

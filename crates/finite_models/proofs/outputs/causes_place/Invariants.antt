@@ -1,5 +1,5 @@
 use Rattle.std.proofs.Common.{◌≡◌, ◌+◌, ◌*◌, ◌/◌}
-use Rattle.mixed_graph.specs.Bits.{has}
+use Rattle.mixed_graph.specs.Vocabulary.{has}
 use Rattle.finite_models.specs.Sums.{product_below}
 use Rattle.finite_models.specs.Tables.{radix, radix_range}
 use Rattle.finite_models.specs.Data.{children_of}

@@ -1,6 +1,5 @@
 use Rattle.std.proofs.Common.{◌≡◌, ◌<◌, ◌+◌, ◌*◌, ◌≤◌, ℕ, length, get_or, arith}
-use Rattle.mixed_graph.specs.Bits.{has}
-use Rattle.mixed_graph.specs.Shown.{graph_of}
+use Rattle.mixed_graph.specs.Vocabulary.{has, graph_of}
 use Rattle.finite_models.specs.Tables.{radix_range}
 use Rattle.finite_models.specs.Data.{children_of}
 use Rattle.finite_models.specs.Worlds.{values_of, value_in_world}

@@ -1,6 +1,6 @@
 use Rattle.std.proofs.Common.{◌≡◌, ◌<◌, ◌+◌, ◌*◌, ◌^◌, ◌∙◌, refl, length, get_or, arith}
 use Rattle.std.proofs.lemmas.List.{get_or_read}
-use Rattle.mixed_graph.specs.Shown.{graph_of}
+use Rattle.mixed_graph.specs.Vocabulary.{graph_of}
 use Rattle.finite_models.specs.Tables.{radix, radix_range}
 use Rattle.finite_models.proofs.TablePlaces.{fits_next}
 use Rattle.finite_models.proofs.outputs.parents_place.Goals as goal

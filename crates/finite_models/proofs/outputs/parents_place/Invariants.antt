@@ -1,5 +1,5 @@
 use Rattle.std.proofs.Common.{◌≡◌, get_or}
-use Rattle.mixed_graph.specs.Shown.{graph_of}
+use Rattle.mixed_graph.specs.Vocabulary.{graph_of}
 use Rattle.finite_models.specs.Tables.{radix}
 use Rattle.finite_models.proofs.outputs.parents_place.Given as goal
 

@@ -1,5 +1,5 @@
 use Rattle.std.proofs.Common.{◌<◌, ◌∙◌, sym, ap, length, get_or, arith}
-use Rattle.mixed_graph.specs.Shown.{graph_of}
+use Rattle.mixed_graph.specs.Vocabulary.{graph_of}
 use Rattle.finite_models.specs.Data.{parity_value, value_by}
 use Rattle.finite_models.specs.Worlds.{value_in_world}
 use Rattle.finite_models.proofs.DataFits.{value_at}

@@ -1,7 +1,5 @@
 use Rattle.std.proofs.Common.{◌≡◌, ℕ, ◌<◌, length, get_or, IsTrue}
-use Rattle.mixed_graph.specs.Bits.{has}
-use Rattle.mixed_graph.specs.Orders.{taken_by}
-use Rattle.mixed_graph.specs.Shown.{graph_of}
+use Rattle.mixed_graph.specs.Vocabulary.{has, taken_by, graph_of}
 use Rattle.finite_models.specs.Models.{intervene, solution}
 use Rattle.finite_models.specs.Data.{meaning}
 use Rattle.finite_models.specs.Worlds.{value_in_world}

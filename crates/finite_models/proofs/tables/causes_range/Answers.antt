@@ -1,5 +1,5 @@
 use Rattle.std.proofs.Common.{◌≡◌, ◌<◌, ◌∙◌, sym, ap, length, arith}
-use Rattle.mixed_graph.specs.Bits.{has}
+use Rattle.mixed_graph.specs.Vocabulary.{has}
 use Rattle.finite_models.specs.Data.{children_of, weights_of}
 use Rattle.finite_models.proofs.Places.{children_of-at, weights_of-at}
 use Rattle.finite_models.proofs.Capped.{range_more}

@@ -1,5 +1,5 @@
 use Rattle.std.proofs.Common.{◌≡◌, ◌*◌, length, min}
-use Rattle.mixed_graph.specs.Bits.{has}
+use Rattle.mixed_graph.specs.Vocabulary.{has}
 use Rattle.finite_models.specs.Tables.{radix_range}
 use Rattle.finite_models.specs.Data.{children_of, weights_of}
 use Rattle.finite_models.proofs.tables.causes_range.Given as goal

@@ -1,7 +1,6 @@
 use Rattle.std.proofs.Common.{length, get_or}
 use Rattle.std.proofs.lemmas.Bool.{eq-eqb, eqb-true}
-use Rattle.mixed_graph.specs.Bits.{has}
-use Rattle.mixed_graph.specs.Shown.{graph_of}
+use Rattle.mixed_graph.specs.Vocabulary.{has, graph_of}
 use Rattle.finite_models.specs.Tables.{radix_range}
 use Rattle.finite_models.specs.Data.{children_of, weights_of}
 use Rattle.finite_models.proofs.Capped.{capped_is}

@@ -1,5 +1,5 @@
 use Rattle.std.proofs.Common.{◌≡◌, min, get_or}
-use Rattle.mixed_graph.specs.Shown.{graph_of}
+use Rattle.mixed_graph.specs.Vocabulary.{graph_of}
 use Rattle.finite_models.specs.Tables.{radix_range}
 use Rattle.finite_models.proofs.tables.parents_range.Given as goal
 

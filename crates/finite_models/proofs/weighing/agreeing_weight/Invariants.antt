@@ -1,6 +1,5 @@
 use Rattle.std.proofs.Common.{◌≡◌, get_or}
-use Rattle.mixed_graph.specs.Bits.{has}
-use Rattle.mixed_graph.specs.Shown.{graph_of}
+use Rattle.mixed_graph.specs.Vocabulary.{has, graph_of}
 use Rattle.finite_models.specs.Sums.{sum_below}
 use Rattle.finite_models.proofs.Agreeing.{counted}
 use Rattle.finite_models.proofs.weighing.agreeing_weight.Given as goal

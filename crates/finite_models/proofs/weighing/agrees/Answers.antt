@@ -1,5 +1,5 @@
 use Rattle.std.proofs.Common.{sym, ◌∙◌, length, get_or, arith}
-use Rattle.mixed_graph.specs.Bits.{has}
+use Rattle.mixed_graph.specs.Vocabulary.{has}
 use Rattle.finite_models.proofs.Agreeing.{disagree}
 use Rattle.finite_models.proofs.weighing.agrees.Goals as goal
 

@@ -1,5 +1,5 @@
 use Rattle.std.proofs.Common.{◌≡◌, true, get_or}
-use Rattle.mixed_graph.specs.Bits.{has}
+use Rattle.mixed_graph.specs.Vocabulary.{has}
 use Rattle.finite_models.specs.Models.{agree}
 use Rattle.finite_models.proofs.weighing.agrees.Given as goal
 

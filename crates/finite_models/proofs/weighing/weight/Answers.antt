@@ -1,5 +1,5 @@
 use Rattle.std.proofs.Common.{refl, arith}
-use Rattle.mixed_graph.specs.Shown.{graph_of}
+use Rattle.mixed_graph.specs.Vocabulary.{graph_of}
 use Rattle.finite_models.proofs.Agreeing.{world_count-product, total-product}
 use Rattle.finite_models.proofs.weighing.weight.Goals as goal
 

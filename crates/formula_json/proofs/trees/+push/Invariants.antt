@@ -1,6 +1,6 @@
 use Rattle.std.proofs.Common.{◌≡◌, drop}
-use Rattle.prob_expr.specs.View.{views}
-use Rattle.answer_json.specs.Progress.{with_values}
+use Rattle.prob_expr.specs.Vocabulary.{views}
+use Rattle.answer_json.specs.Vocabulary.{with_values}
 use Rattle.formula_json.specs.Trees.{trees_json}
 use Rattle.formula_json.proofs.trees.+push.Given as goal
 

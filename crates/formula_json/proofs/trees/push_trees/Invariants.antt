@@ -1,6 +1,6 @@
 use Rattle.std.proofs.Common.{◌≡◌, drop, map}
 use Rattle.prob_expr.specs.View.{view}
-use Rattle.answer_json.specs.Progress.{with_values}
+use Rattle.answer_json.specs.Vocabulary.{with_values}
 use Rattle.formula_json.specs.Trees.{tree_json}
 use Rattle.formula_json.proofs.trees.push_trees.Given as goal
 

@@ -1,8 +1,8 @@
 use Rattle.std.proofs.Common.{◌≡◌, true, refl, sym, ◌∙◌, subst}
 use Rattle.std.proofs.lemmas.Bool.{eqb-true, eq-eqb}
-use Rattle.mixed_graph.specs.Bits.{has}
+use Rattle.mixed_graph.specs.Vocabulary.{has}
 use Rattle.mixed_graph.proofs.Masks.{has-pow}
-use Rattle.hedge.specs.Linked.IsLinked.{at}
+use Rattle.hedge.specs.Vocabulary.{at}
 use Rattle.graph_cases.proofs.district_sets.links_at.Goals as goal
 
 -- small holds the vertex alone, which is in big

@@ -1,5 +1,5 @@
 use Rattle.std.proofs.Common.{ℕ, ◌<◌}
-use Rattle.mixed_graph.specs.Shown.{graph_of}
+use Rattle.mixed_graph.specs.Vocabulary.{graph_of}
 use Rattle.hedge.specs.Hedges.{IsRightChoice}
 use Rattle.hedge.proofs.choices.wrong_choice.Given as goal
 

@@ -1,5 +1,5 @@
 use Rattle.std.proofs.Common.{ℕ, ◌<◌, get_or, IsTrue}
-use Rattle.mixed_graph.specs.Bits.{has}
+use Rattle.mixed_graph.specs.Vocabulary.{has}
 use Rattle.hedge.proofs.entries.has_stranger.Given as goal
 
 abbrev pub invariant-loop-i : goal.invariant-loop-i

@@ -1,5 +1,5 @@
 use Rattle.std.proofs.Common.{ℕ, ◌<◌, IsTrue}
-use Rattle.mixed_graph.specs.Bits.{has}
+use Rattle.mixed_graph.specs.Vocabulary.{has}
 use Rattle.hedge.specs.Hedges.{IsPlaced}
 use Rattle.hedge.proofs.entries.unplaced.Given as goal
 

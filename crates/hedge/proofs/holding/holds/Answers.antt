@@ -1,6 +1,5 @@
 use Rattle.std.proofs.Common.{refl, arith}
-use Rattle.mixed_graph.specs.Bits.{has}
-use Rattle.mixed_graph.specs.Shown.{graph_of}
+use Rattle.mixed_graph.specs.Vocabulary.{has, graph_of}
 use Rattle.mixed_graph.proofs.Masks.{apart_from_meet}
 use Rattle.hedge.specs.Hedges.{Meets, AreHedgeSets}
 use Rattle.hedge.specs.Faults.{IsOffIn}

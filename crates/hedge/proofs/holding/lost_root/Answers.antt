@@ -1,8 +1,6 @@
 use Rattle.std.proofs.Common.{◌≡◌, ℕ, ◌<◌, false, not, ◌&&◌, IsTrue, inl, inr, sym, ap, ◌∙◌, subst, arith}
 use Rattle.std.proofs.lemmas.Bool.{cases_Bool, and_parts}
-use Rattle.mixed_graph.specs.Bits.{has}
-use Rattle.mixed_graph.specs.Graphs.{IsAncestor}
-use Rattle.mixed_graph.specs.Shown.{graph_of}
+use Rattle.mixed_graph.specs.Vocabulary.{has, IsAncestor, graph_of}
 use Rattle.mixed_graph.proofs.Masks.{has-zero}
 use Rattle.hedge.proofs.Trees.{not_true}
 use Rattle.hedge.specs.Hedges.{outside, Reaches}

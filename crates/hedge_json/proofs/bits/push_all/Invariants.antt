@@ -1,5 +1,5 @@
 use Rattle.std.proofs.Common.{◌≡◌, drop, map}
-use Rattle.answer_json.specs.Progress.{with_values}
+use Rattle.answer_json.specs.Vocabulary.{with_values}
 use Rattle.hedge_json.specs.Models.{bit_json}
 use Rattle.hedge_json.proofs.bits.push_all.Given as goal
 

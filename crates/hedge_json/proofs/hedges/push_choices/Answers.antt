@@ -1,7 +1,7 @@
 use Rattle.std.proofs.Common.{◌≡◌, [], ◌∷◌, map, cond, ap, sym, ◌∙◌, arith}
-use Rattle.mixed_graph.specs.Bits.{members_below}
-use Rattle.identify_text.specs.HedgeLines.{chooses}
-use Rattle.answer_json.specs.Progress.{with_values}
+use Rattle.mixed_graph.specs.Vocabulary.{members_below}
+use Rattle.identify_text.specs.Vocabulary.{chooses}
+use Rattle.answer_json.specs.Vocabulary.{with_values}
 use Rattle.answer_json.proofs.Arrays.{member_written, none_written}
 use Rattle.hedge_json.specs.Hedges.{choice_json}
 use Rattle.hedge_json.proofs.hedges.push_choices.Goals as goal

@@ -1,7 +1,7 @@
 use Rattle.std.proofs.Common.{◌≡◌, map}
-use Rattle.mixed_graph.specs.Bits.{members_below}
-use Rattle.identify_text.specs.HedgeLines.{chooses}
-use Rattle.answer_json.specs.Progress.{with_values}
+use Rattle.mixed_graph.specs.Vocabulary.{members_below}
+use Rattle.identify_text.specs.Vocabulary.{chooses}
+use Rattle.answer_json.specs.Vocabulary.{with_values}
 use Rattle.hedge_json.specs.Hedges.{choice_json}
 use Rattle.hedge_json.proofs.hedges.push_choices.Given as goal
 

@@ -1,7 +1,8 @@
 use Rattle.std.proofs.Common.{◌≡◌, ℕ, List, nat_lt, inl, inr, map, sym, ap, ◌∙◌, arith}
 use Rattle.std.proofs.lemmas.Bool.{cases_lt}
-use Rattle.mixed_graph.specs.Bits.{members_below}
-use Rattle.answer_json.specs.Progress.{Progress, with_values}
+use Rattle.mixed_graph.specs.Vocabulary.{members_below}
+use Rattle.answer_json.specs.Progress.{Progress}
+use Rattle.answer_json.specs.Vocabulary.{with_values}
 use Rattle.hedge_json.specs.Hedges.{link_json}
 use Rattle.hedge_json.proofs.Laters.{none_later, one_later}
 use Rattle.hedge_json.proofs.hedges.push_links.Goals as goal

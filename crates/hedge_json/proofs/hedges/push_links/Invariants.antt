@@ -1,6 +1,6 @@
 use Rattle.std.proofs.Common.{◌≡◌, ◌+◌, ◌-◌, ◌≤◌, nat_lt, map}
-use Rattle.mixed_graph.specs.Bits.{members_below}
-use Rattle.answer_json.specs.Progress.{with_values}
+use Rattle.mixed_graph.specs.Vocabulary.{members_below}
+use Rattle.answer_json.specs.Vocabulary.{with_values}
 use Rattle.hedge_json.specs.Hedges.{link_json}
 use Rattle.hedge_json.proofs.hedges.push_links.Given as goal
 

@@ -1,5 +1,5 @@
 use Rattle.std.proofs.Common.{◌≡◌, drop, map}
-use Rattle.answer_json.specs.Progress.{with_values}
+use Rattle.answer_json.specs.Vocabulary.{with_values}
 use Rattle.hedge_json.specs.Models.{cause_json}
 use Rattle.hedge_json.proofs.models.push_causes.Given as goal
 

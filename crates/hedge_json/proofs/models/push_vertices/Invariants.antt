@@ -1,5 +1,5 @@
 use Rattle.std.proofs.Common.{◌≡◌, drop}
-use Rattle.answer_json.specs.Progress.{with_values}
+use Rattle.answer_json.specs.Vocabulary.{with_values}
 use Rattle.hedge_json.specs.Models.{vertex_values}
 use Rattle.hedge_json.proofs.models.push_vertices.Given as goal
 

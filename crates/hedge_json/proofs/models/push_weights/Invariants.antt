@@ -1,6 +1,6 @@
 use Rattle.std.proofs.Common.{◌≡◌, drop, map, decimal}
 use Rattle.json.specs.Json.{string}
-use Rattle.answer_json.specs.Progress.{with_values}
+use Rattle.answer_json.specs.Vocabulary.{with_values}
 use Rattle.hedge_json.proofs.models.push_weights.Given as goal
 
 abbrev pub invariant-loop-weight : goal.invariant-loop-weight

@@ -1,5 +1,5 @@
 use Rattle.std.proofs.Common.{sym, ap, ◌∙◌}
-use Rattle.answer_json.specs.Progress.{with_values}
+use Rattle.answer_json.specs.Vocabulary.{with_values}
 use Rattle.answer_json.proofs.Arrays.{both_written}
 use Rattle.hedge_json.specs.declared.bits.Bit.TheVariants.{HedgeBit, CarriedBit}
 use Rattle.hedge_json.specs.Models.{part_values}

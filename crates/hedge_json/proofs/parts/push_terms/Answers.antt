@@ -1,5 +1,5 @@
 use Rattle.std.proofs.Common.{List, ℕ, [], ◌∷◌, map, cond, ap, sym, ◌∙◌}
-use Rattle.answer_json.specs.Progress.{with_values}
+use Rattle.answer_json.specs.Vocabulary.{with_values}
 use Rattle.hedge_json.specs.declared.bits.Bit.TheVariants.{HedgeBit, CarriedBit}
 use Rattle.hedge_json.specs.Models.{bit_json, bits_json, cause_term}
 use Rattle.hedge_json.proofs.Laters.{four_written}

@@ -1,6 +1,5 @@
 use Rattle.std.proofs.Common.{◌≡◌, drop}
-use Rattle.prob_expr.specs.View.{views}
-use Rattle.prob_expr.specs.Terms.{are_terms_each}
+use Rattle.prob_expr.specs.Vocabulary.{views, are_terms_each}
 use Rattle.held_steps.proofs.terms.+terms.Given as goal
 
 abbrev pub invariant-are_terms_each-loop-factor : goal.invariant-are_terms_each-loop-factor

@@ -1,7 +1,7 @@
 use Rattle.std.proofs.Common.{◌≡◌, ◌<◌, ◌-◌, ◌∙◌, ℕ, sym, ap, length, get_or, arith}
 use Rattle.std.proofs.lemmas.List.{length-set}
-use Rattle.mixed_graph.specs.Bits.{has}
-use Rattle.finite_models.specs.Worlds.{values_of}
+use Rattle.mixed_graph.specs.Vocabulary.{has}
+use Rattle.finite_models.specs.Vocabulary.{values_of}
 use Rattle.finite_models.proofs.Places.{weights_of-at}
 use Rattle.hidden_models.proofs.Written.{written-none, written-more, all_zero}
 use Rattle.hidden_models.proofs.Masks.{mask_is}

@@ -1,6 +1,6 @@
 use Rattle.std.proofs.Common.{◌≡◌, ◌-◌, get_or, length}
-use Rattle.mixed_graph.specs.Bits.{has}
-use Rattle.finite_models.specs.Worlds.{values_of}
+use Rattle.mixed_graph.specs.Vocabulary.{has}
+use Rattle.finite_models.specs.Vocabulary.{values_of}
 use Rattle.hidden_models.specs.Reaching.{mask_at}
 use Rattle.hidden_models.proofs.Written.{AreWritten}
 use Rattle.hidden_models.proofs.digits.cause_values.Given as goal

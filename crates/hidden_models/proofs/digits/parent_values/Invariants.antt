@@ -1,5 +1,5 @@
 use Rattle.std.proofs.Common.{◌≡◌, ◌-◌, get_or, length}
-use Rattle.mixed_graph.specs.Shown.{graph_of}
+use Rattle.mixed_graph.specs.Vocabulary.{graph_of}
 use Rattle.hidden_models.proofs.Written.{AreWritten}
 use Rattle.hidden_models.proofs.digits.parent_values.Given as goal
 

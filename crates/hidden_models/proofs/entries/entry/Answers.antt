@@ -1,6 +1,5 @@
 use Rattle.std.proofs.Common.{◌/◌, ◌%◌, sym, subst}
-use Rattle.mixed_graph.specs.Bits.{has}
-use Rattle.mixed_graph.specs.Shown.{graph_of}
+use Rattle.mixed_graph.specs.Vocabulary.{has, graph_of}
 use Rattle.hidden_models.specs.Values.{IsWorldOf}
 use Rattle.hidden_models.proofs.OneEntry.{worlds_is, some_worlds, at_within, world_of, entry_is}
 use Rattle.hidden_models.proofs.entries.entry.Goals as goal

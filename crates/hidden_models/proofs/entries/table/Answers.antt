@@ -1,6 +1,5 @@
 use Rattle.std.proofs.Common.{◌≡◌, ◌+◌, ℕ, List, sym, subst}
-use Rattle.mixed_graph.specs.Bits.{has}
-use Rattle.mixed_graph.specs.Shown.{graph_of}
+use Rattle.mixed_graph.specs.Vocabulary.{has, graph_of}
 use Rattle.hidden_models.specs.Lists.{AreListed}
 use Rattle.hidden_models.specs.Tables.{entry_at}
 use Rattle.hidden_models.proofs.ListLaws.{listed-more}

@@ -1,7 +1,6 @@
 use Rattle.std.proofs.Common.{◌<◌, ◌∙◌, ap, refl, sym, length, get_or, arith}
-use Rattle.mixed_graph.specs.Bits.{has}
-use Rattle.finite_models.specs.Data.{children_of}
-use Rattle.finite_models.specs.Worlds.{values_of}
+use Rattle.mixed_graph.specs.Vocabulary.{has}
+use Rattle.finite_models.specs.Vocabulary.{children_of, values_of}
 use Rattle.finite_models.proofs.CauseValues.{values_at}
 use Rattle.finite_models.proofs.Places.{children_of-at}
 use Rattle.finite_models.proofs.TablePlaces.{fits_next, place_next}

@@ -1,8 +1,6 @@
 use Rattle.std.proofs.Common.{◌≡◌, ◌+◌, ◌*◌, get_or}
-use Rattle.mixed_graph.specs.Bits.{has}
-use Rattle.finite_models.specs.Tables.{radix, radix_range}
-use Rattle.finite_models.specs.Data.{children_of}
-use Rattle.finite_models.specs.Worlds.{values_of}
+use Rattle.mixed_graph.specs.Vocabulary.{has}
+use Rattle.finite_models.specs.Vocabulary.{radix, radix_range, children_of, values_of}
 use Rattle.hidden_models.proofs.evaluation.causes_place.Given as goal
 
 abbrev pub invariant-loop-j : goal.invariant-loop-j

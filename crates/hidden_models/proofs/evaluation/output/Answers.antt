@@ -1,9 +1,6 @@
 use Rattle.std.proofs.Common.{◌≡◌, ◌<◌, ◌+◌, ◌*◌, ◌≤◌, ℕ, length, get_or, arith}
-use Rattle.mixed_graph.specs.Bits.{has}
-use Rattle.mixed_graph.specs.Shown.{graph_of}
-use Rattle.finite_models.specs.Tables.{radix_range}
-use Rattle.finite_models.specs.Data.{children_of}
-use Rattle.finite_models.specs.Worlds.{values_of}
+use Rattle.mixed_graph.specs.Vocabulary.{has, graph_of}
+use Rattle.finite_models.specs.Vocabulary.{radix_range, children_of, values_of}
 use Rattle.hidden_models.proofs.Worlds.{positive_of}
 use Rattle.finite_models.proofs.Digits.{positive_range}
 use Rattle.finite_models.proofs.TableLaws.{table_index-lt, radix-lt}

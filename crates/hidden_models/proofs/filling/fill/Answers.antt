@@ -1,10 +1,8 @@
 use Rattle.std.proofs.Common.{◌≡◌, not, ℕ, ◌<◌, ◌∙◌, refl, sym, subst, length, get_or, arith}
 use Rattle.std.proofs.lemmas.Bool.{cond-true, cond-false, not_from_true, not_from_false}
 use Rattle.std.proofs.lemmas.List.{get_or-replicate, length-set}
-use Rattle.mixed_graph.specs.Bits.{has}
-use Rattle.mixed_graph.specs.Shown.{graph_of}
-use Rattle.finite_models.specs.Models.{intervene, solution}
-use Rattle.finite_models.specs.Data.{meaning}
+use Rattle.mixed_graph.specs.Vocabulary.{has, graph_of}
+use Rattle.finite_models.specs.Vocabulary.{intervene, solution, meaning}
 use Rattle.finite_models.proofs.Agreeing.{solved_next, taken_solved, kept_in_range}
 use Rattle.hidden_models.proofs.Worlds.{filled_below}
 use Rattle.hidden_models.proofs.filling.fill.Goals as goal

@@ -1,8 +1,6 @@
 use Rattle.std.proofs.Common.{◌≡◌, ℕ, ◌<◌, length, get_or, IsTrue}
-use Rattle.mixed_graph.specs.Bits.{has}
-use Rattle.mixed_graph.specs.Orders.{taken_by}
-use Rattle.mixed_graph.specs.Shown.{graph_of}
-use Rattle.finite_models.specs.Data.{meaning}
+use Rattle.mixed_graph.specs.Vocabulary.{has, taken_by, graph_of}
+use Rattle.finite_models.specs.Vocabulary.{meaning}
 use Rattle.hidden_models.specs.Values.{filled}
 use Rattle.hidden_models.proofs.filling.fill.Given as goal
 

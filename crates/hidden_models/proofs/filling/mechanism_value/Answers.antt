@@ -1,6 +1,6 @@
 use Rattle.std.proofs.Common.{◌<◌, ◌∙◌, sym, ap, length, get_or, arith}
-use Rattle.mixed_graph.specs.Shown.{graph_of}
-use Rattle.finite_models.specs.Data.{parity_value, value_by}
+use Rattle.mixed_graph.specs.Vocabulary.{graph_of}
+use Rattle.finite_models.specs.Vocabulary.{parity_value, value_by}
 use Rattle.finite_models.proofs.DataFits.{value_at}
 use Rattle.hidden_models.proofs.filling.mechanism_value.Goals as goal
 

@@ -1,6 +1,6 @@
 use Rattle.std.proofs.Common.{◌≤◌, get_or}
-use Rattle.mixed_graph.specs.Shown.{graph_of}
-use Rattle.finite_models.specs.Sound.{AllRight}
+use Rattle.mixed_graph.specs.Vocabulary.{graph_of}
+use Rattle.finite_models.specs.Vocabulary.{AllRight}
 use Rattle.hidden_models.specs.Tables.{entries}
 use Rattle.hidden_models.proofs.folding.first_large.Given as goal
 

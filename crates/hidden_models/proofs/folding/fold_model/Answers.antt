@@ -1,6 +1,5 @@
 use Rattle.std.proofs.Common.{◌∙◌, ℕ, not, length, List, ap, arith}
-use Rattle.mixed_graph.specs.Bits.{has}
-use Rattle.mixed_graph.specs.Shown.{graph_of}
+use Rattle.mixed_graph.specs.Vocabulary.{has, graph_of}
 use Rattle.mixed_graph.proofs.Members.{length-members-le}
 use Rattle.hidden_models.proofs.Compose.{is_accepted, folds, causes_folded}
 use Rattle.hidden_models.proofs.ListLaws.{members-within}

@@ -1,5 +1,5 @@
 use Rattle.std.proofs.Common.{◌<◌, ◌∙◌, not, length, get_or, sym, ap, subst}
-use Rattle.mixed_graph.specs.Bits.{has}
+use Rattle.mixed_graph.specs.Vocabulary.{has}
 use Rattle.hidden_models.specs.Reaching.{has_some}
 use Rattle.hidden_models.proofs.ListLaws.{members-within}
 use Rattle.hidden_models.proofs.folding.folded.Goals as goal

@@ -1,6 +1,5 @@
 use Rattle.std.proofs.Common.{get_or}
-use Rattle.mixed_graph.specs.Bits.{has}
-use Rattle.mixed_graph.specs.Shown.{graph_of}
+use Rattle.mixed_graph.specs.Vocabulary.{has, graph_of}
 use Rattle.hidden_models.specs.Lists.{AreListed}
 use Rattle.hidden_models.specs.Tables.{IsTableFor}
 use Rattle.hidden_models.proofs.folding.kept_tables.Given as goal

@@ -1,6 +1,6 @@
 use Rattle.std.proofs.Common.{◌≡◌, ◌<◌, ◌∙◌, sym, ap, length, arith}
-use Rattle.mixed_graph.specs.Bits.{has}
-use Rattle.finite_models.specs.Data.{weights_of}
+use Rattle.mixed_graph.specs.Vocabulary.{has}
+use Rattle.finite_models.specs.Vocabulary.{weights_of}
 use Rattle.finite_models.proofs.Places.{weights_of-at}
 use Rattle.finite_models.proofs.Capped.{range_more}
 use Rattle.hidden_models.specs.Reaching.{mask_at}

@@ -1,7 +1,6 @@
 use Rattle.std.proofs.Common.{◌≡◌, ◌*◌, length, min}
-use Rattle.mixed_graph.specs.Bits.{has}
-use Rattle.finite_models.specs.Tables.{radix_range}
-use Rattle.finite_models.specs.Data.{weights_of}
+use Rattle.mixed_graph.specs.Vocabulary.{has}
+use Rattle.finite_models.specs.Vocabulary.{radix_range, weights_of}
 use Rattle.hidden_models.specs.Reaching.{mask_at}
 use Rattle.hidden_models.proofs.ranges.causes_range.Given as goal
 

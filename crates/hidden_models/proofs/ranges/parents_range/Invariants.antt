@@ -1,6 +1,6 @@
 use Rattle.std.proofs.Common.{◌≡◌, min, get_or}
-use Rattle.mixed_graph.specs.Shown.{graph_of}
-use Rattle.finite_models.specs.Tables.{radix_range}
+use Rattle.mixed_graph.specs.Vocabulary.{graph_of}
+use Rattle.finite_models.specs.Vocabulary.{radix_range}
 use Rattle.hidden_models.proofs.ranges.parents_range.Given as goal
 
 abbrev pub invariant-loop-k : goal.invariant-loop-k

@@ -1,6 +1,6 @@
 use Rattle.std.proofs.Common.{◌∙◌, ◌++◌, ◌∷◌, [], not, sym, ap}
 use Rattle.std.proofs.lemmas.Bool.{not_from_true, not_from_false}
-use Rattle.mixed_graph.specs.Bits.{has}
+use Rattle.mixed_graph.specs.Vocabulary.{has}
 use Rattle.latent_projection.proofs.Numbering.{members-more, members-same}
 use Rattle.hidden_models.proofs.ListLaws.{members-start}
 use Rattle.hidden_models.proofs.reaching.observed_vertices.Goals as goal

@@ -1,5 +1,5 @@
 use Rattle.std.proofs.Common.{◌≡◌, not}
-use Rattle.mixed_graph.specs.Bits.{has, members_below}
+use Rattle.mixed_graph.specs.Vocabulary.{has, members_below}
 use Rattle.hidden_models.proofs.reaching.observed_vertices.Given as goal
 
 abbrev pub invariant-loop-v : goal.invariant-loop-v

@@ -1,8 +1,6 @@
 use Rattle.std.proofs.Common.{◌≡◌, ◌∙◌, ◌<◌, not, sym, ℕ, true, subst}
 use Rattle.std.proofs.lemmas.Bool.{and_from, not_from_false, lt-ltb}
-use Rattle.mixed_graph.specs.Bits.{has}
-use Rattle.mixed_graph.specs.Graphs.{MixedGraph, IsDescendant}
-use Rattle.mixed_graph.specs.Shown.{graph_of}
+use Rattle.mixed_graph.specs.Vocabulary.{has, MixedGraph, IsDescendant, graph_of}
 use Rattle.finite_models.proofs.Bools.{and_first, and_second}
 use Rattle.hidden_models.proofs.ReachingLaw.{observed_of}
 use Rattle.hidden_models.proofs.Reach.{reached_of, of_reached}

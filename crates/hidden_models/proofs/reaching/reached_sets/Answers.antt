@@ -1,9 +1,7 @@
 use Rattle.std.proofs.Common.{◌+◌, ◌∙◌, IsTrue, List, sym, ap, subst, arith}
 use Rattle.std.specs.Prelude.{◌↔◌}
-use Rattle.mixed_graph.specs.Bits.{has}
-use Rattle.mixed_graph.specs.Sets.{Within}
-use Rattle.mixed_graph.specs.Shown.{graph_of}
 use Rattle.mixed_graph.specs.declared.sets.VSet.{VSet}
+use Rattle.mixed_graph.specs.Vocabulary.{has, Within, graph_of}
 use Rattle.finite_models.specs.declared.model.Cause.{Cause}
 use Rattle.finite_models.proofs.Places.{children_of-at}
 use Rattle.hidden_models.specs.Lists.{AreListed}

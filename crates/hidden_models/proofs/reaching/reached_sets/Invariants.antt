@@ -1,5 +1,4 @@
-use Rattle.mixed_graph.specs.Bits.{has}
-use Rattle.mixed_graph.specs.Shown.{graph_of}
+use Rattle.mixed_graph.specs.Vocabulary.{has, graph_of}
 use Rattle.hidden_models.specs.Lists.{AreListed}
 use Rattle.hidden_models.specs.Reaching.{IsReachOf}
 use Rattle.hidden_models.proofs.reaching.reached_sets.Given as goal

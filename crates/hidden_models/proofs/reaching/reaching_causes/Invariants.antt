@@ -1,5 +1,5 @@
 use Rattle.std.proofs.Common.{◌≡◌}
-use Rattle.mixed_graph.specs.Bits.{members_below}
+use Rattle.mixed_graph.specs.Vocabulary.{members_below}
 use Rattle.hidden_models.specs.Reaching.{has_some}
 use Rattle.hidden_models.proofs.reaching.reaching_causes.Given as goal
 

@@ -1,7 +1,7 @@
 use Rattle.std.proofs.Common.{arith}
-use Rattle.mixed_graph.specs.Shown.{graph_of}
-use Rattle.hedge.specs.Listed.{first_masks}
-use Rattle.identification_theory.specs.Procedure.{IsTarget}
+use Rattle.mixed_graph.specs.Vocabulary.{graph_of}
+use Rattle.hedge.specs.Vocabulary.{first_masks}
+use Rattle.identification_theory.specs.Vocabulary.{IsTarget}
 use Rattle.identify.proofs.Existing.{never_stopped, stopped_sets, with_models}
 use Rattle.identify.proofs.RightAnswers.{target_from}
 use Rattle.identify.proofs.deciding.find_hedge.Goals as goal

@@ -1,8 +1,8 @@
 use Rattle.std.proofs.Common.{[], ◌∷◌, get_or, take, drop, map, sym, subst, ◌+◌}
-use Rattle.mixed_graph.specs.Shown.{graph_of}
 use Rattle.mixed_graph.specs.declared.sets.VSet.{VSet}
-use Rattle.hedge.specs.Linked.{IsMaximalJoined}
-use Rattle.identification_theory.specs.Procedure.{StopsAt}
+use Rattle.mixed_graph.specs.Vocabulary.{graph_of}
+use Rattle.hedge.specs.Vocabulary.{IsMaximalJoined}
+use Rattle.identification_theory.specs.Vocabulary.{StopsAt}
 use Rattle.identify.specs.Deciding.{AreFactorable}
 use Rattle.identify.proofs.Existing.{factorable_append, stops_behind}
 use Rattle.identify.proofs.GatheredFactors.{district_at, sets_all, sets_more, sets_split}

@@ -1,6 +1,6 @@
 use Rattle.std.proofs.Common.{take, map}
-use Rattle.mixed_graph.specs.Shown.{graph_of}
 use Rattle.mixed_graph.specs.declared.sets.VSet.{VSet}
+use Rattle.mixed_graph.specs.Vocabulary.{graph_of}
 use Rattle.identify.specs.Deciding.{AreFactorable}
 use Rattle.identify.proofs.deciding.first_stop.Given as goal
 

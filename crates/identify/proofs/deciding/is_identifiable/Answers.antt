@@ -1,5 +1,5 @@
 use Rattle.std.proofs.Common.{◌≡◌, true, false}
-use Rattle.mixed_graph.specs.Shown.{graph_of}
+use Rattle.mixed_graph.specs.Vocabulary.{graph_of}
 use Rattle.identify.specs.Deciding.{HasRightFormula, HasRightHedge}
 use Rattle.identify.proofs.Existing.{exact_yes, exact_no, has_formula, has_hedge}
 use Rattle.identify.proofs.deciding.is_identifiable.Goals as goal

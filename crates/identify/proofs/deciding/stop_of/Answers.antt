@@ -1,9 +1,8 @@
 use Rattle.std.proofs.Common.{subst}
 use Rattle.mixed_graph.proofs.Masks.{positive_from_has}
-use Rattle.mixed_graph.specs.Masks.{all}
-use Rattle.mixed_graph.specs.Shown.{graph_of}
-use Rattle.hedge.specs.Linked.{IsDistrict}
-use Rattle.identification_theory.specs.Procedure.{AreAncestorsIn, IsStopped}
+use Rattle.mixed_graph.specs.Vocabulary.{all, graph_of}
+use Rattle.hedge.specs.Vocabulary.{IsDistrict}
+use Rattle.identification_theory.specs.Vocabulary.{AreAncestorsIn, IsStopped}
 use Rattle.identify.proofs.Existing.{approaching_none, approaching_further, whole, summed}
 use Rattle.identify.proofs.Shrinking.{district_of_set, district_inside, district_holds, ancestors_inside, ancestors_hold, ancestors_below, fewer, fits_64}
 use Rattle.identify.proofs.deciding.stop_of.Goals as goal

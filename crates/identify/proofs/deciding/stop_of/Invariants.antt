@@ -1,7 +1,5 @@
-use Rattle.mixed_graph.specs.Bits.{has}
-use Rattle.mixed_graph.specs.Sets.{Within}
-use Rattle.mixed_graph.specs.Shown.{graph_of}
-use Rattle.hedge.specs.Linked.{IsInside}
+use Rattle.mixed_graph.specs.Vocabulary.{has, Within, graph_of}
+use Rattle.hedge.specs.Vocabulary.{IsInside}
 use Rattle.identify.proofs.Existing.{Approaching}
 use Rattle.identify.proofs.Shrinking.{size}
 use Rattle.identify.proofs.deciding.stop_of.Given as goal

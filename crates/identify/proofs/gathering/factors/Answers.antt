@@ -1,9 +1,8 @@
 use Rattle.std.proofs.Common.{◌≡◌, get_or, length, take, arith}
-use Rattle.mixed_graph.specs.Shown.{graph_of}
-use Rattle.hedge.specs.Linked.{IsMaximalJoined}
-use Rattle.hedge.specs.Listed.{first_masks}
-use Rattle.do_derivation.specs.View.{listed}
-use Rattle.identification_theory.specs.Procedure.{StopsAt}
+use Rattle.mixed_graph.specs.Vocabulary.{graph_of}
+use Rattle.hedge.specs.Vocabulary.{IsMaximalJoined, first_masks}
+use Rattle.do_derivation.specs.Vocabulary.{listed}
+use Rattle.identification_theory.specs.Vocabulary.{StopsAt}
 use Rattle.identify.proofs.GatheredFactors.{Derives, GoesOn, district_at, factor_goes_on, factors_of, gathered_none, turn_end, turn_next, turn_stop}
 use Rattle.identify.proofs.gathering.factors.Goals as goal
 use Rattle.identify.proofs.gathering.factors.Goals.{After-factor-found, After-len}

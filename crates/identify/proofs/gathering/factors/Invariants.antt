@@ -1,8 +1,8 @@
 use Rattle.std.proofs.Common.{take, map}
-use Rattle.mixed_graph.specs.Shown.{graph_of}
 use Rattle.mixed_graph.specs.declared.sets.VSet.{VSet}
-use Rattle.do_derivation.specs.View.{listed}
-use Rattle.identification_theory.specs.Procedure.{StopsAt}
+use Rattle.mixed_graph.specs.Vocabulary.{graph_of}
+use Rattle.do_derivation.specs.Vocabulary.{listed}
+use Rattle.identification_theory.specs.Vocabulary.{StopsAt}
 use Rattle.identify.proofs.GatheredFactors.{Derives, Gathered}
 use Rattle.identify.proofs.gathering.factors.Given as goal
 

@@ -1,8 +1,8 @@
 use Rattle.std.proofs.Common.{List, take, map, ◌++◌, sym, ap, ◌∙◌, arith}
 use Rattle.std.proofs.lemmas.List.{at_drop_all, append-nil}
 use Rattle.mixed_graph.specs.declared.sets.VSet.{VSet}
-use Rattle.do_derivation.specs.View.{listed, numbers_of}
-use Rattle.identification_theory.specs.Derivations.{group_lists}
+use Rattle.do_derivation.specs.Vocabulary.{listed, numbers_of}
+use Rattle.identification_theory.specs.Vocabulary.{group_lists}
 use Rattle.identify.proofs.StepLists.{masks_taken}
 use Rattle.identify.proofs.groups.group_lists.Goals as goal
 

@@ -1,7 +1,7 @@
 use Rattle.std.proofs.Common.{◌≡◌, ◌++◌, drop, map}
 use Rattle.mixed_graph.specs.declared.sets.VSet.{VSet}
-use Rattle.do_derivation.specs.View.{listed, numbers_of}
-use Rattle.identification_theory.specs.Derivations.{group_lists}
+use Rattle.do_derivation.specs.Vocabulary.{listed, numbers_of}
+use Rattle.identification_theory.specs.Vocabulary.{group_lists}
 use Rattle.identify.proofs.groups.group_lists.Given as goal
 
 abbrev pub invariant-loop-t : goal.invariant-loop-t

@@ -1,8 +1,8 @@
 use Rattle.std.proofs.Common.{List, take, map, refl, sym, ap, ◌∙◌, arith}
 use Rattle.std.proofs.lemmas.List.{at_drop_more, at_drop_all}
 use Rattle.mixed_graph.specs.declared.sets.VSet.{VSet}
-use Rattle.do_derivation.specs.View.{listed}
-use Rattle.identification_theory.specs.Derivations.{has_pair}
+use Rattle.do_derivation.specs.Vocabulary.{listed}
+use Rattle.identification_theory.specs.Vocabulary.{has_pair}
 use Rattle.identify.proofs.StepLists.{masks_taken}
 use Rattle.identify.proofs.groups.has_pair.Goals as goal
 

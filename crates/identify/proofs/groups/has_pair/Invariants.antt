@@ -1,7 +1,7 @@
 use Rattle.std.proofs.Common.{◌≡◌, drop, map}
 use Rattle.mixed_graph.specs.declared.sets.VSet.{VSet}
-use Rattle.do_derivation.specs.View.{listed}
-use Rattle.identification_theory.specs.Derivations.{has_pair}
+use Rattle.do_derivation.specs.Vocabulary.{listed}
+use Rattle.identification_theory.specs.Vocabulary.{has_pair}
 use Rattle.identify.proofs.groups.has_pair.Given as goal
 
 abbrev pub invariant-loop-t : goal.invariant-loop-t

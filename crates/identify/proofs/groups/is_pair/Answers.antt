@@ -1,6 +1,6 @@
 use Rattle.std.proofs.Common.{leb, sym, ap, ◌∙◌}
-use Rattle.do_derivation.specs.View.{listed}
-use Rattle.identification_theory.specs.Derivations.{two_or_more}
+use Rattle.do_derivation.specs.Vocabulary.{listed}
+use Rattle.identification_theory.specs.Vocabulary.{two_or_more}
 use Rattle.identify.proofs.StepLists.{two_from}
 use Rattle.identify.proofs.groups.is_pair.Goals as goal
 

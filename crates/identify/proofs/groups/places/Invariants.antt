@@ -1,5 +1,5 @@
 use Rattle.std.proofs.Common.{◌≡◌, ◌++◌, drop}
-use Rattle.identification_theory.specs.Derivations.{places}
+use Rattle.identification_theory.specs.Vocabulary.{places}
 use Rattle.identify.proofs.groups.places.Given as goal
 
 abbrev pub invariant-loop-v : goal.invariant-loop-v

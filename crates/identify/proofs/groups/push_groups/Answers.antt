@@ -1,11 +1,11 @@
 use Rattle.std.proofs.Common.{◌≡◌, true, cond, sym, ap, ◌∙◌, arith}
-use Rattle.hedge.specs.Listed.{first_masks}
+use Rattle.hedge.specs.Vocabulary.{first_masks}
 use Rattle.do_derivation.specs.Plans.{Move, Plan, plan}
-use Rattle.do_derivation.specs.View.{listed}
 use Rattle.do_derivation.specs.declared.steps.Step.{Make}
-use Rattle.do_derivation.proofs.StepViews.{step-Make}
 use Rattle.do_derivation.specs.declared.moves.Move.TheVariants.{Group}
-use Rattle.identification_theory.specs.Derivations.{at_each, group_lists, unchain_lists, has_pair}
+use Rattle.do_derivation.specs.Vocabulary.{listed}
+use Rattle.do_derivation.proofs.StepViews.{step-Make}
+use Rattle.identification_theory.specs.Vocabulary.{at_each, group_lists, unchain_lists, has_pair}
 use Rattle.identify.specs.Lists.{onto, lists_view}
 use Rattle.identify.proofs.Steps.{onto_more}
 use Rattle.identify.proofs.groups.push_groups.Goals as goal

@@ -1,11 +1,11 @@
 use Rattle.std.proofs.Common.{◌≡◌, true, false, cond, [], ◌∷◌, ◌++◌, sym, ap, ◌∙◌, arith}
-use Rattle.do_derivation.specs.Plans.{Move, Plan, no_plans}
-use Rattle.do_derivation.specs.View.{listed, steps_view}
+use Rattle.do_derivation.specs.Plans.{Move, Plan}
 use Rattle.do_derivation.specs.declared.steps.Step.{Make}
-use Rattle.do_derivation.proofs.StepViews.{step-Make}
 use Rattle.do_derivation.specs.declared.moves.Move.TheVariants.{Bare}
+use Rattle.do_derivation.specs.Vocabulary.{no_plans, listed, steps_view}
+use Rattle.do_derivation.proofs.StepViews.{step-Make}
 use Rattle.do_derivation.specs.declared.moves.BareMove.TheVariants as bare_move
-use Rattle.identification_theory.specs.Derivations.{single, in_order, two_or_more}
+use Rattle.identification_theory.specs.Vocabulary.{single, in_order, two_or_more}
 use Rattle.identify.proofs.StepLists.{unchain_is}
 use Rattle.identify.proofs.groups.unchain_list.Goals as goal
 

@@ -1,8 +1,8 @@
 use Rattle.std.proofs.Common.{◌≡◌, ◌+◌, List, [], ◌∷◌, take, drop, map, length, length-append, sym, ap, ◌∙◌, arith}
 use Rattle.std.proofs.lemmas.List.{at_drop_more, at_drop_all}
 use Rattle.mixed_graph.specs.declared.sets.VSet.{VSet}
-use Rattle.do_derivation.specs.View.{listed}
-use Rattle.identification_theory.specs.Derivations.{more, unchain_lists}
+use Rattle.do_derivation.specs.Vocabulary.{listed}
+use Rattle.identification_theory.specs.Vocabulary.{more, unchain_lists}
 use Rattle.identify.specs.Lists.{lists_onto}
 use Rattle.identify.proofs.Steps.{lists_more}
 use Rattle.identify.proofs.StepLists.{masks_taken}

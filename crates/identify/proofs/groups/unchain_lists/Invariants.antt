@@ -1,7 +1,7 @@
 use Rattle.std.proofs.Common.{◌≡◌, length, drop, map}
 use Rattle.mixed_graph.specs.declared.sets.VSet.{VSet}
-use Rattle.do_derivation.specs.View.{listed}
-use Rattle.identification_theory.specs.Derivations.{unchain_lists}
+use Rattle.do_derivation.specs.Vocabulary.{listed}
+use Rattle.identification_theory.specs.Vocabulary.{unchain_lists}
 use Rattle.identify.specs.Lists.{lists_onto}
 use Rattle.identify.proofs.groups.unchain_lists.Given as goal
 

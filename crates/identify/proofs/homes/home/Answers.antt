@@ -1,7 +1,7 @@
 use Rattle.std.proofs.Common.{List, take, map, refl, sym, ap, ◌∙◌, arith}
 use Rattle.std.proofs.lemmas.List.{at_drop_more, at_drop_all}
 use Rattle.mixed_graph.specs.declared.sets.VSet.{VSet}
-use Rattle.identification_theory.specs.Derivations.{home}
+use Rattle.identification_theory.specs.Vocabulary.{home}
 use Rattle.identify.proofs.StepLists.{masks_taken}
 use Rattle.identify.proofs.homes.home.Goals as goal
 

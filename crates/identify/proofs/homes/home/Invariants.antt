@@ -1,6 +1,6 @@
 use Rattle.std.proofs.Common.{◌≡◌, drop, map}
 use Rattle.mixed_graph.specs.declared.sets.VSet.{VSet}
-use Rattle.identification_theory.specs.Derivations.{home}
+use Rattle.identification_theory.specs.Vocabulary.{home}
 use Rattle.identify.proofs.homes.home.Given as goal
 
 abbrev pub invariant-loop-t : goal.invariant-loop-t

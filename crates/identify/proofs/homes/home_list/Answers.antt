@@ -1,11 +1,10 @@
 use Rattle.std.proofs.Common.{◌≡◌, sym, ap, ◌∙◌}
-use Rattle.mixed_graph.specs.Masks.{minus, common}
-use Rattle.do_derivation.specs.Plans.{no_plans}
-use Rattle.do_derivation.specs.View.{step_view}
+use Rattle.mixed_graph.specs.Vocabulary.{minus, common}
 use Rattle.do_derivation.specs.declared.steps.Step.{Make}
 use Rattle.do_derivation.specs.declared.moves.Move.TheVariants.{WithSet}
+use Rattle.do_derivation.specs.Vocabulary.{no_plans, step_view}
 use Rattle.do_derivation.specs.declared.moves.SetMove.TheVariants as set_move
-use Rattle.identification_theory.specs.Derivations.{with_set}
+use Rattle.identification_theory.specs.Vocabulary.{with_set}
 use Rattle.identify.specs.Lists.{onto}
 use Rattle.identify.proofs.Steps.{onto_nothing, onto_with}
 use Rattle.identify.proofs.StepLists.{home_is}

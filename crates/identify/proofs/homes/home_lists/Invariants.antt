@@ -1,6 +1,6 @@
 use Rattle.std.proofs.Common.{◌≡◌, ◌≤◌, length, drop}
-use Rattle.hedge.specs.Listed.{first_masks}
-use Rattle.identification_theory.specs.Derivations.{home_lists}
+use Rattle.hedge.specs.Vocabulary.{first_masks}
+use Rattle.identification_theory.specs.Vocabulary.{home_lists}
 use Rattle.identify.specs.Lists.{lists_onto}
 use Rattle.identify.proofs.homes.home_lists.Given as goal
 

@@ -1,7 +1,7 @@
 use Rattle.std.proofs.Common.{◌≡◌, true, cond, sym, ap, ◌∙◌, arith}
-use Rattle.mixed_graph.specs.Bits.{has}
-use Rattle.hedge.specs.Listed.{first_masks}
-use Rattle.identification_theory.specs.Derivations.{more, home, home_list}
+use Rattle.mixed_graph.specs.Vocabulary.{has}
+use Rattle.hedge.specs.Vocabulary.{first_masks}
+use Rattle.identification_theory.specs.Vocabulary.{more, home, home_list}
 use Rattle.identify.specs.Lists.{lists_onto}
 use Rattle.identify.proofs.Steps.{lists_more}
 use Rattle.identify.proofs.homes.push_home.Goals as goal

@@ -1,14 +1,11 @@
 use Rattle.std.proofs.Common.{ℕ, eqb-true, inl, inr, sym, ◌∙◌, length-take, map, arith}
-use Rattle.mixed_graph.specs.Shown.{graph_of}
 use Rattle.mixed_graph.specs.declared.sets.VSet.{VSet}
-use Rattle.hedge.specs.Linked.{AreDistricts}
-use Rattle.hedge.specs.Listed.{first_masks}
-use Rattle.hedge.specs.Shapes.{AreSetsOfHedge}
-use Rattle.prob_expr.specs.View.{formula_view}
-use Rattle.do_derivation.specs.View.{derivation_view, listed}
-use Rattle.identification_theory.specs.Procedure.{IsTarget, IsUnidentified, StopsAt}
+use Rattle.mixed_graph.specs.Vocabulary.{graph_of}
+use Rattle.hedge.specs.Vocabulary.{AreDistricts, first_masks, AreSetsOfHedge}
+use Rattle.prob_expr.specs.Vocabulary.{formula_view}
+use Rattle.do_derivation.specs.Vocabulary.{derivation_view, listed}
+use Rattle.identification_theory.specs.Vocabulary.{IsTarget, IsUnidentified, StopsAt, AreRoots}
 use Rattle.identification_theory.proofs.Answered.{stop_is_hedge}
-use Rattle.identification_theory.specs.AnswerLaws.{AreRoots}
 use Rattle.identify.proofs.Composed.{few_defs, with_steps, without_steps}
 use Rattle.identify.proofs.Orders.{districts_by}
 use Rattle.identify.proofs.RightAnswers.{target_from, unidentified, unidentified_at}

@@ -1,8 +1,8 @@
 use Rattle.std.proofs.Common.{refl, ap, ◌∙◌}
-use Rattle.mixed_graph.specs.Masks.{minus}
+use Rattle.mixed_graph.specs.Vocabulary.{minus}
 use Rattle.prob_expr.specs.View.{view}
 use Rattle.do_derivation.specs.Plans.{Plan}
-use Rattle.identification_theory.specs.Procedure.{sum_if}
+use Rattle.identification_theory.specs.Vocabulary.{sum_if}
 use Rattle.identify.proofs.Steps.{step-Then}
 use Rattle.identify.proofs.mains.assembled.Goals as goal
 

@@ -1,11 +1,11 @@
 use Rattle.std.proofs.Common.{◌<◌, ◌≤◌, All, length, subst, sym, ap, ◌∙◌, arith}
-use Rattle.hedge.specs.Listed.{first_masks}
+use Rattle.hedge.specs.Vocabulary.{first_masks}
 use Rattle.do_derivation.specs.Plans.{Move, Plan, plan}
-use Rattle.do_derivation.specs.View.{listed}
 use Rattle.do_derivation.specs.declared.steps.Step.{Make}
-use Rattle.do_derivation.proofs.StepViews.{step-Make}
 use Rattle.do_derivation.specs.declared.moves.Move.TheVariants.{Chain}
-use Rattle.identification_theory.specs.Derivations.{at_each, in_order, home_lists, group_steps, unwrap_steps}
+use Rattle.do_derivation.specs.Vocabulary.{listed}
+use Rattle.do_derivation.proofs.StepViews.{step-Make}
+use Rattle.identification_theory.specs.Vocabulary.{at_each, in_order, home_lists, group_steps, unwrap_steps}
 use Rattle.identify.specs.Lists.{onto, lists_view}
 use Rattle.identify.proofs.Steps.{onto_more}
 use Rattle.identify.proofs.StepLists.{in_order_all, more_districts}

@@ -1,11 +1,11 @@
 use Rattle.std.proofs.Common.{◌≡◌, true, false, sym, ap, ◌∙◌}
-use Rattle.mixed_graph.specs.Masks.{minus, all, is_empty}
-use Rattle.do_derivation.specs.Plans.{no_plans, plan}
-use Rattle.do_derivation.specs.View.{step_view, steps_view}
+use Rattle.mixed_graph.specs.Vocabulary.{minus, all, is_empty}
+use Rattle.do_derivation.specs.Plans.{plan}
 use Rattle.do_derivation.specs.declared.steps.Step.{Make}
 use Rattle.do_derivation.specs.declared.moves.Move.TheVariants.{WithSet}
+use Rattle.do_derivation.specs.Vocabulary.{no_plans, step_view, steps_view}
 use Rattle.do_derivation.specs.declared.moves.SetMove.TheVariants as set_move
-use Rattle.identification_theory.specs.Derivations.{with_set, at_place}
+use Rattle.identification_theory.specs.Vocabulary.{with_set, at_place}
 use Rattle.identify.specs.Lists.{onto}
 use Rattle.identify.proofs.Steps.{onto_nothing, onto_append, onto_more, onto_with}
 use Rattle.identify.proofs.StepLists.{main_flat, main_wide}

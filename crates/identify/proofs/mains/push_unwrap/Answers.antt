@@ -1,10 +1,11 @@
 use Rattle.std.proofs.Common.{◌≡◌, true, false, cond, sym, ap, ◌∙◌, arith}
-use Rattle.do_derivation.specs.Plans.{Move, Plan, no_plans, plan}
+use Rattle.do_derivation.specs.Plans.{Move, Plan, plan}
 use Rattle.do_derivation.specs.declared.steps.Step.{Make}
-use Rattle.do_derivation.proofs.StepViews.{step-Make}
 use Rattle.do_derivation.specs.declared.moves.Move.TheVariants.{Bare}
+use Rattle.do_derivation.specs.Vocabulary.{no_plans}
+use Rattle.do_derivation.proofs.StepViews.{step-Make}
 use Rattle.do_derivation.specs.declared.moves.BareMove.TheVariants as bare_move
-use Rattle.identification_theory.specs.Derivations.{single}
+use Rattle.identification_theory.specs.Vocabulary.{single}
 use Rattle.identify.specs.Lists.{onto}
 use Rattle.identify.proofs.Steps.{onto_more, onto_nothing}
 use Rattle.identify.proofs.mains.push_unwrap.Goals as goal

@@ -1,6 +1,6 @@
 use Rattle.std.proofs.Common.{sym, ap, ◌∙◌}
-use Rattle.prob_expr.specs.View.{views}
-use Rattle.identification_theory.specs.Derivations.{main_steps}
+use Rattle.prob_expr.specs.Vocabulary.{views}
+use Rattle.identification_theory.specs.Vocabulary.{main_steps}
 use Rattle.identify.proofs.mains.wanted_steps.Goals as goal
 
 pub returns-in-Formula : goal.returns-in-Formula

@@ -1,6 +1,6 @@
 use Rattle.mixed_graph.proofs.Masks.{positive_from_has}
-use Rattle.mixed_graph.specs.Shown.{graph_of}
-use Rattle.hedge.specs.Shapes.{AreSetsOfHedge}
+use Rattle.mixed_graph.specs.Vocabulary.{graph_of}
+use Rattle.hedge.specs.Vocabulary.{AreSetsOfHedge}
 use Rattle.identify.proofs.HedgeData.{hedge_from}
 use Rattle.identify.proofs.stops.hedge_between.Goals as goal
 use Rattle.identify.proofs.stops.hedge_between.Goals.{After-roots_of-roots}

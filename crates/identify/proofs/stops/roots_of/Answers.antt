@@ -1,6 +1,5 @@
 use Rattle.std.proofs.Common.{not, ◌&&◌, ap, ap₂, ◌∙◌, arith}
-use Rattle.mixed_graph.specs.Bits.{has}
-use Rattle.mixed_graph.specs.Shown.{graph_of}
+use Rattle.mixed_graph.specs.Vocabulary.{has, graph_of}
 use Rattle.identify.proofs.Roots.{roots_none, roots_more, roots_all}
 use Rattle.identify.proofs.stops.roots_of.Goals as goal
 

@@ -1,4 +1,4 @@
-use Rattle.mixed_graph.specs.Shown.{graph_of}
+use Rattle.mixed_graph.specs.Vocabulary.{graph_of}
 use Rattle.identify.proofs.Roots.{AreRootsBelow}
 use Rattle.identify.proofs.stops.roots_of.Given as goal
 

@@ -1,10 +1,9 @@
 use Rattle.std.proofs.Common.{◌≡◌, Bool, Some, subst, ap, ◌∙◌}
-use Rattle.mixed_graph.specs.Names.{texts}
-use Rattle.mixed_graph.specs.Shown.{graph_of}
-use Rattle.prob_expr.specs.Tree.{PlainTarget}
-use Rattle.targets.specs.Targets.{Lists, AreListedSets}
+use Rattle.mixed_graph.specs.Vocabulary.{texts, graph_of}
+use Rattle.prob_expr.specs.Vocabulary.{PlainTarget}
+use Rattle.targets.specs.Vocabulary.{Lists, AreListedSets}
 use Rattle.targets.proofs.Effects.{listed_outcome}
-use Rattle.diagram.specs.Sets.{Names, lent, query_lists}
+use Rattle.diagram.specs.Vocabulary.{Names, lent, query_lists}
 use Rattle.diagram.proofs.Lent.{lent_owned}
 use Rattle.identify_command.specs.Requests.{request_of}
 use Rattle.identify_command.specs.Right.{DecidesTarget}

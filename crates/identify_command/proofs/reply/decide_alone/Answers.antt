@@ -1,7 +1,7 @@
 use Rattle.std.proofs.Common.{refl, subst}
 use Rattle.std.proofs.lemmas.Bool.{false≢true}
-use Rattle.mixed_graph.specs.Shown.{graph_of}
-use Rattle.identify.specs.Answers.{IsRightAlone}
+use Rattle.mixed_graph.specs.Vocabulary.{graph_of}
+use Rattle.identify.specs.Vocabulary.{IsRightAlone}
 use Rattle.effect_answers.proofs.Found.{found_alone}
 use Rattle.effect_answers.proofs.ReadBack.{hedge_back}
 use Rattle.effect_answers.proofs.Writing.{bare_target}

@@ -1,16 +1,13 @@
 use Rattle.std.proofs.Common.{◌≤◌, ◌<◌, ℕ, [], length, refl, sym, subst, ◌∙◌}
 use Rattle.std.proofs.lemmas.Bool.{false≢true}
-use Rattle.mixed_graph.specs.Bits.{has}
-use Rattle.mixed_graph.specs.Sets.{Within, Apart}
-use Rattle.mixed_graph.specs.Shown.{graph_of}
-use Rattle.do_rules.specs.Rules.{AreThreeSets}
+use Rattle.mixed_graph.specs.Vocabulary.{has, Within, Apart, graph_of}
+use Rattle.do_rules.specs.Vocabulary.{AreThreeSets}
 use Rattle.mixed_graph.proofs.MaskLaws.{has_none}
-use Rattle.prob_expr.specs.Tree.{PlainTarget, effect_on}
-use Rattle.prob_expr.specs.View.{formula_view}
-use Rattle.do_derivation.specs.View.{derivation_view}
-use Rattle.identification_theory.specs.Derivations.{IsDerived}
-use Rattle.identify.specs.Answers.{IsRight, IfFormula, AreShallowSteps, IsShallowFormula}
-use Rattle.short_formulas.specs.Short.{IsUsable}
+use Rattle.prob_expr.specs.Vocabulary.{PlainTarget, effect_on, formula_view}
+use Rattle.do_derivation.specs.Vocabulary.{derivation_view}
+use Rattle.identification_theory.specs.Vocabulary.{IsDerived}
+use Rattle.identify.specs.Vocabulary.{IsRight, IfFormula, AreShallowSteps, IsShallowFormula}
+use Rattle.short_formulas.specs.Vocabulary.{IsUsable}
 use Rattle.short_formulas.proofs.Usable.{usable_plain, right_bare, or_shorter}
 use Rattle.effect_answers.proofs.Found.{found}
 use Rattle.effect_answers.proofs.ReadBack.{formula_back, hedge_back}

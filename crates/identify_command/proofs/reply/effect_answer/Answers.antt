@@ -1,6 +1,5 @@
 use Rattle.std.proofs.Common.{subst}
-use Rattle.mixed_graph.specs.Bits.{has}
-use Rattle.mixed_graph.specs.Sets.{Within}
+use Rattle.mixed_graph.specs.Vocabulary.{has, Within}
 use Rattle.targets.proofs.Effects.{effect_within_x, effect_within_y, effect_apart, effect_outcome}
 use Rattle.identify_command.proofs.reply.effect_answer.Goals as goal
 

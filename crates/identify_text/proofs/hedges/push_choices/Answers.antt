@@ -1,6 +1,6 @@
 use Rattle.std.proofs.Common.{◌≡◌, ◌++◌, ap, ◌∙◌, arith}
 use Rattle.std.specs.List.{flat_map}
-use Rattle.mixed_graph.specs.Bits.{members_below}
+use Rattle.mixed_graph.specs.Vocabulary.{members_below}
 use Rattle.identify_text.specs.HedgeLines.{chooses, choice_line}
 use Rattle.identify_text.proofs.Lines.{written_more, texts_none}
 use Rattle.identify_text.proofs.hedges.push_choices.Goals as goal

@@ -1,6 +1,6 @@
 use Rattle.std.proofs.Common.{◌≡◌, ◌++◌}
 use Rattle.std.specs.List.{flat_map}
-use Rattle.mixed_graph.specs.Bits.{members_below}
+use Rattle.mixed_graph.specs.Vocabulary.{members_below}
 use Rattle.identify_text.specs.HedgeLines.{chooses, choice_line}
 use Rattle.identify_text.proofs.hedges.push_choices.Given as goal
 

@@ -1,5 +1,5 @@
 use Rattle.std.proofs.Common.{codes}
-use Rattle.answer_text.specs.Texts.{set_text}
+use Rattle.answer_text.specs.Vocabulary.{set_text}
 use Rattle.identify_text.proofs.Lines.{seven_written}
 use Rattle.identify_text.proofs.hedges.push_hedge_sets.Goals as goal
 

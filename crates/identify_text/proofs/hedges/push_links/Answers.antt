@@ -1,7 +1,7 @@
 use Rattle.std.proofs.Common.{◌≡◌, ◌++◌, nat_lt, inl, inr, append-nil, sym, ap, ◌∙◌, arith}
 use Rattle.std.proofs.lemmas.Bool.{cases_lt}
 use Rattle.std.specs.List.{flat_map}
-use Rattle.mixed_graph.specs.Bits.{members_below}
+use Rattle.mixed_graph.specs.Vocabulary.{members_below}
 use Rattle.identify_text.specs.HedgeLines.{link_line}
 use Rattle.identify_text.proofs.Lines.{later_none, later_more}
 use Rattle.identify_text.proofs.hedges.push_links.Goals as goal

@@ -1,6 +1,6 @@
 use Rattle.std.proofs.Common.{◌≡◌, ◌+◌, ◌-◌, ◌≤◌, ◌++◌, nat_lt}
 use Rattle.std.specs.List.{flat_map}
-use Rattle.mixed_graph.specs.Bits.{members_below}
+use Rattle.mixed_graph.specs.Vocabulary.{members_below}
 use Rattle.identify_text.specs.HedgeLines.{link_line}
 use Rattle.identify_text.proofs.hedges.push_links.Given as goal
 

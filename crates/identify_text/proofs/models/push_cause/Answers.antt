@@ -1,5 +1,5 @@
 use Rattle.std.proofs.Common.{◌++◌, decimal, codes, ap, ◌∙◌}
-use Rattle.answer_text.specs.Texts.{set_text}
+use Rattle.answer_text.specs.Vocabulary.{set_text}
 use Rattle.identify_text.specs.ModelLines.{weights_text}
 use Rattle.identify_text.proofs.Lines.{five_written}
 use Rattle.identify_text.proofs.models.push_cause.Goals as goal

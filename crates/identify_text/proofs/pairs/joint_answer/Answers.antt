@@ -1,7 +1,6 @@
 use Rattle.std.proofs.Common.{codes, ◌∙◌}
-use Rattle.prob_expr.specs.Tree.{term_of}
-use Rattle.prob_expr.specs.View.{target_view}
-use Rattle.expr_text.specs.Write.{text_of}
+use Rattle.prob_expr.specs.Vocabulary.{term_of, target_view}
+use Rattle.expr_text.specs.Vocabulary.{text_of}
 use Rattle.identify_text.specs.PairLines.{hedge_answer}
 use Rattle.identify_text.proofs.Lines.{last_behind}
 use Rattle.identify_text.proofs.pairs.joint_answer.Goals as goal

@@ -1,7 +1,6 @@
 use Rattle.std.proofs.Common.{ℕ, ◌||◌, ◌↔◌, ◌∙◌, ap, subst, IsTrue}
-use Rattle.mixed_graph.specs.Bits.{has}
+use Rattle.mixed_graph.specs.Vocabulary.{has, graph_of}
 use Rattle.mixed_graph.specs.Reached.{Reached}
-use Rattle.mixed_graph.specs.Shown.{graph_of}
 use Rattle.implications.specs.Links.{is_link}
 use Rattle.implications.proofs.LinkLaws.{same_side, grown_side}
 use Rattle.implications.proofs.Thinning.{rest_is}

@@ -1,6 +1,5 @@
 use Rattle.std.proofs.Common.{◌≡◌, ℕ, ◌&&◌, ◌||◌, ◌==◌, ◌∙◌, ap, arith}
-use Rattle.mixed_graph.specs.Bits.{has}
-use Rattle.mixed_graph.specs.Shown.{graph_of}
+use Rattle.mixed_graph.specs.Vocabulary.{has, graph_of}
 use Rattle.implications.proofs.LinkLaws.{next_on, away_on}
 use Rattle.implications.proofs.links.is_next_to.Goals as goal
 use Rattle.implications.proofs.links.is_next_to.Goals.{After-is_empty}

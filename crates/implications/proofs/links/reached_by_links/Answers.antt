@@ -1,6 +1,5 @@
 use Rattle.std.proofs.Common.{◌∙◌, arith, ap, ◌&&◌, not}
-use Rattle.mixed_graph.specs.Bits.{has}
-use Rattle.mixed_graph.specs.Shown.{graph_of}
+use Rattle.mixed_graph.specs.Vocabulary.{has, graph_of}
 use Rattle.implications.specs.Links.{is_link}
 use Rattle.mixed_graph.proofs.Spreading.{Spread, spreading_none, spreading_more, spreading_smaller, spread_all}
 use Rattle.implications.proofs.links.reached_by_links.Goals as goal

@@ -1,6 +1,5 @@
 use Rattle.std.proofs.Common.{◌-◌, ◌^◌, ◌<◌}
-use Rattle.mixed_graph.specs.Bits.{has}
-use Rattle.mixed_graph.specs.Shown.{graph_of}
+use Rattle.mixed_graph.specs.Vocabulary.{has, graph_of}
 use Rattle.mixed_graph.proofs.Spreading.{Spreading}
 use Rattle.implications.specs.Links.{is_link}
 use Rattle.implications.proofs.links.reached_by_links.Given as goal

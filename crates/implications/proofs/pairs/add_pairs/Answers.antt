@@ -1,6 +1,6 @@
 use Rattle.std.proofs.Common.{◌+◌, List, sym, ap, subst, ◌∙◌, refl, arith}
 use Rattle.std.specs.Global.{Vec}
-use Rattle.mixed_graph.specs.Shown.{graph_of}
+use Rattle.mixed_graph.specs.Vocabulary.{graph_of}
 use Rattle.implications.specs.declared.pairs.Implication.{Implication}
 use Rattle.implications.specs.Steps.{AreBefore}
 use Rattle.implications.proofs.Listing.{skipped, pushed}

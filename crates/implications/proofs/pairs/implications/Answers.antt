@@ -1,5 +1,5 @@
 use Rattle.std.proofs.Common.{inl, arith}
-use Rattle.mixed_graph.specs.Shown.{graph_of}
+use Rattle.mixed_graph.specs.Vocabulary.{graph_of}
 use Rattle.implications.proofs.Listing.{each_independent, separable_is_independent}
 use Rattle.implications.proofs.pairs.implications.Goals as goal
 

@@ -1,4 +1,4 @@
-use Rattle.mixed_graph.specs.Shown.{graph_of}
+use Rattle.mixed_graph.specs.Vocabulary.{graph_of}
 use Rattle.implications.specs.Steps.{AreBefore}
 use Rattle.implications.proofs.pairs.implications.Given as goal
 

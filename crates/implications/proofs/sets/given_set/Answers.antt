@@ -1,7 +1,5 @@
 use Rattle.std.proofs.Common.{◌≡◌, ◌<◌, ℕ, ◌↔◌, sym, subst, arith, IsTrue}
-use Rattle.mixed_graph.specs.Bits.{has}
-use Rattle.mixed_graph.specs.Graphs.{IsAncestor}
-use Rattle.mixed_graph.specs.Shown.{graph_of}
+use Rattle.mixed_graph.specs.Vocabulary.{has, IsAncestor, graph_of}
 use Rattle.implications.specs.Separable.{AreOtherAncestors}
 use Rattle.implications.specs.Links.{AreAbove}
 use Rattle.implications.proofs.Cuts.{side_from, inseparable, first_cut}

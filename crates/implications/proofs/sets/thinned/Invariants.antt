@@ -1,5 +1,4 @@
-use Rattle.mixed_graph.specs.Bits.{has}
-use Rattle.mixed_graph.specs.Shown.{graph_of}
+use Rattle.mixed_graph.specs.Vocabulary.{has, graph_of}
 use Rattle.implications.specs.Links.{IsCut}
 use Rattle.implications.proofs.Thinning.{IsDownTo}
 use Rattle.implications.proofs.sets.thinned.Given as goal

@@ -1,7 +1,6 @@
 use Rattle.std.proofs.Common.{refl, sym, subst}
-use Rattle.mixed_graph.specs.Bits.{has}
-use Rattle.mixed_graph.specs.Shown.{graph_of}
-use Rattle.m_separation.specs.Walks.{IsSeparated}
+use Rattle.mixed_graph.specs.Vocabulary.{has, graph_of}
+use Rattle.m_separation.specs.Vocabulary.{IsSeparated}
 use Rattle.implications.specs.Separable.{only}
 use Rattle.implications.proofs.Cuts.{open_without, apart_without, next_cut}
 use Rattle.implications.proofs.Thinning.{rest_of, rest_is, step_dropped, step_kept}

@@ -1,5 +1,5 @@
 use Rattle.std.proofs.Common.{◌+◌, take, refl, sym, subst}
-use Rattle.mixed_graph.specs.Shown.{graph_of}
+use Rattle.mixed_graph.specs.Vocabulary.{graph_of}
 use Rattle.implications_command.specs.Differences.{AreMeasured}
 use Rattle.implications_command.specs.Pairs.{pairs_in}
 use Rattle.implications_command.proofs.Measuring.{measured_more}

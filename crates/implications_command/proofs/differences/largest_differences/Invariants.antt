@@ -1,5 +1,5 @@
 use Rattle.std.proofs.Common.{take}
-use Rattle.mixed_graph.specs.Shown.{graph_of}
+use Rattle.mixed_graph.specs.Vocabulary.{graph_of}
 use Rattle.implications_command.specs.Differences.{AreMeasured}
 use Rattle.implications_command.proofs.differences.largest_differences.Given as goal
 

@@ -1,8 +1,8 @@
 use Rattle.std.proofs.Common.{ℕ, ◌++◌, ap, ◌∙◌}
-use Rattle.mixed_graph.specs.Bits.{has, members_below}
-use Rattle.count_eval.specs.Programs.{cell_of}
-use Rattle.answer_text.specs.Texts.{comma_before}
-use Rattle.count_answers.specs.Lines.{assignment}
+use Rattle.mixed_graph.specs.Vocabulary.{has, members_below}
+use Rattle.count_eval.specs.Vocabulary.{cell_of}
+use Rattle.answer_text.specs.Vocabulary.{comma_before}
+use Rattle.count_answers.specs.Vocabulary.{assignment}
 use Rattle.implications_command.proofs.Pieces.{cell_pieces}
 use Rattle.implications_command.proofs.lines.push_cell.Goals as goal
 

@@ -1,8 +1,8 @@
 use Rattle.std.proofs.Common.{◌≡◌, ◌∙◌, ◌++◌, ap, codes, List, ℕ, rules, to_z, of_z}
 use Rattle.std.specs.Int.{w128}
 use Rattle.std.proofs.Math.Facts.{to_z-of_z}
-use Rattle.count_eval.specs.Programs.{cell_of}
-use Rattle.count_answers.specs.Lines.{assignments}
+use Rattle.count_eval.specs.Vocabulary.{cell_of}
+use Rattle.count_answers.specs.Vocabulary.{assignments}
 use Rattle.implications_command.specs.Lines.{value_text, vertices_of}
 use Rattle.implications_command.proofs.Pieces.{three_pieces}
 use Rattle.implications_command.proofs.lines.push_difference.Goals as goal

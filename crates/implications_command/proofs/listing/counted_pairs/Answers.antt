@@ -1,7 +1,6 @@
 use Rattle.std.proofs.Common.{Ok, ap, ◌∙◌}
 use Rattle.told.specs.declared.form.Form.{Form}
-use Rattle.told.specs.Refusals.{target_refusal}
-use Rattle.told.specs.Telling.{told_in}
+use Rattle.told.specs.Vocabulary.{target_refusal, told_in}
 use Rattle.implications_command.specs.Telling.{implications_telling}
 use Rattle.implications_command.specs.declared.answer.Answer.TheVariants.{NoPairs}
 use Rattle.implications_command.proofs.listing.counted_pairs.Goals as goal

@@ -1,9 +1,7 @@
 use Rattle.std.proofs.Common.{◌≡◌, ◌==◌, ℕ, true, List, length, arith}
-use Rattle.mixed_graph.specs.Graphs.{MixedGraph}
-use Rattle.mixed_graph.specs.Shown.{graph_of}
+use Rattle.mixed_graph.specs.Vocabulary.{MixedGraph, graph_of}
 use Rattle.implications.specs.declared.pairs.Implication.{Implication}
-use Rattle.implications.specs.Implications.{AreImplications}
-use Rattle.implications.specs.Separable.{IsSeparable}
+use Rattle.implications.specs.Vocabulary.{AreImplications, IsSeparable}
 use Rattle.implications_command.proofs.listing.found_pairs.Goals as goal
 
 -- a list that is found empty has no element

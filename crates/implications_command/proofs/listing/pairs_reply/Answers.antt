@@ -1,10 +1,9 @@
 use Rattle.std.proofs.Common.{◌≡◌, None, Result, Ok, Err, IfOk, subst}
 use Rattle.dag_reader.specs.declared.graph.ReadGraph.{ReadGraph}
 use Rattle.replies.specs.declared.outcome.Reply.{Reply}
-use Rattle.replies.specs.Told.{told_of}
+use Rattle.replies.specs.Vocabulary.{told_of}
 use Rattle.told.specs.declared.form.Form.{Form}
-use Rattle.told.specs.Refusals.{target_refusal}
-use Rattle.told.specs.Telling.{Tells, told_in}
+use Rattle.told.specs.Vocabulary.{target_refusal, Tells, told_in}
 use Rattle.implications_command.specs.Right.{Lists, IsForGraph}
 use Rattle.implications_command.specs.Telling.{implications_telling}
 use Rattle.implications_command.specs.declared.answer.Answer.{Answer}

@@ -1,8 +1,8 @@
 use Rattle.std.proofs.Common.{◌∙◌, map, ap}
-use Rattle.count_eval.specs.Programs.{cell_of}
-use Rattle.answer_json.specs.Progress.{with_values, ended_array}
+use Rattle.count_eval.specs.Vocabulary.{cell_of}
+use Rattle.answer_json.specs.Vocabulary.{with_values, ended_array}
 use Rattle.answer_json.proofs.Arrays.{array_written}
-use Rattle.count_json.specs.Cells.{level_json}
+use Rattle.count_json.specs.Vocabulary.{level_json}
 use Rattle.implications_command.specs.Lines.{vertices_of}
 use Rattle.implications_command.proofs.objects.push_cell.Goals as goal
 

@@ -3,9 +3,9 @@ use Rattle.std.specs.Fmt.{signed_decimal}
 use Rattle.std.specs.Int.{w128}
 use Rattle.std.proofs.Math.Facts.{to_z-of_z}
 use Rattle.json.specs.Json.{Json, string}
-use Rattle.count_eval.specs.Programs.{cell_of}
-use Rattle.answer_json.specs.Progress.{with_key, with_value}
-use Rattle.count_json.specs.Cells.{cell_json}
+use Rattle.count_eval.specs.Vocabulary.{cell_of}
+use Rattle.answer_json.specs.Vocabulary.{with_key, with_value}
+use Rattle.count_json.specs.Vocabulary.{cell_json}
 use Rattle.implications_command.specs.Lines.{vertices_of}
 use Rattle.implications_command.proofs.objects.push_difference.Goals as goal
 

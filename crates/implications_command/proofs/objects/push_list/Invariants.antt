@@ -1,5 +1,5 @@
 use Rattle.std.proofs.Common.{◌≡◌, drop, map}
-use Rattle.answer_json.specs.Progress.{with_values}
+use Rattle.answer_json.specs.Vocabulary.{with_values}
 use Rattle.implications_command.specs.Objects.{pair_json}
 use Rattle.implications_command.proofs.objects.push_list.Given as goal
 

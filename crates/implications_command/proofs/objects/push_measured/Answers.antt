@@ -1,5 +1,5 @@
 use Rattle.std.proofs.Common.{◌∙◌, ap}
-use Rattle.answer_json.specs.Progress.{with_members, ended_object}
+use Rattle.answer_json.specs.Vocabulary.{with_members, ended_object}
 use Rattle.implications_command.specs.Objects.{pair_members, difference_members}
 use Rattle.implications_command.proofs.objects.push_measured.Goals as goal
 

@@ -1,6 +1,5 @@
 use Rattle.std.proofs.Common.{◌<◌, sym, ap, subst, ◌∙◌, rules}
-use Rattle.mixed_graph.specs.Bits.{has}
-use Rattle.mixed_graph.specs.Shown.{graph_of}
+use Rattle.mixed_graph.specs.Vocabulary.{has, graph_of}
 use Rattle.implications_command.specs.Pairs.{pairs_in}
 use Rattle.implications_command.proofs.Measuring.{refuted}
 use Rattle.implications_command.proofs.Using.{some, within}

@@ -1,9 +1,9 @@
 use Rattle.std.proofs.Common.{◌≡◌, ◌<◌, ℕ, List, Option, Result, Ok, Err, IfOk, length}
-use Rattle.count_rows.specs.Records.{Field}
+use Rattle.count_rows.specs.Vocabulary.{Field}
 use Rattle.replies.specs.declared.outcome.Reply.{Reply}
-use Rattle.replies.specs.Told.{told_of}
+use Rattle.replies.specs.Vocabulary.{told_of}
 use Rattle.told.specs.declared.form.Form.{Form}
-use Rattle.told.specs.Telling.{Tells}
+use Rattle.told.specs.Vocabulary.{Tells}
 use Rattle.implications_command.specs.CountsFaults.{counts_refusal}
 use Rattle.implications_command.specs.Pairs.{PlainPairs}
 use Rattle.implications_command.specs.Right.{IsForCounts}

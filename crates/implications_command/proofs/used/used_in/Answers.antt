@@ -1,5 +1,5 @@
 use Rattle.std.proofs.Common.{ap, ◌∙◌, arith, length, ◌≤◌}
-use Rattle.mixed_graph.specs.Masks.{union}
+use Rattle.mixed_graph.specs.Vocabulary.{union}
 use Rattle.implications_command.proofs.Using.{used_step, used_end}
 use Rattle.implications_command.proofs.used.used_in.Goals as goal
 

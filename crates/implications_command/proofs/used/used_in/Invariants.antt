@@ -1,5 +1,5 @@
 use Rattle.std.proofs.Common.{◌≡◌, drop}
-use Rattle.mixed_graph.specs.Masks.{union}
+use Rattle.mixed_graph.specs.Vocabulary.{union}
 use Rattle.implications_command.specs.Used.{used_in}
 use Rattle.implications_command.proofs.used.used_in.Given as goal
 

@@ -1,7 +1,7 @@
 use Rattle.std.proofs.Common.{ℕ, ◌≡◌, Bool, List, Result, Ok, Err, IfOk, sym, subst}
-use Rattle.mixed_graph.specs.Bits.{has}
-use Rattle.count_rows.specs.Rows.{Table}
-use Rattle.count_table.specs.Sums.{AreSums}
+use Rattle.mixed_graph.specs.Vocabulary.{has}
+use Rattle.count_rows.specs.Vocabulary.{Table}
+use Rattle.count_table.specs.Vocabulary.{AreSums}
 use Rattle.implications.specs.declared.pairs.Implication.{Implication}
 use Rattle.implied_differences.specs.declared.candidates.Candidate.{Candidate}
 use Rattle.implied_differences.specs.declared.layout.Layout.{Layout}

@@ -1,9 +1,9 @@
 use Rattle.std.proofs.Common.{ℕ, ◌≢◌, ◌<◌, ◌≤◌, ◌/◌, List, All, get_or, sym, ap, ap₂, subst, ◌∙◌, arith}
-use Rattle.mixed_graph.specs.Bits.{has}
-use Rattle.count_rows.specs.Rows.{Table}
-use Rattle.count_table.specs.Tables.{AreCounts}
-use Rattle.count_eval.specs.Programs.{cell_of}
-use Rattle.count_table.specs.Axes.{Axes, axes_of, HasCell, place_at, cells_over}
+use Rattle.mixed_graph.specs.Vocabulary.{has}
+use Rattle.count_rows.specs.Vocabulary.{Table}
+use Rattle.count_table.specs.Vocabulary.{AreCounts, axes_of, HasCell, place_at, cells_over}
+use Rattle.count_eval.specs.Vocabulary.{cell_of}
+use Rattle.count_table.specs.Axes.{Axes}
 use Rattle.count_table.proofs.Choosing.{axes-are}
 use Rattle.count_table.proofs.Lists.{product-pos}
 use Rattle.implications.specs.declared.pairs.Implication.{Implication}

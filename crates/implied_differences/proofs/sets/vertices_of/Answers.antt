@@ -1,6 +1,6 @@
 use Rattle.std.proofs.Common.{◌||◌, ap, ap₂, ◌∙◌}
 use mathlib.Core.Path.{fun_ext}
-use Rattle.mixed_graph.specs.Bits.{has}
+use Rattle.mixed_graph.specs.Vocabulary.{has}
 use Rattle.implied_differences.proofs.sets.vertices_of.Goals as goal
 
 pub returns : goal.returns

@@ -1,5 +1,5 @@
 use Rattle.std.proofs.Common.{ℕ, ◌≡◌, ◌<◌, List, length, get_or}
-use Rattle.count_table.specs.LaneSums.{sum_below}
+use Rattle.count_table.specs.Vocabulary.{sum_below}
 use Rattle.implied_differences.specs.declared.layout.Layout.{Layout}
 use Rattle.implied_differences.specs.Blocks.{column_at}
 use Rattle.implied_differences.proofs.strips.sum_blocks.Given as goal

@@ -1,8 +1,7 @@
 use Rattle.std.proofs.Common.{◌∙◌, ◌&&◌, ℕ, Bool, not, refl, ap, subst}
 use mathlib.Core.Path.{fun_ext}
-use Rattle.mixed_graph.specs.Bits.{has}
-use Rattle.mixed_graph.specs.Shown.{graph_of}
-use Rattle.minimal_sets.specs.Listings.{IsListingOf}
+use Rattle.mixed_graph.specs.Vocabulary.{has, graph_of}
+use Rattle.minimal_sets.specs.Vocabulary.{IsListingOf}
 use Rattle.instrument_sets.specs.Strata.{AreMinimalStrata}
 use Rattle.instrument_sets.proofs.Turns.{on_the_way_first, on_the_way_next}
 use Rattle.instrument_sets.proofs.instruments.list_instruments.Goals as goal

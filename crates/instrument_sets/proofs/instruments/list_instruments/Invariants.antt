@@ -1,5 +1,4 @@
-use Rattle.mixed_graph.specs.Bits.{has}
-use Rattle.mixed_graph.specs.Shown.{graph_of}
+use Rattle.mixed_graph.specs.Vocabulary.{has, graph_of}
 use Rattle.instrument_sets.proofs.Turns.{IsOnTheWay}
 use Rattle.instrument_sets.proofs.instruments.list_instruments.Given as goal
 

@@ -1,8 +1,7 @@
 use Rattle.std.proofs.Common.{◌≡◌, ℕ, refl, sym, ◌∙◌, true, ap, ◌&&◌, ◌||◌, ◌==◌}
 use Rattle.minimal_sets.specs.Moral.{Heads}
-use Rattle.mixed_graph.specs.Bits.{has}
-use Rattle.mixed_graph.specs.Shown.{graph_of}
-use Rattle.minimal_sets.specs.Rows.{is_near}
+use Rattle.mixed_graph.specs.Vocabulary.{has, graph_of}
+use Rattle.minimal_sets.specs.Vocabulary.{is_near}
 use Rattle.minimal_sets.proofs.Meetings.{heads_from, heads_to, meets_from, meets_to}
 use Rattle.instrument_sets.proofs.moral.meeting.Goals as goal
 use Rattle.instrument_sets.proofs.moral.meeting.Goals.{After-reached-heads}

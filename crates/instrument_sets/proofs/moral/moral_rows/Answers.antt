@@ -1,9 +1,8 @@
 use Rattle.std.proofs.Common.{◌≡◌, false, get_or, length-set, sym, ap, ◌∙◌, arith, inl, inr}
 use Rattle.std.proofs.lemmas.Bool.{cases_eq, cases_lt}
 use Rattle.std.proofs.lemmas.List.{get_or-set_same, get_or-set_other, get_or_past}
-use Rattle.mixed_graph.specs.Bits.{has}
+use Rattle.mixed_graph.specs.Vocabulary.{has, graph_of}
 use Rattle.mixed_graph.proofs.Masks.{below_64, has-zero}
-use Rattle.mixed_graph.specs.Shown.{graph_of}
 use Rattle.minimal_sets.proofs.Meetings.{meets_inside}
 use Rattle.instrument_sets.proofs.moral.moral_rows.Goals as goal
 

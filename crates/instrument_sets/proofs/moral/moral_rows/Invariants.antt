@@ -1,7 +1,6 @@
 use Rattle.std.proofs.Common.{◌≡◌, ◌<◌, ◌↔◌, ℕ, length, slice_index, true}
-use Rattle.mixed_graph.specs.Bits.{has}
-use Rattle.minimal_sets.specs.Moral.{Meets}
-use Rattle.mixed_graph.specs.Shown.{graph_of}
+use Rattle.mixed_graph.specs.Vocabulary.{has, graph_of}
+use Rattle.minimal_sets.specs.Vocabulary.{Meets}
 use Rattle.instrument_sets.proofs.moral.moral_rows.Given as goal
 
 abbrev pub invariant-rows : goal.invariant-rows

@@ -1,9 +1,8 @@
 use Rattle.std.proofs.Common.{false, sym, subst}
-use Rattle.mixed_graph.specs.Bits.{has}
-use Rattle.mixed_graph.specs.Shown.{graph_of}
+use Rattle.mixed_graph.specs.Vocabulary.{has, graph_of}
 use Rattle.finite_models.proofs.Bools.{not_both}
 use Rattle.mixed_graph.proofs.Masks.{apart_from_meet}
-use Rattle.minimal_sets.specs.Listings.{IsListingOf}
+use Rattle.minimal_sets.specs.Vocabulary.{IsListingOf}
 use Rattle.instrument_sets.specs.Strata.{AreMinimalStrata}
 use Rattle.instrument_sets.proofs.Listing.{nothing_listed, moved_none}
 use Rattle.instrument_sets.proofs.strata.list_strata.Goals as goal

@@ -1,9 +1,8 @@
 use Rattle.std.proofs.Common.{◌∙◌, refl, ap}
 use Rattle.std.proofs.lemmas.Result.{IfOk-weaker}
-use Rattle.mixed_graph.specs.Bits.{has}
-use Rattle.mixed_graph.specs.Shown.{graph_of}
-use Rattle.do_rules.specs.Cuts.{cut_out}
-use Rattle.minimal_sets.specs.Rows.{is_near}
+use Rattle.mixed_graph.specs.Vocabulary.{has, graph_of}
+use Rattle.do_rules.specs.Vocabulary.{cut_out}
+use Rattle.minimal_sets.specs.Vocabulary.{is_near}
 use Rattle.instrument_sets.proofs.Separating.{handed_within, handed_frame, handed_strata}
 use Rattle.instrument_sets.proofs.strata.separators_of.Goals as goal
 

@@ -1,5 +1,5 @@
 use Rattle.std.proofs.Common.{◌≡◌, drop, map}
-use Rattle.answer_json.specs.Progress.{with_values}
+use Rattle.answer_json.specs.Vocabulary.{with_values}
 use Rattle.instruments_command.specs.Objects.{candidate_json}
 use Rattle.instruments_command.proofs.objects.push_all.Given as goal
 

@@ -1,6 +1,5 @@
 use Rattle.std.proofs.Common.{refl, sym, ap, ◌∙◌}
-use Rattle.mixed_graph.specs.Bits.{has}
-use Rattle.mixed_graph.specs.Shown.{graph_of}
+use Rattle.mixed_graph.specs.Vocabulary.{has, graph_of}
 use Rattle.instruments_command.specs.Right.{have_strata}
 use Rattle.instruments_command.proofs.NoStrata.{no_strata_no_instrument}
 use Rattle.instruments_command.proofs.reply.list_counted.Goals as goal

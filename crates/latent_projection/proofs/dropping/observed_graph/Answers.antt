@@ -1,6 +1,5 @@
 use Rattle.std.proofs.Common.{ap, ◌∙◌}
-use Rattle.mixed_graph.specs.Bits.{has}
-use Rattle.mixed_graph.specs.Shown.{graph_of}
+use Rattle.mixed_graph.specs.Vocabulary.{has, graph_of}
 use Rattle.mixed_graph.proofs.Masks.{has-zero}
 use Rattle.latent_projection.proofs.WholeGraph.{observed_whole}
 use Rattle.latent_projection.proofs.dropping.observed_graph.Goals as goal

@@ -1,5 +1,5 @@
 use Rattle.std.proofs.Common.{◌≡◌}
-use Rattle.mixed_graph.specs.Bits.{has}
+use Rattle.mixed_graph.specs.Vocabulary.{has}
 use Rattle.latent_projection.specs.Renumbering.{observed_below, names_at}
 use Rattle.latent_projection.proofs.dropping.observed_names.Given as goal
 

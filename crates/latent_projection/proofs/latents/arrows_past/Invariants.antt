@@ -1,5 +1,5 @@
 use Rattle.std.proofs.Common.{◌&&◌, ◌||◌, ◌==◌, not, get_or}
-use Rattle.mixed_graph.specs.Bits.{has}
+use Rattle.mixed_graph.specs.Vocabulary.{has}
 use Rattle.latent_projection.proofs.Rows.{AreRows}
 use Rattle.latent_projection.proofs.latents.arrows_past.Given as goal
 

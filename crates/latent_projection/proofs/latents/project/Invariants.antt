@@ -1,7 +1,5 @@
 use Rattle.std.proofs.Common.{◌≤◌}
-use Rattle.mixed_graph.specs.Bits.{has}
-use Rattle.mixed_graph.specs.Graphs.{MixedGraph, IsMixedGraph, Agree, graph_from}
-use Rattle.mixed_graph.specs.Shown.{graph_of}
+use Rattle.mixed_graph.specs.Vocabulary.{has, MixedGraph, IsMixedGraph, Agree, graph_from, graph_of}
 use Rattle.mixed_graph.proofs.MemberLists.{AreMembers, is_in}
 use Rattle.latent_projection.proofs.Treks.{ProjectsByTreks}
 use Rattle.latent_projection.proofs.latents.project.Given as goal

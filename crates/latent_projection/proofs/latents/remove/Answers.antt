@@ -1,6 +1,5 @@
 use Rattle.std.proofs.Common.{◌≡◌, sym, subst, ◌∙◌, arith}
-use Rattle.mixed_graph.specs.Graphs.{IsMixedGraph, graph_from}
-use Rattle.mixed_graph.specs.Shown.{graph_of}
+use Rattle.mixed_graph.specs.Vocabulary.{IsMixedGraph, graph_from, graph_of}
 use Rattle.mixed_graph.proofs.Restricting.{same_graph}
 use Rattle.latent_projection.specs.Removal.{without}
 use Rattle.latent_projection.proofs.Removals.{graph_without}

@@ -1,6 +1,6 @@
 use Rattle.std.proofs.Common.{ℕ, Bool, ◌≡◌, ◌==◌, ◌&&◌, ◌||◌, not, true, false, get_or, arith, sym, ap, ap₂, ◌∙◌, inl, inr, subst}
 use Rattle.std.proofs.lemmas.Bool.{cases_eq, eq-eqb, ne_eqb, false_from_ne_true}
-use Rattle.mixed_graph.specs.Bits.{has}
+use Rattle.mixed_graph.specs.Vocabulary.{has}
 use Rattle.latent_projection.proofs.Rows.{no_row, row_more, rows_whole}
 use Rattle.latent_projection.proofs.latents.spouses_past.Goals as goal
 

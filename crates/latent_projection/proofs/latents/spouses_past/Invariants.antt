@@ -1,4 +1,4 @@
-use Rattle.mixed_graph.specs.Shown.{graph_of}
+use Rattle.mixed_graph.specs.Vocabulary.{graph_of}
 use Rattle.latent_projection.specs.Removal.{without}
 use Rattle.latent_projection.proofs.Rows.{AreRows}
 use Rattle.latent_projection.proofs.latents.spouses_past.Given as goal

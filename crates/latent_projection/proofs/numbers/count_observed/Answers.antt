@@ -1,5 +1,5 @@
 use Rattle.std.proofs.Common.{not, ap, ◌∙◌, ◌&&◌}
-use Rattle.mixed_graph.specs.Bits.{has}
+use Rattle.mixed_graph.specs.Vocabulary.{has}
 use Rattle.latent_projection.proofs.Numbering.{length-members-cut}
 use Rattle.latent_projection.proofs.numbers.count_observed.Goals as goal
 

@@ -1,7 +1,5 @@
 use Rattle.std.proofs.Common.{◌≡◌, not, ap, ◌∙◌, arith, sym, subst, length, get_or}
-use Rattle.mixed_graph.specs.Bits.{has}
-use Rattle.mixed_graph.specs.Graphs.{IsMixedGraph, graph_from}
-use Rattle.mixed_graph.specs.Shown.{graph_of}
+use Rattle.mixed_graph.specs.Vocabulary.{has, IsMixedGraph, graph_from, graph_of}
 use Rattle.mixed_graph.proofs.Restricting.{same_graph}
 use Rattle.mixed_graph.proofs.Members.{length-members-le}
 use Rattle.latent_projection.specs.Renumbering.{observed_below, renumbered}

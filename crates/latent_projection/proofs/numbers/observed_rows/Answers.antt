@@ -1,6 +1,6 @@
 use Rattle.std.proofs.Common.{◌≡◌, not, ◌∙◌, arith, sym, subst}
 use Rattle.std.proofs.lemmas.Bool.{not_from_true, not_from_false}
-use Rattle.mixed_graph.specs.Bits.{has}
+use Rattle.mixed_graph.specs.Vocabulary.{has}
 use Rattle.mixed_graph.proofs.Members.{length-members-le}
 use Rattle.latent_projection.proofs.Numbering.{AreNewRows, AreNewRows-none, AreNewRows-more, AreNewRows-same, new_rows_whole}
 use Rattle.latent_projection.proofs.numbers.observed_rows.Goals as goal

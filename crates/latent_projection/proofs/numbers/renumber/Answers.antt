@@ -1,7 +1,7 @@
 use Rattle.std.proofs.Common.{◌≡◌, not, ap, ◌∙◌, ◌||◌, arith, sym}
 use Rattle.std.proofs.lemmas.Bool.{not_from_true, not_from_false}
-use Rattle.mixed_graph.specs.Bits.{has}
 use Rattle.mixed_graph.specs.declared.sets.VSet.{VSet}
+use Rattle.mixed_graph.specs.Vocabulary.{has}
 use Rattle.mixed_graph.proofs.Members.{length-members-le}
 use Rattle.latent_projection.specs.Renumbering.{observed_below, renumbered_set}
 use Rattle.latent_projection.proofs.Numbering.{IsRenumbered-none, IsRenumbered-more, IsRenumbered-same}

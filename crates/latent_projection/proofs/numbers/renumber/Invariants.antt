@@ -1,5 +1,5 @@
 use Rattle.std.proofs.Common.{not}
-use Rattle.mixed_graph.specs.Bits.{has}
+use Rattle.mixed_graph.specs.Vocabulary.{has}
 use Rattle.latent_projection.proofs.Numbering.{IsRenumbered}
 use Rattle.latent_projection.proofs.numbers.renumber.Given as goal
 

@@ -1,5 +1,5 @@
 use Rattle.std.proofs.Common.{subst, sym}
-use Rattle.mixed_graph.specs.Graphs.{IsMixedGraph}
+use Rattle.mixed_graph.specs.Vocabulary.{IsMixedGraph}
 use Rattle.latent_projection.specs.Renumbering.{observed_below}
 use Rattle.latent_projection.proofs.Numbering.{IsMixedGraph-renumbered}
 use Rattle.latent_projection.proofs.Projected.{IsMixedGraph-projection}

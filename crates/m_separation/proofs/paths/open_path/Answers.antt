@@ -1,6 +1,5 @@
 use Rattle.std.proofs.Common.{◌≡◌, ℕ, ◌+◌, ◌<◌, Bool, false, refl, sym, IsTrue, subst, arith, ◌↔◌}
-use Rattle.mixed_graph.specs.Bits.{has}
-use Rattle.mixed_graph.specs.Shown.{graph_of}
+use Rattle.mixed_graph.specs.Vocabulary.{has, graph_of}
 use Rattle.m_separation.specs.States.{level, mask_of, IsLed}
 use Rattle.m_separation.proofs.Going.{open_to}
 use Rattle.m_separation.proofs.Levels.{level-set_same}

@@ -1,6 +1,5 @@
 use Rattle.std.proofs.Common.{◌≡◌, ◌-◌}
-use Rattle.mixed_graph.specs.Bits.{has}
-use Rattle.mixed_graph.specs.Shown.{graph_of}
+use Rattle.mixed_graph.specs.Vocabulary.{has, graph_of}
 use Rattle.m_separation.specs.States.{mask_of, level}
 use Rattle.m_separation.proofs.Nearest.{Near}
 use Rattle.m_separation.proofs.paths.open_path.Given as goal

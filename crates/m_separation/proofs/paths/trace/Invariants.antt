@@ -1,6 +1,5 @@
 use Rattle.std.proofs.Common.{◌<◌, ◌≤◌, ◌-◌, IsTrue}
-use Rattle.mixed_graph.specs.Bits.{has}
-use Rattle.mixed_graph.specs.Shown.{graph_of}
+use Rattle.mixed_graph.specs.Vocabulary.{has, graph_of}
 use Rattle.m_separation.specs.States.{level}
 use Rattle.m_separation.proofs.Traces.{Traced}
 use Rattle.m_separation.proofs.paths.trace.Given as goal

@@ -1,6 +1,5 @@
 use Rattle.std.proofs.Common.{◌∙◌, sym}
-use Rattle.mixed_graph.specs.Bits.{has}
-use Rattle.mixed_graph.specs.Shown.{graph_of}
+use Rattle.mixed_graph.specs.Vocabulary.{has, graph_of}
 use Rattle.m_separation.specs.States.{mask_of}
 use Rattle.m_separation.proofs.Nexts.{next_is}
 use Rattle.m_separation.proofs.search.next.Goals as goal

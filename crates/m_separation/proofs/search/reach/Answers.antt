@@ -1,7 +1,6 @@
 use Rattle.std.proofs.Common.{◌≡◌, ℕ, ◌^◌, ◌<◌, Bool, true, false, sym, ◌∙◌, IsTrue, subst, inl, inr, arith}
 use Rattle.std.proofs.lemmas.Bool.{or_cases, and_parts, and_from, or_left, or_right, not-true, not_from_false, eqb-true}
-use Rattle.mixed_graph.specs.Bits.{has}
-use Rattle.mixed_graph.specs.Shown.{graph_of}
+use Rattle.mixed_graph.specs.Vocabulary.{has, graph_of}
 use Rattle.m_separation.specs.Walks.{IsReached}
 use Rattle.m_separation.specs.States.{mask_of}
 use Rattle.m_separation.proofs.Searches.{Comes, searching_none, searching_more, searching_smaller, end_found, reached_from_comes, comes_below}

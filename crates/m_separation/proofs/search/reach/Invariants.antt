@@ -1,6 +1,5 @@
 use Rattle.std.proofs.Common.{◌+◌, ◌-◌, ◌*◌, ◌^◌, ◌<◌, Bool}
-use Rattle.mixed_graph.specs.Bits.{has}
-use Rattle.mixed_graph.specs.Shown.{graph_of}
+use Rattle.mixed_graph.specs.Vocabulary.{has, graph_of}
 use Rattle.m_separation.specs.States.{mask_of}
 use Rattle.m_separation.proofs.Searches.{Searching}
 use Rattle.m_separation.proofs.search.reach.Given as goal

@@ -1,8 +1,7 @@
 use Rattle.std.proofs.Common.{◌≡◌, Bool, true, false, refl, ◌∙◌, arith}
 use Rattle.std.proofs.lemmas.Bool.{and_from}
 use Rattle.std.specs.Bool.{OnTrue, OnFalse}
-use Rattle.mixed_graph.specs.Bits.{has}
-use Rattle.mixed_graph.specs.Shown.{graph_of}
+use Rattle.mixed_graph.specs.Vocabulary.{has, graph_of}
 use Rattle.mixed_graph.proofs.Masks.{has-zero, some_in_meet}
 use Rattle.m_separation.specs.Walks.{last, IsSeparated}
 use Rattle.m_separation.proofs.Going.{reached_from_open, open_from_reached}

@@ -1,6 +1,5 @@
 use Rattle.std.proofs.Common.{ap, ◌∙◌}
-use Rattle.mixed_graph.specs.Bits.{has}
-use Rattle.mixed_graph.specs.Shown.{graph_of}
+use Rattle.mixed_graph.specs.Vocabulary.{has, graph_of}
 use Rattle.markov_equivalence.specs.Sides.{side_without}
 use Rattle.markov_equivalence.proofs.Shows.{edge_shown, collider_shown}
 use Rattle.markov_equivalence.proofs.comparison.compare.Goals as goal

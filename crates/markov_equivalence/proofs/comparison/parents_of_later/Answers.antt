@@ -1,5 +1,5 @@
 use Rattle.std.proofs.Common.{inl, inr, sym, arith}
-use Rattle.mixed_graph.specs.Shown.{graph_of}
+use Rattle.mixed_graph.specs.Vocabulary.{graph_of}
 use Rattle.markov_equivalence.proofs.Places.{after_here, place_of_taken}
 use Rattle.markov_equivalence.proofs.comparison.parents_of_later.Goals as goal
 

@@ -1,5 +1,5 @@
 use Rattle.std.proofs.Common.{◌≡◌, ℕ, ◌<◌}
-use Rattle.mixed_graph.specs.Shown.{graph_of}
+use Rattle.mixed_graph.specs.Vocabulary.{graph_of}
 use Rattle.markov_equivalence.specs.Skeletons.{is_adjacent}
 use Rattle.markov_equivalence.proofs.firsts.first_edge.Given as goal
 

@@ -1,7 +1,6 @@
 use Rattle.std.proofs.Common.{Bool, arith, ◌==◌, ◌-◌, ℕ, slice_index, ◌∙◌, eqb-true}
-use Rattle.mixed_graph.specs.Bits.{has}
-use Rattle.mixed_graph.specs.Shown.{graph_of}
-use Rattle.m_separation.specs.Paths.{steps_from}
+use Rattle.mixed_graph.specs.Vocabulary.{has, graph_of}
+use Rattle.m_separation.specs.Vocabulary.{steps_from}
 use Rattle.markov_equivalence.proofs.Separations.{open_carried, open_between, last_below}
 use Rattle.markov_equivalence.proofs.path_carry.carry_path.Goals as goal
 

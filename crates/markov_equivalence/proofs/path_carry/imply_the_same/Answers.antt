@@ -1,6 +1,5 @@
 use Rattle.std.proofs.Common.{refl, arith}
-use Rattle.mixed_graph.specs.Bits.{has}
-use Rattle.mixed_graph.specs.Shown.{graph_of}
+use Rattle.mixed_graph.specs.Vocabulary.{has, graph_of}
 use Rattle.markov_equivalence.proofs.Independences.{same_independences, differ_in_models}
 use Rattle.markov_equivalence.proofs.Separations.{same_separations, differs}
 use Rattle.markov_equivalence.proofs.path_carry.imply_the_same.Goals as goal

@@ -1,7 +1,6 @@
 use Rattle.std.proofs.Common.{◌∙◌, refl, get_or}
 use Rattle.std.proofs.lemmas.Result.{IfOk-weaker}
-use Rattle.mixed_graph.specs.Bits.{has}
-use Rattle.mixed_graph.specs.Shown.{graph_of}
+use Rattle.mixed_graph.specs.Vocabulary.{has, graph_of}
 use Rattle.adjustment.proofs.Causal.{below_from}
 use Rattle.minimal_sets.specs.Rows.{is_near}
 use Rattle.minimal_sets.proofs.MinimalSeparators.{handed_within, handed_frame, handed_sets, minimal_adjusts}

@@ -1,6 +1,5 @@
 use Rattle.std.proofs.Common.{sym, ◌∙◌, ap}
-use Rattle.prob_expr.specs.View.{formula_view}
-use Rattle.prob_expr.specs.Check.{fault_of}
+use Rattle.prob_expr.specs.Vocabulary.{formula_view, fault_of}
 use Rattle.model_cases.proofs.formulas.is_formula.Goals as goal
 
 pub returns-in-Ok-clause-factors : goal.returns-in-Ok-clause-factors

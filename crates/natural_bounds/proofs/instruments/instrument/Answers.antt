@@ -1,8 +1,7 @@
 use Rattle.std.proofs.Common.{◌||◌, ◌∙◌}
-use Rattle.mixed_graph.specs.Bits.{has}
-use Rattle.mixed_graph.specs.Shown.{graph_of}
+use Rattle.mixed_graph.specs.Vocabulary.{has, graph_of}
 use Rattle.mixed_graph.proofs.Masks.{apart_from_meet}
-use Rattle.do_rules.specs.Cuts.{cut_into}
+use Rattle.do_rules.specs.Vocabulary.{cut_into}
 use Rattle.do_rules.proofs.Moving.{separated_moved, open_moved}
 use Rattle.finite_models.proofs.Bools.{not_both}
 use Rattle.natural_bounds.specs.Instruments.{AreUnmoved}

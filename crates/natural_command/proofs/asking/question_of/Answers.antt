@@ -1,9 +1,8 @@
 use Rattle.std.proofs.Common.{◌≡◌, ◌∙◌, ◌||◌, ap, sym, subst, length, rules}
-use Rattle.mixed_graph.specs.Bits.{has}
-use Rattle.mixed_graph.specs.Names.{texts}
-use Rattle.targets.specs.Targets.{IsNameFault}
+use Rattle.mixed_graph.specs.Vocabulary.{has, texts}
+use Rattle.targets.specs.Vocabulary.{IsNameFault}
 use Rattle.targets.proofs.Walking.{texts-none}
-use Rattle.diagram.specs.Sets.{lent}
+use Rattle.diagram.specs.Vocabulary.{lent}
 use Rattle.natural_command.specs.Asking.{natural_lists}
 use Rattle.natural_command.proofs.Naming.{query_fault, later_named, walked_names}
 use Rattle.natural_command.proofs.asking.question_of.Goals as goal

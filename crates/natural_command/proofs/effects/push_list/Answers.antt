@@ -1,5 +1,5 @@
 use Rattle.std.proofs.Common.{ap, ◌∙◌, ◌++◌}
-use Rattle.answer_text.specs.Texts.{set_text}
+use Rattle.answer_text.specs.Vocabulary.{set_text}
 use Rattle.natural_command.specs.Sentences.{list_text}
 use Rattle.natural_command.proofs.effects.push_list.Goals as goal
 

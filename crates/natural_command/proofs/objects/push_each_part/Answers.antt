@@ -1,7 +1,7 @@
 use Rattle.std.proofs.Common.{◌≡◌, ℕ, ◌+◌, ◌<◌, List, length, drop, get_or, map, sym, ap, subst, ◌∙◌}
 use Rattle.std.proofs.lemmas.List.{drop_more}
 use Rattle.json.specs.Json.{Json}
-use Rattle.answer_json.specs.Progress.{with_value, with_values}
+use Rattle.answer_json.specs.Vocabulary.{with_value, with_values}
 use Rattle.natural_id.specs.declared.answers.Part.{Part}
 use Rattle.natural_command.specs.Objects.{part_json}
 use Rattle.natural_command.proofs.objects.push_each_part.Goals as goal

@@ -1,5 +1,5 @@
 use Rattle.std.proofs.Common.{◌≡◌, drop, map}
-use Rattle.answer_json.specs.Progress.{with_values}
+use Rattle.answer_json.specs.Vocabulary.{with_values}
 use Rattle.natural_command.specs.Objects.{part_json}
 use Rattle.natural_command.proofs.objects.push_each_part.Given as goal
 

@@ -1,5 +1,5 @@
 use Rattle.std.proofs.Common.{List, ℕ, ap, ◌∙◌}
-use Rattle.answer_json.specs.Progress.{ended_object, with_members, with_value, object_of}
+use Rattle.answer_json.specs.Vocabulary.{ended_object, with_members, with_value, object_of}
 use Rattle.certificate_json.proofs.Members.{object_written}
 use Rattle.natural_command.specs.Objects.{part_members}
 use Rattle.natural_command.proofs.objects.push_part.Goals as goal

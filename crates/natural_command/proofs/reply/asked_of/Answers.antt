@@ -1,7 +1,6 @@
 use Rattle.std.proofs.Common.{◌≡◌, false, not, refl, arith}
-use Rattle.mixed_graph.specs.Bits.{has}
-use Rattle.mixed_graph.specs.Shown.{graph_of}
-use Rattle.nested_models.specs.Nested.{LeadsThrough, LeadsPast, HasNoIndirectPath, HasNoDirectPath}
+use Rattle.mixed_graph.specs.Vocabulary.{has, graph_of}
+use Rattle.nested_models.specs.Vocabulary.{LeadsThrough, LeadsPast, HasNoIndirectPath, HasNoDirectPath}
 use Rattle.nested_models.proofs.Effects.{no_indirect_path_is_effect, no_direct_path_is_effect}
 use Rattle.natural_command.proofs.Naming.{turned}
 use Rattle.natural_command.proofs.Ways.{some_way, no_way, some_flag, no_flag, target_of}

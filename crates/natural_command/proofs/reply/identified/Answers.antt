@@ -1,8 +1,8 @@
 use Rattle.std.proofs.Common.{◌≡◌, false, ap, subst}
-use Rattle.mixed_graph.specs.Shown.{graph_of}
+use Rattle.mixed_graph.specs.Vocabulary.{graph_of}
 use Rattle.finite_models.proofs.Bools.{not_both}
 use Rattle.natural_id.specs.declared.answers.Natural.{Natural}
-use Rattle.natural_id.specs.Answers.{IsRight, is_hedge}
+use Rattle.natural_id.specs.Vocabulary.{IsRight, is_hedge}
 use Rattle.natural_command.specs.Right.{HasNoHedge}
 use Rattle.natural_command.proofs.Ways.{target_of}
 use Rattle.natural_command.proofs.reply.identified.Goals as goal

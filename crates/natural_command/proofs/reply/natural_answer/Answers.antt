@@ -1,8 +1,7 @@
 use Rattle.std.proofs.Common.{◌≡◌, ℕ, List, IfOk, IfErr, subst, ap, ◌∙◌}
-use Rattle.mixed_graph.specs.Names.{texts}
-use Rattle.mixed_graph.specs.Shown.{graph_of}
+use Rattle.mixed_graph.specs.Vocabulary.{texts, graph_of}
 use Rattle.targets.proofs.Effects.{query_exposure, query_outcome}
-use Rattle.diagram.specs.Sets.{Names, lent}
+use Rattle.diagram.specs.Vocabulary.{Names, lent}
 use Rattle.diagram.proofs.Lent.{lent_owned}
 use Rattle.natural_command.specs.Asking.{NaturalLists, natural_lists}
 use Rattle.natural_command.specs.Requests.{request_of}

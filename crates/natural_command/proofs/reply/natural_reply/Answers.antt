@@ -1,4 +1,4 @@
-use Rattle.mixed_graph.specs.Shown.{graph_of}
+use Rattle.mixed_graph.specs.Vocabulary.{graph_of}
 use Rattle.natural_command.specs.Asking.{natural_lists}
 use Rattle.natural_command.specs.Requests.{request_of}
 use Rattle.natural_command.proofs.Replying.{tells}

@@ -1,5 +1,5 @@
 use Rattle.std.proofs.Common.{◌+◌, ap, ◌∙◌, ◌&&◌, arith}
-use Rattle.mixed_graph.specs.Bits.{has}
+use Rattle.mixed_graph.specs.Vocabulary.{has}
 use Rattle.mixed_graph.proofs.Members.{length-members-le}
 use Rattle.treated_id.proofs.NameSets.{counted}
 use Rattle.natural_command.proofs.second.behind.Goals as goal

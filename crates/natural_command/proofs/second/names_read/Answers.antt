@@ -1,8 +1,6 @@
 use Rattle.std.proofs.Common.{◌≡◌, ◌<◌, ℕ, List, sym, ap, ◌∙◌, subst, ltb-true, arith, length}
 use Rattle.std.specs.Prelude.{nat_lt}
-use Rattle.mixed_graph.specs.Bits.{has, members_below}
-use Rattle.mixed_graph.specs.Masks.{all}
-use Rattle.mixed_graph.specs.Names.{IsName, AreNames, is_named, name_of}
+use Rattle.mixed_graph.specs.Vocabulary.{has, members_below, all, IsName, AreNames, is_named, name_of}
 use Rattle.mixed_graph.proofs.MemberLists.{AreMembers, members-are}
 use Rattle.natural_command.specs.Second.{place_read}
 use Rattle.natural_command.proofs.Places.{IsReading, read_as, first_in, reading_none, reading_more, reading_room, reading_formed}

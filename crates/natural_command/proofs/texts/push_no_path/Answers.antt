@@ -1,5 +1,5 @@
 use Rattle.std.proofs.Common.{codes}
-use Rattle.answer_text.specs.Texts.{set_text}
+use Rattle.answer_text.specs.Vocabulary.{set_text}
 use Rattle.natural_command.proofs.Pieces.{seven}
 use Rattle.natural_command.proofs.texts.push_no_path.Goals as goal
 

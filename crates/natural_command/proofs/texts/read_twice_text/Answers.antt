@@ -1,6 +1,6 @@
 use Rattle.std.proofs.Common.{codes, ◌++◌, ap, ◌∙◌}
-use Rattle.expr_text.specs.Write.{text_of}
-use Rattle.identify_text.specs.Answers.{effect_term}
+use Rattle.expr_text.specs.Vocabulary.{text_of}
+use Rattle.identify_text.specs.Vocabulary.{effect_term}
 use Rattle.natural_command.specs.Sentences.{joint_of, effect_text}
 use Rattle.natural_command.proofs.Pieces.{five}
 use Rattle.natural_command.proofs.texts.read_twice_text.Goals as goal

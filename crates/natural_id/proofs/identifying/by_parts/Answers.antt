@@ -1,7 +1,6 @@
 use Rattle.std.proofs.Common.{refl, subst}
-use Rattle.mixed_graph.specs.Shown.{graph_of}
-use Rattle.mixed_graph.specs.Masks.{union}
-use Rattle.hedge.specs.Listed.{first_masks}
+use Rattle.mixed_graph.specs.Vocabulary.{graph_of, union}
+use Rattle.hedge.specs.Vocabulary.{first_masks}
 use Rattle.natural_id.specs.Answers.{parts_view, ArePartsOrSplit}
 use Rattle.natural_id.specs.declared.parts.Parted.TheVariants as parted
 use Rattle.natural_id.proofs.Answered.{formula_right, formula_clear, split_right, witness_right}

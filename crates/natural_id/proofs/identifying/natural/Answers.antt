@@ -1,10 +1,8 @@
 use Rattle.std.proofs.Common.{◌≡◌, Bool, true, ◌||◌, ◌∙◌, ◌↔◌, IsTrue, refl, sym, subst, arith}
-use Rattle.mixed_graph.specs.Bits.{has}
-use Rattle.mixed_graph.specs.Shown.{graph_of}
-use Rattle.hedge.specs.Hedges.{IsHedge}
-use Rattle.mixed_graph.specs.Masks.{union}
-use Rattle.finite_models.proofs.Bools.{not_both}
+use Rattle.mixed_graph.specs.Vocabulary.{has, graph_of, union}
 use Rattle.hedge.specs.declared.hedge.Hedge.{Hedge}
+use Rattle.hedge.specs.Vocabulary.{IsHedge}
+use Rattle.finite_models.proofs.Bools.{not_both}
 use Rattle.identify.proofs.RightAnswers.{if_ok}
 use Rattle.natural_id.specs.Answers.{IsFound, IsSettled, is_hedge}
 use Rattle.natural_id.proofs.Answered.{hedge_right, some_joint}

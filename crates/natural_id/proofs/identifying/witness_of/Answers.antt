@@ -1,5 +1,5 @@
 use Rattle.std.proofs.Common.{refl, ◌∙◌, ◌≡◌, Bool, true, ◌&&◌, arith}
-use Rattle.mixed_graph.specs.Bits.{has}
+use Rattle.mixed_graph.specs.Vocabulary.{has}
 use Rattle.mixed_graph.proofs.Masks.{positive_from_has}
 use Rattle.natural_id.proofs.Answered.{none_meets}
 use Rattle.natural_id.proofs.identifying.witness_of.Goals as goal

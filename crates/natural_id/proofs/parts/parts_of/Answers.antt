@@ -1,10 +1,9 @@
 use Rattle.std.proofs.Common.{ℕ, ◌+◌, sym, ◌∙◌, subst, take, map, get_or, arith}
-use Rattle.mixed_graph.specs.Shown.{graph_of}
-use Rattle.mixed_graph.specs.Masks.{minus, all}
 use Rattle.mixed_graph.specs.declared.sets.VSet.{VSet}
+use Rattle.mixed_graph.specs.Vocabulary.{graph_of, minus, all}
 use Rattle.mixed_graph.proofs.Masks.{positive_from_has}
-use Rattle.hedge.specs.Linked.{IsMaximalJoined}
-use Rattle.identification_theory.specs.Procedure.{IsUnidentified}
+use Rattle.hedge.specs.Vocabulary.{IsMaximalJoined}
+use Rattle.identification_theory.specs.Vocabulary.{IsUnidentified}
 use Rattle.identify.proofs.GatheredFactors.{district_at, set_at, set_in, sets_all, sets_more}
 use Rattle.natural_id.proofs.Making.{made_more, read_value}
 use Rattle.natural_id.proofs.parts.parts_of.Goals as goal

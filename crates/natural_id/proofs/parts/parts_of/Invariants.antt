@@ -1,6 +1,6 @@
 use Rattle.std.proofs.Common.{take, map}
-use Rattle.mixed_graph.specs.Shown.{graph_of}
 use Rattle.mixed_graph.specs.declared.sets.VSet.{VSet}
+use Rattle.mixed_graph.specs.Vocabulary.{graph_of}
 use Rattle.natural_id.proofs.Making.{AreMade}
 use Rattle.natural_id.proofs.parts.parts_of.Given as goal
 

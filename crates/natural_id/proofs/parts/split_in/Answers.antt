@@ -1,5 +1,5 @@
 use Rattle.std.proofs.Common.{refl}
-use Rattle.mixed_graph.specs.Shown.{graph_of}
+use Rattle.mixed_graph.specs.Vocabulary.{graph_of}
 use Rattle.natural_id.proofs.Making.{none_twice, some_first, some_second, both_kinds}
 use Rattle.natural_id.proofs.parts.split_in.Goals as goal
 

@@ -1,4 +1,4 @@
-use Rattle.mixed_graph.specs.Shown.{graph_of}
+use Rattle.mixed_graph.specs.Vocabulary.{graph_of}
 use Rattle.natural_id.proofs.Leading.{past_is}
 use Rattle.natural_id.proofs.ways.leading_past.Goals as goal
 

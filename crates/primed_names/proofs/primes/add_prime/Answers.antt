@@ -1,5 +1,5 @@
 use Rattle.std.proofs.Common.{◌≡◌, true, nat_lt, length, OnOk, List, ℕ, sym, ap, ◌∙◌, subst, arith}
-use Rattle.mixed_graph.specs.Names.{IsName, is_named}
+use Rattle.mixed_graph.specs.Vocabulary.{IsName, is_named}
 use Rattle.primed_names.proofs.Fresh.{primed_new, primed_is_name, put_behind}
 use Rattle.primed_names.proofs.primes.add_prime.Goals as goal
 

@@ -1,5 +1,5 @@
 use Rattle.std.proofs.Common.{◌≡◌, ◌-◌, ◌+◌, suc, true, false, sym, ap, ◌∙◌, arith}
-use Rattle.mixed_graph.specs.Names.{is_named}
+use Rattle.mixed_graph.specs.Vocabulary.{is_named}
 use Rattle.primed_names.specs.Primed.{primed_from}
 use Rattle.primed_names.proofs.Fresh.{stays, goes_on}
 use Rattle.primed_names.proofs.primes.primed_name.Goals as goal

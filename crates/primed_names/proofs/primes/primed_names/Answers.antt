@@ -1,7 +1,7 @@
 use Rattle.std.proofs.Common.{◌≡◌, true, List, ℕ, sym, subst}
 use Rattle.std.specs.List.{list_all}
 use Rattle.std.specs.Str.{is_utf8}
-use Rattle.mixed_graph.specs.Names.{is_line_byte}
+use Rattle.mixed_graph.specs.Vocabulary.{is_line_byte}
 use Rattle.primed_names.proofs.Fresh.{name_text, name_line}
 use Rattle.primed_names.proofs.primes.primed_names.Goals as goal
 

@@ -1,6 +1,6 @@
 use Rattle.std.proofs.Common.{ap, ◌∙◌, arith, length, ◌≤◌}
 use Rattle.prob_expr.specs.Listed.{masks_of}
-use Rattle.mixed_graph.specs.Masks.{union}
+use Rattle.mixed_graph.specs.Vocabulary.{union}
 use Rattle.prob_expr.proofs.FreeSteps.{free_step, free_end}
 use Rattle.prob_expr.proofs.freeing.+free_expr.Goals as goal
 

@@ -1,7 +1,7 @@
 use Rattle.std.proofs.Common.{◌≡◌, drop}
 use Rattle.prob_expr.specs.Listed.{masks_of}
 use Rattle.prob_expr.specs.View.{views}
-use Rattle.mixed_graph.specs.Masks.{union}
+use Rattle.mixed_graph.specs.Vocabulary.{union}
 use Rattle.prob_expr.specs.Free.{free_in_any}
 use Rattle.prob_expr.proofs.freeing.+free_expr.Given as goal
 

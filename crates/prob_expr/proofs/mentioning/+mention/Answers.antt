@@ -1,5 +1,5 @@
 use Rattle.std.proofs.Common.{ap, ◌∙◌, arith, length, ◌≤◌}
-use Rattle.mixed_graph.specs.Masks.{union}
+use Rattle.mixed_graph.specs.Vocabulary.{union}
 use Rattle.prob_expr.proofs.Mentions.{factors_step, factors_end}
 use Rattle.prob_expr.proofs.mentioning.+mention.Goals as goal
 

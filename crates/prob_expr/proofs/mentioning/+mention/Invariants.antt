@@ -1,5 +1,5 @@
 use Rattle.std.proofs.Common.{◌≡◌, drop}
-use Rattle.mixed_graph.specs.Masks.{union}
+use Rattle.mixed_graph.specs.Vocabulary.{union}
 use Rattle.prob_expr.specs.View.{views}
 use Rattle.prob_expr.specs.Mentioned.{mentioned_in_any}
 use Rattle.prob_expr.proofs.mentioning.+mention.Given as goal

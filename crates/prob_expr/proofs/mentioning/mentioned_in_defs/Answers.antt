@@ -1,5 +1,5 @@
 use Rattle.std.proofs.Common.{ap, ◌∙◌, arith, length, ◌≤◌}
-use Rattle.mixed_graph.specs.Masks.{union}
+use Rattle.mixed_graph.specs.Vocabulary.{union}
 use Rattle.prob_expr.proofs.Mentions.{defs_step, defs_end}
 use Rattle.prob_expr.proofs.mentioning.mentioned_in_defs.Goals as goal
 

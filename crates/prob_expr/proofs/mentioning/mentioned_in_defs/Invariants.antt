@@ -1,5 +1,5 @@
 use Rattle.std.proofs.Common.{◌≡◌, drop, map}
-use Rattle.mixed_graph.specs.Masks.{union}
+use Rattle.mixed_graph.specs.Vocabulary.{union}
 use Rattle.prob_expr.specs.View.{view}
 use Rattle.prob_expr.specs.Mentioned.{mentioned_in_defs}
 use Rattle.prob_expr.proofs.mentioning.mentioned_in_defs.Given as goal

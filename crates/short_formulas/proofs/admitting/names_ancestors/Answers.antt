@@ -1,10 +1,8 @@
 use Rattle.std.proofs.Common.{◌≡◌, Bool, sym, ◌∙◌, true, false, refl}
 use Rattle.std.specs.Bool.{OnTrue}
-use Rattle.mixed_graph.specs.Bits.{has}
-use Rattle.mixed_graph.specs.Graphs.{IsAncestor}
-use Rattle.mixed_graph.specs.Shown.{graph_of}
+use Rattle.mixed_graph.specs.Vocabulary.{has, IsAncestor, graph_of}
 use Rattle.mixed_graph.proofs.MaskLaws.{inside_has}
-use Rattle.prob_expr.specs.View.{formula_view}
+use Rattle.prob_expr.specs.Vocabulary.{formula_view}
 use Rattle.short_formulas.proofs.NamesOnly.{formula_names_only}
 use Rattle.short_formulas.proofs.admitting.names_ancestors.Goals as goal
 

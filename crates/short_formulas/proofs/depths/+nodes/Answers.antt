@@ -1,8 +1,9 @@
 use Rattle.std.proofs.Common.{◌-◌, ap, ◌∙◌, arith}
-use Rattle.prob_expr.specs.View.{view, views}
+use Rattle.prob_expr.specs.View.{view}
+use Rattle.prob_expr.specs.Vocabulary.{views}
 use Rattle.prob_expr.proofs.Views.{view-Product}
 use Rattle.do_derivation.proofs.Views.{view-Sum, view-Quotient}
-use Rattle.identification_theory.specs.AnswerDepth.{is_tree_within}
+use Rattle.identification_theory.specs.Vocabulary.{is_tree_within}
 use Rattle.short_formulas.proofs.Levels.{within_sum, within_product, within_both, within_neither}
 use Rattle.short_formulas.proofs.depths.+nodes.Goals as goal
 

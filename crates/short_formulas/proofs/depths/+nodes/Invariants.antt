@@ -1,6 +1,6 @@
 use Rattle.std.proofs.Common.{◌≡◌, drop}
-use Rattle.prob_expr.specs.View.{views}
-use Rattle.identification_theory.specs.AnswerDepth.{are_trees_within}
+use Rattle.prob_expr.specs.Vocabulary.{views}
+use Rattle.identification_theory.specs.Vocabulary.{are_trees_within}
 use Rattle.short_formulas.proofs.depths.+nodes.Given as goal
 
 abbrev pub invariant-are_trees_within-loop-factor : goal.invariant-are_trees_within-loop-factor

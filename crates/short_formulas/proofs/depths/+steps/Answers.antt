@@ -1,7 +1,7 @@
 use Rattle.std.proofs.Common.{◌-◌, ap, ◌∙◌, arith}
-use Rattle.do_derivation.specs.View.{step_view, steps_view}
+use Rattle.do_derivation.specs.Vocabulary.{step_view, steps_view}
 use Rattle.identify.proofs.Steps.{step-At, step-Then}
-use Rattle.identification_theory.specs.Depth.{is_plan_within}
+use Rattle.identification_theory.specs.Vocabulary.{is_plan_within}
 use Rattle.short_formulas.proofs.Levels.{within_at, within_then}
 use Rattle.short_formulas.proofs.depths.+steps.Goals as goal
 

@@ -1,6 +1,6 @@
 use Rattle.std.proofs.Common.{◌≡◌, drop}
-use Rattle.do_derivation.specs.View.{steps_view}
-use Rattle.identification_theory.specs.Depth.{are_plans_within}
+use Rattle.do_derivation.specs.Vocabulary.{steps_view}
+use Rattle.identification_theory.specs.Vocabulary.{are_plans_within}
 use Rattle.short_formulas.proofs.depths.+steps.Given as goal
 
 abbrev pub invariant-are_steps_within-loop-step : goal.invariant-are_steps_within-loop-step

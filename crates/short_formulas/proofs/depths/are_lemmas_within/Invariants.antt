@@ -1,6 +1,6 @@
 use Rattle.std.proofs.Common.{◌≡◌, drop, map}
-use Rattle.do_derivation.specs.View.{lemma_view}
-use Rattle.identification_theory.specs.Depth.{are_lemmas_within}
+use Rattle.do_derivation.specs.Vocabulary.{lemma_view}
+use Rattle.identification_theory.specs.Vocabulary.{are_lemmas_within}
 use Rattle.short_formulas.proofs.depths.are_lemmas_within.Given as goal
 
 abbrev pub invariant-loop-lemma : goal.invariant-loop-lemma

@@ -1,6 +1,6 @@
 use Rattle.std.proofs.Common.{sym, subst}
-use Rattle.mixed_graph.specs.Bits.{has}
-use Rattle.do_rules.specs.Rules.{AreThreeSets}
+use Rattle.mixed_graph.specs.Vocabulary.{has}
+use Rattle.do_rules.specs.Vocabulary.{AreThreeSets}
 use Rattle.short_formulas.proofs.hiding.hide.Goals as goal
 
 pub loop-i-init : goal.loop-i-init

@@ -1,6 +1,6 @@
 use Rattle.std.proofs.Common.{sym, subst}
-use Rattle.mixed_graph.specs.Bits.{has}
-use Rattle.do_rules.specs.Rules.{AreThreeSets}
+use Rattle.mixed_graph.specs.Vocabulary.{has}
+use Rattle.do_rules.specs.Vocabulary.{AreThreeSets}
 use Rattle.short_formulas.proofs.hiding.without.Goals as goal
 
 pub derivation_in-requires-clause-sets : goal.derivation_in-requires-clause-sets

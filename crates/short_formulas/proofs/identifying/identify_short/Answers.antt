@@ -1,9 +1,8 @@
 use Rattle.std.proofs.Common.{◌≤◌, length, subst}
-use Rattle.mixed_graph.specs.Shown.{graph_of}
-use Rattle.prob_expr.specs.View.{formula_view, target_view}
-use Rattle.do_derivation.specs.View.{derivation_view}
-use Rattle.conditional_id.specs.TurnLaws.{IsShallowGiven}
-use Rattle.conditional_id.specs.Answers.{IsRight, IfFormula}
+use Rattle.mixed_graph.specs.Vocabulary.{graph_of}
+use Rattle.prob_expr.specs.Vocabulary.{formula_view, target_view}
+use Rattle.do_derivation.specs.Vocabulary.{derivation_view}
+use Rattle.conditional_id.specs.Vocabulary.{IsShallowGiven, IsRight, IfFormula}
 use Rattle.short_formulas.proofs.Usable.{usable_given}
 use Rattle.short_formulas.proofs.identifying.identify_short.Goals as goal
 

@@ -1,6 +1,5 @@
 use Rattle.std.proofs.Common.{◌≡◌, drop, map}
-use Rattle.do_derivation.specs.Accepts.{are_sets, sets_of}
-use Rattle.do_derivation.specs.View.{lemma_view}
+use Rattle.do_derivation.specs.Vocabulary.{are_sets, sets_of, lemma_view}
 use Rattle.short_formulas.proofs.lemma_sets.are_sets.Given as goal
 
 abbrev pub invariant-loop-lemma : goal.invariant-loop-lemma

@@ -1,6 +1,5 @@
 use Rattle.std.proofs.Common.{◌≡◌, ◌≤◌, ◌+◌, drop}
-use Rattle.prob_expr.specs.Check.{cap}
-use Rattle.prob_expr.specs.View.{views}
+use Rattle.prob_expr.specs.Vocabulary.{cap, views}
 use Rattle.short_formulas.specs.Length.{length_of_each}
 use Rattle.short_formulas.proofs.measuring.+count.Given as goal
 

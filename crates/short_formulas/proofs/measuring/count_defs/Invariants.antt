@@ -1,5 +1,5 @@
 use Rattle.std.proofs.Common.{◌≡◌, ◌≤◌, ◌+◌, drop, map}
-use Rattle.prob_expr.specs.Check.{cap}
+use Rattle.prob_expr.specs.Vocabulary.{cap}
 use Rattle.prob_expr.specs.View.{view}
 use Rattle.short_formulas.specs.Length.{length_of_all}
 use Rattle.short_formulas.proofs.measuring.count_defs.Given as goal

@@ -1,4 +1,4 @@
-use Rattle.prob_expr.specs.View.{target_view}
+use Rattle.prob_expr.specs.Vocabulary.{target_view}
 use Rattle.short_formulas.proofs.Usable.{target_term}
 use Rattle.short_formulas.proofs.shortening.shortened.Goals as goal
 

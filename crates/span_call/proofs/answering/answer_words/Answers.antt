@@ -1,6 +1,5 @@
 use Rattle.std.proofs.Common.{ap, ap₂, is_none, refl, ◌∙◌}
-use Rattle.caller_memory.specs.Parts.{place_named, content_named}
-use Rattle.caller_memory.specs.Held.{lacks_in}
+use Rattle.caller_memory.specs.Vocabulary.{place_named, content_named, lacks_in}
 use Rattle.span_call.proofs.Calling.{called}
 use Rattle.span_call.proofs.Counts.{zero_or, unless}
 use Rattle.span_call.proofs.answering.answer_words.Goals as goal

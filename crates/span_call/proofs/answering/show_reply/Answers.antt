@@ -1,7 +1,7 @@
 use Rattle.std.proofs.Common.{◌≤◌, sym, subst, lit≤}
 use Rattle.replies.specs.declared.outcome.Outcome.{Outcome}
 use Rattle.replies.specs.declared.outcome.Outcome.TheVariants.{Yes}
-use Rattle.replies.specs.Outcomes.{code_of}
+use Rattle.replies.specs.Vocabulary.{code_of}
 use Rattle.span_call.specs.Rooms.{ShowsText}
 use Rattle.span_call.proofs.answering.show_reply.Goals as goal
 

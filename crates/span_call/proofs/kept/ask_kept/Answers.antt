@@ -1,8 +1,7 @@
 use Rattle.std.proofs.Common.{◌≡◌, Some, Err, is_none, ap, map, refl, ◌∙◌, subst, arith}
 use Rattle.std.specs.Prelude.{string_bytes}
-use Rattle.caller_memory.specs.Parts.{place_named, content_named}
-use Rattle.caller_memory.specs.Words.{texts}
-use Rattle.replies.specs.Outcomes.{code_of, IsAnswered}
+use Rattle.caller_memory.specs.Vocabulary.{place_named, content_named, texts}
+use Rattle.replies.specs.Vocabulary.{code_of, IsAnswered}
 use Rattle.caller_memory.proofs.OneGraph.{kept_holds}
 use Rattle.command_run.proofs.Deliveries.{no_room}
 use Rattle.causal_cli.specs.Commands.{commands}

@@ -1,6 +1,6 @@
 use Rattle.std.proofs.Common.{Err, map, sym, ap, ◌∙◌, subst}
 use Rattle.std.specs.Prelude.{string_bytes}
-use Rattle.command_run.specs.Commands.{Asks}
+use Rattle.command_run.specs.Vocabulary.{Asks}
 use Rattle.causal_cli.specs.Commands.{commands}
 use Rattle.span_call.proofs.Telling.{telling}
 use Rattle.span_call.proofs.wanted.wanted_spans.Goals as goal

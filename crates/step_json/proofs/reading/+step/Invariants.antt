@@ -1,6 +1,6 @@
 use Rattle.std.proofs.Common.{◌≡◌, ◌+◌, ◌*◌, drop, map, []}
 use Rattle.serde_json.specs.View.{items_view}
-use Rattle.do_derivation.specs.View.{step_view}
+use Rattle.do_derivation.specs.Vocabulary.{step_view}
 use Rattle.step_json.specs.Reading.{each, step_within}
 use Rattle.step_json.proofs.reading.+step.Given as goal
 

@@ -1,17 +1,13 @@
 use Rattle.std.proofs.Common.{◌≤◌, ◌≡◌, ◌↔◌, ℕ, List, Some, None, true, length, refl, sym, ap, ◌∙◌, subst, IsTrue}
-use Rattle.mixed_graph.specs.Shown.{graph_of}
 use Rattle.mixed_graph.specs.declared.sets.VSet.{VSet}
-use Rattle.prob_expr.specs.Check.{fault_in}
-use Rattle.prob_expr.specs.Listed.{masks_of}
-use Rattle.prob_expr.specs.Tree.{effect_on}
-use Rattle.prob_expr.specs.View.{formula_view}
-use Rattle.do_derivation.specs.View.{derivation_view}
-use Rattle.identify.specs.Answers.{AreShallowSteps, IsShallowFormula}
+use Rattle.mixed_graph.specs.Vocabulary.{graph_of}
+use Rattle.prob_expr.specs.Vocabulary.{fault_in, masks_of, effect_on, formula_view}
+use Rattle.do_derivation.specs.Vocabulary.{derivation_view}
+use Rattle.identify.specs.Vocabulary.{AreShallowSteps, IsShallowFormula}
 use Rattle.effect_answers.proofs.ReadBack.{formula_back}
 use Rattle.effect_answers.proofs.Shallow.{formula_shallow}
 use Rattle.effect_answers.proofs.Writing.{bare_target}
-use Rattle.surrogates.specs.Answers.{IsRightWith, IfFormula, IfStopped, IfCommon, IsStopShown, IsBlockShown, IsBlockedTogether, HasCommon, is_stopped}
-use Rattle.surrogates.specs.Surrogates.{IsSurrogate, IsSurrogateBySteps, SomeBlocked}
+use Rattle.surrogates.specs.Vocabulary.{IsRightWith, IfFormula, IfStopped, IfCommon, IsStopShown, IsBlockShown, IsBlockedTogether, HasCommon, is_stopped, IsSurrogate, IsSurrogateBySteps, SomeBlocked}
 use Rattle.surrogate_command.specs.Right.{IsFormula, stop_shown, Decides}
 use Rattle.surrogate_command.proofs.Stops.{stop_decided}
 use Rattle.surrogate_command.proofs.reply.decide.Goals as goal

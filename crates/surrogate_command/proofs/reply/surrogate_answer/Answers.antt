@@ -1,14 +1,12 @@
 use Rattle.std.proofs.Common.{◌≡◌, Bool, map, subst, sym, ap, ◌∙◌, arith}
 use Rattle.std.proofs.lemmas.List.{length-map}
-use Rattle.mixed_graph.specs.Bits.{has}
-use Rattle.mixed_graph.specs.Sets.{Within}
-use Rattle.mixed_graph.specs.Shown.{graph_of}
-use Rattle.prob_expr.specs.Listed.{masks_of}
+use Rattle.mixed_graph.specs.Vocabulary.{has, Within, graph_of}
+use Rattle.prob_expr.specs.Vocabulary.{masks_of}
 use Rattle.targets.proofs.Effects.{effect_within_x, effect_within_y, effect_apart, effect_outcome}
-use Rattle.command_words.specs.ListViews.{names_in}
-use Rattle.diagram.specs.Sets.{Names, lent}
+use Rattle.command_words.specs.Vocabulary.{names_in}
+use Rattle.diagram.specs.Vocabulary.{Names, lent}
 use Rattle.diagram.proofs.Lent.{lent_owned}
-use Rattle.experiment_lists.specs.Words.{Lists}
+use Rattle.experiment_lists.specs.Vocabulary.{Lists}
 use Rattle.experiment_lists.proofs.Filled.{one_set_each, sets_filled}
 use Rattle.surrogate_command.specs.Requests.{request_of}
 use Rattle.surrogate_command.specs.Right.{Decides}

@@ -1,6 +1,5 @@
 use Rattle.std.proofs.Common.{sym, subst}
-use Rattle.experiment_lists.specs.Words.{AreNeededExperiments}
-use Rattle.experiment_lists.specs.Views.{lists_in}
+use Rattle.experiment_lists.specs.Vocabulary.{AreNeededExperiments, lists_in}
 use Rattle.experiment_lists.proofs.Joining.{are_filled}
 use Rattle.surrogate_command.proofs.request.needed_experiments.Goals as goal
 

@@ -1,10 +1,10 @@
 use Rattle.std.proofs.Common.{◌≡◌, map, None, sym, subst, ◌∙◌}
-use Rattle.command_words.specs.ListViews.{names_in}
-use Rattle.targets.specs.Targets.{effect_fault, first_fault, walked_in, IsNameFault}
+use Rattle.command_words.specs.Vocabulary.{names_in}
+use Rattle.targets.specs.Vocabulary.{effect_fault, first_fault, walked_in, IsNameFault}
 use Rattle.targets.proofs.Walking.{fault_first}
-use Rattle.diagram.specs.Sets.{lent}
+use Rattle.diagram.specs.Vocabulary.{lent}
 use Rattle.diagram.proofs.Asking.{first_of_all, behind_first, empty_list, no_list}
-use Rattle.experiment_lists.specs.Sets.{experiments_fault}
+use Rattle.experiment_lists.specs.Vocabulary.{experiments_fault}
 use Rattle.surrogate_command.specs.Sets.{SurrogateLists, surrogate_lists}
 use Rattle.surrogate_command.proofs.Walked.{surrogate_fault_named, after_effect}
 use Rattle.surrogate_command.proofs.sets.asked_sets.Goals as goal

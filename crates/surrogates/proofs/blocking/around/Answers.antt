@@ -1,5 +1,5 @@
 use Rattle.std.proofs.Common.{◌<◌, ◌≤◌, length}
-use Rattle.prob_expr.specs.Listed.{masks_of}
+use Rattle.prob_expr.specs.Vocabulary.{masks_of}
 use Rattle.surrogates.specs.Common.{around}
 use Rattle.surrogates.proofs.Together.{none_taken, next_taken, all_taken}
 use Rattle.surrogates.proofs.blocking.around.Goals as goal

@@ -1,6 +1,6 @@
 use Rattle.std.proofs.Common.{◌≡◌, drop}
-use Rattle.mixed_graph.specs.Masks.{union}
-use Rattle.prob_expr.specs.Listed.{masks_of}
+use Rattle.mixed_graph.specs.Vocabulary.{union}
+use Rattle.prob_expr.specs.Vocabulary.{masks_of}
 use Rattle.surrogates.specs.Common.{around}
 use Rattle.surrogates.proofs.blocking.around.Given as goal
 

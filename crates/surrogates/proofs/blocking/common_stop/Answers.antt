@@ -1,7 +1,6 @@
 use Rattle.std.proofs.Common.{◌≡◌, true, sym, subst, ◌∙◌}
-use Rattle.mixed_graph.specs.Masks.{is_apart}
-use Rattle.mixed_graph.specs.Shown.{graph_of}
-use Rattle.prob_expr.specs.Listed.{masks_of}
+use Rattle.mixed_graph.specs.Vocabulary.{is_apart, graph_of}
+use Rattle.prob_expr.specs.Vocabulary.{masks_of}
 use Rattle.surrogates.proofs.Around.{around_is_apart}
 use Rattle.surrogates.specs.Surrogates.{IsStoppedUnder}
 use Rattle.surrogates.proofs.Together.{freed}

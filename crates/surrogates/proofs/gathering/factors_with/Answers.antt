@@ -1,8 +1,7 @@
 use Rattle.std.proofs.Common.{◌≡◌, get_or, length, take, arith}
-use Rattle.mixed_graph.specs.Shown.{graph_of}
-use Rattle.hedge.specs.Linked.{IsMaximalJoined}
-use Rattle.hedge.specs.Listed.{first_masks}
-use Rattle.prob_expr.specs.Listed.{masks_of}
+use Rattle.mixed_graph.specs.Vocabulary.{graph_of}
+use Rattle.hedge.specs.Vocabulary.{IsMaximalJoined, first_masks}
+use Rattle.prob_expr.specs.Vocabulary.{masks_of}
 use Rattle.identify.proofs.GatheredFactors.{GoesOn, district_at, gathered_none, turn_end, turn_next, turn_stop}
 use Rattle.surrogates.specs.Surrogates.{AreDerivedWith, StopsWith}
 use Rattle.surrogates.proofs.GatheredWith.{factors_of, tried_goes_on}

@@ -1,7 +1,7 @@
 use Rattle.std.proofs.Common.{take, map}
-use Rattle.mixed_graph.specs.Shown.{graph_of}
 use Rattle.mixed_graph.specs.declared.sets.VSet.{VSet}
-use Rattle.prob_expr.specs.Listed.{masks_of}
+use Rattle.mixed_graph.specs.Vocabulary.{graph_of}
+use Rattle.prob_expr.specs.Vocabulary.{masks_of}
 use Rattle.identify.proofs.GatheredFactors.{Gathered}
 use Rattle.surrogates.specs.Surrogates.{AreDerivedWith, StopsWith}
 use Rattle.surrogates.proofs.gathering.factors_with.Given as goal

@@ -1,16 +1,14 @@
 use Rattle.std.proofs.Common.{ℕ, eqb-true, inl, inr, sym, ◌∙◌, length-take, map, arith}
-use Rattle.mixed_graph.specs.Shown.{graph_of}
 use Rattle.mixed_graph.specs.declared.sets.VSet.{VSet}
-use Rattle.hedge.specs.Linked.{AreDistricts}
-use Rattle.hedge.specs.Listed.{first_masks}
-use Rattle.prob_expr.specs.Listed.{masks_of}
-use Rattle.prob_expr.specs.View.{formula_view}
-use Rattle.do_derivation.specs.View.{derivation_view, listed}
+use Rattle.mixed_graph.specs.Vocabulary.{graph_of}
+use Rattle.hedge.specs.Vocabulary.{AreDistricts, first_masks}
+use Rattle.prob_expr.specs.Vocabulary.{masks_of, formula_view}
+use Rattle.do_derivation.specs.Vocabulary.{derivation_view, listed}
 use Rattle.identify.specs.declared.wanted.Wanted.TheVariants.{Derivation}
 use Rattle.identify.proofs.Composed.{few_defs}
 use Rattle.identify.proofs.Orders.{districts_by}
 use Rattle.identify.proofs.RightAnswers.{target_from}
-use Rattle.identification_theory.specs.Procedure.{IsTarget}
+use Rattle.identification_theory.specs.Vocabulary.{IsTarget}
 use Rattle.surrogates.specs.Surrogates.{IsStoppedWith, StopsWith}
 use Rattle.surrogates.proofs.Assembled.{by_steps}
 use Rattle.surrogates.proofs.Together.{stops_at_district}

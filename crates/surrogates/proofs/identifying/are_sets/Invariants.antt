@@ -1,6 +1,6 @@
 use Rattle.std.proofs.Common.{◌≡◌, drop}
-use Rattle.do_derivation.specs.Accepts.{are_sets}
-use Rattle.prob_expr.specs.Listed.{masks_of}
+use Rattle.do_derivation.specs.Vocabulary.{are_sets}
+use Rattle.prob_expr.specs.Vocabulary.{masks_of}
 use Rattle.surrogates.proofs.identifying.are_sets.Given as goal
 
 abbrev pub invariant-loop-set : goal.invariant-loop-set

@@ -1,6 +1,6 @@
 use Rattle.std.proofs.Common.{subst, arith}
-use Rattle.mixed_graph.specs.Shown.{graph_of}
-use Rattle.prob_expr.specs.Listed.{masks_of}
+use Rattle.mixed_graph.specs.Vocabulary.{graph_of}
+use Rattle.prob_expr.specs.Vocabulary.{masks_of}
 use Rattle.identify.proofs.RightAnswers.{target_from}
 use Rattle.surrogates.proofs.Around.{around_is_apart}
 use Rattle.surrogates.proofs.Blocked.{stop_under_has_hedge}

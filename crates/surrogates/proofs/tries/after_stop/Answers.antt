@@ -1,6 +1,6 @@
 use Rattle.std.proofs.Common.{subst}
-use Rattle.mixed_graph.specs.Shown.{graph_of}
-use Rattle.prob_expr.specs.Listed.{masks_of}
+use Rattle.mixed_graph.specs.Vocabulary.{graph_of}
+use Rattle.prob_expr.specs.Vocabulary.{masks_of}
 use Rattle.surrogates.specs.Tries.{IsAttemptOf}
 use Rattle.surrogates.proofs.Passing.{all_stop, none_before}
 use Rattle.surrogates.proofs.tries.after_stop.Goals as goal

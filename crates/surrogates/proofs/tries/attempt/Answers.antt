@@ -1,5 +1,5 @@
 use Rattle.std.proofs.Common.{inl, sym, ◌∙◌, arith}
-use Rattle.mixed_graph.specs.Shown.{graph_of}
+use Rattle.mixed_graph.specs.Vocabulary.{graph_of}
 use Rattle.surrogates.proofs.Passing.{passed_ok}
 use Rattle.surrogates.proofs.tries.attempt.Goals as goal
 

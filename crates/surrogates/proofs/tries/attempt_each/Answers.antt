@@ -1,5 +1,5 @@
 use Rattle.std.proofs.Common.{◌<◌, ◌≤◌, length, subst}
-use Rattle.mixed_graph.specs.Shown.{graph_of}
+use Rattle.mixed_graph.specs.Vocabulary.{graph_of}
 use Rattle.surrogates.specs.Tries.{AllTriedInVain, IsAttempt}
 use Rattle.surrogates.proofs.Passing.{first_here, passed_next, masks_all}
 use Rattle.surrogates.proofs.tries.attempt_each.Goals as goal

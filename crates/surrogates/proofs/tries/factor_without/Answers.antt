@@ -1,9 +1,6 @@
 use Rattle.std.proofs.Common.{◌≡◌, ap, ◌∙◌}
-use Rattle.mixed_graph.specs.Bits.{has}
-use Rattle.mixed_graph.specs.Graphs.{induced}
-use Rattle.mixed_graph.specs.Shown.{graph_of}
-use Rattle.do_derivation.specs.View.{listed}
-use Rattle.mixed_graph.specs.Masks.{minus}
+use Rattle.mixed_graph.specs.Vocabulary.{has, induced, graph_of, minus}
+use Rattle.do_derivation.specs.Vocabulary.{listed}
 use Rattle.surrogates.specs.Surrogates.{without}
 use Rattle.surrogates.proofs.Trying.{joined_in, low_in, tried_ok, tried_err}
 use Rattle.surrogates.proofs.tries.factor_without.Goals as goal

@@ -1,6 +1,5 @@
 use Rattle.std.proofs.Common.{refl, subst}
-use Rattle.mixed_graph.specs.Graphs.{MixedGraph}
-use Rattle.mixed_graph.specs.Shown.{graph_of}
+use Rattle.mixed_graph.specs.Vocabulary.{MixedGraph, graph_of}
 use Rattle.survey_command.specs.Right.{IsSurvey}
 use Rattle.survey_command.specs.declared.answer.Survey.{Survey}
 use Rattle.survey_command.proofs.Surveying.{surveyed}

@@ -1,9 +1,8 @@
 use Rattle.std.proofs.Common.{◌≡◌, ℕ, [], Result, Ok, Err, IfOk, subst}
 use Rattle.replies.specs.declared.outcome.Reply.{Reply}
-use Rattle.replies.specs.Told.{told_of}
+use Rattle.replies.specs.Vocabulary.{told_of}
 use Rattle.told.specs.declared.form.Form.{Form}
-use Rattle.told.specs.Refusals.{target_refusal}
-use Rattle.told.specs.Telling.{Tells, told_in}
+use Rattle.told.specs.Vocabulary.{target_refusal, Tells, told_in}
 use Rattle.survey_command.specs.Drawn.{drawn_graph}
 use Rattle.survey_command.specs.Right.{IsSurvey, IsSurveyAnswer}
 use Rattle.survey_command.specs.Telling.{survey_telling}

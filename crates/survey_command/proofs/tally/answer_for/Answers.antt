@@ -1,8 +1,5 @@
 use Rattle.std.proofs.Common.{◌<◌, sym, subst}
-use Rattle.mixed_graph.specs.Bits.{has}
-use Rattle.mixed_graph.specs.Sets.{Within, Apart}
-use Rattle.mixed_graph.specs.Shown.{graph_of}
-use Rattle.mixed_graph.specs.Masks.{one}
+use Rattle.mixed_graph.specs.Vocabulary.{has, Within, Apart, graph_of, one}
 use Rattle.survey_command.proofs.Answering.{answered_of}
 use Rattle.survey_command.proofs.OneSets.{within_one, apart_one, some_one}
 use Rattle.survey_command.proofs.tally.answer_for.Goals as goal

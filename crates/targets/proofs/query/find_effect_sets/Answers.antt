@@ -1,6 +1,6 @@
 use Rattle.std.proofs.Common.{◌≡◌, length, ◌++◌, sym, ap, subst, ◌∙◌, rules}
 use Rattle.std.proofs.lemmas.List.{nil_from_length}
-use Rattle.mixed_graph.specs.Names.{texts}
+use Rattle.mixed_graph.specs.Vocabulary.{texts}
 use Rattle.targets.specs.Targets.{IsNameFault}
 use Rattle.targets.proofs.Parts.{effect_lists_of}
 use Rattle.targets.proofs.Faults.{effect_fault_named}

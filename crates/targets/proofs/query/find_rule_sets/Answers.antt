@@ -1,6 +1,6 @@
 use Rattle.std.proofs.Common.{◌≡◌, ◌++◌, length, sym, ap, subst, ◌∙◌, rules}
 use Rattle.std.proofs.lemmas.List.{nil_from_length}
-use Rattle.mixed_graph.specs.Names.{texts}
+use Rattle.mixed_graph.specs.Vocabulary.{texts}
 use Rattle.targets.specs.Targets.{RuleLists, rule_fault, first_fault, walked_in, IsNameFault}
 use Rattle.targets.proofs.Parts.{rule_lists_of}
 use Rattle.targets.proofs.Faults.{rule_fault_named}

@@ -1,6 +1,6 @@
 use Rattle.std.proofs.Common.{◌+◌, ℕ, List, codes, drop, map, sym, ap, ◌∙◌, add-one, drop-cons, arith}
 use Rattle.json.specs.Json.{Json, string}
-use Rattle.answer_json.specs.Progress.{with_value, with_values}
+use Rattle.answer_json.specs.Vocabulary.{with_value, with_values}
 use Rattle.treated_command.proofs.objects.push_each_mark.Goals as goal
 
 pub loop-preserved : goal.loop-preserved

@@ -1,6 +1,6 @@
 use Rattle.std.proofs.Common.{◌≡◌, codes, drop, map}
 use Rattle.json.specs.Json.{string}
-use Rattle.answer_json.specs.Progress.{with_values}
+use Rattle.answer_json.specs.Vocabulary.{with_values}
 use Rattle.treated_command.proofs.objects.push_each_mark.Given as goal
 
 abbrev pub invariant-loop : goal.invariant-loop

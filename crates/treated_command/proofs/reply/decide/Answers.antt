@@ -1,5 +1,5 @@
 use Rattle.std.proofs.Common.{rules, arith}
-use Rattle.mixed_graph.specs.Bits.{has}
+use Rattle.mixed_graph.specs.Vocabulary.{has}
 use Rattle.mixed_graph.proofs.Members.{length-members-le}
 use Rattle.treated_command.proofs.Sets.{counted_names}
 use Rattle.treated_command.proofs.reply.decide.Goals as goal

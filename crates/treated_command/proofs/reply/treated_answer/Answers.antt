@@ -1,9 +1,8 @@
 use Rattle.std.proofs.Common.{◌≡◌, Some, IfOk, IfErr, subst, ap, ◌∙◌}
-use Rattle.mixed_graph.specs.Names.{texts}
-use Rattle.mixed_graph.specs.Shown.{graph_of}
-use Rattle.targets.specs.Targets.{Lists, IsListFault, OrMemory}
+use Rattle.mixed_graph.specs.Vocabulary.{texts, graph_of}
+use Rattle.targets.specs.Vocabulary.{Lists, IsListFault, OrMemory}
 use Rattle.targets.proofs.Effects.{listed_outcome}
-use Rattle.diagram.specs.Sets.{Names, lent, query_lists}
+use Rattle.diagram.specs.Vocabulary.{Names, lent, query_lists}
 use Rattle.diagram.proofs.Lent.{lent_owned}
 use Rattle.treated_command.specs.Requests.{request_of}
 use Rattle.treated_command.specs.Right.{IsForSets, IsOfSets, IsFaultOrMemory}

@@ -1,6 +1,6 @@
 use Rattle.std.proofs.Common.{Some}
-use Rattle.mixed_graph.specs.Shown.{graph_of}
-use Rattle.diagram.specs.Sets.{query_lists}
+use Rattle.mixed_graph.specs.Vocabulary.{graph_of}
+use Rattle.diagram.specs.Vocabulary.{query_lists}
 use Rattle.treated_command.specs.Requests.{request_of}
 use Rattle.treated_command.proofs.Replying.{tells}
 use Rattle.treated_command.proofs.reply.treated_reply.Goals as goal

@@ -1,14 +1,9 @@
 use Rattle.std.proofs.Common.{◌<◌, sym, ap, subst}
-use Rattle.mixed_graph.specs.Bits.{has}
-use Rattle.mixed_graph.specs.Graphs.{IsAncestor}
-use Rattle.mixed_graph.specs.Masks.{union}
-use Rattle.mixed_graph.specs.Sets.{Within, Apart}
-use Rattle.mixed_graph.specs.Shown.{graph_of}
+use Rattle.mixed_graph.specs.Vocabulary.{has, IsAncestor, union, Within, Apart, graph_of}
 use Rattle.finite_models.proofs.Bools.{not_both}
-use Rattle.hedge.specs.Hedges.{IsHedge}
-use Rattle.hedge.specs.Linked.{IsSetOf}
-use Rattle.identify.specs.Answers.{is_hedge_alone}
-use Rattle.effect_answers.specs.Hedges.{IsFoundHedge}
+use Rattle.hedge.specs.Vocabulary.{IsHedge, IsSetOf}
+use Rattle.identify.specs.Vocabulary.{is_hedge_alone}
+use Rattle.effect_answers.specs.Vocabulary.{IsFoundHedge}
 use Rattle.effect_answers.proofs.Found.{found_alone}
 use Rattle.treated_hedges.proofs.Excluding.{counter_models_exclude_among}
 use Rattle.treated_paths.proofs.Paths.{paths_differ_among, paths_exclude_among}

@@ -1,5 +1,5 @@
 use Rattle.std.proofs.Common.{codes, ◌++◌, ap, ◌∙◌}
-use Rattle.identify_text.specs.PairLines.{hedge_answer}
+use Rattle.identify_text.specs.Vocabulary.{hedge_answer}
 use Rattle.treated_command.specs.Sentences.{joint_of, effect_text, confounding_text}
 use Rattle.treated_command.proofs.Pieces.{four}
 use Rattle.treated_command.proofs.texts.excluded_text.Goals as goal

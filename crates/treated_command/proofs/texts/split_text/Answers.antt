@@ -1,7 +1,7 @@
 use Rattle.std.proofs.Common.{codes, ◌++◌, ap, ◌∙◌}
-use Rattle.mixed_graph.specs.Masks.{union}
-use Rattle.expr_text.specs.Write.{text_of}
-use Rattle.identify_text.specs.Answers.{effect_term}
+use Rattle.mixed_graph.specs.Vocabulary.{union}
+use Rattle.expr_text.specs.Vocabulary.{text_of}
+use Rattle.identify_text.specs.Vocabulary.{effect_term}
 use Rattle.treated_command.specs.Sentences.{joint_of, share_text}
 use Rattle.treated_command.proofs.Pieces.{five}
 use Rattle.treated_command.proofs.texts.split_text.Goals as goal

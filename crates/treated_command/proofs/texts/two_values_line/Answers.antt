@@ -1,5 +1,5 @@
 use Rattle.std.proofs.Common.{codes, ◌++◌, ap, ◌∙◌}
-use Rattle.identify_text.specs.ModelLines.{vertex_text}
+use Rattle.identify_text.specs.Vocabulary.{vertex_text}
 use Rattle.treated_command.specs.Sentences.{split_text}
 use Rattle.treated_command.proofs.Pieces.{five}
 use Rattle.treated_command.proofs.texts.two_values_line.Goals as goal

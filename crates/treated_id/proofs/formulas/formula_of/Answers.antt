@@ -1,12 +1,10 @@
 use Rattle.std.proofs.Common.{◌≡◌, length, map, take, ap, ap₂, ◌∙◌, subst, arith, rules}
-use Rattle.mixed_graph.specs.Bits.{has}
-use Rattle.mixed_graph.specs.Graphs.{IsAncestor}
-use Rattle.mixed_graph.specs.Masks.{union, minus}
-use Rattle.mixed_graph.specs.Shown.{graph_of}
-use Rattle.hedge.specs.Linked.{IsSetOf}
-use Rattle.prob_expr.specs.View.{view, views}
-use Rattle.do_derivation.specs.Shapes.{as_one}
-use Rattle.identification_theory.specs.Procedure.{sum_if}
+use Rattle.mixed_graph.specs.Vocabulary.{has, IsAncestor, union, minus, graph_of}
+use Rattle.hedge.specs.Vocabulary.{IsSetOf}
+use Rattle.prob_expr.specs.View.{view}
+use Rattle.prob_expr.specs.Vocabulary.{views}
+use Rattle.do_derivation.specs.Vocabulary.{as_one}
+use Rattle.identification_theory.specs.Vocabulary.{sum_if}
 use Rattle.treated_id.specs.Terms.{AreNames, with_first}
 use Rattle.treated_id.proofs.Listing.{order_taken}
 use Rattle.treated_id.proofs.formulas.formula_of.Goals as goal

@@ -1,6 +1,5 @@
 use Rattle.std.proofs.Common.{ap, ◌∙◌, ◌&&◌}
-use Rattle.mixed_graph.specs.Bits.{has}
-use Rattle.mixed_graph.specs.Shown.{graph_of}
+use Rattle.mixed_graph.specs.Vocabulary.{has, graph_of}
 use Rattle.treated_id.proofs.After.{after_is, none_after}
 use Rattle.treated_id.proofs.identifying.acted_on.Goals as goal
 use Rattle.treated_id.proofs.identifying.acted_on.Goals.{After-intersection}

@@ -1,6 +1,6 @@
 use Rattle.std.proofs.Common.{arith}
-use Rattle.mixed_graph.specs.Shown.{graph_of}
-use Rattle.prob_expr.specs.View.{formula_view}
+use Rattle.mixed_graph.specs.Vocabulary.{graph_of}
+use Rattle.prob_expr.specs.Vocabulary.{formula_view}
 use Rattle.treated_id.specs.Right.{IsTreatedTarget}
 use Rattle.treated_id.proofs.Answered.{x_in, child_in, not_confounded}
 use Rattle.treated_id.proofs.DoFree.{formula_free}

@@ -1,5 +1,5 @@
 use Rattle.std.proofs.Common.{ap, ◌∙◌, ◌&&◌}
-use Rattle.mixed_graph.specs.Bits.{has}
+use Rattle.mixed_graph.specs.Vocabulary.{has}
 use Rattle.treated_id.proofs.NameSets.{names_are}
 use Rattle.treated_id.proofs.names.names_of.Goals as goal
 

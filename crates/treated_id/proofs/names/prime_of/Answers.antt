@@ -1,7 +1,7 @@
 use Rattle.std.proofs.Common.{◌≡◌, ◌+◌, ◌<◌, ap, ◌∙◌, ◌&&◌, arith}
-use Rattle.mixed_graph.specs.Bits.{has}
+use Rattle.mixed_graph.specs.Vocabulary.{has}
 use Rattle.mixed_graph.proofs.Masks.{below_64}
-use Rattle.treated_models.specs.Primes.{prime_of}
+use Rattle.treated_models.specs.Vocabulary.{prime_of}
 use Rattle.treated_models.proofs.Primes.{prime_low}
 use Rattle.treated_id.proofs.NameSets.{counted}
 use Rattle.treated_id.proofs.names.prime_of.Goals as goal

@@ -1,5 +1,5 @@
 use Rattle.std.proofs.Common.{◌∙◌, subst, arith}
-use Rattle.mixed_graph.specs.Bits.{has}
+use Rattle.mixed_graph.specs.Vocabulary.{has}
 use Rattle.mixed_graph.proofs.MemberLists.{AreMembers}
 use Rattle.treated_models.proofs.Primes.{prime_low}
 use Rattle.treated_id.proofs.NameSets.{priming_none, primed_all, primed_are}

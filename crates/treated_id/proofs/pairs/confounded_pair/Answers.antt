@@ -1,6 +1,5 @@
 use Rattle.std.proofs.Common.{◌≡◌, Bool, true, ◌&&◌, sym, ◌∙◌, subst, arith}
-use Rattle.mixed_graph.specs.Bits.{has}
-use Rattle.mixed_graph.specs.Shown.{graph_of}
+use Rattle.mixed_graph.specs.Vocabulary.{has, graph_of}
 use Rattle.mixed_graph.proofs.Masks.{positive_from_has}
 use Rattle.mixed_graph.proofs.MemberLists.{AreMembers}
 use Rattle.finite_models.proofs.Bools.{and_first, and_second}

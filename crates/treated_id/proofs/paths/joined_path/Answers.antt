@@ -1,6 +1,5 @@
 use Rattle.std.proofs.Common.{◌≡◌, ◌≢◌, ℕ, not, ◌&&◌, ◌==◌, ap, ◌∙◌, arith}
-use Rattle.mixed_graph.specs.Bits.{has}
-use Rattle.mixed_graph.specs.Shown.{graph_of}
+use Rattle.mixed_graph.specs.Vocabulary.{has, graph_of}
 use Rattle.treated_id.proofs.Joined.{fewer, some_next, walking_more, walked_all}
 use Rattle.treated_id.proofs.paths.joined_path.Goals as goal
 use Rattle.treated_id.proofs.paths.joined_path.Goals.{After-intersection, After-difference-left}

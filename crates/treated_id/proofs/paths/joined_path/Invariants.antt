@@ -1,4 +1,4 @@
-use Rattle.mixed_graph.specs.Shown.{graph_of}
+use Rattle.mixed_graph.specs.Vocabulary.{graph_of}
 use Rattle.treated_id.proofs.Joined.{Walking}
 use Rattle.treated_id.proofs.paths.joined_path.Given as goal
 

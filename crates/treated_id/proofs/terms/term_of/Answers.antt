@@ -1,8 +1,9 @@
 use Rattle.std.proofs.Common.{◌≡◌, ap, ap₂, ◌∙◌, ◌&&◌, not, rules}
 use Rattle.mixed_graph.specs.declared.sets.VSet.{VSet}
+use Rattle.mixed_graph.specs.Vocabulary.{graph_of}
 use Rattle.prob_expr.specs.View.{view}
-use Rattle.prob_expr.specs.declared.expr.Expr.{Prob, the_lemmas}
-use Rattle.mixed_graph.specs.Shown.{graph_of}
+use Rattle.prob_expr.specs.declared.expr.Expr.{Prob}
+use Rattle.prob_expr.specs.declared.expr.Expr.{the_lemmas}
 use Rattle.prob_expr.specs.Tree.{prob}
 use Rattle.treated_id.proofs.Listing.{pillow_is}
 use Rattle.treated_id.proofs.terms.term_of.Goals as goal

@@ -1,9 +1,7 @@
 use Rattle.std.proofs.Common.{◌≡◌, true, false, get_or, sym, ap, ◌∙◌, arith}
 use Rattle.std.specs.Global.{Vec}
 use Rattle.prob_expr.specs.declared.expr.Expr.{Expr}
-use Rattle.mixed_graph.specs.Bits.{has}
-use Rattle.mixed_graph.specs.Shown.{graph_of}
-use Rattle.mixed_graph.specs.Masks.{union, minus, common, one}
+use Rattle.mixed_graph.specs.Vocabulary.{has, graph_of, union, minus, common, one}
 use Rattle.treated_id.proofs.Listing.{listing_skip, listing_take, listing_all}
 use Rattle.treated_id.proofs.terms.terms_of.Goals as goal
 use Rattle.treated_id.proofs.terms.terms_of.Goals.{then-has+in_ok-push, else-has}

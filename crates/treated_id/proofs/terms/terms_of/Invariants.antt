@@ -1,4 +1,4 @@
-use Rattle.mixed_graph.specs.Shown.{graph_of}
+use Rattle.mixed_graph.specs.Vocabulary.{graph_of}
 use Rattle.treated_id.proofs.Listing.{Listing}
 use Rattle.treated_id.proofs.terms.terms_of.Given as goal
 

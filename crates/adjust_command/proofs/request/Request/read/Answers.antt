@@ -1,8 +1,7 @@
 use Rattle.std.proofs.Common.{◌≡◌, ◌∙◌, Some, sym, ap, refl, subst, codes, option_map, rules}
 use Rattle.std.specs.Prelude.{is_some}
-use Rattle.command_words.specs.Form.{value_of, has_flag}
-use Rattle.command_words.specs.ListViews.{names_in}
-use Rattle.replies.specs.Told.{format_of}
+use Rattle.command_words.specs.Vocabulary.{value_of, has_flag, names_in}
+use Rattle.replies.specs.Vocabulary.{format_of}
 use Rattle.adjust_command.specs.Queries.{query_of, query_for}
 use Rattle.adjust_command.specs.Requests.{adjust_row}
 use Rattle.adjust_command.proofs.NoQueries.{no_query}

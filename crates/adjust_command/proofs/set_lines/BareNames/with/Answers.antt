@@ -1,5 +1,5 @@
 use Rattle.std.proofs.Common.{sym}
-use Rattle.mixed_graph.specs.Bits.{has}
+use Rattle.mixed_graph.specs.Vocabulary.{has}
 use Rattle.adjust_command.proofs.NameLists.{bare_more}
 use Rattle.adjust_command.proofs.set_lines.BareNames.with.Goals as goal
 

@@ -1,7 +1,5 @@
 use Rattle.std.proofs.Common.{◌↔◌, IsTrue, subst, arith}
-use Rattle.mixed_graph.specs.Bits.{has}
-use Rattle.mixed_graph.specs.Graphs.{IsAncestor, IsDescendant}
-use Rattle.mixed_graph.specs.Shown.{graph_of}
+use Rattle.mixed_graph.specs.Vocabulary.{has, IsAncestor, IsDescendant, graph_of}
 use Rattle.adjustment.proofs.Causal.{between_from, below_from, above_from}
 use Rattle.adjustment.proofs.proper_paths.proper.proper_causal.Goals as goal
 

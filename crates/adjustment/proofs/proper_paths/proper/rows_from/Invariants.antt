@@ -1,5 +1,5 @@
 use Rattle.std.proofs.Common.{◌≡◌, ◌<◌, ◌≤◌, ℕ, get_or, length, ◌&&◌, ◌^◌}
-use Rattle.mixed_graph.specs.Bits.{has}
+use Rattle.mixed_graph.specs.Vocabulary.{has}
 use Rattle.adjustment.proofs.proper_paths.proper.rows_from.Given as goal
 
 abbrev pub invariant-loop-u : goal.invariant-loop-u

@@ -1,6 +1,5 @@
 use Rattle.std.proofs.Common.{◌||◌, ◌∙◌, ap}
-use Rattle.mixed_graph.specs.Bits.{has}
-use Rattle.mixed_graph.specs.Masks.{union}
+use Rattle.mixed_graph.specs.Vocabulary.{has, union}
 use Rattle.bound_values.proofs.questions.Question.joint.Goals as goal
 
 pub returns-clause-mask : goal.returns-clause-mask

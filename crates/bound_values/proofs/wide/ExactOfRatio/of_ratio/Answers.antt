@@ -1,7 +1,7 @@
 use Rattle.std.proofs.Common.{◌≡◌, ◌∙◌, Result, Ok, arith}
 use Rattle.quantity.specs.declared.fault.QuantityFault.{QuantityFault}
+use Rattle.quantity.specs.Vocabulary.{lowest}
 use Rattle.quantity.specs.Kinds.{Pair, pair}
-use Rattle.quantity.specs.Exacts.{lowest}
 use Rattle.bound_values.proofs.Exactly.{whole_lowest, quotient_exact}
 use Rattle.bound_values.proofs.wide.ExactOfRatio.of_ratio.Goals as goal
 

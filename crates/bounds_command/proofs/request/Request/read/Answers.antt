@@ -1,8 +1,7 @@
 use Rattle.std.proofs.Common.{◌≡◌, ◌∙◌, Some, codes, option_map, ap, sym, refl, rules}
-use Rattle.command_words.specs.Form.{value_of}
-use Rattle.command_words.specs.ListViews.{names_in}
+use Rattle.command_words.specs.Vocabulary.{value_of, names_in}
 use Rattle.command_words.proofs.Inputs.{with_file}
-use Rattle.replies.specs.Told.{format_of}
+use Rattle.replies.specs.Vocabulary.{format_of}
 use Rattle.bounds_command.specs.Requests.{bounds_row}
 use Rattle.bounds_command.proofs.NoWays.{no_way}
 use Rattle.bounds_command.proofs.request.Request.read.Goals as goal

@@ -2,11 +2,10 @@ use Rattle.std.proofs.Common.{◌≡◌, ℕ, true, not, ap, subst, ◌∙◌, �
 use Rattle.std.proofs.lemmas.Bool.{not_from_true, not_from_false}
 use Rattle.std.proofs.lemmas.Option.{get_or_from_slice_get}
 use Rattle.std.specs.Prelude.{IfOk}
-use Rattle.mixed_graph.specs.Bits.{has}
+use Rattle.mixed_graph.specs.Vocabulary.{has, is_named}
 use Rattle.mixed_graph.proofs.Masks.{has-zero}
-use Rattle.mixed_graph.specs.Names.{is_named}
 use Rattle.mixed_graph.proofs.Members.{length-members-le}
-use Rattle.latent_projection.specs.Renumbering.{observed_below, names_at}
+use Rattle.latent_projection.specs.Vocabulary.{observed_below, names_at}
 use Rattle.latent_projection.proofs.KeptNames.{names_at-none, names_at-more, names_at-same, not_named, length-names_at, all_names}
 use Rattle.caller_memory.proofs.kept.drawing.names_apart_from.Goals as goal
 use Rattle.caller_memory.proofs.kept.drawing.names_apart_from.Goals.{then-not-has+in_ok-add_new, else-not-has}

@@ -1,6 +1,6 @@
 use Rattle.std.proofs.Common.{◌≡◌, ◌++◌, [], ◌∷◌, ap, sym, ◌∙◌, subst, rules, arith, length, Err}
 use Rattle.std.specs.List.{before_first, after_first}
-use Rattle.mixed_graph.specs.Names.{IsName, is_named}
+use Rattle.mixed_graph.specs.Vocabulary.{IsName, is_named}
 use Rattle.caller_memory.specs.Kept.{lines_of}
 use Rattle.caller_memory.specs.Lines.{is_feed}
 use Rattle.caller_memory.proofs.Feeds.{AreLeft, next, at_end, named_more}

@@ -1,32 +1,21 @@
 use Rattle.std.proofs.Common.{◌<◌, ℕ, Bool, List, Option, IfOk, length, option_map, sym, subst}
 use Rattle.std.proofs.lemmas.Result.{IfOk-weaker}
-use Rattle.count_rows.specs.Records.{Field}
+use Rattle.count_rows.specs.Vocabulary.{Field}
 use Rattle.diagram.specs.declared.diagram.Diagram.{Diagram}
 use Rattle.targets.specs.declared.query.Sets.{Sets}
-use Rattle.mixed_graph.specs.Graphs.{MixedGraph}
-use Rattle.mixed_graph.specs.Shown.{graph_of}
+use Rattle.mixed_graph.specs.Vocabulary.{MixedGraph, graph_of}
 use Rattle.replies.specs.declared.format.Format.{Format}
-use Rattle.replies.specs.Told.{told_of}
-use Rattle.prob_expr.specs.Listed.{masks_of}
-use Rattle.check_command.specs.CertificateFaults.{certificate_refusal}
-use Rattle.check_command.specs.Right.{IsForCertificate}
-use Rattle.check_command.specs.Telling.{check_telling}
+use Rattle.replies.specs.Vocabulary.{told_of}
+use Rattle.prob_expr.specs.Vocabulary.{masks_of}
+use Rattle.check_command.specs.Vocabulary.{certificate_refusal, IsForCertificate, check_telling}
 use Rattle.bound_values.specs.declared.questions.Question.{Question}
-use Rattle.bounds_command.specs.Right.{CountsAnswer}
+use Rattle.bounds_command.specs.Vocabulary.{CountsAnswer}
 use Rattle.told.specs.declared.form.Form.{Form}
-use Rattle.told.specs.Forms.{plain_form}
-use Rattle.told.specs.Telling.{Tells}
-use Rattle.evaluate_command.specs.Effects.{PlainEffect, effect_in}
-use Rattle.evaluate_command.specs.Telling.{evaluate_telling}
+use Rattle.told.specs.Vocabulary.{plain_form, Tells}
+use Rattle.evaluate_command.specs.Vocabulary.{PlainEffect, effect_in, evaluate_telling, values_refusal}
 use Rattle.evaluate_command.specs.Right as evaluations
-use Rattle.evaluate_command.specs.ValuesFaults.{values_refusal}
-use Rattle.equivalent_command.specs.Right.{IsForSecond}
-use Rattle.equivalent_command.specs.SecondFaults.{second_refusal}
-use Rattle.equivalent_command.specs.Telling.{equivalent_telling}
-use Rattle.implications_command.specs.CountsFaults.{counts_refusal}
-use Rattle.implications_command.specs.Pairs.{PlainPairs, pairs_in}
-use Rattle.implications_command.specs.Right.{IsForCounts}
-use Rattle.implications_command.specs.Telling.{implications_telling}
+use Rattle.equivalent_command.specs.Vocabulary.{IsForSecond, second_refusal, equivalent_telling}
+use Rattle.implications_command.specs.Vocabulary.{counts_refusal, PlainPairs, pairs_in, IsForCounts, implications_telling}
 use Rattle.causal_cli.specs.Commands.{left_of}
 use Rattle.causal_cli.specs.declared.second.SecondInput.{SecondInput}
 use Rattle.causal_cli.proofs.second.SecondInputSecondInput.long_reply.Goals as goal

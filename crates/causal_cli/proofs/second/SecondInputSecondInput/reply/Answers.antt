@@ -1,5 +1,5 @@
 use Rattle.std.proofs.Common.{IfOk, sym, subst}
-use Rattle.replies.specs.Told.{told_of}
+use Rattle.replies.specs.Vocabulary.{told_of}
 use Rattle.causal_cli.specs.Commands.{left_of}
 use Rattle.causal_cli.specs.declared.second.SecondInput.{SecondInput}
 use Rattle.causal_cli.proofs.second.SecondInputSecondInput.reply.Goals as goal

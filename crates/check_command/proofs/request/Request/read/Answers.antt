@@ -1,6 +1,6 @@
 use Rattle.std.proofs.Common.{refl, rules, ap, ◌∙◌}
 use Rattle.command_words.proofs.Inputs.{with_file}
-use Rattle.replies.specs.Told.{format_of}
+use Rattle.replies.specs.Vocabulary.{format_of}
 use Rattle.check_command.specs.Requests.{check_row}
 use Rattle.check_command.proofs.request.Request.read.Goals as goal
 

@@ -1,7 +1,7 @@
 use Rattle.std.proofs.Common.{ℕ, ◌∙◌, length, subst}
 use Rattle.std.specs.Prelude.{IfOk, IfErr}
-use Rattle.prob_expr.specs.Tree.{PlainFormula}
-use Rattle.count_rows.specs.Rows.{Table}
+use Rattle.prob_expr.specs.Vocabulary.{PlainFormula}
+use Rattle.count_rows.specs.Vocabulary.{Table}
 use Rattle.count_eval.specs.Answers.{CoversCounts, CoversWithZeros, CoversMatches, DeniesMatches}
 use Rattle.count_eval.specs.Programs.{cell_of}
 use Rattle.count_eval.proofs.tables.evaluating.value.Goals as goal

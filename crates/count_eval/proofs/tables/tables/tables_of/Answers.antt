@@ -2,9 +2,10 @@ use Rattle.std.proofs.Common.{ℕ, ◌-◌, ◌≤◌, ◌∙◌, List, [], ◌�
 use Rattle.std.specs.Prelude.{IfSome}
 use Rattle.std.proofs.lemmas.List.{length-map}
 use Rattle.std.proofs.lemmas.List.Sums.{sum_by-cons, sum_by-append}
-use Rattle.count_table.specs.Axes.{cells_over}
-use Rattle.prob_expr.specs.View.{view, formula_view}
+use Rattle.count_table.specs.Vocabulary.{cells_over}
+use Rattle.prob_expr.specs.View.{view}
 use Rattle.prob_expr.specs.declared.expr.Expr.{Expr}
+use Rattle.prob_expr.specs.Vocabulary.{formula_view}
 use Rattle.count_eval.specs.Rules.{rule}
 use Rattle.count_eval.specs.Tables.{IsTableOf, AreTables, cells_of}
 use Rattle.count_eval.specs.declared.tables.table.DefinitionTable.{DefinitionTable}

@@ -1,6 +1,6 @@
 use Rattle.std.proofs.Common.{◌≡◌, ◌≤◌, ◌+◌, ◌^◌, length}
-use Rattle.prob_expr.specs.View.{formula_view}
-use Rattle.count_table.specs.Sums.{cells_in}
+use Rattle.prob_expr.specs.Vocabulary.{formula_view}
+use Rattle.count_table.specs.Vocabulary.{cells_in}
 use Rattle.count_eval.specs.Rules.{rule}
 use Rattle.count_eval.specs.Tables.{AreKeptTables, cells_of}
 use Rattle.count_eval.proofs.tables.tables.tables_of.Given as goal

@@ -1,5 +1,5 @@
 use Rattle.std.proofs.Common.{◌≡◌, ◌≤◌}
-use Rattle.count_table.specs.Sums.{cells_in}
+use Rattle.count_table.specs.Vocabulary.{cells_in}
 use Rattle.count_eval.proofs.tables.terms.add_formula.Given as goal
 
 abbrev pub invariant-loop-def : goal.invariant-loop-def

@@ -1,6 +1,6 @@
 use Rattle.std.proofs.Common.{◌≡◌, ◌∙◌, true, false, [], ◌∷◌, ◌++◌, cond, length, length-append, ap, arith, sym, subst}
 use Rattle.std.proofs.lemmas.List.{length-map}
-use Rattle.mixed_graph.specs.Names.{texts, is_named, with_name, index_of}
+use Rattle.mixed_graph.specs.Vocabulary.{texts, is_named, with_name, index_of}
 use Rattle.mixed_graph.proofs.NameLists.{texts-insert, index_of-new}
 use Rattle.count_rows.specs.Levels.{AreLevels}
 use Rattle.count_rows.proofs.LevelLists.{AreLevels-append}

@@ -1,6 +1,6 @@
 use Rattle.std.proofs.Common.{◌≡◌, sym, ap, subst, ◌∙◌}
-use Rattle.mixed_graph.specs.Bits.{has}
-use Rattle.count_rows.specs.Rows.{Table}
+use Rattle.mixed_graph.specs.Vocabulary.{has}
+use Rattle.count_rows.specs.Vocabulary.{Table}
 use Rattle.count_table.specs.Tables.{AreCounts, HasLevels}
 use Rattle.count_table.proofs.CountsLaws.{by_index, rows_tell}
 use Rattle.count_table.proofs.counts.Counts.code_of.Goals as goal

@@ -1,5 +1,5 @@
 use Rattle.std.proofs.Common.{◌≤◌, sym, ap, subst, map, ◌∙◌}
-use Rattle.count_rows.specs.Rows.{Row, Table}
+use Rattle.count_rows.specs.Vocabulary.{Row, Table}
 use Rattle.count_table.specs.Cells.{cells_of, sizes_of}
 use Rattle.count_table.specs.Codes.{code_bits, code_of_cell}
 use Rattle.count_table.proofs.CellLists.{length-cells_of}

@@ -1,6 +1,5 @@
 use Rattle.std.proofs.Common.{ℕ, ◌≡◌, ◌<◌, All, length, get_or, map, arith}
-use Rattle.count_rows.specs.Levels.{AreLevels}
-use Rattle.count_rows.specs.Records.{cell_count}
+use Rattle.count_rows.specs.Vocabulary.{AreLevels, cell_count}
 use Rattle.count_table.specs.Cells.{cells_of, sizes_of, rows_from, count_at}
 use Rattle.count_table.specs.Codes.{code_of_cell}
 use Rattle.count_table.proofs.RowLists.{counted_alike}

@@ -1,6 +1,6 @@
 use Rattle.std.proofs.Common.{ℕ, ◌≡◌, ◌<◌, ◌+◌, ◌*◌, ◌/◌, List, length, get_or, sum, ap, sym, ◌∙◌, arith}
 use Rattle.std.specs.Global.{Vec}
-use Rattle.mixed_graph.specs.Bits.{has}
+use Rattle.mixed_graph.specs.Vocabulary.{has}
 use Rattle.count_table.specs.LaneSums.{axis_total}
 use Rattle.count_table.specs.Axes.{Axes}
 use Rattle.count_table.proofs.SummingSteps.{IsNext, IsNextStep, used-axes, next_is, next_step, summing_start, summing_keep, summing_out, summing_end}

@@ -1,4 +1,4 @@
-use Rattle.mixed_graph.specs.Bits.{has}
+use Rattle.mixed_graph.specs.Vocabulary.{has}
 use Rattle.count_table.proofs.SummingSteps.{IsSumming}
 use Rattle.count_table.proofs.sum_tables.summing.sums_over.Given as goal
 

@@ -1,5 +1,5 @@
 use Rattle.std.proofs.Common.{sym, ap, ◌∙◌}
-use Rattle.mixed_graph.specs.Bits.{has}
+use Rattle.mixed_graph.specs.Vocabulary.{has}
 use Rattle.mixed_graph.proofs.Masks.{has-zero}
 use Rattle.dag_reader.specs.RoleSets.{in_set}
 use Rattle.dag_reader.proofs.RoleClashes.{none_of_two}

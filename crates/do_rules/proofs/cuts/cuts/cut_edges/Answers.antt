@@ -1,7 +1,5 @@
 use Rattle.std.proofs.Common.{◌≡◌, not, ◌&&◌, get_or, sym, subst, ap, ◌∙◌}
-use Rattle.mixed_graph.specs.Bits.{has}
-use Rattle.mixed_graph.specs.Graphs.{IsMixedGraph, graph_from}
-use Rattle.mixed_graph.specs.Shown.{graph_of}
+use Rattle.mixed_graph.specs.Vocabulary.{has, IsMixedGraph, graph_from, graph_of}
 use Rattle.mixed_graph.proofs.Restricting.{same_graph}
 use Rattle.do_rules.specs.Cuts.{cut_edges}
 use Rattle.do_rules.proofs.Cutting.{not_either, IsMixedGraph-cut_edges}

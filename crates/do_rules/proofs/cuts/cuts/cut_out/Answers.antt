@@ -1,6 +1,5 @@
 use Rattle.std.proofs.Common.{◌∙◌}
-use Rattle.mixed_graph.specs.Bits.{has}
-use Rattle.mixed_graph.specs.Shown.{graph_of}
+use Rattle.mixed_graph.specs.Vocabulary.{has, graph_of}
 use Rattle.do_rules.proofs.Cutting.{restricted-out}
 use Rattle.do_rules.proofs.cuts.cuts.cut_out.Goals as goal
 

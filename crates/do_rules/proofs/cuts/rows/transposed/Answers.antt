@@ -1,7 +1,7 @@
 use Rattle.std.proofs.Common.{ℕ, get_or, inl, inr, sym, ap, ◌∙◌, arith}
 use Rattle.std.proofs.lemmas.Bool.{cases_lt}
 use Rattle.std.proofs.lemmas.List.{length-replicate}
-use Rattle.mixed_graph.specs.Bits.{has}
+use Rattle.mixed_graph.specs.Vocabulary.{has}
 use Rattle.mixed_graph.proofs.Masks.{has-zero, has-above}
 use Rattle.mixed_graph.proofs.PairMasks.{blank}
 use Rattle.do_rules.proofs.cuts.rows.transposed.Goals as goal

@@ -1,5 +1,5 @@
 use Rattle.std.proofs.Common.{◌≡◌, ◌<◌, ◌≤◌, ℕ, get_or, length, ◌&&◌, not}
-use Rattle.mixed_graph.specs.Bits.{has}
+use Rattle.mixed_graph.specs.Vocabulary.{has}
 use Rattle.do_rules.proofs.cuts.rows.without.Given as goal
 
 abbrev pub invariant-loop-u : goal.invariant-loop-u

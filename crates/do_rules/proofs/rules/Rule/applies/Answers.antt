@@ -1,11 +1,9 @@
 use Rattle.std.proofs.Common.{◌||◌, refl}
 use Rattle.std.proofs.lemmas.Result.{on_ok_weaker, IfErr-weaker}
-use Rattle.mixed_graph.specs.Bits.{has}
-use Rattle.mixed_graph.specs.Shown.{graph_of}
-use Rattle.m_separation.specs.Paths.{IsOpenPath}
-use Rattle.m_separation.specs.Walks.{IsSeparated}
-use Rattle.do_rules.specs.Rules.{IsBlockedFor, IsOpenFor, DifferSomewhere, left_of, right_of}
+use Rattle.mixed_graph.specs.Vocabulary.{has, graph_of}
 use Rattle.m_separation.specs.declared.paths.OpenPath.{OpenPath}
+use Rattle.m_separation.specs.Vocabulary.{IsOpenPath, IsSeparated}
+use Rattle.do_rules.specs.Rules.{IsBlockedFor, IsOpenFor, DifferSomewhere, left_of, right_of}
 use Rattle.do_rules.proofs.Failing.{open_rules_fail}
 use Rattle.do_rules.proofs.Holds.{rule_holds}
 use Rattle.do_rules.proofs.Moving.{separated_moved, open_moved}

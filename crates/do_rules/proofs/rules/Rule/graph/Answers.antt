@@ -1,6 +1,5 @@
 use Rattle.std.proofs.Common.{ap, sym, subst, ◌∙◌}
-use Rattle.mixed_graph.specs.Bits.{has}
-use Rattle.mixed_graph.specs.Shown.{graph_of}
+use Rattle.mixed_graph.specs.Vocabulary.{has, graph_of}
 use Rattle.do_rules.specs.Cuts.{cut_into}
 use Rattle.do_rules.specs.Rules.{IsRuleGraph}
 use Rattle.do_rules.proofs.Moving.{far_part}

@@ -1,6 +1,6 @@
 use Rattle.std.proofs.Common.{refl, rules, ap, ◌∙◌}
 use Rattle.command_words.proofs.Inputs.{with_file}
-use Rattle.replies.specs.Told.{format_of}
+use Rattle.replies.specs.Vocabulary.{format_of}
 use Rattle.equivalent_command.specs.Requests.{equivalent_row}
 use Rattle.equivalent_command.proofs.request.Request.read.Goals as goal
 

@@ -1,8 +1,7 @@
 use Rattle.std.proofs.Common.{◌≡◌, ◌∙◌, Some, codes, option_map, ap, subst, sym, refl, rules}
-use Rattle.command_words.specs.Form.{value_of, has_flag}
-use Rattle.command_words.specs.ListViews.{names_in}
+use Rattle.command_words.specs.Vocabulary.{value_of, has_flag, names_in}
 use Rattle.command_words.proofs.Inputs.{with_file}
-use Rattle.replies.specs.Told.{format_of}
+use Rattle.replies.specs.Vocabulary.{format_of}
 use Rattle.evaluate_command.specs.Requests.{evaluate_row}
 use Rattle.evaluate_command.specs.Ways.{way_of, way_for}
 use Rattle.evaluate_command.proofs.NoWays.{no_way}

@@ -1,8 +1,8 @@
 use Rattle.std.proofs.Common.{◌≡◌, ◌∙◌, ap, sym, subst, map, rules}
 use Rattle.std.specs.Prelude.{IfOk}
 use Rattle.do_derivation.specs.Plans.{Plan}
-use Rattle.do_derivation.specs.View.{step_view}
 use Rattle.do_derivation.specs.declared.steps.Step.{the_lemmas}
+use Rattle.do_derivation.specs.Vocabulary.{step_view}
 use Rattle.explain_call.specs.Moves.{moves_of}
 use Rattle.explain_call.proofs.explaining.moves.+moves.Goals as goal
 

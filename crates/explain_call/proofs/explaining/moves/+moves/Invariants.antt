@@ -1,5 +1,5 @@
 use Rattle.std.proofs.Common.{◌≡◌, ◌++◌, map, drop}
-use Rattle.do_derivation.specs.View.{step_view, steps_view}
+use Rattle.do_derivation.specs.Vocabulary.{step_view, steps_view}
 use Rattle.explain_call.specs.Moves.{moves_of_each}
 use Rattle.explain_call.proofs.explaining.moves.+moves.Given as goal
 

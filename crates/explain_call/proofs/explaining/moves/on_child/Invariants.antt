@@ -1,6 +1,6 @@
 use Rattle.std.proofs.Common.{◌≡◌, map}
 use Rattle.do_derivation.specs.Plans.{Plan}
-use Rattle.do_derivation.specs.View.{step_view}
+use Rattle.do_derivation.specs.Vocabulary.{step_view}
 use Rattle.explain_call.proofs.explaining.moves.on_child.Given as goal
 
 abbrev pub invariant-loop-step : goal.invariant-loop-step

@@ -1,11 +1,10 @@
 use Rattle.std.proofs.Common.{◌≡◌, ◌++◌, ◌∷◌, [], ◌∙◌, ◌<◌, true, Some, length, map, drop, sym, ap, subst, rules}
 use Rattle.std.proofs.Math.ListN.{drop_of_length-le}
 use Rattle.std.proofs.lemmas.List.{map-append}
-use Rattle.mixed_graph.specs.Shown.{graph_of}
-use Rattle.prob_expr.specs.Listed.{masks_of}
-use Rattle.expr_text.specs.Sound.{is_sound}
-use Rattle.do_derivation.specs.Accepts.{start_of}
-use Rattle.do_derivation.specs.View.{step_view, lemma_view}
+use Rattle.mixed_graph.specs.Vocabulary.{graph_of}
+use Rattle.prob_expr.specs.Vocabulary.{masks_of}
+use Rattle.expr_text.specs.Vocabulary.{is_sound}
+use Rattle.do_derivation.specs.Vocabulary.{start_of, step_view, lemma_view}
 use Rattle.do_derivation.proofs.Defining.{start_is_term}
 use Rattle.explain_call.specs.Parts.{IsPart}
 use Rattle.explain_call.proofs.LemmaTurns.{left_more, left_parts}

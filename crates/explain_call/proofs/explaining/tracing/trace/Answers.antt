@@ -1,9 +1,9 @@
 use Rattle.std.proofs.Common.{◌≡◌, ◌++◌, true, map, drop, sym, ap, subst, arith}
-use Rattle.mixed_graph.specs.Shown.{graph_of}
-use Rattle.prob_expr.specs.Listed.{masks_of}
+use Rattle.mixed_graph.specs.Vocabulary.{graph_of}
+use Rattle.prob_expr.specs.Vocabulary.{masks_of}
 use Rattle.prob_expr.specs.View.{view}
-use Rattle.expr_text.specs.Sound.{is_sound}
-use Rattle.do_derivation.specs.View.{step_view}
+use Rattle.expr_text.specs.Vocabulary.{is_sound}
+use Rattle.do_derivation.specs.Vocabulary.{step_view}
 use Rattle.std.proofs.Math.ListN.{drop_of_length-le}
 use Rattle.explain_call.proofs.Soundness.{sound_terms, step_keeps_sound}
 use Rattle.std.specs.Prelude.{IfSome}

@@ -1,8 +1,8 @@
 use Rattle.std.proofs.Common.{map, drop}
-use Rattle.mixed_graph.specs.Shown.{graph_of}
-use Rattle.prob_expr.specs.Listed.{masks_of}
+use Rattle.mixed_graph.specs.Vocabulary.{graph_of}
+use Rattle.prob_expr.specs.Vocabulary.{masks_of}
 use Rattle.prob_expr.specs.View.{view}
-use Rattle.do_derivation.specs.View.{step_view}
+use Rattle.do_derivation.specs.Vocabulary.{step_view}
 use Rattle.explain_call.proofs.Turns.{IsLeft}
 use Rattle.explain_call.proofs.explaining.tracing.trace.Given as goal
 

@@ -1,8 +1,7 @@
 use Rattle.std.proofs.Common.{◌≡◌, ℕ, ◌^◌, true, sym, ◌∙◌, subst, inl, inr, arith}
 use Rattle.std.proofs.lemmas.Bool.{cases_lt, eqb-true}
-use Rattle.mixed_graph.specs.Bits.{has}
-use Rattle.mixed_graph.specs.Reached.{Reached, has_in_row}
-use Rattle.mixed_graph.specs.Shown.{graph_of}
+use Rattle.mixed_graph.specs.Vocabulary.{has, has_in_row, graph_of}
+use Rattle.mixed_graph.specs.Reached.{Reached}
 use Rattle.mixed_graph.proofs.Masks.{has-above, has-pow}
 use Rattle.hedge.specs.Linked.{IsDistrict}
 use Rattle.hedge.proofs.Parts.{linked_from_reached, reached_from_linked, district_maximal}

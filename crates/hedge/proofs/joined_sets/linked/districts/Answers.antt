@@ -2,8 +2,8 @@ use Rattle.std.proofs.Common.{◌≡◌, ℕ, ◌<◌, ◌≤◌, ◌+◌, ◌�
 use Rattle.std.proofs.Common.{sym, ap, ◌∙◌, subst, arith, rules}
 use Rattle.std.proofs.lemmas.Bool.{cases_lt, and_parts}
 use Rattle.std.proofs.lemmas.List.{length-replicate, length-map, map-set, get_or-map, get_or-replicate, get_or_past}
-use Rattle.mixed_graph.specs.Shown.{graph_of}
 use Rattle.mixed_graph.specs.declared.sets.VSet.{VSet}
+use Rattle.mixed_graph.specs.Vocabulary.{graph_of}
 use Rattle.mixed_graph.proofs.Masks.{zero_from_empty}
 use Rattle.hedge.specs.Linked.{AreDistrictsOf}
 use Rattle.hedge.specs.Listed.{first_masks}

@@ -1,5 +1,5 @@
 use Rattle.std.proofs.Common.{◌^◌, ◌<◌, map, length, ◌≡◌}
-use Rattle.mixed_graph.specs.Shown.{graph_of}
+use Rattle.mixed_graph.specs.Vocabulary.{graph_of}
 use Rattle.hedge.proofs.Collecting.{Collected}
 use Rattle.hedge.proofs.joined_sets.linked.districts.Given as goal
 

@@ -1,5 +1,5 @@
 use Rattle.std.proofs.Common.{◌≡◌, ℕ, ◌<◌, false, get_or}
-use Rattle.mixed_graph.specs.Shown.{graph_of}
+use Rattle.mixed_graph.specs.Vocabulary.{graph_of}
 use Rattle.hedge.proofs.joined_sets.spanning.earliest.Given as goal
 
 abbrev pub invariant-loop-i : goal.invariant-loop-i

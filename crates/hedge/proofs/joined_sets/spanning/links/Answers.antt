@@ -1,12 +1,10 @@
 use Rattle.std.proofs.Common.{◌≡◌, ℕ, ◌<◌, ◌≤◌, ◌||◌, true, false, set, get_or, replicate, length-set, inl, inr, sym, ap, ◌∙◌, subst, arith, rules}
 use Rattle.std.proofs.lemmas.Bool.{cases_Bool, cases_lt, and_parts}
 use Rattle.std.proofs.lemmas.List.{length-replicate, get_or-set_same, get_or-set_other}
-use Rattle.mixed_graph.specs.Bits.{has}
-use Rattle.mixed_graph.specs.Shown.{graph_of}
+use Rattle.mixed_graph.specs.Vocabulary.{has, graph_of, taken_by}
 use Rattle.mixed_graph.proofs.Masks.{has-above, has-zero, some_member}
 use Rattle.mixed_graph.proofs.PairMasks.{blank}
 use Rattle.mixed_graph.proofs.Members.{length-members-le}
-use Rattle.mixed_graph.specs.Orders.{taken_by}
 use Rattle.hedge.specs.Spanning.{IsNextLink}
 use Rattle.hedge.proofs.Trees.{growing_none, growing_more, growing_room, growing_smaller, wanted_some, next_link, link_new, links_from}
 use Rattle.hedge.proofs.Trees.{place_of_taken, taken_own, not_true}

@@ -1,5 +1,5 @@
 use Rattle.std.proofs.Common.{◌-◌, ◌^◌, ◌<◌}
-use Rattle.mixed_graph.specs.Shown.{graph_of}
+use Rattle.mixed_graph.specs.Vocabulary.{graph_of}
 use Rattle.hedge.proofs.Trees.{Growing}
 use Rattle.hedge.proofs.joined_sets.spanning.links.Given as goal
 

@@ -1,6 +1,6 @@
 use Rattle.std.proofs.Common.{sym, ap, ◌∙◌}
-use Rattle.do_derivation.specs.Plans.{no_plans}
-use Rattle.identification_theory.specs.Derivations.{at_each}
+use Rattle.do_derivation.specs.Vocabulary.{no_plans}
+use Rattle.identification_theory.specs.Vocabulary.{at_each}
 use Rattle.identify.specs.Lists.{onto, lists_view}
 use Rattle.identify.proofs.Steps.{onto_nothing}
 use Rattle.identify.proofs.factors.body.at_each.Goals as goal

@@ -1,5 +1,5 @@
 use Rattle.std.proofs.Common.{sym, ◌∙◌}
-use Rattle.mixed_graph.specs.Shown.{graph_of}
+use Rattle.mixed_graph.specs.Vocabulary.{graph_of}
 use Rattle.identify.specs.Parts.{source_of}
 use Rattle.identify.proofs.Placing.{count_lists_of, one_list_each}
 use Rattle.identify.proofs.factors.body.body_of.Goals as goal

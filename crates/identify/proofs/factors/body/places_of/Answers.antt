@@ -2,9 +2,7 @@ use Rattle.std.proofs.Common.{◌≡◌, true, false, get_or, sym, ap, ◌∙◌
 use Rattle.std.specs.Global.{Vec}
 use Rattle.prob_expr.specs.declared.expr.Expr.{Expr}
 use Rattle.do_derivation.specs.declared.steps.Step.{Step}
-use Rattle.mixed_graph.specs.Bits.{has}
-use Rattle.mixed_graph.specs.Shown.{graph_of}
-use Rattle.mixed_graph.specs.Masks.{union, one}
+use Rattle.mixed_graph.specs.Vocabulary.{has, graph_of, union, one}
 use Rattle.identify.specs.Parts.{source_of}
 use Rattle.identify.proofs.Placing.{placing_skip, placing_take, placing_factors, placing_lists}
 use Rattle.identify.proofs.factors.body.places_of.Goals as goal

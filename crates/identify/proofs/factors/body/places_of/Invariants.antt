@@ -1,4 +1,4 @@
-use Rattle.mixed_graph.specs.Shown.{graph_of}
+use Rattle.mixed_graph.specs.Vocabulary.{graph_of}
 use Rattle.identify.specs.Parts.{source_of}
 use Rattle.identify.proofs.Placing.{Placing}
 use Rattle.identify.proofs.factors.body.places_of.Given as goal

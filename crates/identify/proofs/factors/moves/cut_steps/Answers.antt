@@ -1,12 +1,12 @@
 use Rattle.std.proofs.Common.{sym, ap, ap₂, ◌∙◌}
-use Rattle.do_derivation.specs.Plans.{no_plans, plan}
-use Rattle.do_derivation.specs.View.{steps_view}
+use Rattle.do_derivation.specs.Plans.{plan}
+use Rattle.do_derivation.specs.declared.moves.Move.TheVariants.{WithSet}
+use Rattle.do_derivation.specs.Vocabulary.{no_plans, steps_view}
 use Rattle.identify.specs.Lists.{onto}
 use Rattle.do_derivation.proofs.StepViews.{step-Make}
-use Rattle.do_derivation.specs.declared.moves.Move.TheVariants.{WithSet}
 use Rattle.do_derivation.specs.declared.moves.SetMove.TheVariants as set_move
 use Rattle.identify.proofs.Steps.{onto_nothing}
-use Rattle.identification_theory.specs.Derivations.{at_place}
+use Rattle.identification_theory.specs.Vocabulary.{at_place}
 use Rattle.identify.proofs.factors.moves.cut_steps.Goals as goal
 
 pub returns : goal.returns

@@ -1,5 +1,5 @@
 use Rattle.std.proofs.Common.{◌≡◌, ◌≤◌, ℕ, ◌++◌, length, take, drop, get_or}
-use Rattle.identification_theory.specs.Derivations.{in_order}
+use Rattle.identification_theory.specs.Vocabulary.{in_order}
 use Rattle.identify.proofs.factors.moves.members_in.Given as goal
 
 abbrev pub invariant-loop-v : goal.invariant-loop-v

@@ -1,8 +1,7 @@
 use Rattle.std.proofs.Common.{◌≡◌, ◌<◌, ℕ, IsTrue, inl, inr, sym, ap, ◌∙◌, subst}
 use Rattle.std.proofs.lemmas.Bool.{and_parts, or_cases, or_right}
-use Rattle.mixed_graph.specs.Bits.{has}
+use Rattle.mixed_graph.specs.Vocabulary.{has, union, one, common}
 use Rattle.identification_theory.proofs.Sets.{one-self, one-is}
-use Rattle.mixed_graph.specs.Masks.{union, one, common}
 use Rattle.mixed_graph.proofs.MaskLaws.{has_join, has_meet}
 use Rattle.identify.proofs.factors.place.place_of.Goals as goal
 

@@ -1,6 +1,6 @@
 use Rattle.std.proofs.Common.{ap, length, ◌∙◌, arith}
 use Rattle.std.proofs.lemmas.Grind.{common_steps}
-use Rattle.do_derivation.specs.View.{step_view}
+use Rattle.do_derivation.specs.Vocabulary.{step_view}
 use Rattle.identify.specs.Lists.{onto}
 use Rattle.identify.proofs.Steps.{onto_more, placed}
 use Rattle.identify.proofs.factors.pushing.push_at.Goals as goal

@@ -1,6 +1,6 @@
 use Rattle.std.proofs.Common.{[], ◌∷◌, length-append, sym, ap, ◌∙◌, arith}
-use Rattle.do_derivation.specs.View.{steps_view}
-use Rattle.identification_theory.specs.Derivations.{at_place, at_each}
+use Rattle.do_derivation.specs.Vocabulary.{steps_view}
+use Rattle.identification_theory.specs.Vocabulary.{at_place, at_each}
 use Rattle.identify.specs.Lists.{onto, lists_view}
 use Rattle.identify.proofs.Steps.{at_each_more}
 use Rattle.identify.proofs.factors.pushing.push_each.Goals as goal

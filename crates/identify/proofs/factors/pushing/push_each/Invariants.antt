@@ -1,6 +1,6 @@
 use Rattle.std.proofs.Common.{◌≡◌, ◌≤◌, ◌+◌, length}
 use Rattle.do_derivation.specs.Plans.{Plans}
-use Rattle.identification_theory.specs.Derivations.{at_each}
+use Rattle.identification_theory.specs.Vocabulary.{at_each}
 use Rattle.identify.specs.Lists.{onto, lists_view}
 use Rattle.identify.proofs.factors.pushing.push_each.Given as goal
 

@@ -1,9 +1,8 @@
 use Rattle.std.proofs.Common.{◌<◌, ◌+◌, ◌^◌, length, sym, ap, ◌∙◌, subst, arith, rules}
-use Rattle.mixed_graph.specs.Bits.{has}
-use Rattle.mixed_graph.specs.Shown.{graph_of}
+use Rattle.mixed_graph.specs.Vocabulary.{has, graph_of}
 use Rattle.mixed_graph.proofs.Members.{length-members-le}
-use Rattle.do_derivation.specs.View.{listed}
-use Rattle.identification_theory.specs.Procedure.{AreAncestorsIn, Source}
+use Rattle.do_derivation.specs.Vocabulary.{listed}
+use Rattle.identification_theory.specs.Vocabulary.{AreAncestorsIn, Source}
 use Rattle.identify.specs.Parts.{source_of}
 use Rattle.identify.specs.Rounds.{IsRound}
 use Rattle.identify.proofs.FactorOrders.{entry_below}

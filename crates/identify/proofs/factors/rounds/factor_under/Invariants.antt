@@ -1,9 +1,7 @@
 use Rattle.std.proofs.Common.{◌≡◌, ◌≤◌, ◌+◌, length}
-use Rattle.mixed_graph.specs.Bits.{has}
-use Rattle.mixed_graph.specs.Sets.{Within}
-use Rattle.mixed_graph.specs.Shown.{graph_of}
-use Rattle.hedge.specs.Linked.{IsInside}
-use Rattle.do_derivation.specs.View.{listed}
+use Rattle.mixed_graph.specs.Vocabulary.{has, Within, graph_of}
+use Rattle.hedge.specs.Vocabulary.{IsInside}
+use Rattle.do_derivation.specs.Vocabulary.{listed}
 use Rattle.identify.specs.Parts.{source_of}
 use Rattle.identify.proofs.Reaching.{Reaching}
 use Rattle.identify.proofs.Shrinking.{size}

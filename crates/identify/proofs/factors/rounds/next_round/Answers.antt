@@ -1,8 +1,8 @@
 use Rattle.std.proofs.Common.{subst}
 use Rattle.mixed_graph.proofs.Masks.{positive_from_has}
-use Rattle.mixed_graph.specs.Shown.{graph_of}
-use Rattle.hedge.specs.Linked.{IsDistrict}
-use Rattle.identification_theory.specs.Procedure.{IsStopped, AreAncestorsIn}
+use Rattle.mixed_graph.specs.Vocabulary.{graph_of}
+use Rattle.hedge.specs.Vocabulary.{IsDistrict}
+use Rattle.identification_theory.specs.Vocabulary.{IsStopped, AreAncestorsIn}
 use Rattle.identify.specs.Parts.{source_of}
 use Rattle.identify.specs.Rounds.{IsSummed}
 use Rattle.identify.proofs.Shrinking.{district_of_set}

@@ -1,4 +1,4 @@
-use Rattle.mixed_graph.specs.Shown.{graph_of}
+use Rattle.mixed_graph.specs.Vocabulary.{graph_of}
 use Rattle.identify.proofs.Pillows.{pillow_is}
 use Rattle.identify.proofs.factors.sets.pillow.Goals as goal
 

@@ -1,6 +1,6 @@
 use Rattle.std.proofs.Common.{sym, refl, ap, ◌∙◌, subst, codes, rules}
-use Rattle.command_words.specs.Form.{has_flag}
-use Rattle.replies.specs.Told.{format_of}
+use Rattle.command_words.specs.Vocabulary.{has_flag}
+use Rattle.replies.specs.Vocabulary.{format_of}
 use Rattle.identify_command.specs.Forms.{IsWriting}
 use Rattle.identify_command.specs.Requests.{identify_row}
 use Rattle.identify_command.proofs.request.Request.read.Goals as goal

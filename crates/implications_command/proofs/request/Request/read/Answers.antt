@@ -1,7 +1,7 @@
 use Rattle.std.proofs.Common.{◌≡◌, ◌∙◌, Option, Some, sym, ap, refl, subst, rules}
 use Rattle.std.proofs.lemmas.Option.{same_Some}
-use Rattle.command_words.specs.Form.{Text}
-use Rattle.replies.specs.Told.{format_of}
+use Rattle.command_words.specs.Vocabulary.{Text}
+use Rattle.replies.specs.Vocabulary.{format_of}
 use Rattle.implications_command.specs.Requests.{implications_row, AreInputs}
 use Rattle.implications_command.proofs.request.Request.read.Goals as goal
 

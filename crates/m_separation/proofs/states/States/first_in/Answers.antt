@@ -1,5 +1,5 @@
 use Rattle.std.proofs.Common.{◌≡◌, ℕ, Bool, true, false, IsTrue}
-use Rattle.mixed_graph.specs.Bits.{has}
+use Rattle.mixed_graph.specs.Vocabulary.{has}
 use Rattle.mixed_graph.proofs.Masks.{apart_from_meet}
 use Rattle.m_separation.specs.States.{mask_of}
 use Rattle.m_separation.proofs.states.States.first_in.Goals as goal

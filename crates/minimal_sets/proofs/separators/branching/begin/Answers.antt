@@ -1,5 +1,5 @@
 use Rattle.std.proofs.Common.{refl, sym, ◌∙◌, ap, [], ◌∷◌, ◌++◌, subst}
-use Rattle.mixed_graph.specs.Bits.{has}
+use Rattle.mixed_graph.specs.Vocabulary.{has}
 use Rattle.minimal_sets.specs.Separators.{start}
 use Rattle.minimal_sets.specs.Rows.{is_near}
 use Rattle.minimal_sets.specs.Progress.{IsSoFar}

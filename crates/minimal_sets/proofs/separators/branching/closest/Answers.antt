@@ -1,5 +1,5 @@
 use Rattle.std.proofs.Common.{◌≡◌, arith, true}
-use Rattle.mixed_graph.specs.Bits.{has}
+use Rattle.mixed_graph.specs.Vocabulary.{has}
 use Rattle.mixed_graph.proofs.Masks.{apart_from_meet, some_in_meet}
 use Rattle.minimal_sets.specs.Rows.{is_near}
 use Rattle.minimal_sets.proofs.ClosestLaws.{none_near, closest_is}

@@ -1,5 +1,5 @@
 use Rattle.std.proofs.Common.{◌≡◌, sym, ◌∙◌, arith, ap, ◌||◌, ◌+◌, [], ◌∷◌, ◌++◌}
-use Rattle.mixed_graph.specs.Bits.{has}
+use Rattle.mixed_graph.specs.Vocabulary.{has}
 use Rattle.minimal_sets.specs.Rows.{is_near}
 use Rattle.minimal_sets.proofs.Spreads.{spreading_skip, spreading_still, spreading_forked, spread_whole, moved}
 use Rattle.minimal_sets.proofs.separators.branching.spread.Goals as goal

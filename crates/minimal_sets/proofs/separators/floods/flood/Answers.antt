@@ -1,5 +1,5 @@
 use Rattle.std.proofs.Common.{◌≡◌, ℕ, ◌∙◌, arith, ap, get_or, nat_lt, ◌&&◌, not}
-use Rattle.mixed_graph.specs.Bits.{has}
+use Rattle.mixed_graph.specs.Vocabulary.{has}
 use Rattle.minimal_sets.specs.Rows.{is_near}
 use Rattle.minimal_sets.proofs.Flooding.{reached_outside, reached_inside}
 use Rattle.mixed_graph.proofs.Masks.{below_64}

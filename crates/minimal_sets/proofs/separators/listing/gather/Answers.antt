@@ -1,6 +1,6 @@
 use Rattle.std.proofs.Common.{◌≡◌, not, length, ap, ◌∙◌, subst, arith}
 use Rattle.std.specs.Vec.{vec_len}
-use Rattle.mixed_graph.specs.Bits.{has}
+use Rattle.mixed_graph.specs.Vocabulary.{has}
 use Rattle.minimal_sets.specs.Progress.{IsSoFar}
 use Rattle.minimal_sets.specs.Rows.{is_near}
 use Rattle.minimal_sets.proofs.Endings.{ended, either_end, empty_items, not_empty, is_zero}

@@ -1,6 +1,6 @@
 use Rattle.std.proofs.Common.{◌+◌, ◌*◌, ◌≤◌, sym, subst}
 use Rattle.std.proofs.lemmas.List.Sorted.{length_permutation}
-use Rattle.mixed_graph.specs.Bits.{has}
+use Rattle.mixed_graph.specs.Vocabulary.{has}
 use Rattle.minimal_sets.specs.Rows.{is_near}
 use Rattle.minimal_sets.specs.Separators.{IsMinimalSeparator}
 use Rattle.minimal_sets.proofs.Endings.{sorted_listing}

@@ -1,5 +1,5 @@
 use Rattle.std.proofs.Common.{sym, subst}
-use Rattle.mixed_graph.specs.Bits.{has}
+use Rattle.mixed_graph.specs.Vocabulary.{has}
 use Rattle.minimal_sets.specs.Progress.{IsSoFar}
 use Rattle.minimal_sets.specs.Rows.{is_near}
 use Rattle.minimal_sets.proofs.separators.listing.turn.Goals as goal

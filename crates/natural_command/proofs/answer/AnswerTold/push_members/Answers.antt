@@ -1,6 +1,6 @@
 use Rattle.std.proofs.Common.{◌≡◌, sym, subst}
 use Rattle.std.specs.Prelude.{OnOk}
-use Rattle.answer_json.specs.Progress.{with_members}
+use Rattle.answer_json.specs.Vocabulary.{with_members}
 use Rattle.natural_command.specs.declared.answer.Answer.{Answer}
 use Rattle.natural_command.specs.Telling.{natural_members}
 use Rattle.natural_command.proofs.answer.AnswerTold.push_members.Goals as goal

@@ -1,6 +1,6 @@
 use Rattle.std.proofs.Common.{sym, refl, ap, ◌∙◌, subst, codes, rules}
-use Rattle.command_words.specs.Form.{has_flag}
-use Rattle.replies.specs.Told.{format_of}
+use Rattle.command_words.specs.Vocabulary.{has_flag}
+use Rattle.replies.specs.Vocabulary.{format_of}
 use Rattle.natural_command.specs.Requests.{natural_row, IsWriting}
 use Rattle.natural_command.proofs.request.Request.read.Goals as goal
 

@@ -1,9 +1,6 @@
 use Rattle.std.proofs.Common.{◌≡◌, ℕ, Bool, ◌&&◌, ap, sym, subst}
 use Rattle.std.specs.Prelude.{nat_lt}
-use Rattle.mixed_graph.specs.Bits.{has}
-use Rattle.mixed_graph.specs.Graphs.{MixedGraph}
-use Rattle.mixed_graph.specs.Sets.{Within}
-use Rattle.mixed_graph.specs.Shown.{graph_of}
+use Rattle.mixed_graph.specs.Vocabulary.{has, MixedGraph, Within, graph_of}
 use Rattle.separation_commands.proofs.EdgeRows.{no_rows, one_row_more, cut_off, cut_within, behind_in}
 use Rattle.separation_commands.proofs.graph.edges.push_bidirected.Goals as goal
 use Rattle.separation_commands.proofs.graph.edges.push_bidirected.Goals.{After-intersection}

@@ -1,5 +1,5 @@
 use Rattle.std.proofs.Common.{◌≡◌, ◌&&◌, nat_lt}
-use Rattle.mixed_graph.specs.Shown.{graph_of}
+use Rattle.mixed_graph.specs.Vocabulary.{graph_of}
 use Rattle.separation_commands.proofs.EdgeRows.{with_rows}
 use Rattle.separation_commands.proofs.graph.edges.push_bidirected.Given as goal
 

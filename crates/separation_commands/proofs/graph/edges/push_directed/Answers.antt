@@ -1,8 +1,6 @@
 use Rattle.std.proofs.Common.{◌≡◌, ℕ, ◌&&◌, ap, sym, subst}
 use Rattle.std.specs.Prelude.{nat_lt}
-use Rattle.mixed_graph.specs.Bits.{has}
-use Rattle.mixed_graph.specs.Sets.{Within}
-use Rattle.mixed_graph.specs.Shown.{graph_of}
+use Rattle.mixed_graph.specs.Vocabulary.{has, Within, graph_of}
 use Rattle.separation_commands.proofs.EdgeRows.{no_rows, one_row_more, cut_off, cut_within}
 use Rattle.separation_commands.proofs.graph.edges.push_directed.Goals as goal
 use Rattle.separation_commands.proofs.graph.edges.push_directed.Goals.{After-intersection}

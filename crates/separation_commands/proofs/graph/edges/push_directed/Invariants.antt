@@ -1,5 +1,5 @@
 use Rattle.std.proofs.Common.{◌≡◌}
-use Rattle.mixed_graph.specs.Shown.{graph_of}
+use Rattle.mixed_graph.specs.Vocabulary.{graph_of}
 use Rattle.separation_commands.proofs.EdgeRows.{with_rows}
 use Rattle.separation_commands.proofs.graph.edges.push_directed.Given as goal
 

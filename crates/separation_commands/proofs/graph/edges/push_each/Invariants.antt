@@ -1,6 +1,5 @@
 use Rattle.std.proofs.Common.{◌≡◌, map, drop}
-use Rattle.answer_json.specs.Progress.{with_values}
-use Rattle.answer_json.specs.Values.{pair_json}
+use Rattle.answer_json.specs.Vocabulary.{with_values, pair_json}
 use Rattle.separation_commands.proofs.graph.edges.push_each.Given as goal
 
 -- the pairs that are still to come complete them all

@@ -1,5 +1,5 @@
 use Rattle.std.proofs.Common.{true, ◌∙◌, [], ◌∷◌, ap, sym}
-use Rattle.answer_json.specs.Progress.{with_values}
+use Rattle.answer_json.specs.Vocabulary.{with_values}
 use Rattle.answer_json.proofs.Arrays.{member_written, none_written}
 use Rattle.separation_commands.specs.GraphObjects.{named_vertex_json}
 use Rattle.separation_commands.proofs.graph.objects.push_vertices.Goals as goal

@@ -1,6 +1,6 @@
 use Rattle.std.proofs.Common.{◌≡◌, map}
-use Rattle.dag_reader.specs.Rows.{count_up}
-use Rattle.answer_json.specs.Progress.{with_values}
+use Rattle.dag_reader.specs.Vocabulary.{count_up}
+use Rattle.answer_json.specs.Vocabulary.{with_values}
 use Rattle.separation_commands.specs.GraphObjects.{named_vertex_json}
 use Rattle.separation_commands.proofs.graph.objects.push_vertices.Given as goal
 

@@ -1,10 +1,9 @@
 use Rattle.std.proofs.Common.{◌≡◌, Bool, Result, Ok, Err, IfOk, subst}
 use Rattle.diagram.specs.declared.diagram.Diagram.{Diagram}
 use Rattle.replies.specs.declared.outcome.Reply.{Reply}
-use Rattle.replies.specs.Told.{told_of}
+use Rattle.replies.specs.Vocabulary.{told_of}
 use Rattle.told.specs.declared.form.Form.{Form}
-use Rattle.told.specs.Refusals.{target_refusal}
-use Rattle.told.specs.Telling.{Tells, told_in}
+use Rattle.told.specs.Vocabulary.{target_refusal, Tells, told_in}
 use Rattle.separation_commands.specs.GraphRight.{IsGraphAnswer, shown_of}
 use Rattle.separation_commands.specs.GraphTelling.{graph_telling}
 use Rattle.separation_commands.specs.declared.graph.answer.Answer.{Answer}

@@ -1,6 +1,6 @@
 use Rattle.std.proofs.Common.{ap}
-use Rattle.mixed_graph.specs.Bits.{has}
-use Rattle.do_rules.specs.Rules.{left_of, right_of}
+use Rattle.mixed_graph.specs.Vocabulary.{has}
+use Rattle.do_rules.specs.Vocabulary.{left_of, right_of}
 use Rattle.separation_commands.specs.RuleLines.{side_text, side_of}
 use Rattle.separation_commands.proofs.Equations.{equation_in}
 use Rattle.separation_commands.proofs.rule.parts.push_equation.Goals as goal

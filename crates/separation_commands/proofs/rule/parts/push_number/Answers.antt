@@ -1,6 +1,6 @@
 use Rattle.std.proofs.Common.{◌≡◌, ◌∙◌, OnOk, codes, decimal, subst}
 use Rattle.json.specs.Json.{number}
-use Rattle.answer_json.specs.Progress.{with_member}
+use Rattle.answer_json.specs.Vocabulary.{with_member}
 use Rattle.separation_commands.proofs.rule.parts.push_number.Goals as goal
 
 pub returns : goal.returns

@@ -1,6 +1,5 @@
 use Rattle.std.proofs.Common.{◌≡◌, ◌++◌, ◌∙◌, OnOk, ap, subst}
-use Rattle.answer_json.specs.Progress.{with_member}
-use Rattle.answer_json.specs.Values.{text_json}
+use Rattle.answer_json.specs.Vocabulary.{with_member, text_json}
 use Rattle.separation_commands.specs.RuleLines.{side_text, side_of}
 use Rattle.separation_commands.proofs.rule.parts.push_side_at.Goals as goal
 

@@ -1,8 +1,8 @@
 use Rattle.std.proofs.Common.{◌≡◌, refl, sym, subst}
-use Rattle.mixed_graph.specs.Bits.{has}
-use Rattle.do_rules.specs.Rules.{Side, left_of}
+use Rattle.mixed_graph.specs.Vocabulary.{has}
 use Rattle.do_rules.specs.declared.rules.Rule.{Rule}
 use Rattle.do_rules.specs.declared.rules.Rule.TheVariants.{One, Two, Three}
+use Rattle.do_rules.specs.Vocabulary.{Side, left_of}
 use Rattle.separation_commands.proofs.Equations.{same_side}
 use Rattle.separation_commands.proofs.rule.sides.left_of.Goals as goal
 

@@ -1,6 +1,6 @@
 use Rattle.std.proofs.Common.{sym, refl, ap, ◌∙◌, subst, codes, rules}
-use Rattle.command_words.specs.Form.{has_flag}
-use Rattle.replies.specs.Told.{format_of}
+use Rattle.command_words.specs.Vocabulary.{has_flag}
+use Rattle.replies.specs.Vocabulary.{format_of}
 use Rattle.surrogate_command.specs.Forms.{IsWriting}
 use Rattle.surrogate_command.specs.Requests.{surrogate_row}
 use Rattle.surrogate_command.proofs.request.Request.read.Goals as goal

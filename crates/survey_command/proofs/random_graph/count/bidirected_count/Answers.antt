@@ -1,6 +1,5 @@
 use Rattle.std.proofs.Common.{◌≡◌, ◌+◌, ◌&&◌, not, ℕ, nat_lt, ap, ◌∙◌, arith, get_or}
-use Rattle.mixed_graph.specs.Bits.{has}
-use Rattle.mixed_graph.specs.Shown.{graph_of}
+use Rattle.mixed_graph.specs.Vocabulary.{has, graph_of}
 use Rattle.survey_command.specs.Counts.{pairs_from}
 use Rattle.survey_command.proofs.Counting.{pairs_from_more, count_le, count_later, spouses_counted}
 use Rattle.survey_command.proofs.random_graph.count.bidirected_count.Goals as goal

@@ -1,5 +1,5 @@
 use Rattle.std.proofs.Common.{◌*◌, ◌≡◌, ◌≤◌, ◌&&◌, nat_lt, get_or}
-use Rattle.mixed_graph.specs.Bits.{has}
+use Rattle.mixed_graph.specs.Vocabulary.{has}
 use Rattle.survey_command.specs.Counts.{pairs_from}
 use Rattle.survey_command.proofs.random_graph.count.bidirected_count.Given as goal
 

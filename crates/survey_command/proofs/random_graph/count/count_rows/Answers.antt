@@ -1,5 +1,5 @@
 use Rattle.std.proofs.Common.{◌≡◌, length, arith, get_or, subst}
-use Rattle.mixed_graph.specs.Bits.{has, members_below}
+use Rattle.mixed_graph.specs.Vocabulary.{has, members_below}
 use Rattle.survey_command.proofs.Counting.{pairs_from_more, count_le}
 use Rattle.survey_command.proofs.random_graph.count.count_rows.Goals as goal
 use Rattle.survey_command.proofs.random_graph.count.count_rows.Goals.{After-count-total}

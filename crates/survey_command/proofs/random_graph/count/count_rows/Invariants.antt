@@ -1,5 +1,5 @@
 use Rattle.std.proofs.Common.{◌*◌, ◌≡◌, ◌≤◌, get_or}
-use Rattle.mixed_graph.specs.Bits.{has}
+use Rattle.mixed_graph.specs.Vocabulary.{has}
 use Rattle.survey_command.specs.Counts.{pairs_from}
 use Rattle.survey_command.proofs.random_graph.count.count_rows.Given as goal
 

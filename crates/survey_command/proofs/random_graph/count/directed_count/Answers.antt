@@ -1,5 +1,5 @@
 use Rattle.std.proofs.Common.{◌∙◌}
-use Rattle.mixed_graph.specs.Shown.{graph_of}
+use Rattle.mixed_graph.specs.Vocabulary.{graph_of}
 use Rattle.survey_command.proofs.Counting.{arrows_counted}
 use Rattle.survey_command.proofs.random_graph.count.directed_count.Goals as goal
 

@@ -1,6 +1,6 @@
 use Rattle.std.proofs.Common.{◌≡◌, ◌-◌, ◌||◌, ◌&&◌, ◌==◌, nat_lt, ap, ◌∙◌, sym, subst, arith}
 use Rattle.std.proofs.lemmas.Bool.{le-ltb}
-use Rattle.mixed_graph.specs.Graphs.{IsMixedGraph, graph_from}
+use Rattle.mixed_graph.specs.Vocabulary.{IsMixedGraph, graph_from}
 use Rattle.mixed_graph.proofs.Restricting.{same_graph}
 use Rattle.survey_command.specs.Draws.{state_after}
 use Rattle.survey_command.specs.Drawn.{pairs_before, is_drawn, drawn_graph}

@@ -1,5 +1,5 @@
 use Rattle.std.proofs.Common.{ℕ, ◌≡◌, ◌&&◌, ◌||◌, ◌==◌, nat_lt, get_or}
-use Rattle.mixed_graph.specs.Bits.{has}
+use Rattle.mixed_graph.specs.Vocabulary.{has}
 use Rattle.survey_command.specs.Draws.{state_after}
 use Rattle.survey_command.specs.Drawn.{pairs_before, is_drawn}
 use Rattle.survey_command.proofs.random_graph.survey.survey_graph.Given as goal

@@ -1,5 +1,5 @@
 use Rattle.std.proofs.Common.{refl, rules, ap, ◌∙◌}
-use Rattle.replies.specs.Told.{format_of}
+use Rattle.replies.specs.Vocabulary.{format_of}
 use Rattle.survey_command.specs.Requests.{survey_row}
 use Rattle.survey_command.proofs.request.Request.read.Goals as goal
 

@@ -1,5 +1,5 @@
 use Rattle.std.proofs.Common.{arith}
-use Rattle.mixed_graph.specs.Shown.{graph_of}
+use Rattle.mixed_graph.specs.Vocabulary.{graph_of}
 use Rattle.survey_command.specs.Tallies.{IsTally}
 use Rattle.survey_command.proofs.Tallying.{tally_none, tally_more, tally_room, at_next}
 use Rattle.survey_command.proofs.tally.Tally.of_graph.Goals as goal

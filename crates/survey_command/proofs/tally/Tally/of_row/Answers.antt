@@ -1,6 +1,6 @@
 use Rattle.std.proofs.Common.{arith}
-use Rattle.mixed_graph.specs.Shown.{graph_of}
-use Rattle.identify.specs.Answers.{is_hedge}
+use Rattle.mixed_graph.specs.Vocabulary.{graph_of}
+use Rattle.identify.specs.Vocabulary.{is_hedge}
 use Rattle.survey_command.specs.Tallies.{IsRowTally}
 use Rattle.survey_command.proofs.Tallying.{row_none, row_skip, row_more, row_room, at_next}
 use Rattle.survey_command.proofs.tally.Tally.of_row.Goals as goal

@@ -1,4 +1,4 @@
-use Rattle.mixed_graph.specs.Shown.{graph_of}
+use Rattle.mixed_graph.specs.Vocabulary.{graph_of}
 use Rattle.survey_command.specs.Tallies.{IsRowTally}
 use Rattle.survey_command.proofs.tally.Tally.of_row.Given as goal
 

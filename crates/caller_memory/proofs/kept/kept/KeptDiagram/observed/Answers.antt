@@ -1,7 +1,6 @@
 use Rattle.std.proofs.Common.{length, ap, sym, ◌∙◌}
-use Rattle.mixed_graph.specs.Bits.{has}
-use Rattle.mixed_graph.specs.Shown.{graph_of}
-use Rattle.latent_projection.specs.Renumbering.{observed_below, names_at}
+use Rattle.mixed_graph.specs.Vocabulary.{has, graph_of}
+use Rattle.latent_projection.specs.Vocabulary.{observed_below, names_at}
 use Rattle.latent_projection.proofs.KeptNames.{length-names_at}
 use Rattle.caller_memory.proofs.Drawing.{observed_of_read, observed_size}
 use Rattle.caller_memory.proofs.kept.kept.KeptDiagram.observed.Goals as goal

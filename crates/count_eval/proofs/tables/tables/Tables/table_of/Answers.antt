@@ -1,9 +1,9 @@
 use Rattle.std.proofs.Common.{ℕ, ◌≡◌, ◌∙◌, List, [], ◌∷◌, length, length-append, get_or, ap, sym, subst, refl, arith, Option}
-use Rattle.mixed_graph.specs.Bits.{has}
-use Rattle.prob_expr.specs.Free.{free_in_defs}
+use Rattle.mixed_graph.specs.Vocabulary.{has}
+use Rattle.prob_expr.specs.Vocabulary.{free_in_defs}
 use Rattle.count_eval.specs.Programs.{cell_of}
-use Rattle.count_table.specs.Axes.{Axes, axes_of, place_at, cell_at}
-use Rattle.count_table.specs.Cells.{IsCell}
+use Rattle.count_table.specs.Axes.{Axes}
+use Rattle.count_table.specs.Vocabulary.{axes_of, place_at, cell_at, IsCell}
 use Rattle.count_eval.specs.Rules.{rule}
 use Rattle.count_eval.specs.Preparations.{Preparation}
 use Rattle.count_eval.specs.Tables.{AreKeptTables}

@@ -1,7 +1,7 @@
 use Rattle.std.proofs.Common.{◌≡◌, [], length, get_or}
-use Rattle.mixed_graph.specs.Bits.{has}
-use Rattle.prob_expr.specs.Free.{free_in_defs}
-use Rattle.count_table.specs.Axes.{axes_of}
+use Rattle.mixed_graph.specs.Vocabulary.{has}
+use Rattle.prob_expr.specs.Vocabulary.{free_in_defs}
+use Rattle.count_table.specs.Vocabulary.{axes_of}
 use Rattle.count_eval.specs.Rules.{rule}
 use Rattle.count_eval.proofs.TableLaws.{IsRight}
 use Rattle.count_eval.proofs.tables.tables.Tables.table_of.Given as goal

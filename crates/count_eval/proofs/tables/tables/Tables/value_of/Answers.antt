@@ -1,8 +1,9 @@
 use Rattle.std.proofs.Common.{ℕ, ◌≡◌, ◌<◌, ◌∙◌, Bool, List, ap, ap₂, sym, subst, arith, map, length, get_or, Some, Ok}
 use Rattle.std.proofs.lemmas.List.{length-map}
-use Rattle.prob_expr.specs.View.{view, formula_view}
-use Rattle.prob_expr.specs.Tree.{Tree}
+use Rattle.prob_expr.specs.View.{view}
 use Rattle.prob_expr.specs.declared.expr.Expr.{Expr}
+use Rattle.prob_expr.specs.Vocabulary.{formula_view}
+use Rattle.prob_expr.specs.Tree.{Tree}
 use Rattle.quantity.specs.Kinds.{Pair}
 use Rattle.count_eval.specs.Evaluated.{evaluated}
 use Rattle.count_eval.specs.Programs.{weights_in, is_used, cell_of, known, IsBelow}

@@ -1,11 +1,10 @@
 use Rattle.std.proofs.Common.{◌≡◌, sym, subst, length, get_or, Ok, []}
 use Rattle.std.specs.Prelude.{IfSome}
-use Rattle.mixed_graph.specs.Bits.{has}
-use Rattle.prob_expr.specs.Free.{free_in_defs}
-use Rattle.prob_expr.specs.View.{formula_view}
-use Rattle.count_table.specs.Tables.{HasLevels}
+use Rattle.mixed_graph.specs.Vocabulary.{has}
+use Rattle.prob_expr.specs.Vocabulary.{free_in_defs, formula_view}
+use Rattle.count_table.specs.Vocabulary.{HasLevels, HasCell}
 use Rattle.count_eval.specs.Programs.{weights_in, is_used, cell_of, known}
-use Rattle.count_table.specs.Axes.{Axes, HasCell}
+use Rattle.count_table.specs.Axes.{Axes}
 use Rattle.count_eval.specs.Rules.{rule}
 use Rattle.count_eval.specs.Preparations.{Preparation}
 use Rattle.count_eval.proofs.TableLaws.{has_cell, held_by}

@@ -1,7 +1,7 @@
 use Rattle.std.proofs.Common.{ℕ, ◌≡◌, List, ap, sym, ◌∙◌, arith}
 use Rattle.std.specs.Global.{Vec}
 use Rattle.std.specs.List.{filter}
-use Rattle.mixed_graph.specs.Bits.{has}
+use Rattle.mixed_graph.specs.Vocabulary.{has}
 use Rattle.count_table.specs.Axes.{Axes}
 use Rattle.count_table.proofs.Choosing.{IsPart, AreTaken, chosen_none, chosen_in, chosen_out, chosen_fits, chosen_end, taken-axes}
 use Rattle.count_table.proofs.sum_tables.places.Places.of.Goals as goal

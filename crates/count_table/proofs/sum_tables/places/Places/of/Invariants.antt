@@ -1,4 +1,4 @@
-use Rattle.mixed_graph.specs.Bits.{has}
+use Rattle.mixed_graph.specs.Vocabulary.{has}
 use Rattle.count_table.proofs.Choosing.{AreChosen}
 use Rattle.count_table.proofs.sum_tables.places.Places.of.Given as goal
 

@@ -1,7 +1,7 @@
 use Rattle.std.proofs.Common.{ap, sym, subst, ◌∙◌, get_or, arith}
 use Rattle.std.proofs.lemmas.List.{get_or_read}
-use Rattle.mixed_graph.specs.Bits.{has}
-use Rattle.count_rows.specs.Rows.{counted}
+use Rattle.mixed_graph.specs.Vocabulary.{has}
+use Rattle.count_rows.specs.Vocabulary.{counted}
 use Rattle.count_table.specs.Tables.{HasLevels}
 use Rattle.count_table.specs.Axes.{Axes, HasCell, place_at, cells_over}
 use Rattle.count_table.specs.Sums.{Margin}

@@ -1,5 +1,5 @@
 use Rattle.std.proofs.Common.{sym, refl, rules, ap, ◌∙◌}
-use Rattle.replies.specs.Told.{format_of}
+use Rattle.replies.specs.Vocabulary.{format_of}
 use Rattle.separation_commands.specs.GraphRequests.{graph_row}
 use Rattle.separation_commands.proofs.graph.request.Request.read.Goals as goal
 

@@ -1,5 +1,5 @@
 use Rattle.std.proofs.Common.{◌≡◌, ◌++◌, ◌∙◌, ℕ, List, ap, sym, subst}
-use Rattle.replies.specs.Lines.{open_text}
+use Rattle.replies.specs.Vocabulary.{open_text}
 use Rattle.separation_commands.specs.declared.rule.answer.Answer.{Answer}
 use Rattle.separation_commands.specs.RuleTelling.{rule_text}
 use Rattle.separation_commands.proofs.rule.answer.AnswerTold.text.Goals as goal

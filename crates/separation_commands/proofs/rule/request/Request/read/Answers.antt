@@ -1,8 +1,7 @@
 use Rattle.std.proofs.Common.{sym, refl, subst, codes, rules, ap, ◌∙◌}
-use Rattle.command_words.specs.Form.{value_of}
-use Rattle.command_words.specs.Values.{IsRequiredNumber}
-use Rattle.do_rules.specs.Rules.{number_of}
-use Rattle.replies.specs.Told.{format_of}
+use Rattle.command_words.specs.Vocabulary.{value_of, IsRequiredNumber}
+use Rattle.do_rules.specs.Vocabulary.{number_of}
+use Rattle.replies.specs.Vocabulary.{format_of}
 use Rattle.separation_commands.specs.RuleRequests.{rule_row}
 use Rattle.separation_commands.proofs.rule.request.Request.read.Goals as goal
 

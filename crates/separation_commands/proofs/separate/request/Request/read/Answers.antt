@@ -1,5 +1,5 @@
 use Rattle.std.proofs.Common.{refl, rules, ap, ◌∙◌}
-use Rattle.replies.specs.Told.{format_of}
+use Rattle.replies.specs.Vocabulary.{format_of}
 use Rattle.separation_commands.specs.SeparateRequests.{separate_row}
 use Rattle.separation_commands.proofs.separate.request.Request.read.Goals as goal
 

@@ -1,5 +1,5 @@
 use Rattle.std.proofs.Common.{◌≡◌, ◌||◌, ◌&&◌, ◌==◌, sym, ◌∙◌, arith, get_or}
-use Rattle.mixed_graph.specs.Bits.{has}
+use Rattle.mixed_graph.specs.Vocabulary.{has}
 use Rattle.mixed_graph.proofs.PairMasks.{mask_more, and_swap}
 use Rattle.survey_command.proofs.random_graph.edges.Edges.with.Goals as goal
 

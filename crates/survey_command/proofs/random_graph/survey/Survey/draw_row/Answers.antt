@@ -1,5 +1,5 @@
 use Rattle.std.proofs.Common.{suc, ◌≡◌, ◌+◌, ◌-◌, ◌||◌, ◌&&◌, ◌==◌, nat_lt, ap, ◌∙◌, sym, arith, get_or}
-use Rattle.mixed_graph.specs.Bits.{has}
+use Rattle.mixed_graph.specs.Vocabulary.{has}
 use Rattle.survey_command.specs.Draws.{next_state, state_after, draw_of}
 use Rattle.survey_command.proofs.Stepping.{after_none, after_more}
 use Rattle.survey_command.proofs.Drawing.{row_none, row_more, both_more}

@@ -1,0 +1,12 @@
+-- What other crates cite of this one, from one place.
+pub use Rattle.evaluate_command.specs.Breaks.{IsBreak}
+pub use Rattle.evaluate_command.specs.Cells.{CellValue}
+pub use Rattle.evaluate_command.specs.Command.{evaluate_command, evaluate_left}
+pub use Rattle.evaluate_command.specs.Effects.{Identifies, PlainEffect, effect_in, target_of}
+pub use Rattle.evaluate_command.specs.First.{HasHedge, HasJointHedge, IsForDiagram}
+pub use Rattle.evaluate_command.specs.Listed.{bounds_numbers, exact_numbers, plain_in}
+pub use Rattle.evaluate_command.specs.Requests.{evaluate_row, request_of}
+pub use Rattle.evaluate_command.specs.Right.{CoversEffect, IsForCounts, IsForTable, IsOverTable}
+pub use Rattle.evaluate_command.specs.Telling.{evaluate_telling}
+pub use Rattle.evaluate_command.specs.ValuesFaults.{values_refusal}
+pub use Rattle.evaluate_command.specs.Ways.{by_adjusting, by_condition, by_procedure}

@@ -1,0 +1,7 @@
+-- What other crates cite of this one, from one place.
+pub use Rattle.natural_command.specs.Asking.{natural_lists}
+pub use Rattle.natural_command.specs.Command.{natural_command}
+pub use Rattle.natural_command.specs.Faults.{natural_refusal}
+pub use Rattle.natural_command.specs.Requests.{natural_row}
+pub use Rattle.natural_command.specs.Right.{Decides, IsAskedFor, IsNaturalAnswer}
+pub use Rattle.natural_command.specs.Telling.{natural_telling}

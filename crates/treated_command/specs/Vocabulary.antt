@@ -1,0 +1,6 @@
+-- What other crates cite of this one, from one place.
+pub use Rattle.treated_command.specs.Command.{treated_command}
+pub use Rattle.treated_command.specs.Faults.{treated_refusal}
+pub use Rattle.treated_command.specs.Requests.{treated_row}
+pub use Rattle.treated_command.specs.Right.{IsTreatedAnswer}
+pub use Rattle.treated_command.specs.Telling.{treated_telling}
