@@ -437,6 +437,43 @@ class Kinds(unittest.TestCase):
         self.assertEqual([effect.x["T"] for effect in effects], ["B", "B", "A", "A"])
 
 
+@needs_pandas
+class PandasModes(unittest.TestCase):
+    """What pandas 2 does by default and pandas 1.5 can be told to do: copies on writing, and types that know a missing value."""
+
+    def test_copy_on_write(self):
+        with pandas.option_context("mode.copy_on_write", True):
+            frame = pandas.DataFrame(COUNTS)
+            view, kept = frame[["S", "T", "R", "n"]], frame.copy()
+            self.assertEqual(exact_values(KIDNEY.effects(view, count="n", exact=True)), EXACT)
+            drawn = KIDNEY.bootstrap(view, count="n", resamples=20, seed=1).draws
+            self.assertEqual(drawn, KIDNEY.bootstrap(COUNTS, count="n", resamples=20, seed=1).draws)
+            pandas.testing.assert_frame_equal(frame, kept)
+
+    def test_types(self):
+        plain = KIDNEY.contrast(COUNTS, treated="A", control="B", outcome="success", count="n", exact=True)
+        kinds = [{}, {"n": "Int64"}, {"S": "string", "T": "string", "R": "string", "n": "UInt16"}]
+        kinds += [{"S": "category", "T": "string", "n": "float64"}, {"S": "string[python]", "R": "object", "n": "Int32"}]
+        try:
+            kinds.append({"T": "string[pyarrow]", "n": "int64[pyarrow]"})
+            pandas.DataFrame(COUNTS).astype(kinds[-1])
+        except (ImportError, TypeError):
+            kinds.pop()
+        for types in kinds:
+            with self.subTest(types=types):
+                frame = pandas.DataFrame(COUNTS).astype(types)
+                found = KIDNEY.contrast(frame, treated="A", control="B", outcome="success", count="n", exact=True)
+                self.assertEqual((found.difference, found.ratio), (plain.difference, plain.ratio))
+
+    def test_a_missing_string(self):
+        frame = pandas.DataFrame(COUNTS).astype({"S": "string", "n": "Int64"})
+        frame.loc[0, "S"] = pandas.NA
+        with self.assertRaises(causal.MissingValues) as caught:
+            KIDNEY.effects(frame, count="n")
+        self.assertEqual(caught.exception.place, ("S", 81))
+        self.assertEqual(KIDNEY.effects(frame, count="n", missing="drop").dropped, 81)
+
+
 class Requests(unittest.TestCase):
     """What is asked of effects that aren't there."""
 
