@@ -4,7 +4,6 @@
 #![tactic(auto)]
 
 mod instruments;
-mod moral;
 mod strata;
 
 pub use instruments::{Candidate, list_instruments};

@@ -6,8 +6,8 @@ ghost use Rattle.do_rules.specs.Vocabulary.{AreThreeSets};
 ghost use Rattle.minimal_sets.specs.Vocabulary.{IsListingOf};
 ghost use Rattle.instrument_sets.specs.Strata.{AreMinimalStrata};
 
-use crate::moral::moral_rows;
 use do_rules::cuts::{cut_into, cut_out};
+use minimal_sets::moral::moral_rows;
 use minimal_sets::separators::{SeparationProblem, list_separators};
 use minimal_sets::{Listing, Steps};
 use mixed_graph::{Graph, VSet};

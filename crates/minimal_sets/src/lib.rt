@@ -3,7 +3,7 @@
 //! `list(alloc, &graph, x, y, most, &mut steps)` gives them, sorted, each once.
 #![tactic(auto)]
 
-mod moral;
+pub mod moral;
 pub mod separators;
 mod sets;
 mod theory;
