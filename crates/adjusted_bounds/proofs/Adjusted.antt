@@ -28,7 +28,7 @@ use Rattle.natural_bounds.specs.declared.ends.End.{End}
 use Rattle.natural_bounds.specs.declared.ends.End.TheVariants.{AtLeast, AtMost}
 use Rattle.natural_bounds.specs.Vocabulary.{nothing, IsAtMost, trivial, Asked, fixed, joint, treated, share, stratum, condition}
 use Rattle.natural_bounds.specs.Orders.{Bounds}
-use Rattle.natural_bounds.proofs.Effects.{sum_over_sizes, positive_left}
+use Rattle.natural_bounds.proofs.Summed.{sum_over_sizes, positive_left}
 use Rattle.natural_bounds.proofs.Natural.{wider}
 use Rattle.natural_bounds.proofs.Orders.{positive-times, trivial_bottom, bounds_equal, add_over_bounds}
 use Rattle.natural_bounds.proofs.Strata.{Holds, term_lower, term_upper}

@@ -14,7 +14,7 @@ use Rattle.prob_expr.proofs.Boxes.{assignment_set, IsStable, sum_over_equal}
 use Rattle.natural_bounds.specs.declared.ends.End.{End}
 use Rattle.natural_bounds.specs.declared.ends.End.TheVariants.{AtLeast, AtMost}
 use Rattle.natural_bounds.specs.Vocabulary.{nothing, Asked, fixed, joint, level, IsAskedOf}
-use Rattle.natural_bounds.proofs.Effects.{sum_over_sizes}
+use Rattle.natural_bounds.proofs.Summed.{sum_over_sizes}
 use Rattle.natural_bounds.proofs.Orders.{times-le, positive-times, cancelled}
 use Rattle.natural_bounds.proofs.Strata.{Holds, some, here, counted}
 use Rattle.crossed_bounds.specs.Crossed.{IsTwoValued, other, at_level, untaken, chosen, shown, two_levels}

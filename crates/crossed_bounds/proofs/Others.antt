@@ -21,7 +21,7 @@ use Rattle.natural_bounds.specs.declared.ends.End.{End}
 use Rattle.natural_bounds.specs.declared.ends.End.TheVariants.{AtLeast, AtMost}
 use Rattle.natural_bounds.specs.Vocabulary.{nothing, IsAtMost, trivial, tighter, Asked, fixed, stratum, stratum_bound, IsAskedOf}
 use Rattle.natural_bounds.specs.Orders.{Bounds}
-use Rattle.natural_bounds.proofs.Effects.{sum_over_sizes, positive_left}
+use Rattle.natural_bounds.proofs.Summed.{sum_over_sizes, positive_left}
 use Rattle.natural_bounds.proofs.Natural.{unmoved_weight}
 use Rattle.natural_bounds.proofs.Orders.{times-le, cancelled, at_most_same, equal_at_most, bounds_trans, bounds_same, trivial_bottom}
 use Rattle.natural_bounds.proofs.Orders.{tighter_one, tighter_first, tighter_second, add_over_bounds, at_most_trans}

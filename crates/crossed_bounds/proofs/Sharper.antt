@@ -9,7 +9,7 @@ use Rattle.natural_bounds.specs.declared.ends.End.{End}
 use Rattle.natural_bounds.specs.declared.ends.End.TheVariants.{AtLeast, AtMost}
 use Rattle.natural_bounds.specs.Vocabulary.{nothing, trivial, tighter, tightest_over, IsIn, Asked, fixed, level, said, bound_at, stratum_bound, IsAskedOf}
 use Rattle.natural_bounds.specs.Orders.{Bounds}
-use Rattle.natural_bounds.proofs.Effects.{positive_left}
+use Rattle.natural_bounds.proofs.Summed.{positive_left}
 use Rattle.natural_bounds.proofs.Natural.{unmoved_weight, wider}
 use Rattle.natural_bounds.proofs.Orders.{positive-times, bounds_trans, trivial_bottom, tighter_one, tighter_first, tighter_second, tightest_bottom}
 use Rattle.natural_bounds.proofs.Orders.{tightest_is_tightest, tightest_is_one}

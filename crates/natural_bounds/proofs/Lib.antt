@@ -2,6 +2,7 @@ mod Before
 mod Worlds
 pub mod Strata
 pub mod Effects
+pub mod Summed
 pub mod Drawn
 pub mod Natural
 pub mod Orders

@@ -19,7 +19,7 @@ use Rattle.natural_bounds.specs.declared.ends.End.{End}
 use Rattle.natural_bounds.specs.declared.ends.End.TheVariants.{AtLeast, AtMost}
 use Rattle.natural_bounds.specs.Vocabulary.{nothing, IsAtMost, trivial, Asked, stratum, condition, treated, joint, share}
 use Rattle.natural_bounds.specs.Orders.{Bounds}
-use Rattle.natural_bounds.proofs.Effects.{positive_left}
+use Rattle.natural_bounds.proofs.Summed.{positive_left}
 use Rattle.natural_bounds.proofs.Orders.{positive-times, trivial_bottom, at_most_trans, equal_at_most, equal_at_least}
 use Rattle.hidden_models.proofs.Totals.{total_positive}
 use Rattle.adjusted_bounds.specs.Vocabulary.{IsAdjusted, adjusted_at, adjusted_bound, AdjustedBoundsHold}
