@@ -7,9 +7,10 @@ use Rattle.bound_values.specs.declared.questions.Method.{Method}
 use Rattle.bound_values.specs.declared.values.CellBounds.{CellBounds}
 use Rattle.bound_values.specs.declared.values.CellFault.{CellFault}
 use Rattle.bound_values.specs.declared.values.CellFault.TheVariants.{NoRecords, TooWide, NoMemory}
-use Rattle.bound_values.specs.Cells.{cells_along, level_count}
+use Rattle.table_cells.specs.Vocabulary.{cells_along, level_count}
 use Rattle.bound_values.specs.Told.{cell_bounds, bounds_at, Appends, IsFaultAt}
-use Rattle.bound_values.proofs.CellLists.{cells_at_first, numbers_more, numbers_around, bounds_both, bounds_later, bounds_sooner}
+use Rattle.table_cells.proofs.CellLists.{cells_at_first, numbers_more, numbers_around}
+use Rattle.bound_values.proofs.CellLists.{bounds_both, bounds_later, bounds_sooner}
 
 module _ (is_exact : Bool) (method : Method) (n : ℕ) (t : Table) (q : Asked) (cell vs rest : List ℕ) (v : ℕ) where
   -- the cells at a level of the first vertex

@@ -5,8 +5,8 @@ use Rattle.std.specs.Option.{option_or}
 use Rattle.std.specs.List.{find, flat_map, range_with_len}
 use Rattle.std.proofs.lemmas.List.Folds.{find-append}
 use Rattle.count_rows.specs.Vocabulary.{Table}
-use Rattle.bound_values.specs.Cells.{cells_along, level_count}
-use Rattle.bound_values.proofs.CellLists.{cells_at_first, numbers_more, numbers_around}
+use Rattle.table_cells.specs.Vocabulary.{cells_along, level_count}
+use Rattle.table_cells.proofs.CellLists.{cells_at_first, numbers_more, numbers_around}
 
 module _ {A : Type 0} (p : A → Bool) where
   pub found_here : (x : A) → p x ≡ true → find p (x ∷ []) ≡ Some x

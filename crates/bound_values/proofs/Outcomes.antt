@@ -20,7 +20,7 @@ use Rattle.natural_bounds.specs.declared.ends.End.TheVariants.{AtLeast, AtMost}
 use Rattle.natural_bounds.specs.Vocabulary.{Asked, fixed, joint, level}
 use Rattle.crossed_bounds.specs.Vocabulary.{at_level, untaken, chosen}
 use Rattle.bound_values.specs.Questions.{joint_set, level_set, IsCounted, HasPairs}
-use Rattle.bound_values.proofs.Used.{used_level}
+use Rattle.table_cells.proofs.Tables.{used_level}
 
 -- ---- sums with one term
 

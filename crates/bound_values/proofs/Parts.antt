@@ -23,7 +23,7 @@ use Rattle.bound_values.specs.Questions.{asked_of, level_set, IsCounted, HasPair
 use Rattle.bound_values.specs.Values.{fraction_of, bound_by, DeniesModels}
 use Rattle.bound_values.specs.Found.{are_crossed}
 use Rattle.bound_values.proofs.Sums.{in_fixed, in_given}
-use Rattle.bound_values.proofs.Used.{all_members}
+use Rattle.table_cells.proofs.Tables.{all_members}
 use Rattle.std.proofs.lemmas.Bool.{or_left, or_right}
 
 -- a level with records says this

@@ -10,7 +10,7 @@ use Rattle.count_eval.specs.Vocabulary.{weights_in, cell_of}
 use Rattle.count_eval.proofs.CellSteps.{cell_of-set}
 use Rattle.crossed_bounds.specs.Vocabulary.{IsTwoValued, other}
 use Rattle.bound_values.specs.Questions.{is_two_valued}
-use Rattle.bound_values.proofs.Used.{member_stands}
+use Rattle.table_cells.proofs.Tables.{member_stands}
 
 -- a list of one
 one_item : (vs : List ℕ) → length vs ≡ 1 → vs ≡ get_or vs 0 0 ∷ []

@@ -3,7 +3,8 @@
 ghost use Rattle.std.specs.Prelude.{ℕ, ◌≡◌, ◌≢◌, ◌≤◌, ◌<◌, ◌∷◌, [], All, true, IfOk, IfErr, OnOk};
 ghost use Rattle.mixed_graph.specs.Vocabulary.{Apart, has};
 ghost use Rattle.count_eval.specs.Vocabulary.{is_used};
-ghost use Rattle.bound_values.specs.Cells.{IsCell, cells_along, printed_vertices, crossing_vertices};
+ghost use Rattle.table_cells.specs.Vocabulary.{IsCell, cells_along};
+ghost use Rattle.bound_values.specs.Cells.{printed_vertices, crossing_vertices};
 ghost use Rattle.bound_values.specs.Questions.{asked_of, IsCounted, IsScope};
 ghost use Rattle.bound_values.specs.Told.{Appends, IsFaultAt};
 ghost use Rattle.bound_values.specs.Values.{over_table};
@@ -36,7 +37,7 @@ pub enum Found {
 /// The crossing of the bounds of a cell's stratum.
 fn one_crossing(scope: &Scope, cell: [u32; 64]) -> Option<CellCrossing>
     requires scope { IsScope scope.now.n scope.now.counts.now scope.now.question.method (asked_of scope.now.question) scope.now.sums.now }
-    requires cell { IsCell scope.now.counts.now cell }
+    requires cell { IsCell 64 scope.now.counts.now cell }
     requires instruments { scope.now.question.method ≢ Method.Adjustment }
     ensures { IsFirstCrossing scope.now.question.method scope.now.n scope.now.counts.now (asked_of scope.now.question) (cell ∷ []) result }
 {
@@ -50,7 +51,7 @@ fn one_crossing(scope: &Scope, cell: [u32; 64]) -> Option<CellCrossing>
 fn first_crossing(scope: &Scope, vertices: &[u8], cell: [u32; 64]) -> Option<CellCrossing>
     requires scope { IsScope scope.now.n scope.now.counts.now scope.now.question.method (asked_of scope.now.question) scope.now.sums.now }
     requires vertices { All (λ v. is_used scope.now.counts.now v ≡ true) vertices.now }
-    requires cell { IsCell scope.now.counts.now cell }
+    requires cell { IsCell 64 scope.now.counts.now cell }
     requires instruments { scope.now.question.method ≢ Method.Adjustment }
     ensures { IsFirstCrossing scope.now.question.method scope.now.n scope.now.counts.now (asked_of scope.now.question) (cells_along scope.now.counts.now cell vertices.now) result }
 {
@@ -79,7 +80,7 @@ fn push_bounds(
     requires scope { IsScope scope.now.n scope.now.counts.now scope.now.question.method (asked_of scope.now.question) scope.now.sums.now }
     requires apart { Apart (has scope.now.question.given.bits) (has scope.now.question.strata.bits) }
     requires vertices { All (λ v. is_used scope.now.counts.now v ≡ true) vertices.now }
-    requires cell { IsCell scope.now.counts.now cell }
+    requires cell { IsCell 64 scope.now.counts.now cell }
     ensures bounds { OnOk result (Appends exact scope.now.question.method scope.now.n scope.now.counts.now (asked_of scope.now.question)
         (cells_along scope.now.counts.now cell vertices.now) out.old.items out.new.items) }
     ensures fault { IfErr result (IsFaultAt exact scope.now.question.method scope.now.n scope.now.counts.now (asked_of scope.now.question)
@@ -108,7 +109,7 @@ fn push_cell(
 ) -> Result<(), CellFault>
     requires scope { IsScope scope.now.n scope.now.counts.now scope.now.question.method (asked_of scope.now.question) scope.now.sums.now }
     requires apart { Apart (has scope.now.question.given.bits) (has scope.now.question.strata.bits) }
-    requires cell { IsCell scope.now.counts.now cell }
+    requires cell { IsCell 64 scope.now.counts.now cell }
     ensures bounds { OnOk result (Appends exact scope.now.question.method scope.now.n scope.now.counts.now (asked_of scope.now.question)
         (cell ∷ []) out.old.items out.new.items) }
     ensures fault { IfErr result (IsFaultAt exact scope.now.question.method scope.now.n scope.now.counts.now (asked_of scope.now.question) (cell ∷ [])) }

@@ -15,7 +15,8 @@ use Rattle.bound_values.specs.declared.questions.Method.TheVariants.{Instruments
 use Rattle.bound_values.specs.declared.values.CellBounds.{CellBounds}
 use Rattle.bound_values.specs.declared.values.CellFault.{CellFault}
 use Rattle.bound_values.specs.declared.values.CellFault.TheVariants.{NoRecords}
-use Rattle.bound_values.specs.Vocabulary.{asked_of, over_table, cells_along, first_cell, printed_vertices, crossing_vertices, printed_cells, end_value, both_ends, cell_bounds, bounds_at, are_crossed, crossing_in}
+use Rattle.table_cells.specs.Vocabulary.{cells_along}
+use Rattle.bound_values.specs.Vocabulary.{asked_of, over_table, first_cell, printed_vertices, crossing_vertices, printed_cells, end_value, both_ends, cell_bounds, bounds_at, are_crossed, crossing_in}
 
 -- the bounds at a cell, by weights
 abbrev bounds_in : (is_exact : Bool) → Method → Weights → Asked → List ℕ → Result CellBounds CellFault

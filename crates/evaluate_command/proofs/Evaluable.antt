@@ -12,7 +12,7 @@ use Rattle.evaluate_command.specs.Effects.{PlainEffect, IsIdentified, used_in}
 use Rattle.prob_expr.specs.Mentioned.{mentioned}
 use Rattle.prob_expr.specs.Vocabulary.{mentioned_in, mentioned_in_defs}
 use Rattle.evaluate_command.proofs.Mentions.{in_left, in_right, used_tree, used_defs}
-use Rattle.evaluate_command.proofs.Tables.{all_members, member_used, used_member}
+use Rattle.table_cells.proofs.Tables.{all_members, member_used, used_member}
 
 none_left : (a b : ℕ) → union a b ≡ 0 → a ≡ 0
 none_left a b e = zero_from a (λ v. (or_parts (has a v) (has b v) (sym (has_join a b v) ∙ ap (λ m. has m v) e ∙ has_none v)).0)

@@ -1,6 +1,5 @@
 pub mod Mentions
 pub mod Columns
-pub mod Tables
 pub mod CellLists
 mod Members
 pub mod Printed

@@ -21,7 +21,8 @@ use Rattle.diagram.proofs.OneDiagram.{AreSameDiagrams, same_drawing, same_effect
 use Rattle.replies.proofs.OneTarget.{one_set}
 use Rattle.identify_command.specs.Vocabulary.{AreTargetSets}
 use Rattle.identify_command.proofs.Lists as identifying
-use Rattle.evaluate_command.specs.Cells.{CellValue, with_levels, first_cell, varied, printed_cells, value_in, values_at}
+use Rattle.table_cells.specs.Vocabulary.{with_levels, first_cell}
+use Rattle.evaluate_command.specs.Cells.{CellValue, varied, printed_cells, value_in, values_at}
 use Rattle.evaluate_command.specs.Effects.{PlainEffect, target_of, effect_for, IsFoundBy, Identifies, used_in}
 use Rattle.evaluate_command.specs.Ways.{Way, by_procedure, by_adjusting, by_condition, FixesFormula}
 

@@ -18,7 +18,7 @@ use Rattle.diagram.specs.Vocabulary.{Names}
 use Rattle.evaluate_command.proofs.OneBreak.{one_break}
 use Rattle.evaluate_command.proofs.OneEffect.{same_values, same_effect}
 use Rattle.evaluate_command.proofs.Stops.{words_of_stop, why_digit, support_text, stop_told}
-use Rattle.evaluate_command.proofs.Tables.{member_used}
+use Rattle.table_cells.proofs.Tables.{member_used}
 use Rattle.evaluate_command.specs.Cells.{CellValue, printed_cells, value_in, values_at}
 use Rattle.evaluate_command.specs.Effects.{PlainEffect, target_of, Identifies, used_in}
 use Rattle.evaluate_command.specs.Lines.{sign_of, value_line, cells_text, pinned_lines, broken_line}

@@ -20,12 +20,14 @@ use Rattle.count_rows.specs.Vocabulary.{Table}
 use Rattle.count_table.specs.Vocabulary.{total}
 use Rattle.count_eval.specs.declared.failure.EvalFault.{EvalFault}
 use Rattle.count_eval.specs.Vocabulary.{CoversCounts, CoversWithZeros, CoversMatches, value_of_with_zeros, IsMatched, weights_in, is_used, cell_of, Preparation}
-use Rattle.evaluate_command.specs.Cells.{CellValue, IsCell, cells_along, level_count, printed_cells}
+use Rattle.table_cells.specs.Vocabulary.{IsCell, cells_along, level_count}
+use Rattle.evaluate_command.specs.Cells.{CellValue, printed_cells}
 use Rattle.evaluate_command.specs.Effects.{PlainEffect, target_of, used_in, IsIdentified}
 use Rattle.evaluate_command.specs.Printing.{value_by, Appends, IsFaultAt}
 use Rattle.evaluate_command.specs.Right.{CoversEffect, CoversAdjusted, AreEvaluated, IsUnvalued}
 use Rattle.evaluate_command.proofs.Mentions.{in_left, in_right, in_none}
-use Rattle.evaluate_command.proofs.CellLists.{values_both, values_later, values_sooner, values_one, cells_at_first, numbers_more, numbers_around}
+use Rattle.table_cells.proofs.CellLists.{cells_at_first, numbers_more, numbers_around}
+use Rattle.evaluate_command.proofs.CellLists.{values_both, values_later, values_sooner, values_one}
 
 -- ---- the theorem
 

@@ -19,7 +19,7 @@ use Rattle.count_eval.specs.declared.failure.EvalFault.TheVariants as failure
 use Rattle.count_answers.specs.Vocabulary.{with_commas, assignment, assignments, level_text, printed_level}
 use Rattle.count_answers.proofs.Texts.{same_texts}
 use Rattle.evaluate_command.specs.Stopped.{place_text, stop_words}
-use Rattle.evaluate_command.proofs.Tables.{member_used}
+use Rattle.table_cells.proofs.Tables.{member_used}
 
 -- the digit of why there is no value
 abbrev pub why_digit : QuantityFault → List ℕ

@@ -6,7 +6,8 @@ use Rattle.count_eval.specs.Rules.{Rule}
 use Rattle.count_eval.specs.declared.failure.EvalFault.{EvalFault}
 use Rattle.count_eval.specs.Vocabulary.{IsEvaluationFault, CoversCounts, CoversWithZeros, CoversMatches, formula_value, weights_in, is_used, cell_of, Preparation}
 use Rattle.count_eval.specs.Stops.{Stop}
-use Rattle.evaluate_command.specs.Cells.{CellValue, IsCell, values_at}
+use Rattle.table_cells.specs.Vocabulary.{IsCell}
+use Rattle.evaluate_command.specs.Cells.{CellValue, values_at}
 
 -- the value of a prepared formula at a cell
 abbrev pub value_by : Rule → Preparation → List ℕ → Result Pair Stop

@@ -4,7 +4,8 @@ ghost use Rattle.std.specs.Prelude.{◌≡◌, ◌++◌, ◌∷◌, [], All, tru
 ghost use Rattle.mixed_graph.specs.Vocabulary.{has, members_below};
 ghost use Rattle.count_eval.specs.Vocabulary.{is_used};
 ghost use Rattle.count_eval.specs.Rules.{rule};
-ghost use Rattle.evaluate_command.specs.Cells.{varied, cells_along, IsCell};
+ghost use Rattle.table_cells.specs.Vocabulary.{cells_along, IsCell};
+ghost use Rattle.evaluate_command.specs.Cells.{varied};
 ghost use Rattle.evaluate_command.specs.Listed.{plain_in};
 ghost use Rattle.evaluate_command.specs.Printing.{Appends, IsFaultAt};
 ghost use Rattle.evaluate_command.specs.Stopped.{is_stop_memory};

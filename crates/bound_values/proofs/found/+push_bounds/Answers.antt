@@ -2,12 +2,12 @@ use Rattle.std.proofs.Common.{◌≡◌, ◌<◌, ◌≤◌, ◌-◌, ℕ, true,
 use Rattle.std.proofs.lemmas.List.{length-drop, take_rest}
 use Rattle.std.proofs.lemmas.List.Elements.{All-drop, All-take, All-get_or}
 use Rattle.count_eval.specs.Vocabulary.{is_used}
-use Rattle.bound_values.specs.Cells.{IsCell}
+use Rattle.table_cells.specs.Vocabulary.{IsCell}
 use Rattle.bound_values.specs.Questions.{asked_of}
 use Rattle.bound_values.specs.Told.{Appends, IsFaultAt}
 use Rattle.bound_values.proofs.Along.{appends_turn, appends_all, fault_turn}
-use Rattle.bound_values.proofs.CellLists.{cells_at_none}
-use Rattle.bound_values.proofs.Used.{set_is_cell}
+use Rattle.table_cells.proofs.CellLists.{cells_at_none}
+use Rattle.table_cells.proofs.Tables.{set_is_cell}
 use Rattle.bound_values.proofs.found.+push_bounds.Goals as goal
 
 pub returns-in_default-clause-bounds : goal.returns-in_default-clause-bounds
@@ -28,8 +28,8 @@ push_bounds-requires t c =
     let some : 1 ≤ length vs = c.in-len1-up.len_at_least in
     let used : is_used table v ≡ true = All-get_or (λ u. is_used table u ≡ true) vs 0 0 (omega (arith, some)) c.requires.vertices in
     let below = c.loop-k-test.true in
-    let is_cell : IsCell table (set c.args.cell v c.loop-k.k) =
-    set_is_cell table c.args.cell v c.loop-k.k c.requires.cell used (omega (arith, below, c.levels-k-end.ensures)) in
+    let is_cell : IsCell 64 table (set c.args.cell v c.loop-k.k) =
+    set_is_cell 64 table c.args.cell v c.loop-k.k c.requires.cell used (omega (arith, below, c.levels-k-end.ensures)) in
     let rest = take (length vs - 1) (drop 1 vs) in
     let others : All (λ u. is_used table u ≡ true) rest = All-take (λ u. is_used table u ≡ true) (length vs - 1) (drop 1 vs)
     (All-drop (λ u. is_used table u ≡ true) 1 vs c.requires.vertices) in

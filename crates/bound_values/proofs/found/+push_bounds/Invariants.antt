@@ -1,7 +1,7 @@
 use Rattle.std.proofs.Common.{set, length}
 use Rattle.std.specs.List.{flat_map, range_with_len}
 use Rattle.bound_values.specs.Questions.{asked_of}
-use Rattle.bound_values.specs.Cells.{cells_along}
+use Rattle.table_cells.specs.Vocabulary.{cells_along}
 use Rattle.bound_values.specs.Told.{Appends}
 use Rattle.bound_values.proofs.found.+push_bounds.Given as goal
 

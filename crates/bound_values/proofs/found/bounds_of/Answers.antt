@@ -1,11 +1,12 @@
 use Rattle.std.proofs.Common.{◌≡◌, ◌∙◌, ℕ, true, List, All, sym, subst, arith}
 use Rattle.count_eval.specs.Vocabulary.{is_used}
-use Rattle.bound_values.specs.Cells.{cells_along, first_cell}
+use Rattle.table_cells.specs.Vocabulary.{cells_along}
+use Rattle.bound_values.specs.Cells.{first_cell}
 use Rattle.bound_values.specs.Told.{Appends, IsFaultAt}
 use Rattle.bound_values.proofs.Ends.{are_bounds}
 use Rattle.bound_values.specs.Questions.{asked_of}
 use Rattle.bound_values.proofs.Parts.{printed_used}
-use Rattle.bound_values.proofs.Used.{first_is_cell}
+use Rattle.table_cells.proofs.Tables.{first_is_cell}
 use Rattle.bound_values.proofs.found.bounds_of.Goals as goal
 
 pub push_bounds-requires-clause-vertices : goal.push_bounds-requires-clause-vertices
@@ -15,7 +16,7 @@ push_bounds-requires-clause-vertices c =
 
 pub push_bounds-requires-clause-cell : goal.push_bounds-requires-clause-cell
 unfolding first_cell
-push_bounds-requires-clause-cell c = first_is_cell c.args.scope.now.counts.now
+push_bounds-requires-clause-cell c = first_is_cell 64 c.args.scope.now.counts.now
     (λ v h. (let b = c.requires.scope.below v h in let few = c.requires.scope.few in omega (arith, b, few)))
 
 pub returns-in-Ok-push_bounds-clause-bounds : goal.returns-in-Ok-push_bounds-clause-bounds

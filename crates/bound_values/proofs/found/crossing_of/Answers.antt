@@ -5,11 +5,12 @@ use Rattle.bound_values.specs.declared.found.CellCrossing.{CellCrossing}
 use Rattle.bound_values.specs.declared.questions.Method.{Method}
 use Rattle.bound_values.specs.declared.questions.Method.TheVariants.{Instruments, LevelPairs, Adjustment}
 use Rattle.bound_values.specs.declared.questions.Question.{Question}
-use Rattle.bound_values.specs.Cells.{cells_along, first_cell, crossing_cells}
+use Rattle.table_cells.specs.Vocabulary.{cells_along}
+use Rattle.bound_values.specs.Cells.{first_cell, crossing_cells}
 use Rattle.bound_values.specs.Questions.{asked_of}
 use Rattle.bound_values.specs.Found.{IsFirstCrossing, IsCrossingOf, crossing_in, first_crossed}
 use Rattle.bound_values.proofs.Parts.{crossing_used}
-use Rattle.bound_values.proofs.Used.{first_is_cell}
+use Rattle.table_cells.proofs.Tables.{first_is_cell}
 use Rattle.bound_values.proofs.found.crossing_of.Goals as goal
 
 pub first_crossing-requires-clause-vertices : goal.first_crossing-requires-clause-vertices
@@ -19,7 +20,7 @@ first_crossing-requires-clause-vertices c =
 
 pub first_crossing-requires-clause-cell : goal.first_crossing-requires-clause-cell
 unfolding first_cell
-first_crossing-requires-clause-cell c = first_is_cell c.args.scope.now.counts.now
+first_crossing-requires-clause-cell c = first_is_cell 64 c.args.scope.now.counts.now
     (λ v h. (let b = c.requires.below v h in let few = c.requires.few in omega (arith, b, few)))
 
 -- the first crossing is that of the question, where it isn't asked by adjustment

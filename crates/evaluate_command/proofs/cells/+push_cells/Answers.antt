@@ -4,13 +4,13 @@ use Rattle.std.proofs.lemmas.List.Elements.{All-drop, All-take, All-get_or}
 use Rattle.count_rows.specs.Vocabulary.{Table}
 use Rattle.count_eval.specs.Vocabulary.{is_used}
 use Rattle.count_eval.specs.Rules.{rule}
-use Rattle.evaluate_command.specs.Cells.{IsCell}
+use Rattle.table_cells.specs.Vocabulary.{IsCell}
 use Rattle.evaluate_command.specs.Listed.{plain_in}
 use Rattle.evaluate_command.specs.Printing.{Appends, IsFaultAt}
 use Rattle.evaluate_command.specs.Stopped.{is_stop_memory}
-use Rattle.evaluate_command.proofs.CellLists.{cells_at_none}
+use Rattle.table_cells.proofs.CellLists.{cells_at_none}
 use Rattle.evaluate_command.proofs.Printed.{appends_none, appends_turn, appends_all, fault_turn}
-use Rattle.evaluate_command.proofs.Tables.{set_is_cell}
+use Rattle.table_cells.proofs.Tables.{set_is_cell}
 use Rattle.evaluate_command.proofs.cells.+push_cells.Goals as goal
 
 pub push_cell-requires : goal.push_cell-requires

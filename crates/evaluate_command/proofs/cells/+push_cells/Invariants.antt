@@ -1,7 +1,7 @@
 use Rattle.std.proofs.Common.{◌≡◌, ℕ, length, set}
 use Rattle.std.specs.List.{flat_map, range_with_len}
 use Rattle.count_eval.specs.Rules.{rule}
-use Rattle.evaluate_command.specs.Cells.{cells_along}
+use Rattle.table_cells.specs.Vocabulary.{cells_along}
 use Rattle.evaluate_command.specs.Listed.{plain_in}
 use Rattle.evaluate_command.specs.Printing.{Appends}
 use Rattle.evaluate_command.proofs.cells.+push_cells.Given as goal

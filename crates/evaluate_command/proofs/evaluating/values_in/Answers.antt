@@ -1,13 +1,13 @@
 use Rattle.std.proofs.Common.{◌≡◌, ℕ, true, List, All, sym, ap, subst, ◌∙◌}
 use Rattle.count_eval.specs.Vocabulary.{is_used}
 use Rattle.count_eval.specs.Rules.{rule}
-use Rattle.evaluate_command.specs.Cells.{cells_along, IsCell}
+use Rattle.table_cells.specs.Vocabulary.{cells_along, IsCell}
 use Rattle.evaluate_command.specs.Effects.{effect_in}
 use Rattle.evaluate_command.specs.Listed.{plain_in}
 use Rattle.evaluate_command.specs.Printing.{Appends, IsFaultAt}
 use Rattle.evaluate_command.proofs.Evaluable.{evaluable, used, varied_used, table_below}
 use Rattle.evaluate_command.proofs.Printed.{all_evaluated, all_unvalued}
-use Rattle.evaluate_command.proofs.Tables.{first_is_cell}
+use Rattle.table_cells.proofs.Tables.{first_is_cell}
 use Rattle.evaluate_command.proofs.evaluating.values_in.Goals as goal
 
 pub prepare-requires : goal.prepare-requires

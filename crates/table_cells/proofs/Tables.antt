@@ -9,7 +9,7 @@ use Rattle.mixed_graph.specs.Vocabulary.{members_below}
 use Rattle.count_rows.specs.Vocabulary.{Field, Table}
 use Rattle.count_table.specs.Vocabulary.{levels_in, AreCounts}
 use Rattle.count_eval.specs.Vocabulary.{is_used}
-use Rattle.evaluate_command.specs.Cells.{IsCell, level_count, first_cell}
+use Rattle.table_cells.specs.Cells.{IsCell, level_count, first_cell}
 
 -- ---- members of a list
 
