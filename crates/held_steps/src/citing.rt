@@ -50,7 +50,7 @@ pub fn citations(alloc: Global, d: &Derivation) -> Result<Vec<u32>, AllocError> 
 }
 
 /// Whether a lemma has a mark.
-pub fn is_marked(marks: &Vec<bool>, k: usize) -> bool {
+pub(crate) fn is_marked(marks: &Vec<bool>, k: usize) -> bool {
     match marks.get(k) {
         Some(mark) => *mark,
         None => false,
@@ -105,7 +105,11 @@ fn lemma_weights(
 }
 
 /// How many lemmas stand in main once those that are to be are put in, main counted too.
-pub fn expanded(alloc: Global, d: &Derivation, put_in: &Vec<bool>) -> Result<u32, AllocError> {
+pub(crate) fn expanded(
+    alloc: Global,
+    d: &Derivation,
+    put_in: &Vec<bool>,
+) -> Result<u32, AllocError> {
     let weights = lemma_weights(alloc, &d.lemmas, put_in)?;
     Ok(weigh(&d.main, &weights).saturating_add(1))
 }

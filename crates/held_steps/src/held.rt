@@ -42,7 +42,7 @@ impl Held {
     }
 
     /// Lets lemmas with these sets be cited.
-    pub fn cite(&mut self, lemmas: Vec<VSet>) {
+    pub(crate) fn cite(&mut self, lemmas: Vec<VSet>) {
         self.lemmas = lemmas;
     }
 
@@ -64,12 +64,12 @@ impl Held {
     }
 
     /// Lets so many steps be tried from here on.
-    pub fn allow(&mut self, tries: u32) {
+    pub(crate) fn allow(&mut self, tries: u32) {
         self.tries = tries;
     }
 
     /// What it is now, so that `back` may lead to it.
-    pub fn mark(&self, alloc: Global) -> Result<Mark, AllocError> {
+    pub(crate) fn mark(&self, alloc: Global) -> Result<Mark, AllocError> {
         Ok(Mark {
             expr: copy_expr(alloc, &self.expr)?,
             count: self.steps.len(),
@@ -77,7 +77,7 @@ impl Held {
     }
 
     /// Back to what it was, without the steps since then.
-    pub fn back(&mut self, mark: Mark) {
+    pub(crate) fn back(&mut self, mark: Mark) {
         let Mark { expr, count } = mark;
         self.expr = expr;
         self.steps.truncate(count);

@@ -15,7 +15,7 @@ pub struct Joins {
 
 impl Joins {
     /// No pair yet.
-    pub fn none(alloc: Global) -> Joins {
+    pub(crate) fn none(alloc: Global) -> Joins {
         Joins {
             refused: Vec::new(alloc),
         }
@@ -232,7 +232,7 @@ fn join_with_any(
 
 /// Makes two factors of a product at a place one term, the first that can be: where `apart` such as are
 /// independent, else such as one is given by the other.
-pub fn join(
+pub(crate) fn join(
     alloc: Global,
     g: &Graph,
     held: &mut Held,

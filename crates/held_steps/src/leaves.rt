@@ -81,7 +81,7 @@ fn push_cited(
 
 /// Adds the moves on parts of which a step is made, with the kept vertices alone in their sets.
 #[cycle(leaves)]
-pub fn push_leaves(
+pub(crate) fn push_leaves(
     alloc: Global,
     step: &Step,
     place: &[u32],

@@ -36,12 +36,12 @@ fn with_members(order: Order, set: VSet) -> Order {
 }
 
 /// The members of one set and then those of the other, each in ascending order.
-pub fn one_before_other(one: VSet, other: VSet) -> Order {
+pub(crate) fn one_before_other(one: VSet, other: VSet) -> Order {
     with_members(with_members(no_vertices(), one), other)
 }
 
 /// The members of a set in the order of the graph.
-pub fn members_in_order(g: &Graph, set: VSet) -> Order {
+pub(crate) fn members_in_order(g: &Graph, set: VSet) -> Order {
     let all = g.order();
     let mut order = no_vertices();
     for i in 0..all.count {

@@ -14,7 +14,7 @@ pub struct Term {
 
 impl Term {
     /// Whether the sets are the same.
-    pub fn is_same(self, other: Term) -> bool {
+    pub(crate) fn is_same(self, other: Term) -> bool {
         self.of.bits == other.of.bits
             && self.doing.bits == other.doing.bits
             && self.given.bits == other.given.bits
@@ -40,7 +40,7 @@ fn child(e: &Expr, i: u32) -> Option<&Expr> {
 }
 
 /// The part at a place: the numbers of children on the way to it.
-pub fn part_at<'a>(e: &'a Expr, place: &[u32]) -> Option<&'a Expr> {
+pub(crate) fn part_at<'a>(e: &'a Expr, place: &[u32]) -> Option<&'a Expr> {
     let mut part = e;
     for i in place {
         match child(part, *i) {
@@ -113,7 +113,7 @@ fn push_places_of_each(
 }
 
 /// All places of an expression, a part before its own.
-pub fn places(alloc: Global, e: &Expr) -> Result<Vec<Vec<u32>>, AllocError> {
+pub(crate) fn places(alloc: Global, e: &Expr) -> Result<Vec<Vec<u32>>, AllocError> {
     let mut all = Vec::new(alloc);
     push_places(alloc, e, &[], &mut all)?;
     Ok(all)

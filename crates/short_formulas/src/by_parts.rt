@@ -101,7 +101,7 @@ fn by_parts(alloc: Global, g: &Graph, t: &Target) -> Result<Option<Candidate>, A
 }
 
 /// The candidates for a target, besides the procedure's formula, whose derivation is d.
-pub fn candidates(
+pub(crate) fn candidates(
     alloc: Global,
     g: &Graph,
     t: &Target,

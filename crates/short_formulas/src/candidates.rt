@@ -13,7 +13,7 @@ use prob_expr::{Formula, Target};
 use std::alloc::{AllocError, Global};
 
 /// A candidate without definitions, made shorter by moves.
-pub fn plain(alloc: Global, g: &Graph, held: Held) -> Result<Candidate, AllocError> {
+pub(crate) fn plain(alloc: Global, g: &Graph, held: Held) -> Result<Candidate, AllocError> {
     let mut held = held;
     improve(alloc, g, &mut held)?;
     let (main, steps) = held.into_parts();
@@ -38,7 +38,12 @@ fn push_found(found: &mut Vec<Candidate>, candidate: Option<Candidate>) -> Resul
 }
 
 /// The target's term, with its observations turned into interventions where that's asked for.
-pub fn start(alloc: Global, g: &Graph, t: &Target, turned: bool) -> Result<Held, AllocError> {
+pub(crate) fn start(
+    alloc: Global,
+    g: &Graph,
+    t: &Target,
+    turned: bool,
+) -> Result<Held, AllocError> {
     let mut held = Held::start(alloc, t.y, t.x, t.given);
     if turned {
         turn(alloc, g, &mut held)?;
@@ -194,7 +199,7 @@ fn add_by_sets(
 }
 
 /// The candidates for a target as a whole, besides the procedure's formula, whose derivation is d.
-pub fn whole(
+pub(crate) fn whole(
     alloc: Global,
     g: &Graph,
     t: &Target,

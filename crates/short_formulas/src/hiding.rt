@@ -41,7 +41,11 @@ pub struct Hidden {
 }
 
 /// The derivation of the procedure for a target, where it has one.
-pub fn derivation_in(alloc: Global, g: &Graph, t: &Target) -> Result<Option<Derivation>, AllocError>
+pub(crate) fn derivation_in(
+    alloc: Global,
+    g: &Graph,
+    t: &Target,
+) -> Result<Option<Derivation>, AllocError>
     requires sets { AreThreeSets g.now.n (has t.now.x.bits) (has t.now.y.bits) (has t.now.given.bits) }
     requires some { 0 < t.now.y.bits }
 {

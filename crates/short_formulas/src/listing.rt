@@ -10,7 +10,12 @@ use std::marker::Brand;
 use std::sync::ledger::{Blank, Ledger};
 
 /// The minimal admissible sets for the effect of x on y, at most 100, in ascending order of their lists.
-pub fn minimal_sets(alloc: Global, g: &Graph, x: VSet, y: VSet) -> Result<Vec<VSet>, AllocError>
+pub(crate) fn minimal_sets(
+    alloc: Global,
+    g: &Graph,
+    x: VSet,
+    y: VSet,
+) -> Result<Vec<VSet>, AllocError>
     requires x { Within g.now.n (has x.bits) }
     requires y { Within g.now.n (has y.bits) }
     requires apart { Apart (has x.bits) (has y.bits) }
