@@ -77,7 +77,12 @@ fn part(alloc: Global, g: &Graph, held: &mut Held, z: VSet, of: VSet) -> Result<
 }
 
 /// Makes of P(y | do(x)) the sum over z of P(z) * P(y | x, z), or where z is empty P(y) or P(y | x).
-pub fn adjust(alloc: Global, g: &Graph, held: &mut Held, z: VSet) -> Result<bool, AllocError> {
+pub(crate) fn adjust(
+    alloc: Global,
+    g: &Graph,
+    held: &mut Held,
+    z: VSet,
+) -> Result<bool, AllocError> {
     let Some(whole) = term_at(held.expr(), &[]) else {
         return Ok(false);
     };

@@ -3,6 +3,15 @@
 use do_derivation::{Derivation, Lemma, Move, Step};
 use std::alloc::{AllocError, Global};
 
+/// Which lemmas are put in where they are cited.
+#[derive(Clone, Copy)]
+pub enum PutIn {
+    /// Those that are cited once.
+    CitedOnce,
+    /// All.
+    All,
+}
+
 /// Adds one for each citation, at its lemma's number.
 #[cycle(citations)]
 fn count_citations(step: &Step, counts: &mut Vec<u32>) {
@@ -40,13 +49,44 @@ fn zeros(alloc: Global, count: usize) -> Result<Vec<u32>, AllocError> {
 }
 
 /// How often each lemma is cited.
-pub fn citations(alloc: Global, d: &Derivation) -> Result<Vec<u32>, AllocError> {
+fn citations(alloc: Global, d: &Derivation) -> Result<Vec<u32>, AllocError> {
     let mut counts = zeros(alloc, d.lemmas.len())?;
     for lemma in &d.lemmas {
         count_citations(&lemma.step, &mut counts);
     }
     count_citations(&d.main, &mut counts);
     Ok(counts)
+}
+
+/// A mark for each lemma, that it's put in.
+fn all_put_in(alloc: Global, d: &Derivation) -> Result<Vec<bool>, AllocError> {
+    let mut marks = Vec::new(alloc);
+    for _ in 0..d.lemmas.len() {
+        marks.push(true)?;
+    }
+    Ok(marks)
+}
+
+/// A mark for each lemma, whether it's cited once.
+fn cited_once(alloc: Global, d: &Derivation) -> Result<Vec<bool>, AllocError> {
+    let counts = citations(alloc, d)?;
+    let mut marks = Vec::new(alloc);
+    for count in &counts {
+        marks.push(*count == 1)?;
+    }
+    Ok(marks)
+}
+
+/// A mark for each lemma, whether it's put in.
+pub(crate) fn put_in_marks(
+    alloc: Global,
+    d: &Derivation,
+    put_in: PutIn,
+) -> Result<Vec<bool>, AllocError> {
+    match put_in {
+        PutIn::CitedOnce => cited_once(alloc, d),
+        PutIn::All => all_put_in(alloc, d),
+    }
 }
 
 /// Whether a lemma has a mark.

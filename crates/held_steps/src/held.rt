@@ -1,10 +1,13 @@
 //! An expression with the steps that led to it.
 
-ghost use Rattle.std.specs.Prelude.{IfOk, IfSome};
+ghost use Rattle.std.specs.Prelude.{◌≡◌, [], IfOk, IfSome};
 ghost use Rattle.mixed_graph.specs.Vocabulary.{graph_of};
+ghost use Rattle.prob_expr.specs.Tree.{prob};
 ghost use Rattle.prob_expr.specs.Vocabulary.{masks_of};
 ghost use Rattle.prob_expr.specs.View.{view};
-ghost use Rattle.do_derivation.specs.Vocabulary.{Makes, step_view};
+ghost use Rattle.do_derivation.specs.Plans.{Plan};
+ghost use Rattle.do_derivation.specs.Vocabulary.{Makes, move_view, step_view};
+ghost use Rattle.held_steps.specs.Holding.{at_place, IsTried};
 
 use crate::terms::are_terms;
 use do_derivation::{ApplyFault, Move, Step, apply};
@@ -32,7 +35,10 @@ pub struct Mark {
 
 impl Held {
     /// The term P(of | do(doing), given), with no step yet.
-    pub fn start(alloc: Global, of: VSet, doing: VSet, given: VSet) -> Held {
+    pub(crate) fn start(alloc: Global, of: VSet, doing: VSet, given: VSet) -> Held
+        ensures term { view result.expr ≡ prob of.bits doing.bits given.bits }
+        ensures no_step { result.steps.items ≡ [] }
+    {
         Held {
             expr: Expr::Prob { of, doing, given },
             steps: Vec::new(alloc),
@@ -47,12 +53,14 @@ impl Held {
     }
 
     /// The expression.
-    pub fn expr(&self) -> &Expr {
+    pub fn expr(&self) -> &Expr
+        ensures { view result.now ≡ view self.now.expr }
+    {
         &self.expr
     }
 
     /// The expression and the steps.
-    pub fn into_parts(self) -> (Expr, Vec<Step>) {
+    pub(crate) fn into_parts(self) -> (Expr, Vec<Step>) {
         let Held {
             expr,
             steps,
@@ -90,7 +98,9 @@ impl Held {
         g: &Graph,
         place: &[u32],
         done: Move,
-    ) -> Result<bool, AllocError> {
+    ) -> Result<bool, AllocError>
+        ensures tried { IfOk result (λ made. IsTried (graph_of g.now) place.now (Plan.Make (move_view done)) self.old self.new made) }
+    {
         self.try_step(alloc, g, place, Step::Make(done))
     }
 
@@ -101,7 +111,9 @@ impl Held {
         g: &Graph,
         place: &[u32],
         step: Step,
-    ) -> Result<bool, AllocError> {
+    ) -> Result<bool, AllocError>
+        ensures tried { IfOk result (λ made. IsTried (graph_of g.now) place.now (step_view step) self.old self.new made) }
+    {
         if self.tries == 0 {
             return Ok(false);
         }
@@ -140,11 +152,13 @@ fn applied(
 }
 
 /// The step at a place.
-fn placed(alloc: Global, place: &[u32], step: Step) -> Result<Step, AllocError> {
-    let mut made = step;
-    for i in place.iter().rev() {
-        let inner = Box::new(alloc, made)?;
-        made = Step::At(*i, inner);
-    }
-    Ok(made)
+#[tactic(auto, using(crate::proofs::Places::at_none, crate::proofs::Places::at_first))]
+fn placed(alloc: Global, place: &[u32], step: Step) -> Result<Step, AllocError>
+    ensures { IfOk result (λ made. step_view made ≡ at_place place.now (step_view step)) }
+{
+    let [i, rest @ ..] = place else {
+        return Ok(step);
+    };
+    let inner = Box::new(alloc, placed(alloc, rest, step)?)?;
+    Ok(Step::At(*i, inner))
 }

@@ -1,7 +1,7 @@
 //! Expressions held with the steps that led to them, and how steps make them shorter.
 //!
-//! `Held::start(alloc, of, doing, given)` is a term, and `held.try_step(alloc, &graph, place, step)` does a step
-//! where it isn't refused. The other public functions are lists of such steps.
+//! `started(alloc, &graph, &target, false)` holds a target's term, and `held.try_step(alloc, &graph, place, step)` does
+//! a step where it isn't refused. `adjusted`, `planned` and `replayed` are lists of such steps.
 #![tactic(auto)]
 
 mod adjusting;
@@ -16,12 +16,11 @@ mod parts;
 mod planning;
 mod replaying;
 mod terms;
+mod wholes;
 
-pub use adjusting::adjust;
 pub use candidate::Candidate;
-pub use citing::citations;
+pub use citing::PutIn;
 pub use held::Held;
-pub use moves::improve;
 pub use parts::{Term, term_at};
-pub use planning::{free, plan, turn};
 pub use replaying::replayed;
+pub use wholes::{adjusted, plain, planned, started};

@@ -181,7 +181,7 @@ fn move_in_turn(
 }
 
 /// Makes an expression shorter by moves, while one can be done and fewer than 300 steps were tried.
-pub fn improve(alloc: Global, g: &Graph, held: &mut Held) -> Result<(), AllocError> {
+pub(crate) fn improve(alloc: Global, g: &Graph, held: &mut Held) -> Result<(), AllocError> {
     held.allow(300);
     let mut seen = Seen {
         joins: Joins::none(alloc),

@@ -1,5 +1,11 @@
 //! The parts of an expression, by their places.
 
+ghost use Rattle.std.specs.Prelude.{◌≡◌, Some, IfSome, option_map};
+ghost use Rattle.prob_expr.specs.Tree.{prob};
+ghost use Rattle.prob_expr.specs.View.{view};
+ghost use Rattle.do_derivation.specs.Vocabulary.{child};
+ghost use Rattle.held_steps.specs.Holding.{part_of};
+
 use mixed_graph::VSet;
 use prob_expr::{Expr, cap};
 use std::alloc::{AllocError, Global};
@@ -22,9 +28,15 @@ impl Term {
 }
 
 /// The child of that number.
-fn child(e: &Expr, i: u32) -> Option<&Expr> {
+fn child_at(e: &Expr, i: u32) -> Option<&Expr>
+    ensures { option_map (λ c. view c.now) result ≡ child (view e.now) i }
+{
     match e {
-        Expr::Prob { .. } => None,
+        Expr::Prob {
+            of: _,
+            doing: _,
+            given: _,
+        } => None,
         Expr::Sum { over: _, body } => match i {
             0 => Some(body),
             _ => None,
@@ -40,10 +52,13 @@ fn child(e: &Expr, i: u32) -> Option<&Expr> {
 }
 
 /// The part at a place: the numbers of children on the way to it.
-pub(crate) fn part_at<'a>(e: &'a Expr, place: &[u32]) -> Option<&'a Expr> {
+#[tactic(auto, using(crate::proofs::Places::part_none, crate::proofs::Places::part_turn, crate::proofs::Places::part_whole))]
+pub(crate) fn part_at<'a>(e: &'a Expr, place: &[u32]) -> Option<&'a Expr>
+    ensures { option_map (λ part. view part.now) result ≡ part_of (view e.now) place.now }
+{
     let mut part = e;
     for i in place {
-        match child(part, *i) {
+        match child_at(part, *i) {
             Some(next) => part = next,
             None => return None,
         }
@@ -52,7 +67,9 @@ pub(crate) fn part_at<'a>(e: &'a Expr, place: &[u32]) -> Option<&'a Expr> {
 }
 
 /// The term at a place.
-pub fn term_at(e: &Expr, place: &[u32]) -> Option<Term> {
+pub fn term_at(e: &Expr, place: &[u32]) -> Option<Term>
+    ensures { IfSome result (λ t. part_of (view e.now) place.now ≡ Some (prob t.of.bits t.doing.bits t.given.bits)) }
+{
     match part_at(e, place) {
         Some(Expr::Prob { of, doing, given }) => Some(Term {
             of: *of,

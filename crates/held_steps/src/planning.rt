@@ -55,7 +55,12 @@ fn free_some(alloc: Global, g: &Graph, held: &mut Held, place: &[u32]) -> Result
 }
 
 /// Tries the rules on the term at a place while a member leaves: whether none is left.
-pub fn free(alloc: Global, g: &Graph, held: &mut Held, place: &[u32]) -> Result<bool, AllocError> {
+pub(crate) fn free(
+    alloc: Global,
+    g: &Graph,
+    held: &mut Held,
+    place: &[u32],
+) -> Result<bool, AllocError> {
     for _ in 0..64u32 {
         if !free_some(alloc, g, held, place)? {
             break;
@@ -68,7 +73,7 @@ pub fn free(alloc: Global, g: &Graph, held: &mut Held, place: &[u32]) -> Result<
 }
 
 /// Turns observations of the whole term into interventions by rule 2, the lowest first, while one can be.
-pub fn turn(alloc: Global, g: &Graph, held: &mut Held) -> Result<bool, AllocError> {
+pub(crate) fn turn(alloc: Global, g: &Graph, held: &mut Held) -> Result<bool, AllocError> {
     let mut some = false;
     for _ in 0..64u32 {
         if !turn_one(alloc, g, held)? {
@@ -121,7 +126,7 @@ fn free_chain(
 }
 
 /// Makes of P(y | do(x), given) the sum over z of a chain without interventions.
-pub fn plan(alloc: Global, g: &Graph, held: &mut Held, z: VSet) -> Result<bool, AllocError> {
+pub(crate) fn plan(alloc: Global, g: &Graph, held: &mut Held, z: VSet) -> Result<bool, AllocError> {
     let Some(Term { of, doing, given }) = term_at(held.expr(), &[]) else {
         return Ok(false);
     };

@@ -1,7 +1,9 @@
 //! A derivation done anew, with lemmas put in where they are cited, and its expressions made shorter by moves.
 
+ghost use Rattle.std.specs.Prelude.{◌≡◌, length, IfOk, IfSome};
+
 use crate::candidate::Candidate;
-use crate::citing::{expanded, is_marked};
+use crate::citing::{PutIn, expanded, is_marked, put_in_marks};
 use crate::held::Held;
 use crate::leaves::{Cited, Placed, push_leaves};
 use crate::moves::improve;
@@ -31,7 +33,9 @@ struct Parts {
 }
 
 impl Parts {
-    fn none(alloc: Global) -> Parts {
+    fn none(alloc: Global) -> Parts
+        ensures { length result.defs.items ≡ length result.lemmas.items }
+    {
         Parts {
             defs: Vec::new(alloc),
             lemmas: Vec::new(alloc),
@@ -48,7 +52,9 @@ fn keep_lemma(
     parts: &mut Parts,
     set: VSet,
     steps: Vec<Placed>,
-) -> Result<bool, AllocError> {
+) -> Result<bool, AllocError>
+    ensures { IfOk result (λ _. length parts.old.defs.items ≡ length parts.old.lemmas.items → length parts.new.defs.items ≡ length parts.new.lemmas.items) }
+{
     let others = VSet::below(g.n).difference(set);
     let sets = Vec::from_slice(alloc, parts.sets.as_slice())?;
     let mut held = Held::start(alloc, set, others, VSet::EMPTY);
@@ -69,6 +75,24 @@ fn keep_lemma(
     Ok(true)
 }
 
+/// A lemma, put in where it is cited or kept: whether no step is refused.
+fn settle(
+    alloc: Global,
+    g: &Graph,
+    parts: &mut Parts,
+    put_in: bool,
+    set: VSet,
+    steps: Vec<Placed>,
+) -> Result<bool, AllocError>
+    ensures { IfOk result (λ _. length parts.old.defs.items ≡ length parts.old.lemmas.items → length parts.new.defs.items ≡ length parts.new.lemmas.items) }
+{
+    if put_in {
+        parts.cited.push(Cited::Moves(steps))?;
+        return Ok(true);
+    }
+    keep_lemma(alloc, g, parts, set, steps)
+}
+
 /// The lemmas that stay; none where a step is refused.
 fn parts_of(
     alloc: Global,
@@ -76,14 +100,15 @@ fn parts_of(
     d: &Derivation,
     put_in: &Vec<bool>,
     kept: VSet,
-) -> Result<Option<Parts>, AllocError> {
+) -> Result<Option<Parts>, AllocError>
+    ensures { IfOk result (λ found. IfSome found (λ parts. length parts.defs.items ≡ length parts.lemmas.items)) }
+{
     let mut parts = Parts::none(alloc);
     for (k, lemma) in d.lemmas.iter().enumerate() {
         let mut steps = Vec::new(alloc);
         push_leaves(alloc, &lemma.step, &[], &parts.cited, kept, &mut steps)?;
-        if is_marked(put_in, k) {
-            parts.cited.push(Cited::Moves(steps))?;
-        } else if !keep_lemma(alloc, g, &mut parts, lemma.set, steps)? {
+        let is_put_in = is_marked(put_in, k);
+        if !settle(alloc, g, &mut parts, is_put_in, lemma.set, steps)? {
             return Ok(None);
         }
     }
@@ -91,19 +116,22 @@ fn parts_of(
 }
 
 /// The derivation done for the target, with the kept vertices alone in its sets, the lemmas that are to be
-/// put in, and moves; none where a step is refused, or where more than 12 lemmas would be put in.
+/// put in where they are cited, and moves; none where a step is refused, or where more than 12 lemmas would be put in.
 pub fn replayed(
     alloc: Global,
     g: &Graph,
     t: &Target,
     d: &Derivation,
-    put_in: &Vec<bool>,
+    put_in: PutIn,
     kept: VSet,
-) -> Result<Option<Candidate>, AllocError> {
-    if expanded(alloc, d, put_in)? > 12 {
+) -> Result<Option<Candidate>, AllocError>
+    ensures a_lemma_each { IfOk result (λ found. IfSome found (λ c. length c.formula.defs.items ≡ length c.derivation.lemmas.items)) }
+{
+    let marks = put_in_marks(alloc, d, put_in)?;
+    if expanded(alloc, d, &marks)? > 12 {
         return Ok(None);
     }
-    let Some(parts) = parts_of(alloc, g, d, put_in, kept)? else {
+    let Some(parts) = parts_of(alloc, g, d, &marks, kept)? else {
         return Ok(None);
     };
     let Parts {

@@ -5,12 +5,12 @@ ghost use Rattle.std.specs.Prelude.{ℕ, ◌<◌};
 ghost use Rattle.mixed_graph.specs.Vocabulary.{has};
 ghost use Rattle.do_rules.specs.Vocabulary.{AreThreeSets};
 
-use crate::candidates::{plain, start, whole};
+use crate::candidates::whole;
 use crate::hiding::derivation_in;
 use crate::measuring::length;
 use do_derivation::{BareMove, Derivation, Move, Step};
 use do_rules::are_three_sets;
-use held_steps::{Candidate, Held, term_at};
+use held_steps::{Candidate, Held, plain, started, term_at};
 use mixed_graph::Graph;
 use prob_expr::Target;
 use std::alloc::{AllocError, Global};
@@ -93,7 +93,7 @@ fn shorten_parts(alloc: Global, g: &Graph, held: &mut Held) -> Result<bool, Allo
 
 /// The candidate by parts, once what can turn into an intervention has.
 fn by_parts(alloc: Global, g: &Graph, t: &Target) -> Result<Option<Candidate>, AllocError> {
-    let mut held = start(alloc, g, t, true)?;
+    let mut held = started(alloc, g, t, true)?;
     if shorten_parts(alloc, g, &mut held)? {
         return Ok(Some(plain(alloc, g, held)?));
     }

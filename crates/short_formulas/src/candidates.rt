@@ -6,28 +6,11 @@ ghost use Rattle.do_rules.specs.Vocabulary.{AreThreeSets};
 
 use crate::hiding::{Hidden, Sweep, derivation_in, hide};
 use crate::listing::minimal_sets;
-use do_derivation::{Derivation, Step};
-use held_steps::{Candidate, Held, adjust, citations, free, improve, plan, replayed, turn};
+use do_derivation::Derivation;
+use held_steps::{Candidate, PutIn, adjusted, planned, replayed};
 use mixed_graph::{Graph, VSet};
-use prob_expr::{Formula, Target};
+use prob_expr::Target;
 use std::alloc::{AllocError, Global};
-
-/// A candidate without definitions, made shorter by moves.
-pub(crate) fn plain(alloc: Global, g: &Graph, held: Held) -> Result<Candidate, AllocError> {
-    let mut held = held;
-    improve(alloc, g, &mut held)?;
-    let (main, steps) = held.into_parts();
-    Ok(Candidate {
-        formula: Formula {
-            defs: Vec::new(alloc),
-            main,
-        },
-        derivation: Derivation {
-            lemmas: Vec::new(alloc),
-            main: Step::Then(steps),
-        },
-    })
-}
 
 /// Adds a candidate, where there is one.
 fn push_found(found: &mut Vec<Candidate>, candidate: Option<Candidate>) -> Result<(), AllocError> {
@@ -35,54 +18,6 @@ fn push_found(found: &mut Vec<Candidate>, candidate: Option<Candidate>) -> Resul
         found.push(candidate)?;
     }
     Ok(())
-}
-
-/// The target's term, with its observations turned into interventions where that's asked for.
-pub(crate) fn start(
-    alloc: Global,
-    g: &Graph,
-    t: &Target,
-    turned: bool,
-) -> Result<Held, AllocError> {
-    let mut held = Held::start(alloc, t.y, t.x, t.given);
-    if turned {
-        turn(alloc, g, &mut held)?;
-    }
-    Ok(held)
-}
-
-/// The adjustment formula of a set, where its derivation stands.
-fn adjusted(
-    alloc: Global,
-    g: &Graph,
-    t: &Target,
-    z: VSet,
-) -> Result<Option<Candidate>, AllocError> {
-    let mut held = start(alloc, g, t, false)?;
-    if adjust(alloc, g, &mut held, z)? {
-        return Ok(Some(plain(alloc, g, held)?));
-    }
-    planned(alloc, g, t, z, false)
-}
-
-/// The plan by a set, where its derivation stands: at once, or once what can leave the intervention has left it.
-fn planned(
-    alloc: Global,
-    g: &Graph,
-    t: &Target,
-    z: VSet,
-    turned: bool,
-) -> Result<Option<Candidate>, AllocError> {
-    let mut held = start(alloc, g, t, turned)?;
-    if plan(alloc, g, &mut held, z)? {
-        return Ok(Some(plain(alloc, g, held)?));
-    }
-    let mut held = start(alloc, g, t, turned)?;
-    free(alloc, g, &mut held, &[])?;
-    if plan(alloc, g, &mut held, z)? {
-        return Ok(Some(plain(alloc, g, held)?));
-    }
-    Ok(None)
 }
 
 /// The adjustment formula of the first set with so many members for which its derivation stands.
@@ -120,25 +55,6 @@ fn add_adjusted(
     Ok(())
 }
 
-/// A mark for each lemma, that it's put in.
-fn all_put_in(alloc: Global, d: &Derivation) -> Result<Vec<bool>, AllocError> {
-    let mut marks = Vec::new(alloc);
-    for _ in 0..d.lemmas.len() {
-        marks.push(true)?;
-    }
-    Ok(marks)
-}
-
-/// A mark for each lemma, whether it's cited once.
-fn cited_once(alloc: Global, d: &Derivation) -> Result<Vec<bool>, AllocError> {
-    let counts = citations(alloc, d)?;
-    let mut marks = Vec::new(alloc);
-    for count in &counts {
-        marks.push(*count == 1)?;
-    }
-    Ok(marks)
-}
-
 /// Adds what comes of hiding vertices in an order: whether one was hidden.
 fn add_hidden(
     alloc: Global,
@@ -161,8 +77,7 @@ fn add_hidden(
         return Ok(false);
     }
     if let Some(derivation) = derivation_in(alloc, &graph, t)? {
-        let marks = all_put_in(alloc, &derivation)?;
-        push_found(found, replayed(alloc, g, t, &derivation, &marks, kept)?)?;
+        push_found(found, replayed(alloc, g, t, &derivation, PutIn::All, kept)?)?;
     }
     Ok(true)
 }
@@ -176,10 +91,8 @@ fn add_own(
     found: &mut Vec<Candidate>,
 ) -> Result<(), AllocError> {
     let all = VSet::below(g.n);
-    let once = cited_once(alloc, d)?;
-    push_found(found, replayed(alloc, g, t, d, &once, all)?)?;
-    let every = all_put_in(alloc, d)?;
-    push_found(found, replayed(alloc, g, t, d, &every, all)?)
+    push_found(found, replayed(alloc, g, t, d, PutIn::CitedOnce, all)?)?;
+    push_found(found, replayed(alloc, g, t, d, PutIn::All, all)?)
 }
 
 /// Adds the adjustment formula of the smallest minimal set.
