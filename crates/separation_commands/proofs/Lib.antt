@@ -1,4 +1,3 @@
-mod EdgeRows
 pub mod GraphLawful
 mod SeparateSets
 pub mod SeparateLawful

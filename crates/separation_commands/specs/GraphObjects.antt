@@ -1,12 +1,14 @@
 -- The object of a graph.
-use Rattle.std.specs.Prelude.{ℕ, List, [], ◌∷◌, map, Option, Some, None, codes}
+use Rattle.std.specs.Prelude.{ℕ, List, [], ◌∷◌, ◌++◌, map, Option, Some, None, codes}
 use Rattle.json.specs.Json.{Json, null, string}
+use Rattle.mixed_graph.specs.Vocabulary.{graph_of}
 use Rattle.dag_reader.specs.declared.graph.ReadGraph.{ReadGraph}
 use Rattle.dag_reader.specs.declared.marks.Role.{Role}
 use Rattle.dag_reader.specs.declared.marks.Role.TheVariants.{Exposure, Outcome, Adjusted, Latent}
 use Rattle.dag_reader.specs.Vocabulary.{count_up, role_at, drawn_of}
 use Rattle.dag_reader.specs.Written.{written}
-use Rattle.answer_json.specs.Vocabulary.{array_of, object_of, text_json, vertex_json, pairs_json}
+use Rattle.answer_json.specs.Vocabulary.{array_of, object_of, text_json, vertex_json}
+use Rattle.graph_json.specs.Vocabulary.{edge_members}
 
 -- a role, or null
 abbrev pub role_json : Option Role → Json
@@ -24,8 +26,7 @@ named_vertex_json g v = object_of ((codes "name", vertex_json g.names v) ∷ (co
 abbrev pub named_vertices_json : ReadGraph → Json
 named_vertices_json g = array_of (map (named_vertex_json g) (count_up g.graph.n))
 
--- a graph: its vertices, each kind of edges sorted, and its text
+-- a graph: its vertices, its edges, and its text
 abbrev pub graph_members : ReadGraph → List (List ℕ × Json)
 graph_members g = (codes "answer", string (codes "graph")) ∷ (codes "vertices", named_vertices_json g)
-    ∷ (codes "directed", pairs_json g.names (drawn_of g).arrows) ∷ (codes "bidirected", pairs_json g.names (drawn_of g).doubles)
-    ∷ (codes "text", text_json (written (drawn_of g))) ∷ []
+    ∷ (edge_members g.names (graph_of g.graph) ++ (codes "text", text_json (written (drawn_of g))) ∷ [])

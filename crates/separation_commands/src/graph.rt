@@ -1,6 +1,5 @@
 //! The command `graph`: a graph, or its observed graph.
 mod answer;
-mod edges;
 mod objects;
 mod reply;
 mod request;

@@ -1,13 +1,13 @@
 //! The members of the object of a graph.
 
 ghost use Rattle.std.specs.Prelude.{◌≡◌, ◌<◌, OnOk, length, map, codes};
-ghost use Rattle.dag_reader.specs.Vocabulary.{count_up, role_at, drawn_of};
-ghost use Rattle.answer_json.specs.Vocabulary.{with_value, with_values, with_member, with_members, pairs_json};
+ghost use Rattle.dag_reader.specs.Vocabulary.{count_up, role_at};
+ghost use Rattle.answer_json.specs.Vocabulary.{with_value, with_values, with_member, with_members};
 ghost use Rattle.separation_commands.specs.GraphObjects.{role_json, named_vertex_json, named_vertices_json, graph_members};
 
-use crate::graph::edges::{push_bidirected, push_directed};
 use answer_json::Object;
 use dag_reader::{ReadGraph, write_graph};
+use graph_json::push_edges;
 use std::alloc::AllocError;
 
 /// The role of vertex v, or null.
@@ -66,30 +66,6 @@ fn push_vertices_at(object: &mut Object, g: &ReadGraph) -> Result<(), AllocError
     Ok(())
 }
 
-/// The member `directed`.
-#[tactic(auto, using(answer_json::proofs::Arrays::array_written))]
-fn push_directed_at(object: &mut Object, g: &ReadGraph) -> Result<(), AllocError>
-    ensures { OnOk result (object.new ≡ with_member (codes "directed") (pairs_json g.now.names (drawn_of g.now).arrows) object.old) }
-{
-    object.key("directed")?;
-    object.begin_array()?;
-    push_directed(object, g)?;
-    object.end_array()?;
-    Ok(())
-}
-
-/// The member `bidirected`.
-#[tactic(auto, using(answer_json::proofs::Arrays::array_written))]
-fn push_bidirected_at(object: &mut Object, g: &ReadGraph) -> Result<(), AllocError>
-    ensures { OnOk result (object.new ≡ with_member (codes "bidirected") (pairs_json g.now.names (drawn_of g.now).doubles) object.old) }
-{
-    object.key("bidirected")?;
-    object.begin_array()?;
-    push_bidirected(object, g)?;
-    object.end_array()?;
-    Ok(())
-}
-
 /// The members of a graph.
 pub fn push_graph(object: &mut Object, g: &ReadGraph) -> Result<(), AllocError>
     ensures { OnOk result (object.new ≡ with_members (graph_members g.now) object.old) }
@@ -97,7 +73,6 @@ pub fn push_graph(object: &mut Object, g: &ReadGraph) -> Result<(), AllocError>
     let text = write_graph(object.alloc(), g)?;
     object.word_at("answer", "graph")?;
     push_vertices_at(object, g)?;
-    push_directed_at(object, g)?;
-    push_bidirected_at(object, g)?;
+    push_edges(object, &g.names, &g.graph)?;
     object.text_at("text", text.as_slice())
 }

@@ -1,10 +1,10 @@
 -- Edges that are written row by row.
 use Rattle.std.proofs.Common.{◌≡◌, ℕ, ◌+◌, ◌≤◌, Bool, ◌&&◌, List, [], ◌∷◌, ◌++◌, map, inl, inr, refl, sym, ap, ap₂, ◌∙◌, arith}
 use Rattle.std.specs.Prelude.{nat_lt, not}
-use Rattle.std.proofs.lemmas.Bool.{and_parts, ltb-true, lt-ltb, le-ltb, cases_lt}
+use Rattle.std.proofs.lemmas.Bool.{lt-ltb, le-ltb, cases_lt}
 use Rattle.std.specs.List.{flat_map}
 use Rattle.std.proofs.lemmas.List.{map-append}
-use Rattle.mixed_graph.specs.Vocabulary.{has, members_below, Within}
+use Rattle.mixed_graph.specs.Vocabulary.{has, members_below}
 use Rattle.dag_reader.specs.Vocabulary.{count_up}
 use Rattle.dag_reader.proofs.RowPairs.{rows_begin, rows_more}
 use Rattle.dag_reader.proofs.Joined.{members-cut}
@@ -50,10 +50,6 @@ one_row_more names n joined a ends few are old p q so is =
 pub cut_off : (n row all ends : ℕ) (s : ℕ → Bool) → ((v : ℕ) → has row v ≡ s v) → ((v : ℕ) → has all v ≡ nat_lt v n)
     → ((v : ℕ) → has ends v ≡ (has row v && has all v)) → (v : ℕ) → has ends v ≡ (s v && nat_lt v n)
 cut_off n row all ends s is below both v = both v ∙ ap₂ (λ p q. p && q) (is v) (below v)
-
--- is within n
-pub cut_within : (n ends : ℕ) (s : ℕ → Bool) → ((v : ℕ) → has ends v ≡ (s v && nat_lt v n)) → Within n (has ends)
-cut_within n ends s is = λ v h. ltb-true v n (and_parts (s v) (nat_lt v n) (sym (is v) ∙ h)).1
 
 -- what isn't below a + 1 is behind a
 behind : (a v : ℕ) → not (nat_lt v (a + 1)) ≡ nat_lt a v

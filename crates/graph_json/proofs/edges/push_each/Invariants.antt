@@ -1,6 +1,6 @@
 use Rattle.std.proofs.Common.{◌≡◌, map, drop}
 use Rattle.answer_json.specs.Vocabulary.{with_values, pair_json}
-use Rattle.separation_commands.proofs.graph.edges.push_each.Given as goal
+use Rattle.graph_json.proofs.edges.push_each.Given as goal
 
 -- the pairs that are still to come complete them all
 abbrev pub invariant-loop-b : goal.invariant-loop-b
