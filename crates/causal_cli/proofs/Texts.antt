@@ -1,5 +1,5 @@
 -- That the text of an answer is fixed.
-use Rattle.std.proofs.Common.{◌≡◌, ◌≢◌, ◌≤◌, ℕ, Bool, true, false, List, [], ◌∷◌, ◌&&◌, nat_lt, map, Some, Result, Ok, Err, codes, refl, sym, ap, ◌∙◌}
+use Rattle.std.proofs.Common.{◌≡◌, ◌≢◌, ◌≤◌, ℕ, Bool, true, false, List, [], ◌∷◌, ◌++◌, ◌&&◌, nat_lt, map, Some, Result, Ok, Err, codes, refl, sym, ap, ap₂, ◌∙◌}
 use Rattle.std.proofs.Common.{subst, arith}
 use mathlib.Core.Path.{fun_ext}
 use Rattle.std.proofs.lemmas.Bool.{false≢true}
@@ -30,8 +30,8 @@ use Rattle.told.specs.declared.form.Form.{Form}
 use Rattle.told.specs.Vocabulary.{plain_form, target_refusal, Refusal, Tells, outcome_in, told_in}
 use Rattle.told.proofs.OneTold.{one_told as told_once}
 use Rattle.told.specs.Telling.{Telling}
-use Rattle.effect_answers.specs.Vocabulary.{effect_of, joint_text, joint_object}
-use Rattle.effect_answers.proofs.OneNo.{one_hedge_text, one_joint_text, one_joint_object}
+use Rattle.effect_answers.specs.Vocabulary.{joint_text, joint_object}
+use Rattle.effect_answers.proofs.OneNo.{one_hedge_text, one_joint_text, one_hedge_object, one_joint_object}
 use Rattle.separation_commands.specs.Vocabulary.{graph_command, role_json, graph_members, IsGraphAnswer, shown_of, graph_telling, separate_command, separate_telling, rule_command, rule_telling}
 use Rattle.separation_commands.specs.declared.graph.answer.Answer.{Answer as GraphAnswer}
 use Rattle.separation_commands.specs.SeparateRight as separate_right
@@ -46,7 +46,7 @@ use Rattle.identify_command.specs.Vocabulary.{identify_command, is_certified, to
 use Rattle.identify_command.specs.declared.answer.Answer.TheVariants as identified
 use Rattle.identify_command.proofs.Lawful.{same_asked}
 use Rattle.identify_command.proofs.Lists.{one_target}
-use Rattle.identify_command.proofs.OneText.{one_identification, joint_sets, one_sets as one_effect_sets}
+use Rattle.identify_command.proofs.OneText.{one_identification, one_settled, joint_sets, one_sets as one_effect_sets}
 use Rattle.surrogate_command.specs.declared.answer.Answer.{Answer as SurrogateAnswer}
 use Rattle.surrogate_command.specs.declared.form.Form.{Form as SurrogateForm}
 use Rattle.surrogate_command.specs.Vocabulary.{wants_common, told_form as surrogate_form, IsForNames as IsForExperiments, SurrogateLists, surrogate_lists, surrogate_telling, surrogate_command}
@@ -275,8 +275,7 @@ hedges_once form d names l (evaluated.Hedge h) (evaluated.Hedge k) f g =
     let q = graph_of d.observed.graph in
     let same : k.sets ≡ h.sets = one_effect_sets l h.sets k.sets f.0 g.0 in
     let text = one_hedge_text q d.observed.graph.valid d.observed.graph.small names h k same f.1 g.1 form.writing in
-    let object = one_joint_object q d.observed.graph.valid d.observed.graph.small names h k same f.1 g.1 form.writing (effect_of k)
-    ∙ ap (λ (s : EffectSets). joint_object form.writing names (effect_on s.x.bits s.y.bits) h) same in
+    let object = one_hedge_object q d.observed.graph.valid d.observed.graph.small names h k same f.1 g.1 form.writing in
     λ i. answer_of (text_in form.format (text i) (json_line (object_of (object i))))
 hedges_once form d names l (evaluated.Values v) b f g = absurd f
 hedges_once form d names l (evaluated.Joint t settled h) b f g = absurd f
@@ -300,8 +299,9 @@ joints_once form d names l (evaluated.Joint u settled h) (evaluated.Joint v othe
     let same = joint_sets q (target_view u) h k f.1.joint joint.joint in
     let text = ap (λ (t : PlainTarget). joint_text form.writing names t k) vs
     ∙ one_joint_text q d.observed.graph.valid d.observed.graph.small names h k same f.1.hedge joint.hedge form.writing (target_view u) in
-    let object = ap (λ (t : PlainTarget). joint_object form.writing names t k) vs
-    ∙ one_joint_object q d.observed.graph.valid d.observed.graph.small names h k same f.1.hedge joint.hedge form.writing (target_view u) in
+    let object = ap₂ (λ (t : PlainTarget) (is : Bool). joint_object form.writing names t is k) vs
+    (one_settled q (target_view u) settled other h k f.1 joint)
+    ∙ one_joint_object q d.observed.graph.valid d.observed.graph.small names h k same f.1.hedge joint.hedge form.writing (target_view u) settled in
     λ i. answer_of (text_in form.format (text i) (json_line (object_of (object i))))
 joints_once form d names l (evaluated.Values v) b f g = absurd f
 joints_once form d names l (evaluated.Hedge h) b f g = absurd f

@@ -10,7 +10,6 @@ use Rattle.finite_models.specs.declared.model.Cause.{Cause}
 use Rattle.finite_models.specs.declared.model.Part.{Part}
 use Rattle.finite_models.specs.declared.model.Mechanism.{Mechanism}
 use Rattle.finite_models.specs.declared.model.Mechanism.TheVariants.{Table, Parity}
-use Rattle.prob_expr.specs.Vocabulary.{PlainTarget}
 use Rattle.hedge.specs.declared.hedge.Hedge.{Hedge}
 use Rattle.counter_models.specs.declared.counter_pair.CounterPair.{CounterPair}
 use Rattle.identify_text.specs.Vocabulary.{chooses}
@@ -18,7 +17,7 @@ use Rattle.answer_json.specs.Vocabulary.{array_of, object_of, set_json, vertex_j
 use Rattle.hedge_json.specs.declared.bits.Bit.{Bit}
 use Rattle.hedge_json.specs.declared.bits.Bit.TheVariants.{HedgeBit, CarriedBit}
 use Rattle.hedge_json.specs.Vocabulary.{choice_json, choices_json, link_json, links_json, hedge_json, cause_json, bit_members, bit_json, bits_json, cause_term, terms_json, part_values, mechanism_values, vertex_values, event_json, models_json}
-use Rattle.effect_answers.specs.Objects.{target_members, effect_json, joint_json, hedge_members}
+use Rattle.effect_answers.specs.Objects.{hedge_members}
 use Rattle.effect_answers.proofs.OneHedge.{AreAlike}
 use Rattle.effect_answers.proofs.AlikePairs.{members_alike, AreSameCauses, IsSamePart, AreSameParts, IsSameMechanism, AreSameMechanisms, ArePairsAlike}
 
@@ -130,12 +129,8 @@ models_alike names p q same =
 
 -- ---- objects
 
-abbrev members_with : List (List ℕ) → PlainTarget → (x y : ℕ) → (hedge models : Json) → List (List ℕ × Json)
-members_with names t x y hedge models =
-    (codes "answer", string (codes "hedge")) ∷ (target_members names t
-    ++ (codes "effect", effect_json names t) ∷ (codes "joint", joint_json names x y) ∷ (codes "hedge", hedge) ∷ (codes "models", models) ∷ [])
-
 -- hedges that are alike, with pairs that are, have the same members
-pub objects_alike : (names : List (List ℕ)) (t : PlainTarget) (x y : ℕ) (h k : Hedge) (p q : CounterPair) → AreAlike h k → ArePairsAlike p q
-    → hedge_members names t x y k q ≡ hedge_members names t x y h p
-objects_alike names t x y h k p q a same = ap₂ (members_with names t x y) (hedges_alike names h k a) (models_alike names p q same)
+pub objects_alike : (names : List (List ℕ)) (h k : Hedge) (p q : CounterPair) → AreAlike h k → ArePairsAlike p q
+    → hedge_members names k q ≡ hedge_members names h p
+objects_alike names h k p q a same =
+    ap₂ (λ (hedge models : Json). (codes "hedge", hedge) ∷ (codes "models", models) ∷ []) (hedges_alike names h k a) (models_alike names p q same)

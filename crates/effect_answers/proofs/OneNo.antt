@@ -1,7 +1,7 @@
 -- Where the procedure stops, one thing is told of its hedge: its text, its certificate, and the members of its object.
-use Rattle.std.proofs.Common.{◌≡◌, ◌≤◌, ℕ, List, ◌++◌, Some, sym, ap, ap₂, ◌∙◌, subst}
+use Rattle.std.proofs.Common.{◌≡◌, ◌≤◌, ℕ, Bool, List, ◌∷◌, ◌++◌, Some, sym, ap, ap₂, ◌∙◌, subst}
 use Rattle.std.specs.Prelude.{codes}
-use Rattle.json.specs.Json.{Json}
+use Rattle.json.specs.Json.{Json, boolean}
 use Rattle.mixed_graph.specs.Vocabulary.{MixedGraph, IsMixedGraph}
 use Rattle.hedge.specs.declared.hedge.Hedge.{Hedge}
 use Rattle.counter_models.specs.declared.counter_pair.CounterPair.{CounterPair}
@@ -17,9 +17,9 @@ use Rattle.told.specs.declared.form.Writing.{Writing}
 use Rattle.told.specs.declared.form.Writing.TheVariants.{Plain, Latex, Certificate}
 use Rattle.effect_answers.specs.declared.hedges.EffectHedge.{EffectHedge}
 use Rattle.effect_answers.specs.Certificates.{member_in}
-use Rattle.effect_answers.specs.HedgeTelling.{hedge_certificate, hedge_text, joint_text, joint_object}
+use Rattle.effect_answers.specs.HedgeTelling.{hedge_certificate, hedge_text, joint_text, pair_object, hedge_object, joint_object}
 use Rattle.effect_answers.specs.Hedges.{IsFoundHedge}
-use Rattle.effect_answers.specs.Objects.{hedge_members}
+use Rattle.effect_answers.specs.Objects.{joint_members}
 use Rattle.effect_answers.specs.Right.{IsEffectHedge}
 use Rattle.effect_answers.proofs.OneHedge.{AreAlike, hedges_alike}
 use Rattle.effect_answers.proofs.AlikePairs.{ArePairsAlike, pairs_alike}
@@ -74,11 +74,15 @@ module _ (q : MixedGraph) (valid : IsMixedGraph q) (few : q.vertices ≤ 64) (na
   one_joint_text Latex t = joined t
   one_joint_text Certificate t = ap (certificate_line names) certificates
 
-  members : (t : PlainTarget) → hedge_members names t k.sets.x.bits k.sets.y.bits k.hedge k.pair ≡ hedge_members names t x y h.hedge h.pair
-  members t = ap (λ (s : EffectSets). hedge_members names t s.x.bits s.y.bits k.hedge k.pair) same
-      ∙ objects_alike names t x y h.hedge k.hedge h.pair k.pair alike pairs
+  models : (w : Writing) → pair_object w names k ≡ pair_object w names h
+  models w = ap₂ (λ (l m : List (List ℕ × Json)). l ++ m) (objects_alike names h.hedge k.hedge h.pair k.pair alike pairs)
+      (ap (λ (c : plain.PlainCertificate). member_in w names (Some c)) certificates)
 
   -- and one object
-  pub one_joint_object : (w : Writing) (t : PlainTarget) → joint_object w names t k ≡ joint_object w names t h
-  one_joint_object w t =
-      ap₂ (λ (l m : List (List ℕ × Json)). l ++ m) (members t) (ap (λ (c : plain.PlainCertificate). member_in w names (Some c)) certificates)
+  pub one_hedge_object : (w : Writing) → hedge_object w names k ≡ hedge_object w names h
+  one_hedge_object w = ap₂ (λ (s : EffectSets) (l : List (List ℕ × Json)).
+      joint_members names (effect_on s.x.bits s.y.bits) s.x.bits s.y.bits ++ l) same (models w)
+
+  pub one_joint_object : (w : Writing) (t : PlainTarget) (settled : Bool) → joint_object w names t settled k ≡ joint_object w names t settled h
+  one_joint_object w t settled = ap₂ (λ (s : EffectSets) (l : List (List ℕ × Json)).
+      joint_members names t s.x.bits s.y.bits ++ (codes "settled", boolean settled) ∷ l) same (models w)

@@ -1,6 +1,6 @@
 -- What is told of a hedge with its two models.
-use Rattle.std.specs.Prelude.{ℕ, List, ◌++◌, Some}
-use Rattle.json.specs.Json.{Json}
+use Rattle.std.specs.Prelude.{ℕ, Bool, List, ◌∷◌, ◌++◌, Some, codes}
+use Rattle.json.specs.Json.{Json, boolean}
 use Rattle.prob_expr.specs.Vocabulary.{PlainTarget, effect_on}
 use Rattle.identify_text.specs.Vocabulary.{hedge_answer, joint_answer}
 use Rattle.certificate.specs.Vocabulary.{PlainCertificate, hedge_view}
@@ -10,7 +10,7 @@ use Rattle.told.specs.declared.form.Writing.{Writing}
 use Rattle.told.specs.declared.form.Writing.TheVariants.{Plain, Latex, Certificate}
 use Rattle.effect_answers.specs.declared.hedges.EffectHedge.{EffectHedge}
 use Rattle.effect_answers.specs.Certificates.{member_in}
-use Rattle.effect_answers.specs.Objects.{hedge_members}
+use Rattle.effect_answers.specs.Objects.{joint_members, hedge_members}
 
 -- the effect of x on y for which it is a hedge
 abbrev pub effect_of : EffectHedge → PlainTarget
@@ -32,10 +32,14 @@ joint_text Plain names t a = joint_answer names t a.sets.x.bits a.sets.y.bits a.
 joint_text Latex names t a = joint_answer names t a.sets.x.bits a.sets.y.bits a.hedge a.pair
 joint_text Certificate names t a = certificate_line names (hedge_certificate a)
 
--- the members of its object, for the target that turns into the effect of x on y
-abbrev pub joint_object : Writing → List (List ℕ) → PlainTarget → EffectHedge → List (List ℕ × Json)
-joint_object w names t a = hedge_members names t a.sets.x.bits a.sets.y.bits a.hedge a.pair ++ member_in w names (Some (hedge_certificate a))
+-- what stands in its object behind the effect of x on y: the hedge with its two models, and the certificate, where that is asked for
+abbrev pub pair_object : Writing → List (List ℕ) → EffectHedge → List (List ℕ × Json)
+pair_object w names a = hedge_members names a.hedge a.pair ++ member_in w names (Some (hedge_certificate a))
 
--- and for that effect itself
+-- the members of its object, for that effect itself
 abbrev pub hedge_object : Writing → List (List ℕ) → EffectHedge → List (List ℕ × Json)
-hedge_object w names a = joint_object w names (effect_of a) a
+hedge_object w names a = joint_members names (effect_of a) a.sets.x.bits a.sets.y.bits ++ pair_object w names a
+
+-- and for a target that turns into that effect, with whether it is settled that the two models differ on the target too
+abbrev pub joint_object : Writing → List (List ℕ) → PlainTarget → (settled : Bool) → EffectHedge → List (List ℕ × Json)
+joint_object w names t settled a = joint_members names t a.sets.x.bits a.sets.y.bits ++ (codes "settled", boolean settled) ∷ pair_object w names a

@@ -44,11 +44,13 @@ formula_members names t f =
 abbrev pub joint_json : List (List ℕ) → (x y : ℕ) → Json
 joint_json names x y = object_of ((codes "y", set_json names y) ∷ (codes "x", set_json names x) ∷ [])
 
--- the members of the object of a hedge for the effect of x on y, into which the target turns, with its two models
-abbrev pub hedge_members : List (List ℕ) → PlainTarget → (x y : ℕ) → Hedge → CounterPair → List (List ℕ × Json)
-hedge_members names t x y h pair =
+-- the members of the object of a hedge up to the effect of x on y that it is of, into which the target turns
+abbrev pub joint_members : List (List ℕ) → PlainTarget → (x y : ℕ) → List (List ℕ × Json)
+joint_members names t x y =
     (codes "answer", string (codes "hedge")) ∷ (target_members names t
     ++ (codes "effect", effect_json names t)
-    ∷ (codes "joint", joint_json names x y)
-    ∷ (codes "hedge", hedge_json names h)
-    ∷ (codes "models", models_json names pair) ∷ [])
+    ∷ (codes "joint", joint_json names x y) ∷ [])
+
+-- those of the hedge with its two models
+abbrev pub hedge_members : List (List ℕ) → Hedge → CounterPair → List (List ℕ × Json)
+hedge_members names h pair = (codes "hedge", hedge_json names h) ∷ (codes "models", models_json names pair) ∷ []

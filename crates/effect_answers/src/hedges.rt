@@ -4,7 +4,7 @@ ghost use Rattle.std.specs.Prelude.{◌≡◌, Some, IfOk, OnOk};
 ghost use Rattle.effect_answers.specs.Hedges.{HasArrays};
 
 use crate::effects::target_of;
-use crate::objects::push_hedge_answer;
+use crate::objects::{push_joint_answer, push_pair, push_settled};
 use answer_json::Object;
 use certificate_json::{hedge_certificate_line, push_hedge_certificate};
 use counter_models::CounterPair;
@@ -29,7 +29,7 @@ impl EffectHedge {
     ghost use Rattle.prob_expr.specs.View.{target_view};
     ghost use Rattle.certificate_json.specs.Certificates.{certificate_line};
     ghost use Rattle.effect_answers.specs.Certificates.{member_of, member_in};
-    ghost use Rattle.effect_answers.specs.HedgeTelling.{hedge_certificate, hedge_text, joint_text, hedge_object, joint_object};
+    ghost use Rattle.effect_answers.specs.HedgeTelling.{hedge_certificate, hedge_text, joint_text, pair_object, hedge_object, joint_object};
 
     /// That the effect isn't identifiable, with the hedge and its two models; or the hedge's certificate.
     pub fn text(
@@ -95,20 +95,36 @@ impl EffectHedge {
         ensures { OnOk result (object.new ≡ with_members (hedge_object writing names.now self.now) object.old) }
     {
         let target = target_of(self.sets);
-        self.push_joint(object, names, &target, writing)
+        push_joint_answer(object, names, &target, self.sets)?;
+        self.push_models(object, names, writing)
     }
 
-    /// The same where a target turns into the effect of x on y.
+    /// The same where a target turns into the effect of x on y, with whether it is settled that the two models differ on the target too.
     pub fn push_joint(
         &self,
         object: &mut Object,
         names: &Names,
         target: &Target,
+        settled: bool,
         writing: Writing,
     ) -> Result<(), AllocError>
-        ensures { OnOk result (object.new ≡ with_members (joint_object writing names.now (target_view target.now) self.now) object.old) }
+        ensures { OnOk result (object.new ≡ with_members (joint_object writing names.now (target_view target.now) settled self.now) object.old) }
     {
-        push_hedge_answer(object, names, target, self.sets, &self.hedge, &self.pair)?;
+        push_joint_answer(object, names, target, self.sets)?;
+        push_settled(object, settled)?;
+        self.push_models(object, names, writing)
+    }
+
+    /// Adds the members of the hedge and its two models, and the certificate, where that is asked for.
+    fn push_models(
+        &self,
+        object: &mut Object,
+        names: &Names,
+        writing: Writing,
+    ) -> Result<(), AllocError>
+        ensures { OnOk result (object.new ≡ with_members (pair_object writing names.now self.now) object.old) }
+    {
+        push_pair(object, names, &self.hedge, &self.pair)?;
         self.push_certificate(object, names, writing)
     }
 

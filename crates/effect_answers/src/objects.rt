@@ -1,12 +1,13 @@
 //! The objects of answers to the effect of x on y.
 
 ghost use Rattle.std.specs.Prelude.{◌≡◌, ◌++◌, codes, map, IfOk, OnOk};
+ghost use Rattle.json.specs.Json.{boolean};
 ghost use Rattle.prob_expr.specs.View.{view};
 ghost use Rattle.prob_expr.specs.Vocabulary.{formula_view, target_view};
 ghost use Rattle.identify_text.specs.Vocabulary.{free_beside};
 ghost use Rattle.certificate_json.specs.Vocabulary.{expr_json};
 ghost use Rattle.answer_json.specs.Vocabulary.{with_member, with_members, array_of, text_json, set_json};
-ghost use Rattle.effect_answers.specs.Objects.{target_members, effect_json, joint_json, equation_latex, formula_members, hedge_members};
+ghost use Rattle.effect_answers.specs.Objects.{target_members, effect_json, joint_json, equation_latex, formula_members, joint_members, hedge_members};
 
 use answer_json::Object;
 use answer_text::Notation;
@@ -133,21 +134,38 @@ fn push_joint(object: &mut Object, names: &Names, sets: EffectSets) -> Result<()
     Ok(())
 }
 
-/// Adds the members of a hedge for the effect of x on y into which a target turns, with its two models.
-pub fn push_hedge_answer(
+/// Adds the members of a hedge up to the effect of x on y that it is of, into which a target turns.
+pub fn push_joint_answer(
     object: &mut Object,
     names: &Names,
     target: &Target,
     sets: EffectSets,
-    hedge: &Hedge,
-    pair: &CounterPair,
 ) -> Result<(), AllocError>
-    ensures { OnOk result (object.new ≡ with_members (hedge_members names.now (target_view target.now) sets.x.bits sets.y.bits hedge.now pair.now) object.old) }
+    ensures { OnOk result (object.new ≡ with_members (joint_members names.now (target_view target.now) sets.x.bits sets.y.bits) object.old) }
 {
     object.word_at("answer", "hedge")?;
     push_target(object, names, target)?;
     push_effect(object, names, target)?;
-    push_joint(object, names, sets)?;
+    push_joint(object, names, sets)
+}
+
+/// Adds the member that says whether it is settled that the two models differ on the target too.
+pub fn push_settled(object: &mut Object, settled: bool) -> Result<(), AllocError>
+    ensures { OnOk result (object.new ≡ with_member (codes "settled") (boolean settled) object.old) }
+{
+    object.key("settled")?;
+    object.boolean(settled)
+}
+
+/// Adds the members of a hedge and its two models.
+pub fn push_pair(
+    object: &mut Object,
+    names: &Names,
+    hedge: &Hedge,
+    pair: &CounterPair,
+) -> Result<(), AllocError>
+    ensures { OnOk result (object.new ≡ with_members (hedge_members names.now hedge.now pair.now) object.old) }
+{
     object.key("hedge")?;
     push_hedge(object, names, hedge)?;
     object.key("models")?;

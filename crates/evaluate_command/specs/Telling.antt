@@ -30,7 +30,7 @@ answer_text w names (NotAdmissible s fault) = not_admissible_text names s.given.
 abbrev pub answer_members : Writing → List (List ℕ) → Answer → List (List ℕ × Json)
 answer_members w names (Values a) = effect_object names a a.values
 answer_members w names (Hedge h) = hedge_object w names h
-answer_members w names (Joint t settled h) = joint_object w names (target_view t) h
+answer_members w names (Joint t settled h) = joint_object w names (target_view t) settled h
 answer_members w names (NotAdmissible s fault) = not_admissible_members names s.x.bits s.y.bits s.given.bits fault
 
 -- all of these

@@ -94,9 +94,11 @@ impl Told for Answer {
         match self {
             Answer::Values(values) => push_effect_values(object, names, values),
             Answer::Hedge(hedge) => hedge.push_members(object, names, writing),
-            Answer::Joint { target, hedge, .. } => {
-                hedge.push_joint(object, names, target, writing)
-            }
+            Answer::Joint {
+                target,
+                settled,
+                hedge,
+            } => hedge.push_joint(object, names, target, *settled, writing),
             Answer::NotAdmissible(sets, fault) => {
                 SetAnswer::NotAdmissible(*sets, *fault).push_members(object, names, writing)
             }

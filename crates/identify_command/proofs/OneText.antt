@@ -1,11 +1,12 @@
 -- One thing is told of the formula of an effect, but for a short one, and so it is of a hedge.
-use Rattle.std.proofs.Common.{◌≡◌, ◌≤◌, ℕ, Bool, false, List, Ok, refl, sym, ap, ◌∙◌, subst, arith}
+use Rattle.std.proofs.Common.{◌≡◌, ◌≤◌, ℕ, Bool, false, List, Ok, refl, sym, ap, ap₂, ◌∙◌, subst, arith}
 use Rattle.mixed_graph.specs.Vocabulary.{MixedGraph, IsMixedGraph, union}
+use Rattle.finite_models.proofs.Bools.{same_truth}
 use Rattle.prob_expr.specs.Vocabulary.{PlainFormula, PlainTarget, effect_on, target_view, formula_view}
 use Rattle.do_derivation.specs.Vocabulary.{PlainDerivation}
 use Rattle.identification_theory.specs.Vocabulary.{IsDerived}
 use Rattle.identification_theory.proofs.Answered.{one_formula, one_derivation, derived_is_identified}
-use Rattle.conditional_id.specs.Vocabulary.{IsConditionalBySteps, IsJointEffect}
+use Rattle.conditional_id.specs.Vocabulary.{IsConditionalBySteps, IsJointEffect, IsSettled}
 use Rattle.short_formulas.specs.Vocabulary.{IsOrShorter}
 use Rattle.conditional_id.proofs.Answered.{one_conditional, one_conditional_derivation, derived_is_conditional, one_turned}
 use Rattle.targets.specs.declared.query.EffectSets.{EffectSets}
@@ -20,7 +21,7 @@ use Rattle.told.specs.Vocabulary.{target_refusal, told_in}
 use Rattle.effect_answers.specs.declared.formulas.EffectFormula.{EffectFormula}
 use Rattle.effect_answers.specs.declared.hedges.EffectHedge.{EffectHedge}
 use Rattle.effect_answers.specs.Vocabulary.{joint_text, joint_object, IsKept}
-use Rattle.effect_answers.proofs.OneNo.{one_hedge_text, one_joint_text, one_joint_object}
+use Rattle.effect_answers.proofs.OneNo.{one_hedge_text, one_joint_text, one_hedge_object, one_joint_object}
 use Rattle.effect_answers.proofs.Telling.{one_certificate, one_formula_text, one_formula_object}
 use Rattle.identify_command.specs.declared.form.Form.{Form}
 use Rattle.identify_command.specs.declared.answer.Answer.{Answer}
@@ -49,6 +50,17 @@ joint_sets q t h k a b =
     let turned = one_turned q t h.sets.x.bits a.left k.sets.x.bits b.left a.moved b.moved a.turned b.turned in
     let ys : k.sets.y.bits ≡ h.sets.y.bits = b.joint ∙ ap (union t.y) (sym turned.1) ∙ sym a.joint in
     λ i. record { x = record { bits = sym turned.0 i }; y = record { bits = ys i } }
+
+-- and whether it is settled that the models of its hedge differ on the target
+pub one_settled : (q : MixedGraph) (t : PlainTarget) (settled other : Bool) (h k : EffectHedge) → IsJointHedge q t settled h → IsJointHedge q t other k
+    → other ≡ settled
+one_settled q t settled other h k a b =
+    let turned = one_turned q t h.sets.x.bits a.joint.left k.sets.x.bits b.joint.left a.joint.moved b.joint.moved a.joint.turned b.joint.turned in
+    let back = λ (s : IsSettled q k.sets.x.bits b.joint.left). subst (λ (n : ℕ). IsSettled q n a.joint.left) (sym turned.0)
+    (subst (λ (n : ℕ). IsSettled q k.sets.x.bits n) (sym turned.1) s) in
+    let over = λ (s : IsSettled q h.sets.x.bits a.joint.left). subst (λ (n : ℕ). IsSettled q n b.joint.left) turned.0
+    (subst (λ (n : ℕ). IsSettled q h.sets.x.bits n) turned.1 s) in
+    same_truth other settled (λ e. a.settled_is.1 (back (b.settled_is.0 e))) (λ e. b.settled_is.1 (over (a.settled_is.0 e)))
 
 -- answers of which one thing is told
 record AreOne (w : Writing) (names : List (List ℕ)) (a b : Answer) : Type 0 where
@@ -85,8 +97,7 @@ module _ (w : Writing) (names : List (List ℕ)) where
       let same : k.sets ≡ h.sets = b.decided.0 ∙ one_sets l a.sets b.sets a.named b.named ∙ sym a.decided.0 in
       record {
         text = one_hedge_text q valid few names h k same a.decided.1 b.decided.1 w;
-        object = one_joint_object q valid few names h k same a.decided.1 b.decided.1 w (effect_on k.sets.x.bits k.sets.y.bits)
-            ∙ ap (λ (s : EffectSets). joint_object w names (effect_on s.x.bits s.y.bits) h) same;
+        object = one_hedge_object q valid few names h k same a.decided.1 b.decided.1 w;
       }
   effects q valid few short l (Formula f) (Hedge h) a b ends plain = let c : 0 ≡ 1 = ap code_of ends in absurd (omega (arith, c))
   effects q valid few short l (Hedge h) (Formula f) a b ends plain = let c : 1 ≡ 0 = ap code_of ends in absurd (omega (arith, c))
@@ -114,8 +125,8 @@ module _ (w : Writing) (names : List (List ℕ)) where
       record {
         text = ap (λ (s : PlainTarget). joint_text w names s k) vs
             ∙ one_joint_text q valid few names h k same a.decided.1.hedge joint.hedge w (target_view u);
-        object = ap (λ (s : PlainTarget). joint_object w names s k) vs
-            ∙ one_joint_object q valid few names h k same a.decided.1.hedge joint.hedge w (target_view u);
+        object = ap₂ (λ (s : PlainTarget) (is : Bool). joint_object w names s is k) vs (one_settled q t settled other h k a.decided.1 joint)
+            ∙ one_joint_object q valid few names h k same a.decided.1.hedge joint.hedge w (target_view u) settled;
       }
   targets q valid few short l (Formula f) (Joint u settled h) a b ends plain = let c : 0 ≡ 1 = ap code_of ends in absurd (omega (arith, c))
   targets q valid few short l (Joint u settled h) (Formula f) a b ends plain = let c : 1 ≡ 0 = ap code_of ends in absurd (omega (arith, c))

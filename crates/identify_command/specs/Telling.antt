@@ -26,7 +26,7 @@ identify_text w names (Joint t settled h) = joint_text w names (target_view t) h
 abbrev pub identify_object : Writing → List (List ℕ) → Answer → List (List ℕ × Json)
 identify_object w names (Formula f) = formula_object w names f
 identify_object w names (Hedge h) = hedge_object w names h
-identify_object w names (Joint t settled h) = joint_object w names (target_view t) h
+identify_object w names (Joint t settled h) = joint_object w names (target_view t) settled h
 
 -- all of these
 abbrev pub identify_telling : Telling Answer

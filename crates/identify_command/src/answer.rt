@@ -55,9 +55,11 @@ impl Told for Answer {
         match self {
             Answer::Formula(formula) => formula.push_members(object, names, writing),
             Answer::Hedge(hedge) => hedge.push_members(object, names, writing),
-            Answer::Joint { target, hedge, .. } => {
-                hedge.push_joint(object, names, target, writing)
-            }
+            Answer::Joint {
+                target,
+                settled,
+                hedge,
+            } => hedge.push_joint(object, names, target, *settled, writing),
         }
     }
 }
