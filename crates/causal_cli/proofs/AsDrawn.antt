@@ -362,15 +362,15 @@ pub separates : (x y given : Names) (d : Diagram) (a : SeparateAnswer) → IsSep
 separates x y given d a h = separates_sets d h.sets a h.decided
 
 rules_sets : (r : Rule) (d : Diagram) (s : RuleSets) (a : RuleAnswer) → rule_right.Decides r (graph_of d.observed.graph) s a → IsRuledAsDrawn d a
-rules_sets r d s (ruled.Holds rule of) h =
-    subst (λ (k : Rule). IsRuledAsDrawn d (ruled.Holds k of)) (sym h.0.0)
-    (subst (λ (t : RuleSets). IsRuledAsDrawn d (ruled.Holds r t)) (sym h.0.1)
+rules_sets r d s (ruled.Holds rule of cut) h =
+    subst (λ (k : Rule). IsRuledAsDrawn d (ruled.Holds k of cut)) (sym h.0.0)
+    (subst (λ (t : RuleSets). IsRuledAsDrawn d (ruled.Holds r t cut)) (sym h.0.1)
     (equation_is_drawn (graph_of d.read.graph) d.read.graph.valid (has d.read.latent.bits) (graph_of d.observed.graph) (observed d)
     (left_of r (has s.x.bits) (has s.y.bits) (has s.z.bits) (has s.given.bits)) (right_of r (has s.x.bits) (has s.y.bits) (has s.z.bits) (has s.given.bits))
     h.1.equation))
-rules_sets r d s (ruled.Fails rule of path) h =
-    subst (λ (k : Rule). IsRuledAsDrawn d (ruled.Fails k of path)) (sym h.0.0)
-    (subst (λ (t : RuleSets). IsRuledAsDrawn d (ruled.Fails r t path)) (sym h.0.1)
+rules_sets r d s (ruled.Fails rule of cut path) h =
+    subst (λ (k : Rule). IsRuledAsDrawn d (ruled.Fails k of cut path)) (sym h.0.0)
+    (subst (λ (t : RuleSets). IsRuledAsDrawn d (ruled.Fails r t cut path)) (sym h.0.1)
     (failure_is_drawn (graph_of d.read.graph) d.read.graph.valid (has d.read.latent.bits) (graph_of d.observed.graph) (observed d)
     (left_of r (has s.x.bits) (has s.y.bits) (has s.z.bits) (has s.given.bits)) (right_of r (has s.x.bits) (has s.y.bits) (has s.z.bits) (has s.given.bits))
     h.1.fails))

@@ -3,16 +3,16 @@ use Rattle.std.proofs.Common.{◌≡◌, ◌≢◌, ◌≤◌, ℕ, Bool, true, 
 use Rattle.std.proofs.Common.{subst, arith}
 use mathlib.Core.Path.{fun_ext}
 use Rattle.std.proofs.lemmas.Bool.{false≢true}
-use Rattle.mixed_graph.specs.Vocabulary.{MixedGraph, graph_of}
+use Rattle.mixed_graph.specs.Vocabulary.{has, MixedGraph, graph_of}
 use Rattle.dag_reader.specs.declared.graph.ReadGraph.{ReadGraph}
 use Rattle.dag_reader.specs.Vocabulary.{AreSame, count_up, pairs_below, role_at, drawn_of}
 use Rattle.dag_reader.specs.Written.{written}
 use Rattle.do_rules.specs.declared.rules.Rule.{Rule}
-use Rattle.prob_expr.specs.Vocabulary.{PlainTarget, effect_on, target_view}
+use Rattle.do_rules.proofs.RuleGraphs.{one_graph}
+use Rattle.prob_expr.specs.Vocabulary.{PlainTarget, target_view}
 use Rattle.targets.specs.declared.fault.TargetFault.{TargetFault}
 use Rattle.targets.specs.declared.query.Sets.{Sets}
 use Rattle.targets.specs.declared.query.RuleSets.{RuleSets}
-use Rattle.targets.specs.declared.query.EffectSets.{EffectSets}
 use Rattle.targets.specs.Vocabulary.{Lists, EffectLists, RuleLists, AreSets, AreRuleSets, IsEffectFault, IsListFault}
 use Rattle.replies.specs.declared.format.Format.{Format}
 use Rattle.replies.specs.declared.outcome.Outcome.{Outcome}
@@ -21,6 +21,7 @@ use Rattle.replies.specs.Vocabulary.{text_in, answer_of, code_of, IsAnswerOn, ta
 use Rattle.replies.specs.Told.{Told}
 use Rattle.json.specs.Json.{string}
 use Rattle.answer_json.specs.Vocabulary.{array_of, object_of, json_line, text_json, vertex_json, pairs_json}
+use Rattle.graph_json.specs.Vocabulary.{graph_json}
 use Rattle.diagram.specs.declared.diagram.Diagram.{Diagram}
 use Rattle.diagram.specs.Vocabulary.{Names, effect_lists, query_lists, rule_lists}
 use Rattle.diagram.proofs.OneDiagram.{AreSameDiagrams, same_drawing, same_effect_lists, same_query_lists, same_rule_lists}
@@ -38,6 +39,7 @@ use Rattle.separation_commands.specs.SeparateRight as separate_right
 use Rattle.separation_commands.specs.declared.separate.answer.Answer.{Answer as SeparateAnswer}
 use Rattle.separation_commands.specs.declared.separate.answer.Answer.TheVariants as separated
 use Rattle.separation_commands.specs.RuleRight as rule_right
+use Rattle.separation_commands.specs.Vocabulary.{rule_sentence, asked_members}
 use Rattle.separation_commands.specs.declared.rule.answer.Answer.{Answer as RuleAnswer}
 use Rattle.separation_commands.specs.declared.rule.answer.Answer.TheVariants as ruled
 use Rattle.identify_command.specs.declared.form.Form.{Form as IdentifyForm}
@@ -144,18 +146,26 @@ one_rule_sets l s t a b = λ i. record {
 }
 
 rule_small : (a : RuleAnswer) → code_of (rule_telling.outcome a) ≤ 1
-rule_small (ruled.Holds r s) = omega arith
-rule_small (ruled.Fails r s path) = omega arith
+rule_small (ruled.Holds r s cut) = omega arith
+rule_small (ruled.Fails r s cut path) = omega arith
+
+-- what is told of a rule that holds, with these edges in its graph
+abbrev held_told : Form → List (List ℕ) → Rule → RuleSets → MixedGraph → Told
+held_told form names r s cut = answer_of (text_in form.format (rule_sentence (codes " holds: ") names r s)
+    (json_line (object_of (asked_members (codes "holds") names r s ++ (codes "graph", graph_json names cut) ∷ []))))
 
 rules_once : (form : Form) (o : Outcome) → o ≢ No → (r : Rule) (q : MixedGraph) (l : RuleLists) (a b : RuleAnswer) → rule_right.IsForLists r q l a
     → rule_right.IsForLists r q l b → rule_telling.outcome a ≡ o → rule_telling.outcome b ≡ rule_telling.outcome a
     → told_in rule_telling target_refusal form l.observed (Ok b) ≡ told_in rule_telling target_refusal form l.observed (Ok a)
-rules_once form o told r q l (ruled.Holds c s) (ruled.Holds d t) f g p e =
-    ap (λ (k : Rule). told_in rule_telling target_refusal form l.observed (Ok (ruled.Holds k t))) (g.decided.0.0 ∙ sym f.decided.0.0)
-    ∙ ap (λ (k : RuleSets). told_in rule_telling target_refusal form l.observed (Ok (ruled.Holds c k)))
-    (g.decided.0.1 ∙ one_rule_sets l f.sets g.sets f.named g.named ∙ sym f.decided.0.1)
-rules_once form o told r q l (ruled.Fails c s path) b f g p e = absurd (told (sym p))
-rules_once form o told r q l (ruled.Holds c s) (ruled.Fails d t path) f g p e = let k : 1 ≡ 0 = ap code_of e in absurd (omega (arith, k))
+rules_once form o told r q l (ruled.Holds c s h) (ruled.Holds d t k) f g p e =
+    let same = one_rule_sets l f.sets g.sets f.named g.named in
+    let cuts = one_graph r q (has f.sets.x.bits) (has f.sets.z.bits) (has f.sets.given.bits) (graph_of k) (graph_of h)
+    (subst (λ (u : RuleSets). rule_right.IsCut r q u k) same g.decided.2) f.decided.2 in
+    ap (λ (u : Rule). held_told form l.observed u t (graph_of k)) (g.decided.0.0 ∙ sym f.decided.0.0)
+    ∙ ap (λ (u : RuleSets). held_told form l.observed c u (graph_of k)) (g.decided.0.1 ∙ same ∙ sym f.decided.0.1)
+    ∙ ap (held_told form l.observed c s) cuts
+rules_once form o told r q l (ruled.Fails c s h path) b f g p e = absurd (told (sym p))
+rules_once form o told r q l (ruled.Holds c s h) (ruled.Fails d t k path) f g p e = let n : 1 ≡ 0 = ap code_of e in absurd (omega (arith, n))
 
 ruled_once : (format : Format) (o : Outcome) → o ≢ No → (r : Rule) (q : MixedGraph) (l : RuleLists)
     → IsOneText (Tells rule_telling target_refusal (rule_right.IsForNames r q l) (plain_form format) l.observed o)

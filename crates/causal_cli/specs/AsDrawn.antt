@@ -161,9 +161,9 @@ IsSeparatedAsDrawn d (separated.Connected s path) =
 -- the equation of a rule that holds is so in every model of the diagram as drawn that is positive on the observed vertices, and of one that fails in some
 -- it isn't
 abbrev pub IsRuledAsDrawn : Diagram → RuleAnswer → Type 0
-IsRuledAsDrawn d (ruled.Holds r s) = AreEqualSidesAsDrawn (graph_of d.read.graph) (has d.read.latent.bits)
+IsRuledAsDrawn d (ruled.Holds r s cut) = AreEqualSidesAsDrawn (graph_of d.read.graph) (has d.read.latent.bits)
     (left_of r (has s.x.bits) (has s.y.bits) (has s.z.bits) (has s.given.bits)) (right_of r (has s.x.bits) (has s.y.bits) (has s.z.bits) (has s.given.bits))
-IsRuledAsDrawn d (ruled.Fails r s path) = DifferSomewhereAsDrawn (graph_of d.read.graph) (has d.read.latent.bits)
+IsRuledAsDrawn d (ruled.Fails r s cut path) = DifferSomewhereAsDrawn (graph_of d.read.graph) (has d.read.latent.bits)
     (left_of r (has s.x.bits) (has s.y.bits) (has s.z.bits) (has s.given.bits)) (right_of r (has s.x.bits) (has s.y.bits) (has s.z.bits) (has s.given.bits))
 
 -- ---- implications

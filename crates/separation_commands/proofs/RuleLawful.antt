@@ -73,10 +73,10 @@ module _ (rule : Rule) (q : MixedGraph) (l : RuleLists) where
 
   -- right answers end alike
   same_kind : (a b : Answer) → IsForLists rule q l a → IsForLists rule q l b → rule_telling.outcome a ≡ rule_telling.outcome b
-  same_kind (Holds r s) (Holds r' t) f g = refl
-  same_kind (Holds r s) (Fails r' t path) f g = absurd (holds_or_fails path f.sets g.sets f.named g.named f.decided.1 g.decided.1)
-  same_kind (Fails r s path) (Holds r' t) f g = absurd (holds_or_fails path g.sets f.sets g.named f.named g.decided.1 f.decided.1)
-  same_kind (Fails r s path) (Fails r' t other) f g = refl
+  same_kind (Holds r s h) (Holds r' t k) f g = refl
+  same_kind (Holds r s h) (Fails r' t k path) f g = absurd (holds_or_fails path f.sets g.sets f.named g.named f.decided.1 g.decided.1)
+  same_kind (Fails r s h path) (Holds r' t k) f g = absurd (holds_or_fails path g.sets f.sets g.named f.named g.decided.1 f.decided.1)
+  same_kind (Fails r s h path) (Fails r' t k other) f g = refl
 
   -- lists that name sets have no fault
   named_no_fault : (s : RuleSets) (fault : TargetFault) → AreRuleSets l s.y.bits s.x.bits s.z.bits s.given.bits → IsRuleFault l fault → ⊥
@@ -89,8 +89,8 @@ alike rule q l (Err fault) (Ok b) f g = absurd (named_no_fault rule q l g.sets f
 alike rule q l (Err fault) (Err other) f g = refl
 
 answered : (a : Answer) → IsAnswered (rule_telling.outcome a)
-answered (Holds rule s) = tt
-answered (Fails rule s path) = tt
+answered (Holds rule s cut) = tt
+answered (Fails rule s cut path) = tt
 
 -- what holds of each command holds of it
 pub rule_lawful : IsLawful rule_command

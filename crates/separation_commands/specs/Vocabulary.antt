@@ -6,6 +6,7 @@ pub use Rattle.separation_commands.specs.GraphTelling.{graph_telling}
 pub use Rattle.separation_commands.specs.RuleCommand.{rule_command}
 pub use Rattle.separation_commands.specs.RuleRequests.{rule_row}
 pub use Rattle.separation_commands.specs.RuleRight.{IsRuleAnswer}
+pub use Rattle.separation_commands.specs.RuleSentences.{asked_members, rule_sentence}
 pub use Rattle.separation_commands.specs.RuleTelling.{rule_telling}
 pub use Rattle.separation_commands.specs.SeparateCommand.{separate_command}
 pub use Rattle.separation_commands.specs.SeparateRequests.{separate_row}

@@ -1,10 +1,11 @@
 //! The parts of what is told of a rule.
 
 ghost use Rattle.std.specs.Prelude.{◌≡◌, ◌++◌, IfOk, OnOk, length, codes, decimal};
-ghost use Rattle.mixed_graph.specs.Vocabulary.{has};
+ghost use Rattle.mixed_graph.specs.Vocabulary.{has, graph_of};
 ghost use Rattle.json.specs.Json.{number};
 ghost use Rattle.do_rules.specs.Vocabulary.{number_of};
 ghost use Rattle.answer_json.specs.Vocabulary.{with_member, with_members, text_json};
+ghost use Rattle.graph_json.specs.Vocabulary.{graph_json};
 ghost use Rattle.separation_commands.specs.RuleLines.{equation_text, side_text, side_of};
 ghost use Rattle.separation_commands.specs.RuleObjects.{rule_members, side_members};
 ghost use Rattle.separation_commands.specs.RuleSentences.{rule_sentence, asked_members};
@@ -14,7 +15,8 @@ use answer_json::Object;
 use answer_text::Term;
 use answer_text::names::with_number;
 use do_rules::Rule;
-use mixed_graph::Names;
+use graph_json::push_graph;
+use mixed_graph::{Graph, Names};
 use std::alloc::{AllocError, Global};
 use targets::RuleSets;
 
@@ -63,6 +65,14 @@ pub fn push_asked(
     object.word_at("answer", word)?;
     push_rule(object, names, rule, sets)?;
     push_sides(object, names, rule, sets)
+}
+
+/// Adds the graph in which the rule asks for separation.
+pub fn push_cut(object: &mut Object, names: &Names, cut: &Graph) -> Result<(), AllocError>
+    ensures { OnOk result (object.new ≡ with_member (codes "graph") (graph_json names.now (graph_of cut.now)) object.old) }
+{
+    object.key("graph")?;
+    push_graph(object, names, cut)
 }
 
 /// The rule and its sets.

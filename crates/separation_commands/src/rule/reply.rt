@@ -60,8 +60,9 @@ fn decide(g: &Graph, rule: Rule, sets: RuleSets) -> Answer
     requires some { 0 < sets.y.bits }
     ensures { Decides rule (graph_of g.now) sets result }
 {
+    let cut = rule.graph(g, sets.x, sets.z, sets.given);
     match rule.applies(g, sets.x, sets.y, sets.z, sets.given) {
-        Ok(()) => Answer::Holds(rule, sets),
-        Err(path) => Answer::Fails(rule, sets, path),
+        Ok(()) => Answer::Holds(rule, sets, cut),
+        Err(path) => Answer::Fails(rule, sets, cut, path),
     }
 }
