@@ -1,2 +1,3 @@
 mod Covering
-mod Matching
+pub mod Matching
+pub mod Walking
