@@ -1,1 +1,5 @@
 mod Naming
+mod Seeing
+pub mod Shaping
+mod Listing
+pub mod Among

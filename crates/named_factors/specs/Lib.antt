@@ -1,1 +1,4 @@
 pub mod Named
+pub mod Shapes
+pub mod Covers
+pub mod Vocabulary
