@@ -344,6 +344,20 @@ class KeptDiagram:
         return _run(self._asked, words, inputs or {})
 
 
+def reply_to(words: List[Text], text: bytes, second: Optional[bytes], kept: Optional[KeptDiagram]) -> Reply:
+    """Runs words whose inputs are called `diagram` and `second`, with an object as answer. Where the text is kept, it isn't read again.
+
+    >>> from causal._library import reply_to
+    >>> reply_to(["equivalent", "diagram", "second"], b"dag{A->B}", b"dag{A<-B}", None).out
+    b'{"answer":"equivalent"}\\n'
+    """
+    inputs: Dict[Text, Text] = {} if kept else {"diagram": text}
+    if second is not None:
+        inputs["second"] = second
+    asked = [*words, "--json"]
+    return kept.run(asked, inputs) if kept else run(asked, inputs)
+
+
 def ask(
     read: Callable[[Told], Answer],
     command: str,
@@ -363,18 +377,12 @@ def ask(
     >>> ask(dict, "equivalent", b"dag{A->B}", second=b"dag{A<-B}")
     {'answer': 'equivalent'}
     """
-    inputs: Dict[Text, Text] = {} if kept else {"diagram": text}
-    words: List[Text] = [command, "diagram"]
-    if second is not None:
-        inputs["second"] = second
-        words.append("second")
-    words.extend(options)
-    asked = [*words, "--json"]
-    status, out, err = kept.run(asked, inputs) if kept else run(asked, inputs)
+    asked = [command, "diagram", *(["second"] if second is not None else []), *options]
+    status, out, err = reply_to(asked, text, second, kept)
     if status > 1:
         from causal.faults import Sources, raise_refusal
 
         levels = {} if level_of is None else {"level_of": level_of}
         names = () if kept is None else kept.names
-        raise_refusal(status, out, err, words, Sources(text, second or b"", formula=formula, names=names, **levels))
+        raise_refusal(status, out, err, asked, Sources(text, second or b"", formula=formula, names=names, **levels))
     return read_line(read, out)

@@ -2,16 +2,17 @@
 from __future__ import annotations
 
 import random
+import re
 from dataclasses import dataclass, field, replace
 from fractions import Fraction
-from typing import TYPE_CHECKING, Any, Callable, Dict, Iterator, List, Mapping, Optional, Sequence, Tuple, Union, overload
+from typing import TYPE_CHECKING, Any, Callable, Dict, Iterator, List, Mapping, Optional, Sequence, Set, Tuple, Union, overload
 
 from causal.answers import Adjustment, Path
 from causal.columns import Data, path_of
 from causal.display import Printed, html_table
 from causal.draws import drawn_numbers, seed_of
 from causal.effects import Level, LevelOf, Value, cell_text, digits, levels_at, typed_order
-from causal.errors import CausalError, DataWarning, EvaluationError, RequestError
+from causal.errors import CausalError, DataWarning, RequestError
 from causal.events import many_lost
 from causal.files import read_bytes
 from causal.framed import Shown
@@ -33,6 +34,10 @@ if TYPE_CHECKING:
 Ends = Tuple[Tuple[float, float], ...]
 CONF = ("conf_low", "conf_high")
 LOST = "bounds cross there, or records are few at some levels"
+# The ends in the object of an answer.
+END = re.compile(rb'"at_(?:least|most)":"([0-9.]+)"')
+# Statuses of the library: an answer that isn't no, one that is, and a condition without a record.
+YES, NO, NO_VALUE = 0, 1, 5
 
 
 @dataclass(frozen=True)
@@ -442,25 +447,35 @@ class BoundsQuestion:
         """The ends over draws of as many records as the table has."""
         counts, source = list(table.counts.values()), random.Random(seed)
         draws: List[Optional[Ends]] = []
+        shapes: Set[bytes] = set()
         while len(draws) < resamples:
-            draws.append(self.ends_over(table, found, drawn_numbers(source, counts)))
+            draws.append(self.ends_over(table, found, drawn_numbers(source, counts), shapes))
             if progress is not None:
                 progress(len(draws), resamples)
         return BoundsDraws(tuple(draws), level, seed)
 
-    def ends_over(self, table: Table, found: EffectBounds, numbers: Sequence[int]) -> Optional[Ends]:
+    def ends_over(self, table: Table, found: EffectBounds, numbers: Sequence[int], shapes: Set[bytes]) -> Optional[Ends]:
         """The ends over other counts of a table, or None where there are no bounds. The levels of x, y and what is given are the table's; of
-        any other variable there are those that have a record."""
+        any other variable there are those that have a record.
+
+        Answers are alike but for their ends: of one whose rest is among `shapes`, which have the effects of the data, the ends alone are read.
+        """
         counts = {cell: number for cell, number in zip(table.counts, numbers) if number}
         text = table.text(counts, {*found.asked.x, *found.asked.y, *found.asked.given})
-        try:
-            other = self.over_text(text, [f"--count={table.count_column}"], table.level)
-        except EvaluationError:
+        words = [f"--count={table.count_column}"]
+        reply = self.diagram._reply("bounds", *self.words, *words, second=text)
+        if reply.status in (NO, NO_VALUE):
             return None
+        shape = END.sub(b"", reply.out)
+        if reply.status == YES and shape in shapes:
+            ends = iter([float(end) for end in END.findall(reply.out)])
+            return tuple(zip(ends, ends))
+        other = self.over_text(text, words, table.level)
         if not isinstance(other, EffectBounds):
             return None
         if [it.cell for it in other] != [it.cell for it in found]:
             raise CausalError("a resample has other effects than the data")
+        shapes.add(shape)
         return tuple((float(it.at_least), float(it.at_most)) for it in other)
 
 

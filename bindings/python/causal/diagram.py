@@ -5,7 +5,7 @@ from dataclasses import replace
 from typing import TYPE_CHECKING, Any, Callable, Dict, Iterable, List, Mapping, Optional, Sequence, Tuple, Union
 
 from causal import answers, reading
-from causal._library import KeptDiagram, Text, as_bytes, ask
+from causal._library import KeptDiagram, Reply, Text, as_bytes, ask, reply_to
 from causal.data_questions import DataQuestions
 from causal.doubts import doubts_of
 from causal.errors import DiagramWarning, RequestError, WrongType
@@ -407,6 +407,10 @@ class Diagram(DataQuestions, GraphQuestions):
     ) -> Answer:
         """Asks the diagram that is kept: see `ask`."""
         return ask(read, command, self.source, *words, second=second, level_of=level_of, formula=formula, kept=self._keep())
+
+    def _reply(self, command: str, *words: Text, second: bytes) -> Reply:
+        """What the library answers on the diagram that is kept and a second input, unread."""
+        return reply_to([command, "diagram", "second", *words], self.source, second, self._keep())
 
     def _ask_effect(self, read: Callable[[Told, Question], Answer], command: str, words: Sequence[Text], *form: Text) -> Answer:
         """Asks for an effect, in an answer of some form. The answer has the question, for what it leaves out."""

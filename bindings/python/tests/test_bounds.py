@@ -1,6 +1,7 @@
 """Bounds of effects, and effects among the treated."""
 import random
 import unittest
+import unittest.mock
 import warnings
 from fractions import Fraction
 
@@ -140,6 +141,12 @@ class Resampled(unittest.TestCase):
             interval = study.difference(1, 1, 0).interval
             covered += interval.lower <= true.at_least and true.at_most <= interval.upper
         self.assertGreaterEqual(covered, 17)
+
+    def test_draws_are_read_by_their_ends(self):
+        """An answer whose rest is known is read by its ends alone, and says what it says where it is read whole."""
+        read = self.asked(resamples=60, seed=5).drawn
+        with unittest.mock.patch("causal.bounds.YES", -1):
+            self.assertEqual(self.asked(resamples=60, seed=5).drawn, read)
 
     def test_crossing_draws_are_counted(self):
         with self.assertWarnsRegex(causal.DataWarning, "37% of the resamples have no value, since bounds cross"):
