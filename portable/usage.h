@@ -19,6 +19,7 @@ static const char usage[] =
     "    treated FILE [--x L] [--y L] [--given L] [--latex] [--json]\n"
     "    instruments FILE [--x L] [--y L] [--most N] [--json]\n"
     "    natural FILE --through L [--x L] [--y L] [--given L] [--latex] [--json]\n"
+    "    steps FILE CERTIFICATE [--experiments E] [--json]\n"
     "\n"
     "FILE is a graph text, in the form of DAGitty; - is standard input. A list L is names joined by\n"
     "commas, {} for none. Where x and y aren't listed, they are the vertices marked exposure and\n"

@@ -36,6 +36,9 @@ use Rattle.check_command.specs.declared.answer.Answer.{Answer as CheckAnswer}
 use Rattle.check_command.specs.declared.fault.CertificateFault.{CertificateFault}
 use Rattle.check_command.specs.Vocabulary.{certificate_refusal, AreExperimentsOn, IsForFirst, IsForCertificate, check_telling}
 use Rattle.check_command.specs.Requests as check_requests
+use Rattle.steps_command.specs.declared.answer.Answer.{Answer as StepsAnswer}
+use Rattle.steps_command.specs.Vocabulary.{IsForFirst as IsStepsFirst, IsForCertificate as IsForSteps, checked_of, steps_telling}
+use Rattle.steps_command.specs.Requests as steps_requests
 use Rattle.check_command.specs.declared.fault.CertificateFault.TheVariants as certificates
 use Rattle.evaluate_command.specs.declared.answer.Answer.{Answer as EvaluateAnswer}
 use Rattle.evaluate_command.specs.declared.faults.ValuesFault.{ValuesFault}
@@ -54,13 +57,13 @@ use Rattle.bounds_command.specs.declared.faults.BoundsFault.TheVariants as bound
 use Rattle.command_run.specs.Vocabulary.{HoldsAnswer, Defined, DefinedWith, Request, of}
 use Rattle.command_run.proofs.Deliveries.{mapped}
 use Rattle.causal_cli.specs.AsDrawn.{IdentifiesAsDrawn, IsAdjustedAsDrawn, IsSurrogateAsDrawn, IsSeparatedAsDrawn, IsRuledAsDrawn, ArePairsAsDrawn}
-use Rattle.causal_cli.specs.AsDrawn.{IsTreatedAsDrawn, AreDifferencesAsDrawn, IsUnevaluatedAsDrawn, IsEvaluatedAsDrawn, IsCheckedAsDrawn, IsBoundedAsDrawn}
+use Rattle.causal_cli.specs.AsDrawn.{IsTreatedAsDrawn, AreDifferencesAsDrawn, IsUnevaluatedAsDrawn, IsEvaluatedAsDrawn, IsCheckedAsDrawn, IsSteppedAsDrawn, IsBoundedAsDrawn}
 use Rattle.causal_cli.specs.Calls.{Call, WrittenFor, WrittenForBoth}
 use Rattle.causal_cli.specs.Commands.{commands}
 use Rattle.causal_cli.specs.declared.commands.Command.TheVariants.{Identify, Adjust, Surrogate, Treated, Separate, Rule, Implications, Check, Evaluate}
-use Rattle.causal_cli.specs.declared.commands.Command.TheVariants.{Bounds, Natural}
+use Rattle.causal_cli.specs.declared.commands.Command.TheVariants.{Bounds, Natural, Steps}
 use Rattle.causal_cli.specs.Drawn.{IsIdentifiedAsDrawn, IsAdjusted, IsSurrogated, IsSeparated, IsRuled, IsImplied, IsImpliedOverCounts, IsImpliedIn}
-use Rattle.causal_cli.specs.Drawn.{Implied, RightAsDrawn, IsTreated, IsChecked, IsEvaluated, IsUnevaluated, IsBounded}
+use Rattle.causal_cli.specs.Drawn.{Implied, RightAsDrawn, IsTreated, IsChecked, IsStepped, IsEvaluated, IsUnevaluated, IsBounded}
 use Rattle.causal_cli.proofs.AsDrawn.{identifies, adjusts, surrogates, treats, separates, rules, implies, implies_over_counts, unevaluated, checks}
 use Rattle.causal_cli.proofs.DrawnBounds.{bounds_drawn}
 use Rattle.causal_cli.proofs.DrawnCounts.{evaluates}
@@ -176,7 +179,7 @@ module _ (r : Call) (code : ℕ) (text : Told) (status : code ≡ 0) where
     whole = whole;
   }
 
--- ---- check and evaluate
+-- ---- check, steps and evaluate
 
 -- certificates that are refused have another status
 certificate_refused : (e : CertificateFault) → 1 < code_of (certificate_refusal.outcome e)
@@ -196,6 +199,12 @@ not_first : (d : Diagram) (experiments : Experiments) (code : ℕ) (o : Outcome)
     → code ≡ code_of o → code ≤ 1 → o ≡ outcome_in check_telling target_refusal r → ⊥
 not_first d experiments code o (Ok a) right status small ends = right
 not_first d experiments code o (Err fault) right status small ends = let c = status ∙ ap code_of ends in omega (arith, c, small)
+
+-- nor of `steps`
+no_steps_first : (d : Diagram) (experiments : Experiments) (code : ℕ) (o : Outcome) (r : Result StepsAnswer TargetFault) → IsStepsFirst d experiments r
+    → code ≡ code_of o → code ≤ 1 → o ≡ outcome_in steps_telling target_refusal r → ⊥
+no_steps_first d experiments code o (Ok a) right status small ends = right
+no_steps_first d experiments code o (Err fault) right status small ends = let c = status ∙ ap code_of ends in omega (arith, c, small)
 
 module _ (r : Call) (uses : List Use) (code : ℕ) (o : Outcome) (text : Told) (status : code ≡ code_of o) (small : code ≤ 1)
     (whole : Appends r.before r.after text.text)
@@ -223,6 +232,32 @@ module _ (r : Call) (uses : List Use) (code : ℕ) (o : Outcome) (text : Told) (
         (λ d. AreExperimentsOn d.read.names d.observed.names q.experiments) (λ d. IsForCertificate (graph_of d.observed.graph) d.observed.names)
         IsCheckedAsDrawn (λ d zs a are h. checks other d zs a h) d.0 d.1 d.3.0 d.3.1 d.3.2) names names_second
         (on_held r (of Check q) o text file second other all h);
+    whole = whole;
+  }
+
+  pub stepped : CallAnswer r Steps uses o text
+      → WrittenForBoth steps_requests.IsRequest (λ q. q.file) (λ q. q.certificate) (λ q bytes other. IsStepped q bytes other code) r uses
+  stepped (on_words q is h) = absurd h
+  stepped (on_file q is file names h) = record {
+    request = q;
+    told = text;
+    asks = is;
+    right = under_name r.held q.file file (λ bytes. Defined commands (of Steps q) bytes o text)
+        (λ bytes. IfSome (r.held_second q.certificate) (λ other. IsStepped q bytes other code text))
+        (λ bytes a. let b = held (of Steps q) bytes a in
+        absurd (no_steps_first b.diagram q.experiments code o b.answer.answer b.answer.right status small b.answer.ends)) names h;
+    whole = whole;
+  }
+  stepped (on_both q is file second names names_second other all h) = record {
+    request = q;
+    told = text;
+    asks = is;
+    right = under_names r.held r.held_second q.file file q.certificate second (λ bytes other. DefinedWith commands (of Steps q) bytes other o text)
+        (λ bytes other. IsStepped q bytes other code text)
+        (λ bytes other d. answered_on_both steps_telling certificate_refusal certificate_refused (plain_form q.format) bytes code o text status small other
+        (λ d. AreExperimentsOn d.read.names d.observed.names q.experiments) (λ d. IsForSteps (graph_of d.observed.graph) d.observed.names)
+        IsSteppedAsDrawn (λ d zs a are h. checks other d zs (checked_of a) h.checked) d.0 d.1 d.3.0 d.3.1 d.3.2) names names_second
+        (on_held r (of Steps q) o text file second other all h);
     whole = whole;
   }
 
@@ -353,6 +388,7 @@ right_as_drawn_of r code Yes text c g = let h = g (omega (arith, c)) in record {
   separated = λ uses call small. separated r uses code Yes text c small h.whole (λ w bytes a. a) (h.answers Separate uses call);
   ruled = λ uses call small. ruled r uses code Yes text c small h.whole (λ w bytes a. a) (h.answers Rule uses call);
   checked = λ uses call small. checked r uses code Yes text c small h.whole (λ w bytes a. a) (h.answers Check uses call);
+  stepped = λ uses call small. stepped r uses code Yes text c small h.whole (λ w bytes a. a) (h.answers Steps uses call);
   implied = λ uses call zero. implied r code text c uses h.whole (h.answers Implications uses call);
   evaluated = λ uses call zero. evaluated r uses code text zero h.whole (h.answers Evaluate uses call);
   unevaluated = λ uses call one. absurd (omega (arith, c, one));
@@ -367,6 +403,7 @@ right_as_drawn_of r code No text c g = let h = g (omega (arith, c)) in record {
   separated = λ uses call small. separated r uses code No text c small h.whole (λ w bytes a. a) (h.answers Separate uses call);
   ruled = λ uses call small. ruled r uses code No text c small h.whole (λ w bytes a. a) (h.answers Rule uses call);
   checked = λ uses call small. checked r uses code No text c small h.whole (λ w bytes a. a) (h.answers Check uses call);
+  stepped = λ uses call small. stepped r uses code No text c small h.whole (λ w bytes a. a) (h.answers Steps uses call);
   implied = λ uses call zero. absurd (omega (arith, c, zero));
   evaluated = λ uses call zero. absurd (omega (arith, c, zero));
   unevaluated = λ uses call one. not_evaluated r uses code text one h.whole (h.answers Evaluate uses call);
@@ -382,6 +419,7 @@ right_as_drawn_of r code o text c g = record {
   ruled = λ uses call small. absurd (omega (arith, c, small));
   implied = λ uses call zero. absurd (omega (arith, c, zero));
   checked = λ uses call small. absurd (omega (arith, c, small));
+  stepped = λ uses call small. absurd (omega (arith, c, small));
   evaluated = λ uses call zero. absurd (omega (arith, c, zero));
   unevaluated = λ uses call one. absurd (omega (arith, c, one));
   bounded = λ uses call zero. absurd (omega (arith, c, zero));

@@ -20,6 +20,7 @@ use Rattle.bounds_command.proofs.Lawful.{bounds_lawful}
 use Rattle.treated_command.proofs.Lawful.{treated_lawful}
 use Rattle.instruments_command.proofs.Lawful.{instruments_lawful}
 use Rattle.natural_command.proofs.Lawful.{natural_lawful}
+use Rattle.steps_command.proofs.Lawful.{steps_lawful}
 use Rattle.command_run.specs.Vocabulary.{AreApart, AreLawful}
 use Rattle.causal_cli.specs.Commands.{commands, all_commands, row_for, form_of}
 use Rattle.causal_cli.specs.declared.commands.Command.{Command}
@@ -53,6 +54,7 @@ each command.Bounds = bounds_lawful
 each command.Treated = treated_lawful
 each command.Instruments = instruments_lawful
 each command.Natural = natural_lawful
+each command.Steps = steps_lawful
 
 pub lawful : AreLawful commands
 lawful = record { each = each; apart = apart; clear = refl }

@@ -49,6 +49,8 @@ use Rattle.evaluate_command.specs.declared.answer.Values.TheVariants as values
 use Rattle.evaluate_command.specs.declared.answer.Answer.TheVariants as evaluated
 use Rattle.check_command.specs.declared.answer.Answer.{Answer as CheckAnswer}
 use Rattle.check_command.specs.declared.answer.Answer.TheVariants as checked
+use Rattle.steps_command.specs.declared.answer.Answer.{Answer as StepsAnswer}
+use Rattle.steps_command.specs.Vocabulary.{checked_of}
 use Rattle.natural_bounds.specs.declared.ends.End.{End}
 use Rattle.natural_bounds.specs.declared.ends.End.TheVariants.{AtLeast, AtMost}
 use Rattle.natural_bounds.specs.Vocabulary.{BoundsAsDrawn, HasNoModelAsDrawn}
@@ -259,6 +261,12 @@ IsCheckedAsDrawn d zs (checked.AcceptedFormula a) = IsRightAsDrawn d.read (targe
 IsCheckedAsDrawn d zs (checked.AcceptedHedge s h over) =
     IsNotIdentifiable d.read (effect_on s.x.bits s.y.bits) × IsNotIdentifiableOver d.read zs (effect_on s.x.bits s.y.bits)
 IsCheckedAsDrawn d zs a = Unit {0}
+
+-- ---- steps
+
+-- what is so of the answer of `check` of which this one tells
+abbrev pub IsSteppedAsDrawn : Diagram → (zs : List ℕ) → StepsAnswer → Type 0
+IsSteppedAsDrawn d zs a = IsCheckedAsDrawn d zs (checked_of a)
 
 -- ---- bounds
 

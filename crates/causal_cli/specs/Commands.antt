@@ -32,6 +32,8 @@ use Rattle.instruments_command.specs.Vocabulary.{instruments_command}
 use Rattle.instruments_command.specs.Requests as of_instruments
 use Rattle.natural_command.specs.Vocabulary.{natural_command}
 use Rattle.natural_command.specs.Requests as of_natural
+use Rattle.steps_command.specs.Vocabulary.{steps_command, steps_left}
+use Rattle.steps_command.specs.Requests as of_steps
 use Rattle.prob_expr.specs.Vocabulary.{masks_of}
 use Rattle.causal_cli.specs.declared.commands.Command.{Command}
 use Rattle.causal_cli.specs.declared.commands.Command.TheVariants as command
@@ -46,7 +48,7 @@ use Rattle.causal_cli.specs.declared.second.SecondInput.TheVariants as input
 abbrev pub all_commands : List Command
 all_commands = command.Graph ∷ command.Separate ∷ command.Rule ∷ command.Identify ∷ command.Check ∷ command.Adjust ∷ command.Evaluate ∷ command.Equivalent
     ∷ command.Survey ∷ command.Implications ∷ command.Surrogate ∷ command.Bounds ∷ command.Treated
-    ∷ command.Instruments ∷ command.Natural ∷ []
+    ∷ command.Instruments ∷ command.Natural ∷ command.Steps ∷ []
 
 -- the row of a command
 abbrev pub row_for : Command → Row
@@ -65,6 +67,7 @@ row_for command.Bounds = of_bounds.bounds_row
 row_for command.Treated = of_treated.treated_row
 row_for command.Instruments = of_instruments.instruments_row
 row_for command.Natural = of_natural.natural_row
+row_for command.Steps = of_steps.steps_row
 
 -- the table of commands
 abbrev pub table : List Row
@@ -87,6 +90,7 @@ form_of command.Bounds = bounds_command
 form_of command.Treated = treated_command
 form_of command.Instruments = instruments_command
 form_of command.Natural = natural_command
+form_of command.Steps = steps_command
 
 -- the commands, with their names where words ask for nothing
 abbrev pub commands : CommandSet
@@ -111,6 +115,7 @@ request_of (request.Bounds q) = of command.Bounds (of_bounds.request_of q)
 request_of (request.Treated q) = of command.Treated (of_treated.request_of q)
 request_of (request.Instruments q) = of command.Instruments (of_instruments.request_of q)
 request_of (request.Natural q) = of command.Natural (of_natural.request_of q)
+request_of (request.Steps q) = of command.Steps (of_steps.request_of q)
 
 -- what is left to answer on a diagram
 abbrev pub left_of : Diagram → SecondInput → Remainder
@@ -120,3 +125,4 @@ left_of d (input.Evaluate found counts count exact zero matched format) =
 left_of d (input.Equivalent sets second format) = equivalent_left format d sets second.now
 left_of d (input.Implications pairs counts count format) = implications_left format d pairs.items counts.now (option_map (λ s. s.now) count)
 left_of d (input.Bounds question counts count exact format) = bounds_left format d.observed question counts.now (option_map (λ s. s.now) count) exact
+left_of d (input.Steps experiments certificate format) = steps_left format d (masks_of experiments.items) certificate.now

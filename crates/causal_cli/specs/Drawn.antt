@@ -22,6 +22,8 @@ use Rattle.implications_command.specs.Vocabulary.{ArePairs, pairs_in, implicatio
 use Rattle.implications_command.specs.Requests as implications_requests
 use Rattle.check_command.specs.Vocabulary.{check_row, AreExperimentsOn, IsForCertificate, check_telling}
 use Rattle.check_command.specs.Requests as check_requests
+use Rattle.steps_command.specs.Vocabulary.{steps_row, IsForCertificate as IsForSteps, steps_telling}
+use Rattle.steps_command.specs.Requests as steps_requests
 use Rattle.evaluate_command.specs.Vocabulary.{Identifies, IsForDiagram, evaluate_row, evaluate_telling}
 use Rattle.evaluate_command.specs.Requests as evaluate_requests
 use Rattle.evaluate_command.specs.Right as evaluate_right
@@ -31,7 +33,7 @@ use Rattle.bounds_command.specs.Right as bounds_right
 use Rattle.causal_cli.specs.Answered.{IsAnswered, IsAnsweredOnBoth}
 use Rattle.causal_cli.specs.AsDrawn.{IdentifiesAsDrawn, IsAdjustedAsDrawn, IsSurrogateAsDrawn, IsSeparatedAsDrawn, IsRuledAsDrawn, ArePairsAsDrawn}
 use Rattle.causal_cli.specs.AsDrawn.{AreDifferencesAsDrawn}
-use Rattle.causal_cli.specs.AsDrawn.{IsTreatedAsDrawn, IsUnevaluatedAsDrawn, IsEvaluatedAsDrawn, IsCheckedAsDrawn, IsBoundedAsDrawn}
+use Rattle.causal_cli.specs.AsDrawn.{IsTreatedAsDrawn, IsUnevaluatedAsDrawn, IsEvaluatedAsDrawn, IsCheckedAsDrawn, IsSteppedAsDrawn, IsBoundedAsDrawn}
 use Rattle.causal_cli.specs.Calls.{Call, IsCallOf, WrittenFor, WrittenForBoth}
 use Rattle.causal_cli.specs.NaturalDrawn.{IsNatural}
 
@@ -87,12 +89,17 @@ pub record Implied (r : Call) (code : ℕ) (uses : List Use) : Type 0 where
   pub right : IsImpliedIn r request request.counts code told
   pub whole : Appends r.before r.after told.text
 
--- ---- check and evaluate
+-- ---- check, steps and evaluate
 
 -- the answer to a request of `check` on a certificate
 abbrev pub IsChecked : check_requests.Request → (bytes other : List ℕ) (code : ℕ) (told : Told) → Type 0
 IsChecked q = IsAnsweredOnBoth check_telling (λ d. AreExperimentsOn d.read.names d.observed.names q.experiments)
     (λ d. IsForCertificate (graph_of d.observed.graph) d.observed.names) IsCheckedAsDrawn (plain_form q.format)
+
+-- the answer to a request of `steps` on a certificate
+abbrev pub IsStepped : steps_requests.Request → (bytes other : List ℕ) (code : ℕ) (told : Told) → Type 0
+IsStepped q = IsAnsweredOnBoth steps_telling (λ d. AreExperimentsOn d.read.names d.observed.names q.experiments)
+    (λ d. IsForSteps (graph_of d.observed.graph) d.observed.names) IsSteppedAsDrawn (plain_form q.format)
 
 -- the answer to a request of `evaluate` over counts
 abbrev pub IsEvaluated : evaluate_requests.Request → (bytes other : List ℕ) (code : ℕ) (told : Told) → Type 0
@@ -110,7 +117,7 @@ IsBounded q = IsAnsweredOnBoth bounds_telling (λ d. IsAsked (graph_of d.observe
 
 -- ---- a run
 
--- What is written with status 0 or 1 for `identify`, `adjust`, `surrogate`, `treated`, `natural`, `separate`, `rule`, `check` and `evaluate`, and with
+-- What is written with status 0 or 1 for `identify`, `adjust`, `surrogate`, `treated`, `natural`, `separate`, `rule`, `check`, `steps` and `evaluate`, and with
 -- status 0 for `implications` and `bounds`, is told of a right answer, which is so in the diagram as drawn. A status of 1 of `evaluate` is one of the
 -- diagram alone, whatever its counts hold.
 pub record RightAsDrawn (r : Call) (code : ℕ) : Type 0 where
@@ -131,6 +138,8 @@ pub record RightAsDrawn (r : Call) (code : ℕ) : Type 0 where
   pub implied : (uses : List Use) → IsCallOf implications_row r.words uses → code ≡ 0 → Implied r code uses
   pub checked : (uses : List Use) → IsCallOf check_row r.words uses → code ≤ 1
       → WrittenForBoth check_requests.IsRequest (λ q. q.file) (λ q. q.certificate) (λ q bytes other. IsChecked q bytes other code) r uses
+  pub stepped : (uses : List Use) → IsCallOf steps_row r.words uses → code ≤ 1
+      → WrittenForBoth steps_requests.IsRequest (λ q. q.file) (λ q. q.certificate) (λ q bytes other. IsStepped q bytes other code) r uses
   pub evaluated : (uses : List Use) → IsCallOf evaluate_row r.words uses → code ≡ 0
       → WrittenForBoth evaluate_requests.IsRequest (λ q. q.file) (λ q. q.counts) (λ q bytes other. IsEvaluated q bytes other code) r uses
   pub unevaluated : (uses : List Use) → IsCallOf evaluate_row r.words uses → code ≡ 1

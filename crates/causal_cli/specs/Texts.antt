@@ -32,7 +32,7 @@ adjusts (by_condition short given) = false
 
 -- Answers with one outcome have one text. It is left open for a no of `separate` and `rule`, which may show one of several open paths; for what `evaluate`
 -- says of a set before it reads counts; for a yes of `identify` and of `evaluate` by a short formula; and for `adjust`, `check`, `equivalent`, `bounds`,
--- `treated`, `instruments` and `natural`.
+-- `treated`, `instruments`, `natural` and `steps`.
 pub record TextsAreOne : Type 0 where
   pub survey : (q : survey_command.Request) (o : Outcome) → IsOneText (survey_command.by_words q o)
   pub graph : (q : graph_command.Request) (o : Outcome) → HaveOneText graph_command q o

@@ -24,9 +24,10 @@ pub enum Command {
     Treated,
     Instruments,
     Natural,
+    Steps,
 }
 
-static COMMANDS: [Command; 15] = [
+static COMMANDS: [Command; 16] = [
     Command::Graph,
     Command::Separate,
     Command::Rule,
@@ -42,9 +43,10 @@ static COMMANDS: [Command; 15] = [
     Command::Treated,
     Command::Instruments,
     Command::Natural,
+    Command::Steps,
 ];
 
-static TABLE: [Entry; 15] = [
+static TABLE: [Entry; 16] = [
     separation_commands::graph::ROW,
     separation_commands::separate::ROW,
     separation_commands::rule::ROW,
@@ -60,6 +62,7 @@ static TABLE: [Entry; 15] = [
     treated_command::ROW,
     instruments_command::ROW,
     natural_command::ROW,
+    steps_command::ROW,
 ];
 
 /// The row of a command.
@@ -82,6 +85,7 @@ fn row_for(command: Command) -> Entry
         Command::Treated => treated_command::ROW,
         Command::Instruments => instruments_command::ROW,
         Command::Natural => natural_command::ROW,
+        Command::Steps => steps_command::ROW,
     }
 }
 

@@ -96,6 +96,7 @@ fn inputs_of_request<'a>(request: &Request<'a>) -> Inputs<'a>
         Request::Treated(asked) => Inputs::file(asked.file),
         Request::Instruments(asked) => Inputs::file(asked.file),
         Request::Natural(asked) => Inputs::file(asked.file),
+        Request::Steps(asked) => Inputs::two(asked.file, asked.certificate, MOST_BYTES),
     }
 }
 

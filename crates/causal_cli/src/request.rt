@@ -51,6 +51,7 @@ pub enum Request<'a> {
     Treated(treated_command::Request<'a>),
     Instruments(instruments_command::Request<'a>),
     Natural(natural_command::Request<'a>),
+    Steps(steps_command::Request<'a>),
 }
 
 impl<'a> command_run::Request<'a> for Request<'a> {
@@ -74,7 +75,7 @@ impl<'a> command_run::Request<'a> for Request<'a> {
     fn words_line() -> &'static [u8]
         ensures { result.now ≡ words_line commands }
     {
-        b"causal: words not understood; commands are graph separate rule identify check adjust evaluate equivalent survey implications surrogate bounds treated instruments natural\n"
+        b"causal: words not understood; commands are graph separate rule identify check adjust evaluate equivalent survey implications surrogate bounds treated instruments natural steps\n"
     }
 
     fn named(name: &str) -> Option<Command>
@@ -104,6 +105,7 @@ impl<'a> command_run::Request<'a> for Request<'a> {
             Request::Bounds(asked) => asked.format,
             Request::Instruments(asked) => asked.format,
             Request::Natural(asked) => asked.form.format,
+            Request::Steps(asked) => asked.format,
         }
     }
 
@@ -124,6 +126,7 @@ impl<'a> command_run::Request<'a> for Request<'a> {
             Request::Bounds(asked) => Ok(AfterWords::Reads(asked.file)),
             Request::Instruments(asked) => Ok(AfterWords::Reads(asked.file)),
             Request::Natural(asked) => Ok(AfterWords::Reads(asked.file)),
+            Request::Steps(asked) => Ok(AfterWords::Reads(asked.file)),
         }
     }
 
@@ -174,6 +177,7 @@ fn read_values<'a>(
             alloc, values,
         )?)),
         Command::Natural => Ok(Request::Natural(natural_command::Request::read(alloc, values)?)),
+        Command::Steps => Ok(Request::Steps(steps_command::Request::read(alloc, values)?)),
     }
 }
 
@@ -202,6 +206,7 @@ fn reply_on<'a>(
         Request::Treated(asked) => replied(treated_reply(alloc, diagram, &asked)),
         Request::Instruments(asked) => replied(instruments_reply(alloc, diagram, &asked)),
         Request::Natural(asked) => replied(natural_reply(alloc, diagram, &asked)),
+        Request::Steps(asked) => explain_over(alloc, diagram, asked),
     }
 }
 
@@ -283,6 +288,26 @@ fn check_over<'a>(
         check_command::Acceptance::Refused(reply) => Ok(AfterFile::Replied(reply)),
         check_command::Acceptance::Accepted(experiments) => Ok(AfterFile::Continues(
             SecondInput::Check {
+                experiments,
+                certificate: asked.certificate,
+                format: asked.format,
+            },
+        )),
+    }
+}
+
+/// What a certificate whose derivation is to be explained gives on its diagram.
+fn explain_over<'a>(
+    alloc: Global,
+    diagram: &Diagram,
+    asked: steps_command::Request<'a>,
+) -> Result<AfterFile<SecondInput<'a>>, AllocError>
+    ensures { IfOk result (GivesOn (left_of diagram.now) commands (request_of (Request.Steps asked.entry)) diagram.now) }
+{
+    match steps_command::accept_experiments(alloc, diagram, &asked.experiments)? {
+        check_command::Acceptance::Refused(reply) => Ok(AfterFile::Replied(reply)),
+        check_command::Acceptance::Accepted(experiments) => Ok(AfterFile::Continues(
+            SecondInput::Steps {
                 experiments,
                 certificate: asked.certificate,
                 format: asked.format,

@@ -14,6 +14,7 @@ use implications_command::differences_reply;
 use mixed_graph::VSet;
 use replies::{Format, Reply};
 use std::alloc::{AllocError, Global};
+use steps_command::steps_reply;
 use targets::Sets;
 
 /// What is left to answer once the file was accepted, where a second input is read. It keeps no diagram: that is lent to it.
@@ -57,6 +58,12 @@ pub enum SecondInput<'a> {
         exact: bool,
         format: Format,
     },
+    /// The derivation of a certificate that is accepted, move by move, with experiments on these sets.
+    Steps {
+        experiments: Vec<VSet>,
+        certificate: &'a str,
+        format: Format,
+    },
 }
 
 impl<'a> command_run::SecondInput for SecondInput<'a> {
@@ -69,6 +76,7 @@ impl<'a> command_run::SecondInput for SecondInput<'a> {
             SecondInput::Equivalent { second, .. } => second,
             SecondInput::Implications { counts, .. } => counts,
             SecondInput::Bounds { counts, .. } => counts,
+            SecondInput::Steps { certificate, .. } => certificate,
         }
     }
 
@@ -79,6 +87,7 @@ impl<'a> command_run::SecondInput for SecondInput<'a> {
             SecondInput::Equivalent { .. } => 1_048_576,
             SecondInput::Implications { .. } => 67_108_864,
             SecondInput::Bounds { .. } => 67_108_864,
+            SecondInput::Steps { .. } => 67_108_864,
         }
     }
 
@@ -116,6 +125,11 @@ impl<'a> command_run::SecondInput for SecondInput<'a> {
                 format,
                 ..
             } => bounds_reply(alloc, diagram, *question, *count, *exact, other, *format),
+            SecondInput::Steps {
+                experiments,
+                format,
+                ..
+            } => steps_reply(alloc, diagram, experiments, other, *format),
         }
     }
 
@@ -126,6 +140,7 @@ impl<'a> command_run::SecondInput for SecondInput<'a> {
             SecondInput::Equivalent { .. } => long_second_graph(alloc),
             SecondInput::Implications { .. } => implications_command::long_counts(alloc),
             SecondInput::Bounds { .. } => bounds_command::long_counts(alloc),
+            SecondInput::Steps { .. } => steps_command::long_certificate(alloc),
         }
     }
 }

@@ -2,4 +2,5 @@
 pub use Rattle.certificate_json.specs.Certificates.{certificate_json, certificate_line, certificate_text, expr_json}
 pub use Rattle.certificate_json.specs.Kept.{IsShort, are_steps_short}
 pub use Rattle.certificate_json.specs.StepSizes.{are_below, are_short, are_within, groups_below, is_move_short, is_move_within, is_short, is_within}
+pub use Rattle.certificate_json.specs.Steps.{step_json}
 pub use Rattle.certificate_json.specs.Writable.{AreStepsShallow, IsBareTarget, IsDerivationWithin, IsFormulaShallow, IsHedgeWithin, IsTargetWithin, IsWritable, are_steps_within}

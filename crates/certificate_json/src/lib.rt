@@ -17,3 +17,4 @@ pub use certificates::{
 };
 pub use formulas::{push_expr, push_exprs_at};
 pub use laws::written_is_read;
+pub use steps::push_step;

@@ -1,8 +1,9 @@
 -- What other crates cite of this one, from one place.
-pub use Rattle.check_command.specs.CertificateFaults.{certificate_refusal}
+pub use Rattle.check_command.specs.CertificateFaults.{certificate_refusal, is_memory}
 pub use Rattle.check_command.specs.Command.{check_command, check_left}
+pub use Rattle.check_command.specs.Firsts.{IsAcceptance}
 pub use Rattle.check_command.specs.Refusals.{cert_fault_told, cert_size_told}
 pub use Rattle.check_command.specs.Replies.{IsSoundDerivation, IsSoundTarget}
 pub use Rattle.check_command.specs.Requests.{check_row}
-pub use Rattle.check_command.specs.Right.{AreExperimentsOn, HoldsCertificate, IsForCertificate, IsForFirst, IsForText, of_formula, of_hedge}
+pub use Rattle.check_command.specs.Right.{AreExperimentsOn, HoldsCertificate, IsAcceptedFormula, IsCertificateFault, IsForCertificate, IsForFirst, IsForText, of_formula, of_hedge}
 pub use Rattle.check_command.specs.Telling.{check_telling}

@@ -18,4 +18,4 @@ pub use accepting::{Acceptance, accept_experiments};
 pub use answer::Answer;
 pub use fault::{CertificateFault, refuse_certificate};
 pub use reply::{check_answer, check_reply, long_certificate};
-pub use request::{ROW, Request};
+pub use request::{ROW, Request, optional_experiments};

@@ -54,7 +54,7 @@ impl<'a> Request<'a> {
 }
 
 /// The experiments that the value of an option lists; none where it is missing.
-fn optional_experiments(
+pub fn optional_experiments(
     alloc: Global,
     values: &Values<'_>,
     name: &str,

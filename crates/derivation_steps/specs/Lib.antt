@@ -3,3 +3,4 @@ pub mod Questions
 pub mod Asked
 pub mod Traces
 pub mod Parts
+pub mod Vocabulary

@@ -8,6 +8,7 @@ use Rattle.replies.specs.declared.format.Format.{Format}
 use Rattle.replies.specs.Vocabulary.{told_of}
 use Rattle.prob_expr.specs.Vocabulary.{masks_of}
 use Rattle.check_command.specs.Vocabulary.{certificate_refusal, IsForCertificate, check_telling}
+use Rattle.steps_command.specs.Vocabulary.{IsForCertificate as IsForSteps, steps_telling}
 use Rattle.bound_values.specs.declared.questions.Question.{Question}
 use Rattle.bounds_command.specs.Vocabulary.{CountsAnswer}
 use Rattle.told.specs.declared.form.Form.{Form}
@@ -33,6 +34,20 @@ returns-in-Check c =
     (λ r. (other : List ℕ) → 67108864 < length other → Tells check_telling certificate_refusal (IsForCertificate g d.observed.names zs other)
     (plain_form c.in-Check.format) d.observed.names r.outcome (told_of r))
     (λ r h other long. h (plain_form c.in-Check.format) g d.observed.names zs other long) c.long_certificate.ensures)
+
+pub returns-in-Steps : goal.returns-in-Steps
+returns-in-Steps c =
+    let d = c.args.diagram.now in
+    let g = graph_of d.observed.graph in
+    let zs = masks_of c.in-Steps.experiments.items in
+    subst (λ (it : SecondInput). IfOk c.long_certificate-in-Steps.result (λ r. (other : List ℕ) → (left_of d it).limit < length other
+    → (left_of d it).answer other r.outcome (told_of r))) (sym c.in-Steps.is)
+    (IfOk-weaker c.long_certificate-in-Steps.result
+    (λ r. (form : Form) (q : MixedGraph) (names : List (List ℕ)) (zs bytes : List ℕ) → 67108864 < length bytes
+    → Tells steps_telling certificate_refusal (IsForSteps q names zs bytes) form names r.outcome (told_of r))
+    (λ r. (other : List ℕ) → 67108864 < length other → Tells steps_telling certificate_refusal (IsForSteps g d.observed.names zs other)
+    (plain_form c.in-Steps.format) d.observed.names r.outcome (told_of r))
+    (λ r h other long. h (plain_form c.in-Steps.format) g d.observed.names zs other long) c.long_certificate-in-Steps.ensures)
 
 pub returns-in-Evaluate : goal.returns-in-Evaluate
 returns-in-Evaluate c =

@@ -20,6 +20,10 @@ pub returns-in-Implications : goal.returns-in-Implications
 returns-in-Implications c = subst (λ (it : SecondInput). IfOk c.differences_reply.result
     (λ r. (left_of c.args.diagram.now it).answer c.args.other.now r.outcome (told_of r))) (sym c.in-Implications.is) c.differences_reply.ensures
 
+pub returns-in-Steps : goal.returns-in-Steps
+returns-in-Steps c = subst (λ (it : SecondInput). IfOk c.steps_reply.result
+    (λ r. (left_of c.args.diagram.now it).answer c.args.other.now r.outcome (told_of r))) (sym c.in-Steps.is) c.steps_reply.ensures
+
 pub returns-in-Bounds : goal.returns-in-Bounds
 returns-in-Bounds c = subst (λ (it : SecondInput). IfOk c.bounds_reply.result
     (λ r. (left_of c.args.diagram.now it).answer c.args.other.now r.outcome (told_of r))) (sym c.in-Bounds.is) c.bounds_reply.ensures

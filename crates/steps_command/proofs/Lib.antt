@@ -1,0 +1,4 @@
+mod Deriving
+mod Replied
+pub mod Checking
+pub mod Lawful

@@ -1,0 +1,8 @@
+pub mod Requests
+pub mod Texts
+pub mod Objects
+pub mod Telling
+pub mod Right
+pub mod Firsts
+pub mod Command
+pub mod Vocabulary
