@@ -107,51 +107,6 @@ uint8_t causal_inputs(const uint8_t *bytes, size_t length,
                       uint8_t *names, size_t names_room,
                       causal_wanted *wanted);
 
-/* An answer explained. The arguments are those of causal_run, and the words one of
- *
- *     steps FILE CERTIFICATE [--graphs]                       the steps of a derivation
- *     rule FILE --rule N --y L --z L [--do L] [--given L]     the graph in which a rule of the do-calculus is asked
- *     adjust FILE --set L [--x L] [--y L] [--back-door]       an adjustment formula in LaTeX
- *     settled FILE --given L [--x L] [--y L]                  of which kind the answer of `identify --given` is
- *
- * each in the observed graph of FILE. A list L and a number N are those of the commands, and so are the defaults of x and y.
- *
- * steps. At CAUSAL_YES, for each lemma of the certificate's derivation and then for its main step, `out` has
- *
- *     lemma 0                      or main
- *     P(W,Y|do(X,Z))               the expression from which the steps start
- *     rule2see: P(W,Y|X,do(Z))     each move in turn: its word, as the certificate has it, and the whole expression after it
- *
- * Each expression is what that step of the do-calculus makes of the one before, and each rule holds there. It isn't compared
- * with the certificate's formula: that is what `check` does. With --graphs there stand behind the line of a move by a rule
- *
- *     rule 2 y {W,Y} z {X} do {Z} given {}     the rule with its sets: y and z are separated by do and given together in
- *     dag {                                    this graph, which is the observed one without the edges that the rule cuts,
- *     ..                                       as `graph` prints one whose vertices have no marks
- *     }
- *
- * CAUSAL_NO comes with `refused` where a move is refused, and with `hedge` for the certificate of a hedge, which has no steps.
- *
- * rule. At CAUSAL_YES `out` has the text of that graph, whether or not the rule holds. CAUSAL_NO doesn't come.
- *
- * adjust. At CAUSAL_YES the set meets the adjustment criterion, or with --back-door the back-door criterion, and `out` has
- * `P(..) = ..` in LaTeX, as `identify --latex` prints one. CAUSAL_NO comes with `not admissible`.
- *
- * settled. What `identify FILE --given L` answers with the same lists for P(y | do(x), given) is one of three: CAUSAL_NO comes with
- * `formula` where it prints a formula. Else no formula over observations exists, and it prints a joint effect with a hedge and two
- * models, which agree on all observations and differ on that joint effect. CAUSAL_YES comes with `settled` where these two models differ
- * on P(y | do(x), given) too: where the joint effect has no given vertex left, or those that are left have an effect with a formula.
- * CAUSAL_NO comes with `unsettled` elsewhere: then two other models differ on it, and of the printed ones that isn't said.
- *
- * CAUSAL_WORDS, CAUSAL_GRAPH, CAUSAL_SECOND (steps alone), CAUSAL_NO_INPUT, CAUSAL_NO_MEMORY, CAUSAL_NOT_TEXT and
- * CAUSAL_NO_WORDS are as above; the others don't come. */
-uint8_t causal_explain(const uint8_t *bytes, size_t length,
-                       const causal_span *words, size_t word_count,
-                       const causal_input *inputs, size_t input_count,
-                       uint8_t *out, size_t out_room,
-                       uint8_t *err, size_t err_room,
-                       causal_sizes *sizes);
-
 /* A graph of at most 64 vertices, which are numbered from 0. Row v of `parents`, `children` and `spouses` has bit u set where
  * u -> v, v -> u and u <-> v. */
 typedef struct causal_graph {

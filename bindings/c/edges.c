@@ -19,8 +19,10 @@ static const causal_span separate[] = {{0, 8}, {8, 9}, {9, 12}, {12, 13}, {13, 1
 static const causal_span graph = {17, 29}, name = {8, 9};
 static const char answer[] = "not separated: {A} from {C} given {}\nopen: A <- B -> C\n";
 
+enum { ROOM = 8192 };
+
 typedef struct {
-    uint8_t status, out[256], err[256];
+    uint8_t status, out[ROOM], err[ROOM];
     causal_sizes sizes;
 } result;
 
@@ -85,26 +87,8 @@ static void statuses(void) {
     HOLDS(r.status == CAUSAL_NOT_TEXT && is_text(r.out, r.sizes.out, "") && is_text(r.err, r.sizes.err, ""));
 }
 
-static const char steps[] =
-    "stepsgcdag{X->M->Y X<->Y}"
-    "{\"answer\":\"formula\",\"defs\":[],\"formula\":\"P(M|X)\",\"lemmas\":[],\"main\":[\"rule2see\",[\"X\"]],"
-    "\"version\":1,\"x\":[\"X\"],\"y\":[\"M\"]}";
-
-static void explained(void) {
-    causal_span words[] = {{0, 5}, {5, 6}, {6, 7}};
-    causal_input inputs[] = {{{5, 6}, {7, 25}}, {{6, 7}, {25, sizeof steps - 1}}};
-    uint8_t out[256], err[256];
-    causal_sizes sizes;
-    memset(out, '#', sizeof out);
-    memset(err, '#', sizeof err);
-    HOLDS(causal_explain((const uint8_t *)steps, sizeof steps - 1, words, 3, inputs, 2, out, 256, err, 256, &sizes) == CAUSAL_YES);
-    HOLDS(is_text(out, sizes.out, "main\nP(M|do(X))\nrule2see: P(M|X)\n") && sizes.err == 0);
-    HOLDS(causal_explain((const uint8_t *)steps, sizeof steps - 1, words, 3, inputs, 1, out, 256, err, 256, &sizes) == CAUSAL_NO_INPUT);
-    HOLDS(causal_explain((const uint8_t *)steps, sizeof steps - 1, words, 2, inputs, 2, out, 256, err, 256, &sizes) == CAUSAL_WORDS);
-}
-
-/* Explains by words with a blank between them, over a diagram g and a certificate c. */
-static result explain_in(const char *line, const char *diagram, const char *certificate) {
+/* Words with a blank between them, run over a diagram g and a certificate c. */
+static result run_over(const char *line, const char *diagram, const char *certificate) {
     char bytes[1024];
     causal_span words[16];
     size_t count = 0, end = 0, at = (size_t)snprintf(bytes, sizeof bytes, "%s|%s|%s|gc", line, diagram, certificate);
@@ -116,7 +100,7 @@ static result explain_in(const char *line, const char *diagram, const char *cert
     causal_input inputs[] = {{{at - 2, at - 1}, {length + 1, second}}, {{at - 1, at}, {second + 1, third}}};
     result r;
     memset(&r, '#', sizeof r);
-    r.status = causal_explain((const uint8_t *)bytes, at, words, count, inputs, 2, r.out, 256, r.err, 256, &r.sizes);
+    r.status = causal_run((const uint8_t *)bytes, at, words, count, inputs, 2, r.out, ROOM, r.err, ROOM, &r.sizes);
     return r;
 }
 
@@ -124,57 +108,74 @@ static int tells(result r, uint8_t status, const char *out, const char *err) {
     return r.status == status && is_text(r.out, r.sizes.out, out) && is_text(r.err, r.sizes.err, err);
 }
 
-static void explained_more(void) {
-    static const char front[] = "dag{X [exposure] Y [outcome] X->M->Y X<->Y}", hidden[] = "dag{X [exposure] Y [outcome] X<-U->Y U [latent] Z->X->Y}";
-    const char *certificate = steps + 25;
-    /* a rule's question with its graph behind its move */
-    HOLDS(tells(explain_in("steps g c --graphs", front, certificate), CAUSAL_YES,
-                "main\nP(M|do(X))\nrule2see: P(M|X)\nrule 2 y {M} z {X} do {} given {}\ndag {\nX\nY\nM\nM -> Y\nX <-> Y\n}\n", ""));
-    HOLDS(explain_in("steps --graphs g c", front, certificate).sizes.out == explain_in("steps g c --graphs", front, certificate).sizes.out);
-    result r = explain_in("steps g c", front, "{}");
-    HOLDS(r.status == CAUSAL_SECOND && r.sizes.out == 0 && memcmp(r.err, "causal: certificate fault ", 26) == 0);
-    /* the graph in which a rule is asked, whether it holds or not, after hidden vertices are projected away */
-    HOLDS(tells(explain_in("rule g --rule 1 --y Y --z Z", hidden, ""), CAUSAL_YES, "dag {\nX\nY\nZ\nX -> Y\nZ -> X\nX <-> Y\n}\n", ""));
-    HOLDS(tells(explain_in("rule g --rule 1 --y Y --z Z --do X", hidden, ""), CAUSAL_YES, "dag {\nX\nY\nZ\nX -> Y\n}\n", ""));
-    HOLDS(tells(explain_in("rule g --rule 2 --y Y --z X --given Z", hidden, ""), CAUSAL_YES, "dag {\nX\nY\nZ\nZ -> X\nX <-> Y\n}\n", ""));
-    HOLDS(tells(explain_in("rule g --rule 3 --y Y --z X", hidden, ""), CAUSAL_YES, "dag {\nX\nY\nZ\nX -> Y\n}\n", ""));
-    /* z is an ancestor of what is observed, so rule 3 cuts nothing there */
-    HOLDS(tells(explain_in("rule g --rule 3 --y Y --z X --given M", front, ""), CAUSAL_YES, "dag {\nX\nY\nM\nX -> M\nM -> Y\nX <-> Y\n}\n", ""));
-    HOLDS(tells(explain_in("rule g --rule 2 --y U --z X", hidden, ""), CAUSAL_GRAPH, "", "causal: target fault 2: U\n"));
-    HOLDS(explain_in("rule g --rule 4 --y Y --z X", front, "").status == CAUSAL_WORDS);
-    /* an adjustment formula in LaTeX, by one of two criteria */
-    HOLDS(tells(explain_in("adjust g --set M --x X --y Y", "dag{X->Y M->X M->Y}", ""), CAUSAL_YES,
-                "P(Y \\mid \\mathrm{do}(X)) = \\sum_{M} P(M) P(Y \\mid X, M)\n", ""));
-    HOLDS(tells(explain_in("adjust g --set {} --back-door", "dag{X [exposure] Y [outcome] X->Y}", ""), CAUSAL_YES,
-                "P(Y \\mid \\mathrm{do}(X)) = P(Y \\mid X)\n", ""));
-    HOLDS(tells(explain_in("adjust g --set M", front, ""), CAUSAL_NO, "not admissible\n", ""));
-    HOLDS(tells(explain_in("adjust g --set {} --x X,M --back-door", front, ""), CAUSAL_GRAPH, "", "causal: target fault 6\n"));
-    HOLDS(tells(explain_in("adjust g", front, ""), CAUSAL_WORDS, "", "causal: words: steps, rule, adjust or settled\n"));
+/* Whether the answer has a part. */
+static int shows(result r, uint8_t status, const char *part) {
+    r.out[r.sizes.out < ROOM ? r.sizes.out : ROOM - 1] = 0;
+    return r.status == status && strstr((const char *)r.out, part) != NULL;
 }
 
-/* of which kind the answer under a condition is */
+static const char front[] = "dag{X [exposure] Y [outcome] X->M->Y X<->Y}", hidden[] = "dag{X [exposure] Y [outcome] X<-U->Y U [latent] Z->X->Y}",
+                  turning[] = "dag{X [exposure] Y [outcome] X->Y X<->Y Z->Y}", unknown[] = "dag{X->Y X<->Y Y->Z}";
+static const char certificate[] =
+    "{\"answer\":\"formula\",\"defs\":[],\"formula\":\"P(M|X)\",\"lemmas\":[],\"main\":[\"rule2see\",[\"X\"]],"
+    "\"version\":1,\"x\":[\"X\"],\"y\":[\"M\"]}";
+
+/* the steps of a derivation */
+static void steps(void) {
+    HOLDS(tells(run_over("steps g c", front, certificate), CAUSAL_YES, "main\nP(M|do(X))\nrule2see: P(M|X)\n", ""));
+    HOLDS(shows(run_over("steps g c --json", front, certificate), CAUSAL_YES,
+                "\"rule\":{\"number\":2,\"y\":[\"M\"],\"z\":[\"X\"],\"do\":[],\"given\":[],"
+                "\"graph\":{\"directed\":[[\"M\",\"Y\"]],\"bidirected\":[[\"X\",\"Y\"]]}}"));
+    HOLDS(tells(run_over("steps g h", front, certificate), CAUSAL_NO_INPUT, "", "causal: read failed\n"));
+    HOLDS(run_over("steps g", front, certificate).status == CAUSAL_WORDS);
+    result r = run_over("steps g c", front, "{}");
+    HOLDS(r.status == CAUSAL_SECOND && r.sizes.out == 0 && memcmp(r.err, "causal: certificate fault ", 26) == 0);
+}
+
+/* the graph in which a rule is asked, whether it holds or not, after hidden vertices are projected away */
+static void rule_graphs(void) {
+    HOLDS(shows(run_over("rule g --rule 1 --y Y --z Z --json", hidden, ""), CAUSAL_NO,
+                "\"graph\":{\"directed\":[[\"X\",\"Y\"],[\"Z\",\"X\"]],\"bidirected\":[[\"X\",\"Y\"]]}}\n"));
+    HOLDS(shows(run_over("rule g --rule 1 --y Y --z Z --do X --json", hidden, ""), CAUSAL_YES, "\"graph\":{\"directed\":[[\"X\",\"Y\"]],\"bidirected\":[]}}\n"));
+    HOLDS(shows(run_over("rule g --rule 2 --y Y --z X --given Z --json", hidden, ""), CAUSAL_NO,
+                "\"graph\":{\"directed\":[[\"Z\",\"X\"]],\"bidirected\":[[\"X\",\"Y\"]]}}\n"));
+    HOLDS(shows(run_over("rule g --rule 3 --y Y --z X --json", hidden, ""), CAUSAL_NO, "\"graph\":{\"directed\":[[\"X\",\"Y\"]],\"bidirected\":[]}}\n"));
+    /* z is an ancestor of what is observed, so rule 3 cuts nothing there */
+    HOLDS(shows(run_over("rule g --rule 3 --y Y --z X --given M --json", front, ""), CAUSAL_NO,
+                "\"graph\":{\"directed\":[[\"X\",\"M\"],[\"M\",\"Y\"]],\"bidirected\":[[\"X\",\"Y\"]]}}\n"));
+    HOLDS(tells(run_over("rule g --rule 2 --y U --z X", hidden, ""), CAUSAL_GRAPH, "", "causal: target fault 2: U\n"));
+    HOLDS(run_over("rule g --rule 4 --y Y --z X", front, "").status == CAUSAL_WORDS);
+}
+
+/* an adjustment formula in LaTeX, by one of two criteria */
+static void adjustment_formulas(void) {
+    HOLDS(shows(run_over("adjust g --set M --x X --y Y --json", "dag{X->Y M->X M->Y}", ""), CAUSAL_YES,
+                "\"latex\":\"P(Y \\\\mid \\\\mathrm{do}(X)) = \\\\sum_{M} P(M) P(Y \\\\mid X, M)\""));
+    HOLDS(shows(run_over("adjust g --set {} --back-door --json", "dag{X [exposure] Y [outcome] X->Y}", ""), CAUSAL_YES,
+                "\"latex\":\"P(Y \\\\mid \\\\mathrm{do}(X)) = P(Y \\\\mid X)\""));
+    HOLDS(shows(run_over("adjust g --set M --json", front, ""), CAUSAL_NO, "{\"answer\":\"not admissible\""));
+    HOLDS(tells(run_over("adjust g --set {} --x X,M --back-door", front, ""), CAUSAL_GRAPH, "", "causal: target fault 6\n"));
+}
+
+/* whether the two models of a joint effect differ on the effect under the condition too */
 static void settled(void) {
-    static const char turning[] = "dag{X [exposure] Y [outcome] X->Y X<->Y Z->Y}", known[] = "dag{X->Y X<->Y Z->Y Z<->Y}",
-                      unknown[] = "dag{X->Y X<->Y Y->Z}", hidden[] = "dag{X [exposure] Y [outcome] X<-U->Y U [latent] X->Y->Z}";
-    HOLDS(tells(explain_in("settled g --given Z", "dag{X [exposure] Y [outcome] Z->X Z->Y X->Y}", ""), CAUSAL_NO, "formula\n", ""));
+    static const char known[] = "dag{X->Y X<->Y Z->Y Z<->Y}", yes[] = "\"settled\":true", no[] = "\"settled\":false";
+    result r = run_over("identify g --given Z --json", "dag{X [exposure] Y [outcome] Z->X Z->Y X->Y}", "");
+    HOLDS(shows(r, CAUSAL_YES, "{\"answer\":\"formula\"") && !shows(r, CAUSAL_YES, "settled"));
     /* Z may as well be set: no observation is left */
-    HOLDS(tells(explain_in("settled g --given Z", turning, ""), CAUSAL_YES, "settled\n", ""));
+    HOLDS(shows(run_over("identify g --given Z --json", turning, ""), CAUSAL_NO, yes));
     /* Z is left, and P(Z|do(X)) is P(Z) */
-    HOLDS(tells(explain_in("settled g --given Z --x X --y Y", known, ""), CAUSAL_YES, "settled\n", ""));
+    HOLDS(shows(run_over("identify g --given Z --x X --y Y --json", known, ""), CAUSAL_NO, yes));
     /* Z is left, and P(Z|do(X)) has a hedge */
-    HOLDS(tells(explain_in("settled g --y Y --x X --given {Z}", unknown, ""), CAUSAL_NO, "unsettled\n", ""));
-    HOLDS(tells(explain_in("settled g --given Z", hidden, ""), CAUSAL_NO, "unsettled\n", ""));
-    /* nothing given, or nothing done: as `identify` has it */
-    HOLDS(tells(explain_in("settled g --given {}", turning, ""), CAUSAL_YES, "settled\n", ""));
-    HOLDS(tells(explain_in("settled g --given Z --x {} --y Y", turning, ""), CAUSAL_NO, "formula\n", ""));
+    HOLDS(shows(run_over("identify g --y Y --x X --given {Z} --json", unknown, ""), CAUSAL_NO, no));
+    HOLDS(shows(run_over("identify g --given Z --json", "dag{X [exposure] Y [outcome] X<-U->Y U [latent] X->Y->Z}", ""), CAUSAL_NO, no));
+    HOLDS(shows(run_over("identify g --given Z --x {} --y Y --json", turning, ""), CAUSAL_YES, "{\"answer\":\"formula\""));
     /* refusals */
-    HOLDS(tells(explain_in("settled g --given U", hidden, ""), CAUSAL_GRAPH, "", "causal: target fault 2: U\n"));
-    HOLDS(tells(explain_in("settled g --given X", turning, ""), CAUSAL_GRAPH, "", "causal: target fault 3: X\n"));
-    HOLDS(tells(explain_in("settled g --given Z", unknown, ""), CAUSAL_GRAPH, "", "causal: target fault 4\n"));
-    HOLDS(tells(explain_in("settled g --given Z", "dag{X-->Y}", ""), CAUSAL_GRAPH, "", "causal: graph fault 2: byte 5\n"));
-    HOLDS(tells(explain_in("settled h --given Z", turning, ""), CAUSAL_NO_INPUT, "", "causal: read failed\n"));
-    HOLDS(tells(explain_in("settled g", turning, ""), CAUSAL_WORDS, "", "causal: words: steps, rule, adjust or settled\n"));
-    HOLDS(explain_in("settled g --given Z --latex", turning, "").status == CAUSAL_WORDS);
+    HOLDS(tells(run_over("identify g --given U", hidden, ""), CAUSAL_GRAPH, "", "causal: target fault 2: U\n"));
+    HOLDS(tells(run_over("identify g --given X", turning, ""), CAUSAL_GRAPH, "", "causal: target fault 3: X\n"));
+    HOLDS(tells(run_over("identify g --given Z", unknown, ""), CAUSAL_GRAPH, "", "causal: target fault 4\n"));
+    HOLDS(tells(run_over("identify g --given Z", "dag{X-->Y}", ""), CAUSAL_GRAPH, "", "causal: graph fault 2: byte 5\n"));
+    HOLDS(tells(run_over("identify h --given Z", turning, ""), CAUSAL_NO_INPUT, "", "causal: read failed\n"));
 }
 
 static void kept(void) {
@@ -279,7 +280,7 @@ static result ask_in(const char *text, size_t fewer, const char *line, const cha
     causal_input inputs[] = {{{at - 1, at}, {length + 1, at - 2}}};
     result r;
     memset(&r, '#', sizeof r);
-    r.status = causal_ask(&diagram, names, size - fewer, (const uint8_t *)bytes, at, words, count, inputs, 1, r.out, 256, r.err, 256, &r.sizes);
+    r.status = causal_ask(&diagram, names, size - fewer, (const uint8_t *)bytes, at, words, count, inputs, 1, r.out, ROOM, r.err, ROOM, &r.sizes);
     return r;
 }
 
@@ -294,6 +295,8 @@ static void asked(void) {
     HOLDS(tells(ask_in(hidden, 0, "graph g", ""), CAUSAL_YES, "dag {\nA\nU [latent]\nB\nC\nU -> A\nU -> B\nB -> C\n}\n", ""));
     HOLDS(tells(ask_in(bow, 0, "identify g --x X --y U", ""), CAUSAL_GRAPH, "", "causal: target fault 1: U\n"));
     HOLDS(ask_in(bow, 0, "identify g --x X --y Y", "").status == CAUSAL_NO);
+    HOLDS(tells(ask_in(front, 0, "steps g c", certificate), CAUSAL_YES, "main\nP(M|do(X))\nrule2see: P(M|X)\n", ""));
+    HOLDS(shows(ask_in(unknown, 0, "identify g --x X --y Y --given Z --json", ""), CAUSAL_NO, "\"settled\":false"));
     /* a second input is one of the inputs, and the diagram isn't */
     HOLDS(tells(ask_in("dag{X->Y}", 0, "equivalent g c", "dag{X<-Y}"), CAUSAL_YES, "equivalent\n", ""));
     HOLDS(tells(ask_in("dag{X->Y}", 0, "equivalent g g", "dag{X<-Y}"), CAUSAL_NO_INPUT, "", "causal: read failed\n"));
@@ -323,8 +326,9 @@ int main(void) {
     spans();
     names();
     statuses();
-    explained();
-    explained_more();
+    steps();
+    rule_graphs();
+    adjustment_formulas();
     settled();
     kept();
     kept_at_the_limit();

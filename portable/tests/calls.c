@@ -94,9 +94,6 @@ I causal_run_code(L b, L l, L words, L n, L inputs, L m, L out, L out_room, L er
   note(words, n, inputs, m, sizes);
   return status;
 }
-I causal_explain_code(L b, L l, L words, L n, L inputs, L m, L out, L out_room, L err, L err_room, L sizes) {
-  return causal_run_code(b, l, words, n, inputs, m, out, out_room, err, err_room, sizes);
-}
 I causal_ask_code(L d, L names, L size, L b, L l, L words, L n, L inputs, L m, L out, L out_room, L err, L err_room, L sizes) {
   hold_words(d, 1000);
   name_of_words = names + size;
@@ -235,7 +232,6 @@ static void test_calls(void) {
   size_t size = 0;
   status = 5;
   is_passed(causal_run(bytes, 16, spans, 2, inputs, 2, out, 8, err, 4, &sizes));
-  is_passed(causal_explain(bytes, 16, spans, 2, inputs, 2, out, 8, err, 4, &sizes));
   is_passed(causal_ask(&diagram, err, 4, bytes, 16, spans, 2, inputs, 2, out, 8, err, 4, &sizes));
   HOLDS(name_of_words == at(err) + 4);
   HOLDS(causal_inputs(bytes, 16, spans, 2, out, 8, &wanted) == 5 && given_words[3] == 400);

@@ -232,8 +232,7 @@ def calls_of(case: dict[str, Any]) -> list[str]:
     written, (at, at_words, at_inputs) = placed(text, *spans)
     of_words = [at, len(text), at_words, len(words) // 2]
     asked = [*of_words, at_inputs, len(inputs) // 4, OUT, OUT_ROOM, OUT + OUT_ROOM, ERR_ROOM, SIZES]
-    rows = [row_of(name, written, *asked) for name in ("causal_run", "causal_explain")]
-    rows.append(row_of("causal_inputs", written, *of_words, NAMES, NAMES_ROOM, SIZES))
+    rows = [row_of("causal_run", written, *asked), row_of("causal_inputs", written, *of_words, NAMES, NAMES_ROOM, SIZES)]
     for content in list(inputs_of(case).values())[:1]:
         kept, (at_text,) = placed(content)
         rows.append(row_of("causal_keep", kept, at_text, len(content), KEPT, NAMES, NAMES_ROOM, SIZES))

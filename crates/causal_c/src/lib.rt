@@ -11,13 +11,11 @@ ghost use Rattle.identify.specs.Vocabulary.{IsIdentifiable, IsNotIdentifiable};
 ghost use Rattle.caller_memory.specs.Vocabulary.{AreAskable, AreEffectSets, KeepsText, IsNoGraphText, Keeps, graph_in, AreTexts, IsNoText};
 ghost use Rattle.span_call.specs.Called.{Called};
 ghost use Rattle.span_call.specs.Vocabulary.{LacksInput, IsEnd, HasKept, TellsInputs, AskForNothing};
-ghost use Rattle.explain_call.specs.Vocabulary.{Explained};
 
 use caller_memory::kept::{
     Adjustment, Identification, KeepFault, KeptDiagram, ReadDiagram, Separation,
 };
 use caller_memory::spans::{Input, Span};
-use explain_call::explain_spans;
 use mixed_graph::VSet;
 use span_call::kept::ask_kept;
 use span_call::{Arguments, Sizes, Wanted, run_spans, show, wanted_spans};
@@ -73,32 +71,6 @@ pub extern "C" fn causal_inputs(
 {
     let end = wanted_spans(alloc, bytes, words, names);
     *wanted = end.wanted;
-    end.status
-}
-
-/// Explains an answer: answers the words `steps`, `rule`, `adjust` or `settled` over the inputs, shows what was written, and gives the status.
-#[unsafe(no_mangle)]
-pub extern "C" fn causal_explain(
-    alloc: Global,
-    bytes: &[u8],
-    words: &[Span],
-    inputs: &[Input],
-    out: &mut [u8],
-    err: &mut [u8],
-    sizes: &mut Sizes,
-) -> u8
-    // 9: a word is no text. Below that each is. From 9 on nothing is written.
-    ensures end { IsEnd bytes.now words.now out.old out.new err.old err.new sizes.new result }
-    ensures known { result ≤ 10 }
-    ensures explained { result ≤ 8 → Explained bytes.now words.now inputs.now out.old out.new err.old err.new sizes.new result }
-{
-    let arguments = Arguments {
-        bytes,
-        words,
-        inputs,
-    };
-    let end = explain_spans(alloc, &arguments, out, err);
-    *sizes = end.sizes;
     end.status
 }
 

@@ -2,5 +2,4 @@
 pub use Rattle.span_call.specs.Called.{LacksInput}
 pub use Rattle.span_call.specs.Ends.{IsEnd}
 pub use Rattle.span_call.specs.Keeping.{HasKept}
-pub use Rattle.span_call.specs.Rooms.{ShowsText}
 pub use Rattle.span_call.specs.Wanted.{AskForNothing, TellsInputs}

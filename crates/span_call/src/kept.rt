@@ -6,7 +6,8 @@ ghost use Rattle.span_call.specs.Ends.{IsEnd};
 ghost use Rattle.span_call.specs.Called.{Called, LacksInput};
 
 use crate::answering::{answer_words, show_reply};
-use crate::{Arguments, CallEnd, call_words};
+use crate::ends::call_words;
+use crate::{Arguments, CallEnd};
 use caller_memory::kept::{KeptDiagram, NamesFault};
 use command_run::Ready;
 use replies::Outcome;

@@ -11,7 +11,8 @@ pub mod kept;
 mod wanted;
 
 use answering::answer_words;
-pub use ends::{Arguments, CallEnd, call_words, show, show_both};
+use ends::call_words;
+pub use ends::{Arguments, CallEnd, show};
 use std::alloc::Global;
 pub use wanted::{Wanted, WantedEnd, wanted_spans};
 
