@@ -45,6 +45,7 @@ if TYPE_CHECKING:
     from causal.bounds import EffectBound, EffectBounds, NoInstrument, NoModel
     from causal.comparison import Comparison
     from causal.contrasts import Contrast, ContrastInterval, Contrasts
+    from causal.derivation import AskedRule, Derivation, DerivationPart, Expression, Move
     from causal.effects import Effect, Effects, Mean, Spread, Value
     from causal.estimates import Estimate, Estimates
     from causal.forms import read
@@ -67,6 +68,7 @@ __version__ = VERSION
 
 # What questions about data need is imported when it is asked for first.
 _LATER = {
+    "AskedRule": "causal.derivation",
     "Balance": "causal.weighting",
     "Bootstrap": "causal.bootstrap",
     "Comparison": "causal.comparison",
@@ -74,6 +76,8 @@ _LATER = {
     "Contrast": "causal.contrasts",
     "ContrastInterval": "causal.contrasts",
     "Contrasts": "causal.contrasts",
+    "Derivation": "causal.derivation",
+    "DerivationPart": "causal.derivation",
     "Difference": "causal.implications",
     "EValue": "causal.sensitivity",
     "Effect": "causal.effects",
@@ -82,6 +86,7 @@ _LATER = {
     "Effects": "causal.effects",
     "Estimate": "causal.estimates",
     "Estimates": "causal.estimates",
+    "Expression": "causal.derivation",
     "Fit": "causal.models",
     "Implication": "causal.implications",
     "Implications": "causal.implications",
@@ -93,6 +98,7 @@ _LATER = {
     "Mean": "causal.effects",
     "MeanInterval": "causal.bootstrap",
     "Mediation": "causal.mediation",
+    "Move": "causal.derivation",
     "NaturalFormula": "causal.natural",
     "NoInstrument": "causal.bounds",
     "NoModel": "causal.bounds",
@@ -111,6 +117,7 @@ _LATER = {
 __all__ = [
     "Adjustment",
     "AdjustmentSets",
+    "AskedRule",
     "Balance",
     "Bootstrap",
     "CausalError",
@@ -124,6 +131,8 @@ __all__ = [
     "Contrasts",
     "CountsError",
     "DataWarning",
+    "Derivation",
+    "DerivationPart",
     "Diagram",
     "DiagramError",
     "DiagramWarning",
@@ -137,6 +146,7 @@ __all__ = [
     "Estimate",
     "Estimates",
     "EvaluationError",
+    "Expression",
     "FileMissing",
     "FileRefused",
     "Fit",
@@ -155,6 +165,7 @@ __all__ = [
     "MeanInterval",
     "Mediation",
     "MissingValues",
+    "Move",
     "NaturalFormula",
     "NoInstrument",
     "NoModel",

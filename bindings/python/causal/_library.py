@@ -71,7 +71,6 @@ class _Calls(NamedTuple):
     separated: Any
     ask: Any
     inputs: Any
-    explain: Any
     identifiable: Any
     admissible: Any
 
@@ -87,7 +86,7 @@ def _load() -> _Calls:
         known = library.causal_run, library.causal_keep, library.causal_separated, library.causal_ask
     except (OSError, AttributeError) as cause:
         raise LibraryMissing(f"the library at {path} can't be used: {cause}") from cause
-    later = "causal_inputs", "causal_explain", "causal_is_identifiable", "causal_is_admissible"
+    later = "causal_inputs", "causal_is_identifiable", "causal_is_admissible"
     calls = _Calls(ctypes, *known, *(getattr(library, name, None) for name in later))
     size, spans, room, bits = ctypes.c_size_t, ctypes.c_void_p, ctypes.c_char_p, ctypes.c_uint64
     asked = [ctypes.c_char_p, size, spans, size, spans, size, room, size, room, size, ctypes.c_void_p]
@@ -97,8 +96,6 @@ def _load() -> _Calls:
     calls.ask.argtypes = [ctypes.c_void_p, ctypes.c_char_p, size, *asked]
     if calls.inputs is not None:
         calls.inputs.argtypes = [ctypes.c_char_p, size, spans, size, room, size, ctypes.POINTER(_wanted_type())]
-    if calls.explain is not None:
-        calls.explain.argtypes = asked
     if calls.identifiable is not None:
         calls.identifiable.argtypes = [ctypes.c_void_p, bits, bits]
     if calls.admissible is not None:
@@ -166,18 +163,6 @@ def run(words: Iterable[Text], inputs: Optional[Inputs] = None) -> Reply:
     Reply(status=0, out=b'P(Y|do(X)) = sum{Z} P(Z) * P(Y|Z,X)\\n', err=b'')
     """
     return _run(_load().run, words, inputs or {})
-
-
-def explain(words: Iterable[Text], inputs: Inputs) -> Optional[Reply]:
-    """Explains an answer by words of the call `causal_explain` (include/causal.h), as `run` runs a command; None where the library is
-    of a version that has no such call.
-
-    >>> from causal._library import explain
-    >>> explain(["settled", "g", "--x", "X", "--y", "Y", "--given", "Z"], {"g": "dag{X->Y X<->Y Y->Z}"})
-    Reply(status=1, out=b'unsettled\\n', err=b'')
-    """
-    call = _load().explain
-    return None if call is None else _run(call, words, inputs)
 
 
 def _run(call: Callable[..., int], words: Iterable[Text], named: Inputs) -> Reply:

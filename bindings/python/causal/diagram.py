@@ -26,6 +26,7 @@ if TYPE_CHECKING:
     import networkx
     import pandas
 
+    from causal.derivation import Derivation
     from causal.effects import Level
     from causal.instruments import Instruments
     from causal.natural import Natural
@@ -558,14 +559,41 @@ class Diagram(DataQuestions, GraphQuestions):
         P(Y|do(X)) is not identifiable
         hedge {X,Y} over {Y} with roots {Y}
         """
+        return self._ask_certificate(reading.read_check, "check", certificate, experiments)
+
+    check = Renamed("check_certificate")
+
+    def steps(
+        self, certificate: Union[Text, Formula, Hedge], experiments: Union[str, Iterable[Names]] = ()
+    ) -> Union[Derivation, answers.Check]:
+        """The steps of an accepted certificate of a formula, whoever wrote it: what stands there after each, and the rule for which it
+        asks, with its graph. Of another certificate the answer is that of `check_certificate`, which counts as true for a hedge's.
+
+        >>> from causal import Diagram
+        >>> diagram = Diagram("dag { X -> Y }")
+        >>> print(diagram.steps(diagram.identify("X", "Y")))
+        main
+        P(Y|do(X))
+        rule2see: P(Y|X)
+        """
+        from causal.derivation import read_steps
+
+        return self._ask_certificate(read_steps, "steps", certificate, experiments)
+
+    def _ask_certificate(
+        self,
+        read: Callable[[Told, bool], Answer],
+        command: str,
+        certificate: Union[Text, Formula, Hedge],
+        experiments: Union[str, Iterable[Names]],
+    ) -> Answer:
+        """Asks about a certificate. The reader is told whether it is one over experiments."""
         text = certificate.certificate if isinstance(certificate, (Formula, Hedge)) else certificate
         if text is None:
             raise RequestError("this answer has no certificate: only those of identify and surrogate have one")
         word = experiments_word(experiments)
         words = ["--experiments", word] if word else []
-        return self._ask(lambda told: reading.read_check(told, bool(word)), "check", *words, second=as_bytes(text))
-
-    check = Renamed("check_certificate")
+        return self._ask(lambda told: read(told, bool(word)), command, *words, second=as_bytes(text))
 
     def adjustment_sets(
         self, x: Optional[Names] = None, y: Optional[Names] = None, most: Optional[int] = None

@@ -15,6 +15,7 @@ from causal.vocabulary import Renamed
 if TYPE_CHECKING:
     from fractions import Fraction
 
+    from causal.derivation import Derivation
     from causal.question import Question
 
 
@@ -228,7 +229,21 @@ class Formula(Framed):
         P(Y|do(X))
         rule2see: P(Y|X)
         """
-        return self._question.derivation if self._question else None
+        steps = self.steps
+        return None if steps is None else str(steps)
+
+    @property
+    def steps(self) -> Optional[Derivation]:
+        """The same, each step with the rule for which it asks and the graph in which that is asked. Where it didn't come before, it is asked for.
+
+        >>> from causal import Diagram
+        >>> print(Diagram("dag{ X -> Y }").identify("X", "Y").steps.parts[0].moves[0].rule)
+        rule 2 y {Y} z {X} do {} given {}
+        """
+        from causal.derivation import Derivation
+
+        found = self._question.steps if self._question else None
+        return found if isinstance(found, Derivation) else None
 
     def _repr_latex_(self) -> Optional[str]:
         """What notebooks show: the formula and its definitions, without the free variables."""
@@ -305,7 +320,9 @@ class Hedge(HedgeSets):
 
     Where a condition was given, `conditional` is the effect that was asked for, and `target` the joint effect of which the hedge
     speaks: by it the joint effect can't be computed from observations. It is proved that no formula over observations equals the
-    conditional one either, in every model of the diagram; `settled` says whether the very two models show that too.
+    conditional one either, in every model of the diagram. Where it is `settled`, it is proved that the very two models differ on the
+    conditional effect too, and else that two other models do, which aren't shown. It is None where no condition was given, and where
+    the library is of a version that doesn't tell it.
 
     >>> from causal import Diagram
     >>> hedge = Diagram("dag{ X -> Y X <-> Y }").identify("X", "Y")
@@ -313,6 +330,12 @@ class Hedge(HedgeSets):
     (('X', 'Y'), ('Y',), (('X', 'Y'),), (Fraction(1, 2), Fraction(5, 8)))
     >>> print(hedge.first[0])
     h(X) = c0
+    >>> Diagram("dag{ X -> Y X <-> Y Z -> Y Z <-> Y }").identify("X", "Y", given="Z").settled
+    True
+    >>> Diagram("dag{ X -> Y X <-> Y Y -> Z }").identify("X", "Y", given="Z").settled
+    False
+    >>> hedge.settled is None
+    True
     """
 
     choice: Tuple[Tuple[str, str], ...] = ()
@@ -323,6 +346,7 @@ class Hedge(HedgeSets):
     event: Tuple[str, ...] = ()
     noise: int = 0
     conditional: Optional[Term] = None
+    settled: Optional[bool] = None
     _question: Optional[Question] = field(default=None, repr=False, compare=False)
 
     @property
@@ -351,21 +375,6 @@ class Hedge(HedgeSets):
 
     def __str__(self) -> str:
         return self.text
-
-    @property
-    def settled(self) -> Optional[bool]:
-        """Where a condition was given: whether it is proved that the very two models differ on the conditional effect too. Else it is
-        proved that two other models do, which aren't shown. None where no condition was given, and where the library is of a version that doesn't tell it.
-
-        >>> from causal import Diagram
-        >>> Diagram("dag{ X -> Y X <-> Y Z -> Y Z <-> Y }").identify("X", "Y", given="Z").settled
-        True
-        >>> Diagram("dag{ X -> Y X <-> Y Y -> Z }").identify("X", "Y", given="Z").settled
-        False
-        >>> Diagram("dag{ X -> Y X <-> Y }").identify("X", "Y").settled is None
-        True
-        """
-        return self._question.settled if self._question and self.conditional else None
 
     @property
     def certificate(self) -> Optional[str]:

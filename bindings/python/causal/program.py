@@ -28,6 +28,7 @@ Answers questions about causal diagrams with hidden confounders, by a proved pro
     rule FILE --rule N --y L --z L [--do L] [--given L] [--json]
     identify FILE [--x L] [--y L] [--given L] [--certificate] [--latex] [--short] [--json]
     check FILE CERTIFICATE [--experiments E] [--json]
+    steps FILE CERTIFICATE [--experiments E] [--json]
     adjust FILE [--x L] [--y L] [--set L [--back-door] | --most N] [--json]
     evaluate FILE COUNTS [--x L] [--y L] [--given L | --set L [--back-door]] [--count NAME] [--exact] [--zero] [--matched] [--short] [--json]
     equivalent FILE FILE2 [--x L] [--y L] [--given L] [--json]

@@ -3,12 +3,15 @@ from __future__ import annotations
 
 from dataclasses import dataclass
 from functools import cached_property
-from typing import TYPE_CHECKING, Optional, Tuple
+from typing import TYPE_CHECKING, Optional, Tuple, Union
 
-from causal._library import Text, explain
+from causal._library import Text
+from causal.errors import RequestError
 from causal.objects import text_in
 
 if TYPE_CHECKING:
+    from causal.answers import Check
+    from causal.derivation import Derivation
     from causal.diagram import Diagram
 
 
@@ -19,8 +22,10 @@ class Question:
 
     >>> from causal import Diagram
     >>> from causal.question import Question
-    >>> Question(Diagram("dag { X -> Y X <-> Y Y -> Z }"), "identify", ("--x=X", "--y=Y", "--given=Z")).settled
-    False
+    >>> print(Question(Diagram("dag { X -> Y }"), "identify", ("--x=X", "--y=Y")).steps)
+    main
+    P(Y|do(X))
+    rule2see: P(Y|X)
     """
 
     diagram: "Diagram"
@@ -36,13 +41,14 @@ class Question:
         return self.diagram._ask(lambda told: text_in(told["certificate"]), self.command, *self.words, "--certificate")
 
     @cached_property
-    def derivation(self) -> Optional[str]:
-        """The steps of the certificate, in words; None where the library doesn't tell them."""
-        reply = explain(["steps", "diagram", "certificate"], {"diagram": self.diagram.source, "certificate": self.certificate.encode("utf-8")})
-        return None if reply is None or reply.status else reply.out.decode("utf-8").rstrip("\n")
+    def steps(self) -> Optional[Union[Derivation, Check]]:
+        """The steps of the certificate, under the experiments that were asked about; None where the library is of a version that doesn't
+        tell them."""
+        from causal.derivation import read_steps
 
-    @cached_property
-    def settled(self) -> Optional[bool]:
-        """Whether the two models of a hedge under a condition differ on the conditional effect; None where the library doesn't tell."""
-        reply = explain(["settled", "diagram", *self.words], {"diagram": self.diagram.source})
-        return None if reply is None else {0: True, 1: False}.get(reply.status)
+        start = self.words.index("--experiments") if "--experiments" in self.words else len(self.words)
+        words, certificate = self.words[start : start + 2], self.certificate.encode("utf-8")
+        try:
+            return self.diagram._ask(lambda told: read_steps(told, bool(words)), "steps", *words, second=certificate)
+        except RequestError:
+            return None

@@ -30,15 +30,21 @@ def _target(told: Told) -> Term:
     return Term(**_lists(told, "y", "x"), given=tuple(told.get("given", ())))
 
 
-def _pairs(pairs: Iterable[Sequence[str]]) -> Tuple[Tuple[str, str], ...]:
-    return tuple((a, b) for a, b in pairs)
+def pairs(told: Iterable[Sequence[str]]) -> Tuple[Tuple[str, str], ...]:
+    """Edges, each by its ends.
+
+    >>> from causal.reading import pairs
+    >>> pairs([["X", "M"], ["M", "Y"]])
+    (('X', 'M'), ('M', 'Y'))
+    """
+    return tuple((a, b) for a, b in told)
 
 
 def read_graph(told: Told) -> GraphText:
     """The answer of `graph`."""
     names = tuple(it["name"] for it in told["vertices"])
     roles = {it["name"]: it["role"] for it in told["vertices"] if it["role"]}
-    return GraphText(names, roles, _pairs(told["directed"]), _pairs(told["bidirected"]), told["text"])
+    return GraphText(names, roles, pairs(told["directed"]), pairs(told["bidirected"]), told["text"])
 
 
 def _separation(told: Told, path: Optional[Path] = None) -> Separation:
@@ -94,13 +100,14 @@ def hedge_parts(told: Told, question: Optional[Question]) -> Dict[str, Any]:
         "target": _target(told.get("joint", told)),
         **_sets(hedge),
         "choice": tuple((it["vertex"], it["child"]) for it in hedge["choices"]),
-        "links": _pairs(hedge["links"]),
+        "links": pairs(hedge["links"]),
         "causes": tuple(_cause(number, it) for number, it in enumerate(models["causes"])),
         "first": _bits(models["first"]),
         "second": _bits(models["second"]),
         "event": tuple(bit["vertex"] for bit in models["event"]["sum"]),
         "noise": int(models["event"]["second"].rpartition("^")[2]),
         "conditional": _target(told) if told["given"] else None,
+        "settled": told.get("settled") if told["given"] else None,
         "_question": question,
     }
 

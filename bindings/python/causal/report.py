@@ -223,12 +223,12 @@ def effect_blocks(diagram: "Diagram", answer: Any, most: int) -> List[Block]:
     found: List[Block] = [Text("Under this diagram the effect is identified, by the formula"), Formulated(latex_of(answer), answer.text)]
     certificate = answer.certificate
     if certificate is not None:
-        accepted = diagram.check_certificate(certificate).accepted
+        steps = answer.steps
         digest = hashlib.sha256(certificate.encode()).hexdigest()
-        verdict = "accepts" if accepted else "refuses"
+        verdict = "accepts" if steps or diagram.check_certificate(certificate) else "refuses"
         found += [Text(f"Its derivation is a certificate of {len(certificate)} bytes, which causal check {verdict}. Its SHA-256:"), Code(digest)]
-        if answer.derivation is not None:
-            found += [Text("Its steps, each with what stands there behind it:"), Code(answer.derivation)]
+        if steps is not None:
+            found += [Text("Its steps, each with what stands there behind it:"), Code(str(steps))]
     sets = diagram.adjustment_sets(answer.target.x, answer.target.y, most=most)
     if sets:
         listed = ", ".join(map(printed_set, sets)) + (" and more" if sets.more else "")

@@ -115,6 +115,9 @@ class Questions(unittest.TestCase):
     def ask_check(self, diagram, second, options, folder):
         return diagram.check_certificate(second, **options)
 
+    def ask_steps(self, diagram, second, options, folder):
+        return diagram.steps(second, **options)
+
     def ask_adjust(self, diagram, second, options, folder):
         if "set" not in options:
             return diagram.adjustment_sets(**with_number(options))

@@ -257,15 +257,11 @@ class Conditions(unittest.TestCase):
         self.assertEqual(str(found), f"P(Y|do(X),Z) not identified; P(Y,Z|do(X)) is not identifiable\n{PRINTED_MODELS}")
 
     def test_whether_the_models_differ_on_it(self):
-        text = "dag { X -> Y X <-> Y Y -> Z }"
-        told = {(0, b"settled\n", b""): True, (1, b"unsettled\n", b""): False, (2, b"", b"causal: words: ..\n"): None, (): None}
-        for parts, settled in told.items():
-            reply = _library.Reply(*parts) if parts else None
-            with self.subTest(reply), mock.patch("causal.question.explain", return_value=reply) as explained:
-                with answering((1, NOT_IDENTIFIED, "")):
-                    found = Diagram(text).identify("X", "Y", "Z")
-                self.assertEqual([found.settled, found.settled], [settled, settled])
-            explained.assert_called_once_with(["settled", "diagram", "--x", '"X"', "--y", '"Y"', "--given", '"Z"'], {"diagram": text.encode()})
+        for settled in (True, False, None):
+            told = NOT_IDENTIFIED if settled is None else {**NOT_IDENTIFIED, "settled": settled}
+            with self.subTest(settled), answering((1, told, "")) as library:
+                self.assertIs(Diagram("dag { X -> Y X <-> Y Y -> Z }").identify("X", "Y", "Z").settled, settled)
+            self.assertEqual(len(library.calls), 1)
 
     def test_which_models_differ_on_it(self):
         """By the definition: they do where no given vertex is left in the joint effect, or those that are left have a formula."""
@@ -294,6 +290,61 @@ class Conditions(unittest.TestCase):
         with answering((3, {"fault": fault}, "causal: target fault 3: X\n")), self.assertRaises(CausalError) as caught:
             Diagram("dag { X -> Y }").identify("X", "Y", given="X")
         self.assertEqual((caught.exception.number, caught.exception.place), (3, ("X",)))
+
+
+class Derivations(unittest.TestCase):
+    """The steps of a certificate."""
+
+    CERTIFICATE = {"answer": "formula", "formula": "P(Y|X)"}
+    RULE = {"number": 2, "y": ["Y"], "z": ["X"], "do": [], "given": ["b c"], "graph": {"directed": [["X", "Y"]], "bidirected": []}}
+    PARTS = [
+        {"lemma": 0, "start": {"text": "P(Y|do(X))", "latex": "L0", "tree": TERM}, "moves": []},
+        {"lemma": None, "start": {"text": "P(Y|do(X))", "latex": "L0", "tree": TERM}, "moves": [
+            {"step": ["at", 1, ["at", 0, ["rule2see", ["X"]]]], "rule": RULE, "after": {"text": "P(Y|X)", "latex": "L1", "tree": TERM}},
+            {"step": ["unchain"], "rule": None, "after": {"text": "P(Y)", "latex": "L2", "tree": TERM}}]},
+    ]
+    TOLD = {**formula_told("P(Y|X)"), "answer": "explained", "parts": PARTS}
+    PRINTED = "lemma 0\nP(Y|do(X))\nmain\nP(Y|do(X))\nrule2see: P(Y|X)\nunchain: P(Y)"
+
+    def test_of_a_certificate(self):
+        with answering(self.TOLD) as library:
+            found = Diagram("dag { X -> Y }").steps(b"{}", experiments="Z")
+        self.assertEqual(library.calls, [(["steps", "diagram", "second", "--experiments", '"Z"', "--json"], {"second": b"{}"})])
+        self.assertEqual((str(found), found.formula.expression), (self.PRINTED, "P(Y|X)"))
+        move = found.parts[1].moves[0]
+        self.assertEqual((move.word, move.argument, move.place, move.after.printed_latex), ("rule2see", ["X"], (1, 0), "L1"))
+        self.assertEqual((str(move.rule), move.rule.edges), ('rule 2 y {Y} z {X} do {} given {"b c"}', (("X", "Y"),)))
+        self.assertEqual([found.parts[1].moves[1].rule, found.parts[1].moves[1].argument], [None, None])
+        self.assertEqual([row[:2] for row in found._table()[1]], [[0, None], [None, None], [None, "rule2see"], [None, "unchain"]])
+
+    def test_of_a_formula(self):
+        told = {**formula_told("P(Y|X)"), "certificate": self.CERTIFICATE}
+        for ask, words in (
+            (lambda diagram: diagram.identify("X", "Y", certificate=True), []),
+            (lambda diagram: diagram.surrogate("X", "Y", ["Z", "W"], certificate=True), ["--experiments", '"Z";"W"']),
+        ):
+            with self.subTest(words), answering(told, self.TOLD) as library:
+                found = ask(Diagram("dag { X -> Y }"))
+                self.assertEqual([found.derivation, str(found.steps)], [self.PRINTED] * 2)
+            self.assertEqual(library.words[1], ["steps", "diagram", "second", *words, "--json"])
+
+    def test_of_no_accepted_formula(self):
+        hedge = {"answer": "accepted", "of": "hedge", "x": ["X"], "y": ["Y"], "effect": "P(Y|do(X))", "hedge": SETS}
+        refusal = {"answer": "refused", "of": "formula", "at": None, "number": 10, "message": "a term still has a do"}
+        for status, told, accepted in ((0, hedge, True), (1, refusal, False)):
+            with self.subTest(told["answer"]), answering((status, told, "")):
+                found = Diagram("dag { X -> Y }").steps(b"{}")
+            self.assertEqual((found.accepted, found.formula), (accepted, None))
+        with answering({**formula_told("P(Y|X)"), "certificate": self.CERTIFICATE}, (1, refusal, "")):
+            found = Diagram("dag { X -> Y }").identify("X", "Y", certificate=True)
+            self.assertEqual((found.derivation, found.steps), (None, None))
+
+    def test_a_library_without_the_command(self):
+        told = {**formula_told("P(Y|X)"), "certificate": self.CERTIFICATE}
+        with answering(told, (2, {}, "causal: words not understood\n")):
+            self.assertIsNone(Diagram("dag { X -> Y }").identify("X", "Y", certificate=True).derivation)
+        formula = Diagram("dag { X -> Y }").adjusts([], "X", "Y").formula
+        self.assertEqual((formula.derivation, formula.steps), (None, None))
 
 
 class AskedOnce(unittest.TestCase):
