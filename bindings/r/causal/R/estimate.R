@@ -65,7 +65,7 @@ asked_among <- function(diagram, x, y, given, among) {
   check_exposures(diagram, x)
   condition <- condition_of(given)
   told <- ask("treated", diagram, c(option("x", x), option("y", y), option("given", condition$names)))
-  if (!told$yes) refuse("the effect among the treated has no formula: ", lines_of(text_of(told$asked, diagram))[1], "; treated_effect() says why",
+  if (!told$yes) refuse("the effect among the treated has no formula: ", object_of(told)$effect, " is not identifiable; treated_effect() says why",
                         kind = "not_identifiable")
   object <- object_of(told)
   c(asked_by_trees(diagram, told, x, y, condition, stats::setNames(texts(object$observed), texts(object$x))), list(among = among))
@@ -75,7 +75,8 @@ asked_from_experiments <- function(diagram, x, y, given, experiments) {
   check_exposures(diagram, x)
   if (length(given)) refuse("an effect from experiments is estimated without a condition")
   told <- ask("surrogate", diagram, c(option("x", x), option("y", y), "--experiments", experiments_word(experiments)))
-  if (!told$yes) refuse("these experiments give no formula: ", lines_of(text_of(told$asked, diagram))[1], "; surrogate() says why", kind = "not_identifiable")
+  if (!told$yes) refuse("these experiments give no formula: ", object_of(told)$effect, " has no formula found from these experiments; surrogate() says why",
+                        kind = "not_identifiable")
   c(asked_by_trees(diagram, told, x, y, condition_of(NULL)), list(experiments = if (is.list(experiments)) experiments else list(experiments)))
 }
 

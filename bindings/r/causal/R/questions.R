@@ -72,16 +72,7 @@ new_formula <- function(object, told, diagram) {
 
 new_hedge <- function(object, told, diagram) {
   read <- c(list(identifiable = FALSE), read_hedge(object), list(certificate = object$certificate))
-  if (!is.null(read$conditional)) read$settled <- is_settled(diagram, told$asked$words)
   new_answer("causal_hedge", read, told, diagram)
-}
-
-# Whether it is proved that the two models of a joint effect's hedge differ on the conditional effect that was asked for too.
-is_settled <- function(diagram, words) {
-  inputs <- list(diagram = diagram$text)
-  told <- explain(c("settled", "diagram", setdiff(words, "--short")), inputs)
-  if (told$status > 1) stop(causal_fault(told, inputs))
-  told$status == 0
 }
 
 summary.causal_hedge <- function(object, ...) structure(object, class = c("summary.causal_hedge", class(object)))
@@ -114,12 +105,28 @@ surrogate <- function(diagram, x = NULL, y = NULL, experiments, models = FALSE) 
 
 check_certificate <- function(diagram, certificate, experiments = NULL) {
   diagram <- as_causal_diagram(diagram)
+  told <- ask_certificate("check", diagram, certificate, experiments)
+  new_answer("causal_judgement", c(list(holds = told$yes), read_judgement(object_of(told))), told, diagram)
+}
+
+steps <- function(diagram, certificate, experiments = NULL) {
+  diagram <- as_causal_diagram(diagram)
+  told <- ask_certificate("steps", diagram, certificate, experiments)
+  object <- object_of(told)
+  class <- if (object$answer == "explained") "causal_steps" else "causal_judgement"
+  new_answer(class, c(list(holds = told$yes), read_steps(object)), told, diagram)
+}
+
+# What a command answers on a certificate, or on that of an answer.
+ask_certificate <- function(command, diagram, certificate, experiments) {
   if (inherits(certificate, c("causal_formula", "causal_hedge"))) certificate <- certificate$certificate
   if (is.null(certificate)) refuse("this answer has no certificate: only those of `identify_effect` and `surrogate` have one")
   words <- c("certificate", if (length(experiments)) c("--experiments", experiments_word(experiments)))
-  told <- ask("check", diagram, words, list(certificate = as_bytes(certificate)))
-  new_answer("causal_judgement", c(list(holds = told$yes), read_judgement(object_of(told))), told, diagram)
+  ask(command, diagram, words, list(certificate = as_bytes(certificate)))
 }
+
+# A row for each expression, with the move that makes it.
+as.data.frame.causal_steps <- function(x, ...) x$steps
 
 adjustment_sets <- function(diagram, x = NULL, y = NULL, most = 100) {
   diagram <- as_causal_diagram(diagram)

@@ -127,10 +127,13 @@ read_path <- function(open) {
 
 read_graph <- function(object) {
   roles <- vapply(object$vertices, function(vertex) if (is.null(vertex$role)) "" else vertex$role, "")
+  list(vertices = frame_of(list(name = texts(lapply(object$vertices, `[[`, "name")), role = roles)), edges = read_edges(object))
+}
+
+read_edges <- function(object) {
   pairs <- c(object$directed, object$bidirected)
   marks <- rep(c("->", "<->"), c(length(object$directed), length(object$bidirected)))
-  list(vertices = frame_of(list(name = texts(lapply(object$vertices, `[[`, "name")), role = roles)),
-       edges = frame_of(list(from = texts(lapply(pairs, `[[`, 1)), edge = marks, to = texts(lapply(pairs, `[[`, 2)))))
+  frame_of(list(from = texts(lapply(pairs, `[[`, 1)), edge = marks, to = texts(lapply(pairs, `[[`, 2))))
 }
 
 read_separation <- function(object) {
@@ -167,6 +170,7 @@ read_hedge <- function(object) {
   if (length(object$given)) {
     read$target <- term_text(texts(object$joint$y), texts(object$joint$x))
     read$conditional <- object$effect
+    read$settled <- object$settled
   }
   models <- object$models
   c(read, list(choice = pairs_frame(lapply(object$hedge$choices, `[`, c("vertex", "child")))),
@@ -213,6 +217,30 @@ read_judgement <- function(object) {
   at <- object$at
   list(accepted = FALSE, fault = number, at = if (!is.null(at)) if (is.null(at$lemma)) "main" else paste("lemma", at$lemma),
        step = if (!is.null(at$step)) as.integer(at$step), path = read_path(object$open))
+}
+
+# The steps of a certificate: a row for each expression, with the lemma, which is NA in main, and the move that makes it, and beside each
+# the rule for which the move asks. Where the answer is that of `check`, its judgement.
+read_steps <- function(object) {
+  if (object$answer != "explained") return(read_judgement(object))
+  rows <- unlist(lapply(object$parts, function(part) {
+    lapply(c(list(list(after = part$start)), part$moves), function(move) c(move, list(lemma = if (is.null(part$lemma)) NA else part$lemma)))
+  }), recursive = FALSE)
+  part <- function(key) lapply(rows, `[[`, key)
+  columns <- list(lemma = as.integer(unlist(part("lemma"))), move = vapply(part("step"), word_of, ""), expression = texts(lapply(part("after"), `[[`, "text")))
+  list(accepted = TRUE, formula = read_formula(object), steps = frame_of(columns), rules = lapply(part("rule"), read_asked_rule))
+}
+
+# The word of a move, which may be at a place.
+word_of <- function(step) {
+  if (is.null(step)) return("")
+  if (step[[1]] == "at") word_of(step[[3]]) else step[[1]]
+}
+
+# The rule for which a move asks, with the edges of the graph in which it is asked.
+read_asked_rule <- function(rule) {
+  if (is.null(rule)) return(NULL)
+  c(list(rule = as.integer(rule$number)), sets_in(rule, c("y", "z", "do", "given")), list(edges = read_edges(rule$graph)))
 }
 
 # Whether a set may be adjusted for, with the formula; or what speaks against it, an open path or a member.

@@ -115,10 +115,10 @@ support_part <- function(diagram, data, x, y, set, count, missing) {
     list(if (any(lacks) && nrow(found) > 40) as.data.frame(found)[lacks, ] else as.data.frame(found)))
 }
 
-# The certificate's steps in words, where the library explains them.
+# The certificate's steps in words, as the program prints them.
 derivation_lines <- function(effect) {
-  told <- explain(c("steps", "diagram", "certificate"), list(diagram = effect$diagram$text, certificate = as_bytes(effect$certificate)))
-  if (told$status == 0) lines_of(told$out) else "The certificate of the formula can be checked by check_certificate()."
+  asked <- list(command = "steps", words = "certificate", inputs = list(certificate = as_bytes(effect$certificate)))
+  lines_of(text_of(asked, effect$diagram))
 }
 
 report_table <- function(body) {

@@ -3,17 +3,12 @@
 causal_run <- function(words, inputs = list()) run_on(words, inputs, NULL)
 
 # The same on a diagram that the library keeps, which stands for the file; NULL for none.
-run_on <- function(words, inputs, kept) call_library(words, inputs, kept, FALSE)
-
-# Explains an answer, by words of the call `causal_explain` of the library's header.
-explain <- function(words, inputs) call_library(words, inputs, NULL, TRUE)
-
-call_library <- function(words, inputs, kept, explains) {
+run_on <- function(words, inputs, kept) {
   if (!is.character(words) || anyNA(words)) refuse("`words` has to be a character vector without missing values")
   inputs <- as.list(inputs)
   names <- names(inputs)
   if (length(inputs) && (is.null(names) || anyNA(names))) refuse("each input needs a name")
-  answer <- .Call(call_causal, enc2utf8(words), enc2utf8(as.character(names)), lapply(unname(inputs), as_bytes), kept, explains)
+  answer <- .Call(call_causal, enc2utf8(words), enc2utf8(as.character(names)), lapply(unname(inputs), as_bytes), kept)
   if (answer[[1]] == 11L) refuse("what is kept of the diagram isn't what the library kept")
   list(status = answer[[1]], out = as_text(answer[[2]]), err = as_text(answer[[3]]))
 }

@@ -24,8 +24,8 @@ static SEXP raw_of(const uint8_t *bytes, size_t length) {
 static const causal_diagram *diagram_in(SEXP kept) { return (const causal_diagram *)RAW(VECTOR_ELT(kept, 0)); }
 
 /* words and names: character vectors in UTF-8; contents: a list of raw vectors; kept: what call_keep gave, which stands for the file, or
- * NULL; explains: whether the words are those of causal_explain, for which nothing is kept. */
-static SEXP call_causal(SEXP words, SEXP names, SEXP contents, SEXP kept, SEXP explains) {
+ * NULL. */
+static SEXP call_causal(SEXP words, SEXP names, SEXP contents, SEXP kept) {
   size_t word_count = (size_t)XLENGTH(words), input_count = (size_t)XLENGTH(names);
   size_t total = 1, used = 0;
   for (size_t i = 0; i < word_count; i++) total += strlen(CHAR(STRING_ELT(words, i)));
@@ -53,9 +53,7 @@ static SEXP call_causal(SEXP words, SEXP names, SEXP contents, SEXP kept, SEXP e
   for (;;) {
     out = (uint8_t *)R_alloc(room, 1);
     err = (uint8_t *)R_alloc(room, 1);
-    if (asLogical(explains)) {
-      status = causal_explain(packed, used, spans, word_count, inputs, input_count, out, room, err, room, &sizes);
-    } else if (isNull(kept)) {
+    if (isNull(kept)) {
       status = causal_run(packed, used, spans, word_count, inputs, input_count, out, room, err, room, &sizes);
     } else {
       SEXP lines = VECTOR_ELT(kept, 1);
@@ -117,7 +115,7 @@ static SEXP call_admissible(SEXP kept, SEXP x, SEXP y, SEXP set) {
   return ScalarInteger(causal_is_admissible(diagram_in(kept), set_of(x), set_of(y), set_of(set)));
 }
 
-static const R_CallMethodDef calls[] = {{"call_causal", (DL_FUNC)&call_causal, 5},
+static const R_CallMethodDef calls[] = {{"call_causal", (DL_FUNC)&call_causal, 4},
                                         {"call_keep", (DL_FUNC)&call_keep, 1},
                                         {"call_separated", (DL_FUNC)&call_separated, 4},
                                         {"call_identifiable", (DL_FUNC)&call_identifiable, 3},

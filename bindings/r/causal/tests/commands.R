@@ -129,6 +129,26 @@ stopped <- surrogate("dag { Z -> X -> Y X <-> Y }", "X", "Y", experiments = "Z")
 stopifnot(inherits(stopped, "causal_stopped"), is.null(stopped$certificate))
 same(asked[[2]]$words, c(words, "--json"))
 
+# The steps of a certificate
+expression <- function(text) paste0('{"text":"', text, '","latex":"L","tree":{"term":["Y"],"do":[],"given":[]}}')
+asked_rule <- '{"number":2,"y":["Y"],"z":["X"],"do":[],"given":["b c"],"graph":{"directed":[["X","Y"]],"bidirected":[["X","b c"]]}}'
+told <- paste0('{"answer":"explained","y":["Y"],"x":["X"],"given":[],"effect":"P(Y|do(X))","formula":"P(Y|X)","definitions":[],"free":[],"latex":"L",',
+               '"tree":{"term":["Y"],"do":[],"given":["X"]},"definition_trees":[],"parts":[{"lemma":0,"start":', expression("P(Z)"), ',"moves":[]},{"lemma":null,"start":',
+               expression("P(Y|do(X))"), ',"moves":[{"step":["at",1,["at",0,["rule2see",["X"]]]],"rule":', asked_rule, ',"after":', expression("P(Y|X)"),
+               '},{"step":["unchain"],"rule":null,"after":', expression("P(Y)"), "}]}]}")
+answering(told, "a text")
+steps_told <- steps("dag { X -> Y }", "{}", experiments = "Z")
+same(asked[[1]]$words, c("steps", "diagram", "certificate", "--experiments", "\"Z\"", "--json"))
+same(list(steps_told$holds, steps_told$accepted, steps_told$formula$expression), list(TRUE, TRUE, "P(Y|X)"))
+same(as.data.frame(steps_told), data.frame(lemma = c(0L, NA, NA, NA), move = c("", "", "rule2see", "unchain"), expression = c("P(Z)", "P(Y|do(X))", "P(Y|X)", "P(Y)")))
+same(steps_told$rules, list(NULL, NULL, list(rule = 2L, y = "Y", z = "X", do = character(), given = "b c",
+     edges = data.frame(from = c("X", "X"), edge = c("->", "<->"), to = c("Y", "b c"))), NULL))
+same(steps_told$text, "a text")
+same(asked[[2]]$words, c("steps", "diagram", "certificate", "--experiments", "\"Z\""))
+answering(no('{"answer":"refused","of":"formula","at":{"lemma":null,"step":1},"number":2,"message":"the sets of the step are wrong"}'))
+refusal <- steps("dag { X -> Y }", "{}")
+same(list(class(refusal)[1], refusal$holds, refusal$fault, refusal$at), list("causal_judgement", FALSE, 2L, "main"))
+
 # Conditions
 answering(formula_of("P(Y|do(X),Z)", "P(Y|Z,X)", latex = "P(Y) = q_0\\nq_0 = P(Y \\\\mid X)", given = "[\"Z\"]"))
 formula <- identify_effect("dag { Z -> X Z -> Y X -> Y }", "X", "Y", given = "Z")
@@ -137,12 +157,13 @@ same(asked[[1]]$words, c(words, "--certificate", "--json"))
 same(length(asked), 1L)
 same(c(formula$target, formula$expression, formula$printed_latex), c("P(Y|do(X),Z)", "P(Y|Z,X)", "P(Y) = q_0", "q_0 = P(Y \\mid X)"))
 same(formula$certificate, "{\"answer\":\"formula\"}")
-hedge_of <- function(given, effect, y) no('{"answer":"hedge","y":["Y"],"x":["X"],"given":', given, ',"effect":"', effect, '","joint":{"y":', y, ',"x":["X"]},', sets, ",", models)
-answering(hedge_of("[\"Z\"]", "P(Y|do(X),Z)", "[\"Y\",\"Z\"]"), "P(Y|do(X),Z) not identified; P(Y,Z|do(X)) is not identifiable\nhedge {X,Y} over {Y} with roots {Y}\ncause 0")
+hedge_of <- function(given, effect, y, settled = "") {
+  no('{"answer":"hedge","y":["Y"],"x":["X"],"given":', given, ',"effect":"', effect, '","joint":{"y":', y, ',"x":["X"]},', settled, sets, ",", models)
+}
+answering(hedge_of("[\"Z\"]", "P(Y|do(X),Z)", "[\"Y\",\"Z\"]", '"settled":false,'), "P(Y|do(X),Z) not identified; P(Y,Z|do(X)) is not identifiable\nhedge {X,Y} over {Y} with roots {Y}\ncause 0")
 hedge <- identify_effect("dag { X -> Y X <-> Y Y -> Z }", "X", "Y", given = c("Z"))
 same(c(hedge$conditional, hedge$target), c("P(Y|do(X),Z)", "P(Y,Z|do(X))"))
-# the call that explains has no stand-in
-same(hedge$settled, FALSE)
+same(list(length(asked), hedge$settled), list(1L, FALSE))
 same(hedge$difference, 0.125)
 same(length(utils::capture.output(print(summary(hedge)))), 2L)
 answering(hedge_of("[]", "P(Y|do(X))", "[\"Y\"]"))
