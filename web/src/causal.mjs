@@ -15,33 +15,25 @@ export async function load(bytes) {
   let exports;
 
   /**
-   * Calls a function of the module, which a module may lack.
-   * @param {string} name
+   * Runs a command line of the program `causal`.
    * @param {string[]} words @param {Record<string, string | Uint8Array>} inputs by name
    * @param {number} room the bytes that an answer may have before it is asked for again with more
    * @returns {Answer}
    */
-  function ask(name, words, inputs = {}, room = 1 << 16) {
+  function run(words, inputs = {}, room = 1 << 16) {
     exports ??= new WebAssembly.Instance(module, {}).exports;
-    if (!exports[name]) return { status: 2, out: "", err: `causal: this module has no ${name}\n` };
     try {
-      return call(exports, name, words, inputs, room);
+      return call(exports, words, inputs, room);
     } catch (e) {
       exports = undefined; // an instance in which a call was cut off isn't used again
       throw e;
     }
   }
 
-  return {
-    /** Runs a command line of the program `causal`. */
-    run: (words, inputs, room) => ask("causal_run", words, inputs, room),
-
-    /** Explains: the words are `steps`, `rule`, `adjust` or `settled` with what include/causal.h lists. */
-    explain: (words, inputs, room) => ask("causal_explain", words, inputs, room),
-  };
+  return { run };
 }
 
-function call(exports, name, words, inputs, room) {
+function call(exports, words, inputs, room) {
   const { memory, malloc, free } = exports;
   const texts = [...words, ...Object.entries(inputs).flat()].map(bytesOf);
   const length = texts.reduce((sum, text) => sum + text.length, 0);
@@ -58,7 +50,7 @@ function call(exports, name, words, inputs, room) {
       const out = place(room), err = place(room);
       lay(memory, texts, bytes, spans);
       const inputsAt = spans + SPAN * words.length, inputCount = (texts.length - words.length) / 2;
-      const status = exports[name](bytes, length, spans, words.length, inputsAt, inputCount, out, room, err, room, sizes);
+      const status = exports.causal_run(bytes, length, spans, words.length, inputsAt, inputCount, out, room, err, room, sizes);
       if (status === 9) throw new Error("a word is not UTF-8");
       if (status === 10) throw new Error("no memory for the words");
       const [wrote, said] = new Uint32Array(memory.buffer, sizes, 2);

@@ -24,6 +24,9 @@ export function graphOf({ vertices, directed, bidirected }) {
   return { vertices, edges: [...edges(directed, false), ...edges(bidirected, true)] };
 }
 
+/** The graph in which a rule is asked, whose vertices are the observed ones. @param {string[]} observed @returns {Graph} */
+export const ruleGraphOf = (observed, graph) => graphOf({ vertices: observed.map((name) => ({ name, role: null })), ...graph });
+
 /** The edges of a path. @param {Path} path @returns {Edge[]} */
 export const edgesOf = ({ vertices, marks }) => marks.map((mark, i) => {
   const [a, b] = [vertices[i], vertices[i + 1]];

@@ -1,75 +1,54 @@
-// The steps of a derivation, as the program tells them.
-import { latex, parse, partAt } from "./expression.js";
-import { readGraph, readSet } from "./text/told.js";
+// The steps of a derivation, with the graphs of its rules, as the program's objects tell them. Nothing of it is made here.
+import { keyOf } from "./diagram/geometry.js";
+import { latex, partAt } from "./expression.js";
+import { CERTIFICATE, DIAGRAM } from "./names.js";
+import { graphOf, ruleGraphOf } from "./objects.js";
 
 /**
- * @typedef {import("./expression.js").Expr} Expr  @typedef {import("./expression.js").Term} Term
+ * @typedef {import("./cards/parts.js").Context} Context  @typedef {import("./expression.js").Expr} Expr
+ * @typedef {import("./text/printed.js").Graph} Graph  @typedef {import("./text/printed.js").Edge} Edge
+ * @typedef {{text: string, latex: string, tree: Expr}} Told an expression, as the program tells it
  * @typedef {{n: 1 | 2 | 3, y: string[], z: string[], doing: string[], given: string[]}} Rule
- * @typedef {{word: string, arg: any, path: number[]}} Move a step at its place, as a certificate has it
  * @typedef {{number: number, word: string, set: string[], part: number | null, before: string, after: string,
- *   whole: string | null, rule: Rule | null, trees: [Expr, Expr], graph: import("./text/printed.js").Graph | null}} Step its expressions in
+ *   whole: string | null, rule: Rule | null, trees: [Expr, Expr], graph: Graph | null}} Step its expressions in
  *   LaTeX and as `trees`, `whole` where it has more than `after`; and the rule for which it asks, with the graph in which it is asked
  * @typedef {{lemma: number | null, start: string, steps: Step[]}} Derived
  */
 
-/** The moves of a certificate's step in turn. @returns {Move[]} */
-export function movesOf([word, arg, inner], path = []) {
-  if (word === "then") return arg.flatMap((step) => movesOf(step, path));
-  return word === "at" ? movesOf(inner, [...path, arg]) : [{ word, arg, path }];
+const STEPS = ["steps", DIAGRAM, CERTIFICATE];
+const PROJECTED = ["graph", DIAGRAM, "--project"];
+
+/** The derivation of a certificate, or null where the program tells none. @param {Context} ctx @param {string} certificate */
+export async function derivationOf(ctx, certificate) {
+  ctx.put(CERTIFICATE, certificate);
+  const { object } = await ctx.read(STEPS);
+  return object.answer === "explained" ? derivedIn(object, ctx.observed) : null;
 }
 
-const QUESTION = /^rule ([123]) y (\{.*\}) z (\{.*\}) do (\{.*\}) given (\{.*\})$/;
-
-/** Goes through the lines of what is told. */
-class Lines {
-  #at = 0;
-
-  constructor(text) {
-    this.list = text.trimEnd().split("\n");
-  }
-
-  next() {
-    return this.list[this.#at++];
-  }
-
-  /** The rule for which the last move asked, with its graph; nothing where it asked for none. */
-  rule() {
-    const m = QUESTION.exec(this.list[this.#at] ?? "");
-    if (!m) return { rule: null, graph: null };
-    const start = ++this.#at;
-    while (this.next() !== "}");
-    const [y, z, doing, given] = m.slice(2).map(readSet);
-    return { rule: { n: Number(m[1]), y, z, doing, given }, graph: readGraph(this.list.slice(start, this.#at).join("\n")) };
-  }
+/** The edges of the observed diagram that another graph lacks. @returns {Promise<Edge[]>} */
+export async function lostEdges(ctx, /** @type {Graph} */ graph) {
+  const left = new Set(graph.edges.map(keyOf)), { object } = await ctx.read(PROJECTED);
+  return graphOf(object).edges.filter((edge) => !left.has(keyOf(edge)));
 }
 
-/**
- * Reads what the program tells of a certificate's steps: for each lemma and for main a heading, the expression that it
- * starts from, and of each move the whole expression after it, and the rule for which it asks with that rule's graph.
- * The certificate has the place of each move, so that the part that it changes can be shown.
- * @param {string} told @param {string} certificate @returns {Derived[]}
- */
-export function readSteps(told, certificate) {
-  const { lemmas, main } = JSON.parse(certificate), lines = new Lines(told);
-  const plans = [...lemmas.map(([, step]) => step), main].map((step) => movesOf(step));
-  return plans.map((moves, k) => {
-    lines.next();
-    let whole = parse(lines.next());
-    const start = latex(whole), steps = moves.map((move, i) => {
-      const line = lines.next(), after = parse(line.slice(line.indexOf(": ") + 2));
-      const step = stepOf(move, i + 1, whole, after);
-      whole = after;
-      return { ...step, ...lines.rule() };
-    });
-    return { lemma: k < lemmas.length ? k : null, start, steps };
-  });
+/** The derivation in an object of `steps`. @param {any} object @param {string[]} observed the observed vertices @returns {Derived[]} */
+export const derivedIn = ({ parts }, observed) => parts.map(({ lemma, start, moves }) => ({
+  lemma, start: start.latex, steps: moves.map((move, i) => stepOf(move, i, i ? moves[i - 1].after : start, observed)),
+}));
+
+/** The word and the argument of a move, and at which child of the expression, of the child and so on it is made. */
+function placeOf([word, arg, inner], path = []) {
+  return word === "at" ? placeOf(inner, [...path, arg]) : { word, arg, path };
 }
 
-/** What is shown of a move, by the whole expressions before and after it. @param {Move} move */
-function stepOf({ word, arg, path }, number, before, after) {
+/** What is shown of a move, by the whole expressions before and after it. @param {Told} before @returns {Step} */
+function stepOf({ step, rule, after }, i, before, observed) {
+  const { word, arg, path } = placeOf(step), trees = [partAt(before.tree, path), partAt(after.tree, path)];
+  const [from, to] = path.length ? trees.map((tree) => latex(tree)) : [before.latex, after.latex];
   return {
-    number, word, set: Array.isArray(arg) ? arg : [], part: word === "cite" ? arg : null,
-    before: latex(partAt(before, path)), after: latex(partAt(after, path)), whole: path.length ? latex(after) : null,
-    trees: [partAt(before, path), partAt(after, path)],
+    number: i + 1, word, set: Array.isArray(arg) ? arg : [], part: word === "cite" ? arg : null,
+    before: from, after: to, whole: path.length ? after.latex : null, trees,
+    rule: rule && { n: rule.number, y: rule.y, z: rule.z, doing: rule.do, given: rule.given },
+    graph: rule && ruleGraphOf(observed, rule.graph),
   };
 }

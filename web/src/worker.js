@@ -1,12 +1,11 @@
 // Holds the proved program, away from the page. Messages to it:
 //   {packed}                 the module, gzip in base64; comes first
 //   {name, text}             a file that later questions may name; text is null where it goes
-//   {id, text, questions}    lists of words about diagram.dag with this text, those of the call that explains behind the
-//                            word `explain`; answered by {id, answers}
+//   {id, text, questions}    lists of words about diagram.dag with this text; answered by {id, answers}
 //   {id, compute: "draws", text, words, name, ..}   values or bounds over draws of a table, which the words name; {id, values}
 //   {id, compute: "tests", table, pairs, seed}      tests of independences; {id, tests}
 import { load } from "./causal.mjs";
-import { AS_JSON, DIAGRAM, EXPLAIN } from "./names.js";
+import { AS_JSON, DIAGRAM } from "./names.js";
 import { drawValues, testPairs } from "./statistics/work.js";
 
 const files = new Map();
@@ -22,10 +21,9 @@ async function unpack(packed) {
 function answer(program, words, text, more = {}) {
   const named = words.filter((word) => files.has(word));
   const inputs = { ...Object.fromEntries(named.map((name) => [name, files.get(name)])), [DIAGRAM]: text, ...more };
-  const start = performance.now(), explains = words[0] === EXPLAIN;
+  const start = performance.now();
   try {
-    const said = explains ? program.explain(words.slice(1), inputs) : program.run(words, inputs);
-    return { ...said, ms: performance.now() - start };
+    return { ...program.run(words, inputs), ms: performance.now() - start };
   } catch (e) {
     return { status: -1, out: "", err: `causal: the module stopped: ${e.message}`, ms: 0 };
   }

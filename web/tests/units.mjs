@@ -6,17 +6,17 @@ import { load } from "../src/causal.mjs";
 import { routed } from "../src/diagram/route.js";
 import { faultOf, placesOf } from "../src/faults.js";
 import { annotate, annotatePieces } from "../src/latex.js";
-import { latex, parse } from "../src/expression.js";
+import { latex } from "../src/expression.js";
 import { keyOf } from "../src/diagram/geometry.js";
-import { bitsOf, boundIn, boundsOf, edgesOf, graphOf as graphIn, impliedBy, instrumentsIn, nodesIn, saidOf, sumText, textOf, valuesOf } from "../src/objects.js";
+import { bitsOf, boundIn, boundsOf, edgesOf, graphOf as graphIn, impliedBy, instrumentsIn, nodesIn, ruleGraphOf, saidOf, sumText, textOf, valuesOf } from "../src/objects.js";
 import { digitsAbove, digitsBelow, nearly } from "../src/statistics/fraction.js";
 import { naturalTex } from "../src/paper.js";
-import { readSteps } from "../src/steps.js";
+import { derivedIn } from "../src/steps.js";
 import { missingOf } from "../src/support.js";
 import { levelsOf, readRows } from "../src/text/csv.js";
 import * as edit from "../src/text/edit.js";
 import { experimentsWord, levelsText, listWord, pathText, setText, termText } from "../src/text/printed.js";
-import { readGraph } from "../src/text/told.js";
+import { parse } from "./parse.mjs";
 
 const causal = await load(readFileSync(process.argv[2]));
 const GRAPHS = Number(process.argv[3] ?? 1500);
@@ -126,26 +126,42 @@ function expectedEdges({ edges }, { n, z, doing, given }) {
   return edges.filter((e) => !isCut(e)).map(keyOf);
 }
 
-function testRule(text, rule, graph) {
-  const words = ruleWords(rule), holds = run(words, text), drawn = causal.explain(words, { g: text });
-  same("a rule holds", holds.status, 0, holds.out + holds.err + text);
-  same("its graph is told alone too", drawn.status === 0 && readGraph(drawn.out), graph, drawn.out + drawn.err);
-  const whole = graphOf(text, "--project"), wanted = expectedEdges(whole, rule);
-  if (wanted) same("its edges", graph.edges.map(keyOf), wanted, text + JSON.stringify(rule));
-  same("its vertices", graph.vertices.map((v) => v.name), whole.vertices.map((v) => v.name), text);
+function testRule(text, rule, graph, whole) {
+  const { status, object } = read(ruleWords(rule), text), wanted = expectedEdges(whole, rule), about = text + JSON.stringify(rule);
+  same("a rule holds", status, 0, about);
+  same("its graph is told with it", ruleGraphOf(whole.vertices.map((v) => v.name), object.graph), graph, about);
+  if (wanted) same("its edges", graph.edges.map(keyOf), wanted, about);
 }
 
+/** The lines that are printed of a derivation. */
+const printedOf = ({ parts }) => parts.map(({ lemma, start, moves }) => [lemma === null ? "main" : `lemma ${lemma}`, start.text,
+  ...moves.map(({ step, after }) => `${wordOf(step)}: ${after.text}`)].map((line) => `${line}\n`).join("")).join("");
+
+const wordOf = ([word, , inner]) => (word === "at" ? wordOf(inner) : word);
+
+/** The moves of a certificate's step in turn. */
+const movesOf = (step) => {
+  const [word, arg, inner] = step;
+  return word === "then" ? arg.flatMap(movesOf) : word === "at" ? movesOf(inner).map((move) => [word, arg, move]) : [step];
+};
+
 function testDerivation(text, words) {
-  const certificate = run([...words, "--certificate"], text).out, { formula, defs } = JSON.parse(certificate);
-  const [brief, told] = [[], ["--graphs"]].map((more) => causal.explain(["steps", "g", "c", ...more], { g: text, c: certificate }));
-  same("steps are told", [brief.status, told.status], [0, 0], brief.err + told.err + text);
-  const derived = readSteps(told.out, certificate), without = readSteps(brief.out, certificate);
-  const bare = (part) => ({ ...part, steps: part.steps.map((step) => ({ ...step, rule: null, graph: null })) });
-  same("the same without graphs", without, derived.map(bare), text);
+  const certificate = run([...words, "--certificate"], text).out, { formula, defs, lemmas, main } = JSON.parse(certificate);
+  const asked = ["steps", "g", "c"], told = read(asked, text, { c: certificate }), whole = graphOf(text, "--project");
+  same("steps are told", [told.status, told.object.answer], [0, "explained"], text);
+  same("steps as they are printed", printedOf(told.object), run(asked, text, { c: certificate }).out, text);
+  same("the steps of the certificate", told.object.parts.map(({ lemma, moves }) => [lemma, moves.map(({ step }) => step)]),
+    [...lemmas.map(([, step], i) => [i, movesOf(step)]), [null, movesOf(main)]], text);
+  const expressions = told.object.parts.flatMap(({ start, moves }) => [start, ...moves.map(({ after }) => after)]);
+  same("their trees are their texts", expressions.map(({ tree }) => tree), expressions.map((one) => parse(one.text)), text);
+  same("their LaTeX", expressions.map((one) => one.latex), expressions.map(({ tree }) => latex(tree)), text);
+  const derived = derivedIn(told.object, whole.vertices.map((v) => v.name));
   const ends = derived.map(({ start, steps }) => steps.reduce((end, step) => step.whole ?? step.after, start));
   same("the last expressions", ends, [...defs, formula].map((printed) => latex(parse(printed))), text);
-  for (const { rule, graph } of derived.flatMap((part) => part.steps)) if (rule) testRule(text, rule, graph);
+  for (const { rule, graph } of derived.flatMap((part) => part.steps)) if (rule) testRule(text, rule, graph, whole);
   const { object } = read(words, text), lines = object.latex.split("\n");
+  const { answer, ...members } = object, { answer: explained, parts, ...accepted } = told.object;
+  same("its formula is what is accepted", [explained, parts.length, accepted], ["explained", lemmas.length + 1, members], answer + text);
   same("its text is what is printed", textOf(object), run(words, text).out, text);
   same("its trees are its texts", [object.tree, ...object.definition_trees], [object.formula, ...object.definitions].map(parse), text);
   for (const line of lines) {
@@ -209,12 +225,10 @@ function testHedge({ effect, given, joint, hedge, models }, printed) {
 /** That a minimal set is admissible, and that its object says what is printed of its formula. */
 function testMinimalSet(text, sets, set) {
   const words = ["adjust", "g", ...sets, "--set", listWord(set)], { status, object } = read(words, text);
-  const told = causal.explain(words, { g: text });
-  same("a minimal set", [status, told.status], [0, 0], text + set + told.err);
+  same("a minimal set", status, 0, text + set);
   same("its formula as it is printed", `admissible: ${setText(set)}\n${textOf(object)}`, run(words, text).out, text);
   same("its tree is its text", [object.tree, ...object.definition_trees], [object.formula, ...object.definitions].map(parse), text);
   same("its LaTeX", object.latex, [object.effect, object.formula].map((side) => latex(parse(side))).join(" = "), text);
-  same("the same that is explained", told.out.split("\n").filter((line) => line && !line.startsWith("free ")), object.latex.split("\n"), text);
   typesets(annotate(object.latex), object.latex);
 }
 
@@ -226,14 +240,13 @@ function testAnyRule(text, order) {
   same("a rule", `rule ${object.rule} ${object.answer}: ${object.left} = ${object.right}\n${path}`, run(words, text).out, text);
 }
 
-/** A set that need not be admissible, by both criteria: both calls agree. */
+/** A set that need not be admissible, by both criteria: there is a formula where it is. */
 function testOtherSet(text, order, sets, [x, y]) {
   const set = shuffled(order).filter((name) => name !== x && name !== y).slice(0, 2);
   for (const more of [[], ["--back-door"]]) {
     const words = ["adjust", "g", ...sets, "--set", listWord(set), ...more];
-    const said = run(words, text), told = causal.explain(words, { g: text });
-    same("any set", told.status, said.status, said.out + told.err + text);
-    if (told.status === 1) same("no formula", told.out, "not admissible\n", text);
+    const { status, object } = read(words, text);
+    same("any set", [object.answer, "latex" in object], status === 0 ? ["admissible", true] : ["not admissible", false], text + set);
   }
 }
 
@@ -307,8 +320,6 @@ const KNOWN = {
   surrogate: knows(["surrogate", "g", "--experiments", "A"]), natural: knows(["natural", "g", "--through", "A"]), instruments: knows(["instruments", "g"]),
   boundsBySet: knows(["bounds", "g", "g", "--set", "{}"]),
 };
-const KINDS = { 0: ["formula"], 1: ["settled", "unsettled"] };
-
 function testCondition(text, order, x, y) {
   const z = shuffled(order).find((name) => name !== x && name !== y);
   if (!z) return;
@@ -317,10 +328,9 @@ function testCondition(text, order, x, y) {
   same("a condition", said.status < 2, true, said.err + text);
   if (said.status === 0) testDerivation(text, words);
   if (said.status === 0) testDerivation(text, [...words, "--short"]);
-  if (said.status === 1) testHedge(read(words, text).object, said.out);
-  const kind = causal.explain(["settled", ...words.slice(1)], { g: text });
-  same("its kind", KINDS[said.status].includes(kind.out.trim()), true, kind.out + kind.err + said.out + text);
-  same("its status", kind.status, kind.out === "settled\n" ? 0 : 1, kind.out + text);
+  const { object } = read(words, text);
+  if (said.status === 1) testHedge(object, said.out);
+  same("whether it is settled is told of a hedge", typeof object.settled, said.status === 1 ? "boolean" : "undefined", said.out + text);
 }
 
 function testImplications(text, order) {

@@ -1,8 +1,8 @@
 import { h } from "../dom.js";
-import { derivationOf, lostEdges } from "../explain.js";
 import { typesetWhenSeen } from "../formula.js";
 import { DIAGRAM } from "../names.js";
 import { whenSeen } from "../seen.js";
+import { derivationOf, lostEdges } from "../steps.js";
 import { listWord } from "../text/printed.js";
 import { commandOf, fold, listed } from "./parts.js";
 
@@ -54,15 +54,18 @@ function asksRule(ctx, step, parts) {
 }
 
 async function askRule(ctx, { rule, graph }, box) {
-  const words = ruleWords(rule), [answer, lost] = await Promise.all([ctx.ask(words), lostEdges(ctx, graph)]);
-  const holds = answer.status === 0, seen = [...rule.doing, ...rule.given];
+  const words = ruleWords(rule), [said, lost] = await Promise.all([ctx.read(words), lostEdges(ctx, graph)]);
+  const holds = said.status === 0, seen = [...rule.doing, ...rule.given];
   box.replaceChildren(
     h("span", { class: holds ? "tick" : "cross" }, holds ? "✓ " : "✗ "),
-    h("code", { title: commandOf(words) }, (answer.out + answer.err).trim()),
+    h("code", { title: commandOf(words) }, said.fault ? said.fault.sentence : judgementOf(said.object)),
     ...(holds ? [h("span", {}, ": no open path from ", listed(rule.y), " to ", listed(rule.z),
       seen.length ? ` given ${seen.join(", ")} ` : " ", inGraph(lost), ".")] : []),
   );
 }
+
+/** What is said of a rule, as it is printed. */
+const judgementOf = ({ rule, answer, left, right }) => `rule ${rule} ${answer}: ${left} = ${right}`;
 
 const MOST_LOST = 6; // edges that are named
 

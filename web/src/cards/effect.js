@@ -1,5 +1,4 @@
 import { h } from "../dom.js";
-import { kindOf } from "../explain.js";
 import { DIAGRAM } from "../names.js";
 import { textOf } from "../objects.js";
 import { listWord } from "../text/printed.js";
@@ -25,7 +24,7 @@ async function answer(ctx) {
   if (kind.id === "through") return throughMediators(ctx, kind, names, more);
   const form = await chosenForm(ctx, asked), { words, said } = form;
   if (said.fault) return refused(ctx, words, said, () => (names.length || kind.id === "direct" ? h("div", { class: "stack" }, kind.row(), more()) : null));
-  if (said.status === 1) return hedge(ctx, words, said.object, names.length ? await kindOf(ctx, words) : "", kind, ...more());
+  if (said.status === 1) return hedge(ctx, words, said.object, kind, ...more());
   const isUnchanged = !names.length && !isDirect && (await leavesUnchanged(ctx));
   return {
     dot: "yes", view: () => view({ ctx, form, given, kind, isUnchanged, more }),
@@ -38,7 +37,7 @@ async function leavesUnchanged(ctx) {
   const xs = withRole(ctx, "exposure"), ys = withRole(ctx, "outcome");
   if (!hasBoth(ctx)) return false;
   const sets = ["--y", listWord(ys), "--z", listWord(xs), "--do", "{}", "--given", "{}"];
-  return (await ctx.ask(["rule", DIAGRAM, "--rule", "3", ...sets])).status === 0;
+  return (await ctx.read(["rule", DIAGRAM, "--rule", "3", ...sets])).status === 0;
 }
 
 const hasBoth = (ctx) => ["exposure", "outcome"].every((role) => withRole(ctx, role).length);

@@ -10,21 +10,21 @@ const MOST_DIGITS = 12;
 
 /**
  * A hedge in the drawing, with both models as tables and the two effects; below it further parts.
- * @param {any} object of `identify` @param {string} kind under a condition, of which kind the answer is
+ * @param {any} object of `identify`
  * @param {import("./kind.js").Kind} asked which effect is asked for
  */
-export function hedge(ctx, words, object, kind, asked, ...more) {
-  return { dot: "no", view: () => view(ctx, words, object, kind, asked, more), marks: hedgeMarks(object.hedge) };
+export function hedge(ctx, words, object, asked, ...more) {
+  return { dot: "no", view: () => view(ctx, words, object, asked, more), marks: hedgeMarks(object.hedge) };
 }
 
-function view(ctx, words, object, kind, { row }, more) {
+function view(ctx, words, object, { row }, more) {
   const { joint } = object, isAsked = object.given.length > 0;
   const effect = termText({ term: joint.y, do: joint.x, given: [] });
   return h("div", {}, row(),
     verdict("no", "Not identifiable", plainReason(ctx.graph, linksOf(object.hedge)), "What is observed doesn't settle ", h("code", {}, effect),
     ": two models fit the diagram, agree on all observations, and differ on it. So no formula over what is "
       + "observed equals it in both.",
-    isAsked ? [" Nor does any formula equal ", h("code", {}, object.effect), DIFFER[kind] ?? "", "."] : ""),
+    isAsked ? [" Nor does any formula equal ", h("code", {}, object.effect), DIFFER[object.settled] ?? "", "."] : ""),
     fold(ctx, "next", "What would help", () => whatNext(ctx, words)),
     ...hedgeParts(object),
     source(words, () => ctx.print(words)),
@@ -45,8 +45,8 @@ export function hedgeParts({ joint, models, hedge: { larger, smaller, roots } })
 
 /** Which models show it of the effect that was asked for. */
 const DIFFER = {
-  settled: ": the same two models differ on it too",
-  unsettled: ": two other models differ on it, which aren't shown",
+  true: ": the same two models differ on it too",
+  false: ": two other models differ on it, which aren't shown",
 };
 
 const MOST_NAMED = 3;

@@ -1,5 +1,6 @@
 import { h } from "../dom.js";
-import { lostEdges, ruleGraph } from "../explain.js";
+import { ruleGraphOf } from "../objects.js";
+import { lostEdges } from "../steps.js";
 import { pathText } from "../text/printed.js";
 import { inGraph, ruleMarks, ruleWords } from "./derivation.js";
 import { pathMarks, sourceOf, verdict, withRole } from "./parts.js";
@@ -16,7 +17,7 @@ async function answer(ctx) {
   const z = chosenSet(ctx, "rule z", "z", withRole(ctx, "exposure"));
   const doing = chosenSet(ctx, "rule do", "do", []), given = chosenSet(ctx, "rule given", "given", []);
   const rule = { n, y: y.names, z: z.names, doing: doing.names, given: given.names };
-  const words = ruleWords(rule), [said, graph] = await Promise.all([ctx.read(words), ruleGraph(ctx, words)]);
+  const words = ruleWords(rule), said = await ctx.read(words), graph = said.fault ? null : ruleGraphOf(ctx.observed, said.object.graph);
   const { open: path } = said.object, where = graph ? inGraph(await lostEdges(ctx, graph)) : "";
   const choose = (e) => {
     ctx.memory.rule = Number(e.target.value);

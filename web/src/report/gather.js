@@ -7,9 +7,9 @@ import { impliedPairs, part } from "../cards/implications.js";
 import { commandOf, withRole } from "../cards/parts.js";
 import { chosenForm } from "../cards/forms.js";
 import { ALL_KINDS, chosenKind } from "../cards/kind.js";
-import { derivationOf } from "../explain.js";
 import { DIAGRAM } from "../names.js";
 import { exprTex, formulaLines, naturalLines } from "../paper.js";
+import { derivationOf } from "../steps.js";
 import { listWord, pathText, termText } from "../text/printed.js";
 
 /**
