@@ -11,7 +11,7 @@
   A diagram (\code{\link{causal_diagram}}) is asked whether sets of vertices are separated (\code{\link{separated}}), whether a rule
   of do-calculus applies (\code{\link{rule_holds}}), whether an effect can be computed from observations
   (\code{\link{identify_effect}}; among the treated \code{\link{treated_effect}}, with mediators held \code{\link{natural_effect}}) or from experiments on other variables (\code{\link{surrogate}}), whether somebody's derivation is
-  right (\code{\link{check_certificate}}), what may be adjusted for (\code{\link{adjustment_sets}}, \code{\link{adjusts}}), which vertices are
+  right (\code{\link{check_certificate}}), what stands there after each step (\code{\link{steps}}), what may be adjusted for (\code{\link{adjustment_sets}}, \code{\link{adjusts}}), which vertices are
   instruments (\code{\link{instruments}}), what it implies of data (\code{\link{implications}}), and whether it implies the same as another (\code{\link{equivalent}}). Over a data frame
   \code{\link{evaluate}} gives the value of an effect, \code{\link{bounds_effect}} what is known of one that has no formula,
   \code{\link{mediate}} natural direct and indirect effects, \code{\link{pin_spread}} its values where a variable may be pinned at any
