@@ -71,7 +71,7 @@ mediation_targets <- function(asked, table, outcome) {
 }
 
 no_natural_formula <- function(formula) {
-  message <- paste0(lines_of(formula$text)[1], "; natural_effect() says why")
+  message <- paste0(formula$effect, " is not identifiable; natural_effect() says why")
   structure(class = c("causal_not_identifiable", "causal_refusal", "error", "condition"), list(message = message, call = NULL, answer = formula))
 }
 

@@ -87,14 +87,13 @@ stopifnot(at(found, "direct") < 0, at(found, "indirect") > 0, grepl("opposite si
 
 # none, and refusals
 none <- paste0('{"answer":"witness",', sets(), ',"joint":{"y":["Y"],"x":["X"]},"treatment":"X","witness":"L"}')
-text <- "P(Y[X,M[X']]) is not identifiable\nL reads X and X'\nP(Y|do(X)) is identifiable"
 answering(no(none))
 found <- natural_effect("dag { X -> L -> M -> Y X -> Y L -> Y }", "X", "Y", through = "M")
 stopifnot(inherits(found, "causal_no_natural"), !as.logical(found))
 same(c(found$treatment, found$witness, found$joint), c("X", "L", "P(Y|do(X))"))
-answering(no(none), no(text))
+answering(no(none))
 caught <- tryCatch(mediate("dag { X -> L -> M -> Y X -> Y L -> Y }", seen, "X", "Y", through = "M"), error = identity)
-stopifnot(inherits(caught, "causal_not_identifiable"), grepl("is not identifiable", conditionMessage(caught)))
+stopifnot(inherits(caught, "causal_not_identifiable"), startsWith(conditionMessage(caught), "P(Y[X,M[X']]) is not identifiable; "))
 answering(formula)
 stopifnot(inherits(tryCatch(mediate(mediated, seen[!(C == 1 & X == 0), ], "X", "Y", through = "M", treated = 1, control = 0, outcome = 1), error = identity), "causal_no_value"))
 
