@@ -1,4 +1,4 @@
-// Expressions: trees as the program's objects have them.
+// Expressions: trees as the program's objects have them, and reading those of natural effects, which it tells as text alone.
 import { nameText } from "./text/printed.js";
 
 /**
@@ -33,3 +33,67 @@ export function latex(e, named = escape) {
   if (e.quotient) return `\\frac{${inner(e.quotient[0])}}{${inner(e.quotient[1])}}`;
   return `q_{${e.definition}}`;
 }
+
+/** Reads an expression as the program prints it. */
+class Reader {
+  #at = 0;
+
+  constructor(text) {
+    this.tokens = text.match(/"[^"]*"|[{}(),|*/]|[^\s{}(),|*/"]+/g);
+  }
+
+  #names() {
+    const { tokens } = this, list = [];
+    for (; !/^[)}|]$/.test(tokens[this.#at]) && tokens[this.#at + 1] !== "("; this.#at++) {
+      if (tokens[this.#at] !== ",") list.push(tokens[this.#at].replaceAll('"', ""));
+    }
+    return list;
+  }
+
+  #operand() {
+    const { tokens } = this;
+    if (tokens[this.#at] === "(") {
+      this.#at++;
+      const inner = this.expression();
+      this.#at++;
+      return inner;
+    }
+    if (tokens[this.#at + 1] !== "(") return { definition: Number(tokens[this.#at++].slice(1)) };
+    this.#at += 2;
+    const term = { term: this.#names(), do: [], given: [] };
+    if (tokens[this.#at] === "|") {
+      this.#at++;
+      if (tokens[this.#at + 1] === "(") {
+        this.#at += 2;
+        term.do = this.#names();
+        this.#at++;
+      }
+      term.given = this.#names();
+    }
+    this.#at++;
+    return term;
+  }
+
+  expression() {
+    const { tokens } = this;
+    if (tokens[this.#at] === "sum" && tokens[this.#at + 1] === "{") {
+      this.#at += 2;
+      const over = this.#names();
+      this.#at++;
+      return { sum: over, of: this.expression() };
+    }
+    const list = [this.#operand()];
+    if (tokens[this.#at] === "/") {
+      this.#at++;
+      return { quotient: [list[0], this.#operand()] };
+    }
+    while (tokens[this.#at] === "*") {
+      this.#at++;
+      list.push(this.#operand());
+    }
+    return list.length > 1 ? { product: list } : list[0];
+  }
+}
+
+/** @returns {Expr} */
+export const parse = (text) => new Reader(text).expression();

@@ -6,7 +6,7 @@ import { load } from "../src/causal.mjs";
 import { routed } from "../src/diagram/route.js";
 import { faultOf, placesOf } from "../src/faults.js";
 import { annotate, annotatePieces } from "../src/latex.js";
-import { latex } from "../src/expression.js";
+import { latex, parse } from "../src/expression.js";
 import { keyOf } from "../src/diagram/geometry.js";
 import { bitsOf, boundIn, boundsOf, edgesOf, graphOf as graphIn, impliedBy, instrumentsIn, nodesIn, ruleGraphOf, saidOf, sumText, textOf, valuesOf } from "../src/objects.js";
 import { digitsAbove, digitsBelow, nearly } from "../src/statistics/fraction.js";
@@ -16,7 +16,6 @@ import { missingOf } from "../src/support.js";
 import { levelsOf, readRows } from "../src/text/csv.js";
 import * as edit from "../src/text/edit.js";
 import { experimentsWord, levelsText, listWord, pathText, setText, termText } from "../src/text/printed.js";
-import { parse } from "./parse.mjs";
 
 const causal = await load(readFileSync(process.argv[2]));
 const GRAPHS = Number(process.argv[3] ?? 1500);
