@@ -82,8 +82,10 @@ class Derivation(Shown):
     >>> print(derivation)
     main
     P(M|do(X))
+    rule3in: P(M|do(X,Y))
+    rule3out: P(M|do(X))
     rule2see: P(M|X)
-    >>> move = derivation.parts[0].moves[0]
+    >>> move = derivation.parts[0].moves[-1]
     >>> print(move.rule)
     rule 2 y {M} z {X} do {} given {}
     >>> move.rule.edges, move.rule.bidirected
