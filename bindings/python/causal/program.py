@@ -28,7 +28,6 @@ Answers questions about causal diagrams with hidden confounders, by a proved pro
     rule FILE --rule N --y L --z L [--do L] [--given L] [--json]
     identify FILE [--x L] [--y L] [--given L] [--certificate] [--latex] [--short] [--json]
     check FILE CERTIFICATE [--experiments E] [--json]
-    steps FILE CERTIFICATE [--experiments E] [--json]
     adjust FILE [--x L] [--y L] [--set L [--back-door] | --most N] [--json]
     evaluate FILE COUNTS [--x L] [--y L] [--given L | --set L [--back-door]] [--count NAME] [--exact] [--zero] [--matched] [--short] [--json]
     equivalent FILE FILE2 [--x L] [--y L] [--given L] [--json]
@@ -39,6 +38,7 @@ Answers questions about causal diagrams with hidden confounders, by a proved pro
     treated FILE [--x L] [--y L] [--given L] [--latex] [--json]
     instruments FILE [--x L] [--y L] [--most N] [--json]
     natural FILE --through L [--x L] [--y L] [--given L] [--latex] [--json]
+    steps FILE CERTIFICATE [--experiments E] [--json]
 
 FILE is a graph text, in the form of DAGitty; - is standard input. A list L is names joined by
 commas, {} for none. Where x and y aren't listed, they are the vertices marked exposure and
