@@ -146,8 +146,8 @@ same(steps_told$rules, list(NULL, NULL, list(rule = 2L, y = "Y", z = "X", do = c
 same(steps_told$text, "a text")
 same(asked[[2]]$words, c("steps", "diagram", "certificate", "--experiments", "\"Z\""))
 answering(no('{"answer":"refused","of":"formula","at":{"lemma":null,"step":1},"number":2,"message":"the sets of the step are wrong"}'))
-refusal <- steps("dag { X -> Y }", "{}")
-same(list(class(refusal)[1], refusal$holds, refusal$fault, refusal$at), list("causal_judgement", FALSE, 2L, "main"))
+judged <- steps("dag { X -> Y }", "{}")
+same(list(class(judged)[1], judged$holds, judged$fault, judged$at), list("causal_judgement", FALSE, 2L, "main"))
 
 # Conditions
 answering(formula_of("P(Y|do(X),Z)", "P(Y|Z,X)", latex = "P(Y) = q_0\\nq_0 = P(Y \\\\mid X)", given = "[\"Z\"]"))
