@@ -7,6 +7,7 @@ from worked import cases_in_text
 import causal
 from causal import Diagram, effects, errors, faults, formula, reading
 from causal.bounds import read_bounds
+from causal.derivation import read_steps
 from causal.evaluation import Evaluation
 from causal.formula import Formula, Term
 from causal.implications import read_implications
@@ -32,8 +33,9 @@ def read(words, told, inputs):
     command = words[0]
     if command == "rule":
         return reading.read_rule(told, Diagram(inputs[words[1]]).vertices)
-    if command == "check":
-        return reading.read_check(told, any(word.startswith("--experiments") for word in words))
+    if command in ("check", "steps"):
+        read_certificate = read_steps if command == "steps" else reading.read_check
+        return read_certificate(told, any(word.startswith("--experiments") for word in words))
     if command == "adjust":
         return reading.read_adjustment(told) if "--set" in words else reading.read_sets(told)
     readers = {
