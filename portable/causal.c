@@ -7,7 +7,6 @@
 #include "portable.h"
 
 I causal_run_code(L, L, L, L, L, L, L, L, L, L, L);
-I causal_explain_code(L, L, L, L, L, L, L, L, L, L, L);
 I causal_inputs_code(L, L, L, L, L, L, L);
 I causal_keep_code(L, L, L, L, L, L);
 I causal_separated_code(L, L, L, L);
@@ -182,15 +181,6 @@ uint8_t causal_run(const uint8_t *bytes, size_t length, const causal_span *words
   READY
   END(causal_run_code(at(bytes), length, WORDS_OF(words), word_count, INPUTS_OF(inputs), input_count,
                       at(out), out_room, at(err), err_room, SIZES));
-}
-
-uint8_t causal_explain(const uint8_t *bytes, size_t length, const causal_span *words, size_t word_count,
-                       const causal_input *inputs, size_t input_count, uint8_t *out, size_t out_room,
-                       uint8_t *err, size_t err_room, causal_sizes *sizes) {
-  BEGIN(inputs, input_count)
-  READY
-  END(causal_explain_code(at(bytes), length, WORDS_OF(words), word_count, INPUTS_OF(inputs), input_count,
-                          at(out), out_room, at(err), err_room, SIZES));
 }
 
 uint8_t causal_ask(const causal_diagram *diagram, const uint8_t *names, size_t names_size,
