@@ -1,45 +1,41 @@
--- An admissible set, what breaks it and a refusal exclude each other; so do minimal sets and none.
-use Rattle.std.proofs.Common.{◌≡◌, ◌==◌, ℕ, List, [], ◌∷◌, length, inl, inr, refl, sym, ap, ◌∙◌, subst, arith}
-use Rattle.std.specs.Prelude.{slice_index, All, Some}
+-- A set that meets a criterion and what breaks it exclude each other, and so do minimal sets and none; so right answers end alike.
+use Rattle.std.proofs.Common.{◌≡◌, ◌==◌, ℕ, Bool, true, false, List, [], ◌∷◌, length, Result, Ok, Err, inl, inr, refl, sym, ap, ◌∙◌, subst, arith}
+use Rattle.std.specs.Prelude.{slice_index, Some}
 use Rattle.std.proofs.lemmas.Bool.{eq-eqb, eqb-true}
 use Rattle.mixed_graph.specs.declared.sets.VSet.{VSet}
-use Rattle.mixed_graph.specs.Vocabulary.{has, MixedGraph, graph_of, one}
+use Rattle.mixed_graph.specs.Vocabulary.{has, MixedGraph, one}
 use Rattle.mixed_graph.proofs.Masks.{has-pow}
 use Rattle.m_separation.specs.Vocabulary.{IsOpenWalk, IsPath}
 use Rattle.do_derivation.proofs.TermSets.{apart_back}
-use Rattle.targets.specs.Vocabulary.{Lists, AreSets}
+use Rattle.targets.specs.declared.query.Sets.{Sets}
+use Rattle.targets.specs.declared.fault.TargetFault.{TargetFault}
+use Rattle.targets.specs.declared.fault.TargetFault.TheVariants.{NotOneX}
+use Rattle.targets.specs.Vocabulary.{Lists, AreSets, fault_in}
 use Rattle.adjustment.specs.declared.criteria.AdjFault.{AdjFault}
 use Rattle.adjustment.specs.declared.criteria.AdjFault.TheVariants.{Forbidden, Unblocked}
-use Rattle.adjustment.specs.Vocabulary.{IsBackDoorSet, IsAdjustmentFault, IsBackDoorFault, steps_of}
-use Rattle.minimal_sets.specs.Vocabulary.{IsMinimalSet}
-use Rattle.replies.specs.declared.outcome.Outcome.{Outcome}
-use Rattle.replies.specs.declared.outcome.Outcome.TheVariants.{Yes, No, Graph}
-use Rattle.replies.specs.declared.format.Format.{Format}
-use Rattle.replies.specs.Vocabulary.{IsAnswerOn}
+use Rattle.adjustment.specs.Vocabulary.{IsAdmissible, IsBackDoorSet, IsAdjustmentFault, IsBackDoorFault, steps_of}
 use Rattle.diagram.specs.declared.diagram.Diagram.{Diagram}
 use Rattle.diagram.specs.Vocabulary.{Names}
 use Rattle.diagram.proofs.OneDiagram.{AreSameDiagrams, same_query_lists}
-use Rattle.replies.specs.Told.{Told}
-use Rattle.replies.specs.OneOutcome.{OneOutcome}
-use Rattle.replies.proofs.OneOutcome.{IsOneOf, one_of_three, one_for_diagrams}
-use Rattle.replies.proofs.OneTarget.{sets_refused, same_three}
-use Rattle.adjust_command.specs.Queries.{Query, by_set, by_back_door, listing}
-use Rattle.adjust_command.specs.Answers.{texts_of, ShowsAdmissible, ShowsFault, ShowsBackDoorSet, ShowsBackDoorFault, ShowsSets, ShowsNone}
-use Rattle.adjust_command.specs.Answers.{SetsAnswer, set_of, adjust_lists, IsAnswerOfSets, ListsAnswer, AdjustAnswer}
+use Rattle.replies.proofs.OneTarget.{no_fault_of, one_set}
+use Rattle.told.specs.Vocabulary.{target_refusal, outcome_in}
+use Rattle.adjust_command.specs.Queries.{Query, by_set, by_back_door, listing, set_of, adjust_lists}
+use Rattle.adjust_command.specs.Right.{Judges, IsNotJudged, AreMinimalSets, HasNoSet, ListsSets, Decides, IsNotDecided, IsForNames}
+use Rattle.adjust_command.specs.Telling.{adjust_telling}
+use Rattle.adjust_command.specs.Verdicts.{IsVerdict}
+use Rattle.adjust_command.specs.declared.answer.Answer.{Answer}
+use Rattle.adjust_command.specs.declared.answer.Answer.TheVariants.{Admissible, NotAdmissible, Listed, NoSet}
+use Rattle.adjust_command.specs.declared.criteria.Verdict.TheVariants.{Meets, Breaks}
 use Rattle.adjust_command.proofs.Lists.{three_sets}
 
 -- two vertices with one mask are the same
 same_one : (v w : ℕ) → one v ≡ one w → v ≡ w
 same_one v w e = eqb-true v w (sym (has-pow w v) ∙ sym (ap (λ (m : ℕ). has m v) e) ∙ has-pow v v ∙ eq-eqb v v refl)
 
-module _ (format : Format) (q : MixedGraph) (names : List (List ℕ)) where
-  admissible_or_not : (x y z : ℕ) (told other : Told) → ShowsAdmissible q (texts_of format names) x y z told
-      → ShowsFault q (texts_of format names) x y z other → ⊥
-  admissible_or_not x y z told other a b = go b.fault b.breaks
-    where
-      go : (f : AdjFault) → IsAdjustmentFault q (has x) (has y) (has z) f → ⊥
-      go (Forbidden v) h = a.admissible.clear v h.member h.holds
-      go (Unblocked p) h = a.admissible.blocked (slice_index p.vertices 0) (steps_of p) h.1.proper h.1.not_causal h.1.open_path.walk
+module _ (q : MixedGraph) where
+  admissible_or_not : (x y z : ℕ) (f : AdjFault) → IsAdmissible q (has x) (has y) (has z) → IsAdjustmentFault q (has x) (has y) (has z) f → ⊥
+  admissible_or_not x y z (Forbidden v) a h = a.clear v h.member h.holds
+  admissible_or_not x y z (Unblocked p) a h = a.blocked (slice_index p.vertices 0) (steps_of p) h.1.proper h.1.not_causal h.1.open_path.walk
 
   meets_or_not : (v y z : ℕ) (f : AdjFault) → IsBackDoorSet q v (has y) (has z) → IsBackDoorFault q v (has y) (has z) f → ⊥
   meets_or_not v y z (Forbidden u) a h = a.clear u h.member h.holds
@@ -49,86 +45,96 @@ module _ (format : Format) (q : MixedGraph) (names : List (List ℕ)) where
       a.blocked (steps_of p) (subst (λ (u : ℕ). IsPath u (steps_of p)) at h.1.open_path.path) h.1.begins
       (subst (λ (u : ℕ). IsOpenWalk q (λ k. k == v) (has y) (has z) u (steps_of p)) at walk)
 
-  back_door_or_not : (x y z : ℕ) (told other : Told) → ShowsBackDoorSet q (texts_of format names) x y z told
-      → ShowsBackDoorFault q (texts_of format names) x y z other → ⊥
-  back_door_or_not x y z told other a b = meets_or_not a.v y z b.fault a.meets
-      (subst (λ (v : ℕ). IsBackDoorFault q v (has y) (has z) b.fault) (same_one b.v a.v (sym b.exposure ∙ a.exposure)) b.breaks)
+  -- a set that meets a criterion isn't broken
+  pub verdict_once : (back_door : Bool) (x y z : ℕ) (f : AdjFault) → IsVerdict back_door q x y z Meets → IsVerdict back_door q x y z (Breaks f) → ⊥
+  verdict_once false x y z f a b = admissible_or_not x y z f a.0 b.0
+  verdict_once true x y z f (v, exposure, meets, effect) (w, other, breaks) = meets_or_not v y z f meets
+      (subst (λ (u : ℕ). IsBackDoorFault q u (has y) (has z) f) (same_one w v (sym other ∙ exposure)) breaks)
 
-  some_or_none : (l : Lists) (x y z most : ℕ) (told other : Told) → length l.observed ≡ q.vertices → AreSets l x y z → ShowsSets format q names x y most told
-      → ShowsNone format q names x y other → ⊥
-  some_or_none l x y z most told other named s a b = go a.sets a.some a.listed.each
-    where
-      go : (sets : List VSet) → (sets ≡ [] → ⊥) → All (λ t. IsMinimalSet q (has x) (has y) (has t.bits)) sets → ⊥
-      go [] some each = some refl
-      go (t ∷ ts) some each =
-          let m = each 0 t (omega arith) in let d = three_sets l q.vertices x y z named s in
-          b.none (has t.bits) (record {
-            x_within = d.x_within;
-            y_within = d.y_within;
-            w_within = m.within;
-            x_y = d.x_y;
-            x_w = apart_back (has t.bits) (has x) m.x_apart;
-            y_w = apart_back (has t.bits) (has y) m.y_apart;
-          })
-          m.admissible
+  some_or_none : (l : Lists) (x y z most : ℕ) (sets : List VSet) (more : Bool) → length l.observed ≡ q.vertices → AreSets l x y z
+      → AreMinimalSets q x y most sets more → HasNoSet q x y → ⊥
+  some_or_none l x y z most [] more named s a b = a.some refl
+  some_or_none l x y z most (t ∷ ts) more named s a b =
+      let m = a.listed.each 0 t (omega arith) in let d = three_sets l q.vertices x y z named s in
+      b.none (has t.bits) (record {
+        x_within = d.x_within;
+        y_within = d.y_within;
+        w_within = m.within;
+        x_y = d.x_y;
+        x_w = apart_back (has t.bits) (has x) m.x_apart;
+        y_w = apart_back (has t.bits) (has y) m.y_apart;
+      })
+      m.admissible
 
-  module _ (l : Lists) (x y z : ℕ) (named : length l.observed ≡ q.vertices) (sets : AreSets l x y z) (told other : Told) where
-    yes_no : (query : Query) → SetsAnswer format query q names x y z Yes told → SetsAnswer format query q names x y z No other → ⊥
-    yes_no (by_set set) a b = admissible_or_not x y z told other a b
-    yes_no (by_back_door set) a b = back_door_or_not x y z told other a b
-    yes_no (listing most) a b = some_or_none l x y z most told other named sets a b
+  judged_alike : (back_door : Bool) (s : Sets) (a b : Answer) → Judges back_door q s a → Judges back_door q s b
+      → adjust_telling.outcome a ≡ adjust_telling.outcome b
+  judged_alike back_door s (Admissible t) (Admissible u) f g = refl
+  judged_alike back_door s (Admissible t) (NotAdmissible u fault) f g = absurd (verdict_once back_door s.x.bits s.y.bits s.given.bits fault f.1 g.1)
+  judged_alike back_door s (NotAdmissible t fault) (Admissible u) f g = absurd (verdict_once back_door s.x.bits s.y.bits s.given.bits fault g.1 f.1)
+  judged_alike back_door s (NotAdmissible t fault) (NotAdmissible u other) f g = refl
+  judged_alike back_door s (Admissible t) (Listed u sets more) f g = absurd g
+  judged_alike back_door s (Admissible t) (NoSet u) f g = absurd g
+  judged_alike back_door s (NotAdmissible t fault) (Listed u sets more) f g = absurd g
+  judged_alike back_door s (NotAdmissible t fault) (NoSet u) f g = absurd g
+  judged_alike back_door s (Listed t sets more) b f g = absurd f
+  judged_alike back_door s (NoSet t) b f g = absurd f
 
-    yes_refused : (query : Query) → SetsAnswer format query q names x y z Yes told → SetsAnswer format query q names x y z Graph other → ⊥
-    yes_refused (by_set set) a b = b
-    yes_refused (by_back_door set) a b = b.not_one a.v a.exposure
-    yes_refused (listing most) a b = b
+  listed_alike : (l : Lists) (most : ℕ) (s : Sets) → length l.observed ≡ q.vertices → AreSets l s.x.bits s.y.bits s.given.bits → (a b : Answer)
+      → ListsSets most q s a → ListsSets most q s b → adjust_telling.outcome a ≡ adjust_telling.outcome b
+  listed_alike l most s named is (Listed t sets more) (Listed u others rest) f g = refl
+  listed_alike l most s named is (Listed t sets more) (NoSet u) f g =
+      absurd (some_or_none l s.x.bits s.y.bits s.given.bits most sets.items more named is f.1 g.1)
+  listed_alike l most s named is (NoSet t) (Listed u sets more) f g =
+      absurd (some_or_none l s.x.bits s.y.bits s.given.bits most sets.items more named is g.1 f.1)
+  listed_alike l most s named is (NoSet t) (NoSet u) f g = refl
+  listed_alike l most s named is (Listed t sets more) (Admissible u) f g = absurd g
+  listed_alike l most s named is (Listed t sets more) (NotAdmissible u fault) f g = absurd g
+  listed_alike l most s named is (NoSet t) (Admissible u) f g = absurd g
+  listed_alike l most s named is (NoSet t) (NotAdmissible u fault) f g = absurd g
+  listed_alike l most s named is (Admissible t) b f g = absurd f
+  listed_alike l most s named is (NotAdmissible t fault) b f g = absurd f
 
-    no_refused : (query : Query) → SetsAnswer format query q names x y z No told → SetsAnswer format query q names x y z Graph other → ⊥
-    no_refused (by_set set) a b = b
-    no_refused (by_back_door set) a b = b.not_one a.v a.exposure
-    no_refused (listing most) a b = b
+  -- what is judged by the back-door criterion has one exposure
+  judged_or_not : (s : Sets) (a : Answer) (fault : TargetFault) → Judges true q s a → IsNotJudged true s fault → ⊥
+  judged_or_not s (Admissible t) NotOneX (of, (v, exposure, meets, effect)) n = n v exposure
+  judged_or_not s (NotAdmissible t broken) NotOneX (of, (v, exposure, breaks)) n = n v exposure
+  judged_or_not s (Listed t sets more) fault f n = absurd f
+  judged_or_not s (NoSet t) fault f n = absurd f
+  judged_or_not s a fault f n = n
 
--- what a query can't be answered
-none_else : (format : Format) (query : Query) (q : MixedGraph) (names : List (List ℕ)) (x y z : ℕ) (o : Outcome) (told : Told)
-    → SetsAnswer format query q names x y z o told
-    → IsOneOf Yes No Graph o
-none_else format query q names x y z Yes told h = inl refl
-none_else format query q names x y z No told h = inr (inl refl)
-none_else format query q names x y z Graph told h = inr (inr refl)
-none_else format (by_set set) q names x y z o told h = absurd h
-none_else format (by_back_door set) q names x y z o told h = absurd h
-none_else format (listing most) q names x y z o told h = absurd h
+  decided_or_not : (query : Query) (s : Sets) (a : Answer) (fault : TargetFault) → Decides query q s a → IsNotDecided query s fault → ⊥
+  decided_or_not (by_set set) s a fault f n = n
+  decided_or_not (by_back_door set) s a fault f n = judged_or_not s a fault f n
+  decided_or_not (listing most) s a fault f n = n
 
-module _ (format : Format) (query : Query) (q : MixedGraph) (l : Lists) (named : length l.observed ≡ q.vertices) where
-  -- what is answered for the sets of the one is answered for those of the other
-  moved : (o : Outcome) (other : Told) (a : IsAnswerOfSets format query q l o other) (x y z : ℕ) → AreSets l x y z
-      → SetsAnswer format query q l.observed x y z o other
-  moved o other a x y z s = same_three (λ u v t. SetsAnswer format query q l.observed u v t o other) l x y z a.x a.y a.z s a.sets a.answer
+-- lists name one set each
+same_sets : (l : Lists) (P : Sets → Type 0) (s t : Sets) → AreSets l s.x.bits s.y.bits s.given.bits → AreSets l t.x.bits t.y.bits t.given.bits → P t → P s
+same_sets l P s t n m p = subst P (λ i. record {
+  x = record { bits = one_set l.observed l.x s.x.bits t.x.bits n.set_x m.set_x i };
+  y = record { bits = one_set l.observed l.y s.y.bits t.y.bits n.set_y m.set_y i };
+  given = record { bits = one_set l.observed l.given s.given.bits t.given.bits n.set_given m.set_given i };
+}) p
 
-  apart : (told other : Told) → ListsAnswer format query q l Yes told → ListsAnswer format query q l No other → ⊥
-  apart told other a b = yes_no format q l.observed l a.x a.y a.z named a.sets told other query a.answer (moved No other b a.x a.y a.z a.sets)
+module _ (query : Query) (q : MixedGraph) (l : Lists) (named : length l.observed ≡ q.vertices) where
+  decided_alike : (other : Query) (s : Sets) → AreSets l s.x.bits s.y.bits s.given.bits → (a b : Answer) → Decides other q s a → Decides other q s b
+      → adjust_telling.outcome a ≡ adjust_telling.outcome b
+  decided_alike (by_set set) s is a b f g = judged_alike q false s a b f g
+  decided_alike (by_back_door set) s is a b f g = judged_alike q true s a b f g
+  decided_alike (listing most) s is a b f g = listed_alike q l most s named is a b f g
 
-  yes_graph : (told other : Told) → ListsAnswer format query q l Yes told → ListsAnswer format query q l Graph other → ⊥
-  yes_graph told other a (inl r) = sets_refused l a.x a.y a.z other a.sets r
-  yes_graph told other a (inr b) = yes_refused format q l.observed l a.x a.y a.z named a.sets told other query a.answer (moved Graph other b a.x a.y a.z a.sets)
+  -- lists whose sets are answered have no fault
+  no_fault : (a : Answer) (fault : TargetFault) → IsForNames query q l (Ok a) → IsForNames query q l (Err fault) → ⊥
+  no_fault a fault f (inl is) = no_fault_of (fault_in l) l.y l.x fault f.named.no_fault f.named.some_y f.named.some_x is
+  no_fault a fault f (inr n) = decided_or_not q query f.sets a fault f.decided (same_sets l (λ s. IsNotDecided query s fault) f.sets n.sets f.named n.named n.refused)
 
-  no_graph : (told other : Told) → ListsAnswer format query q l No told → ListsAnswer format query q l Graph other → ⊥
-  no_graph told other a (inl r) = sets_refused l a.x a.y a.z other a.sets r
-  no_graph told other a (inr b) = no_refused format q l.observed l a.x a.y a.z named a.sets told other query a.answer (moved Graph other b a.x a.y a.z a.sets)
-
-  among : (o : Outcome) (told : Told) → ListsAnswer format query q l o told → IsOneOf Yes No Graph o
-  among Yes told h = inl refl
-  among No told h = inr (inl refl)
-  among Graph told h = inr (inr refl)
-  among o told h = none_else format query q l.observed h.x h.y h.z o told h.answer
-
-  pub lists_once : OneOutcome (ListsAnswer format query q l)
-  lists_once = one_of_three Yes No Graph (ListsAnswer format query q l) among apart yes_graph no_graph
+  -- right answers end alike
+  pub alike : (a b : Result Answer TargetFault) → IsForNames query q l a → IsForNames query q l b
+      → outcome_in adjust_telling target_refusal a ≡ outcome_in adjust_telling target_refusal b
+  alike (Ok a) (Ok b) f g = decided_alike query f.sets f.named a b f.decided (same_sets l (λ s. Decides query q s b) f.sets g.sets f.named g.named g.decided)
+  alike (Ok a) (Err fault) f g = absurd (no_fault a fault f g)
+  alike (Err fault) (Ok b) f g = absurd (no_fault b fault g f)
+  alike (Err fault) (Err other) f g = refl
 
 pub same_lists : (x y : Names) (query : Query) (d e : Diagram) → AreSameDiagrams d e → adjust_lists e.read e.observed.names x y query
     ≡ adjust_lists d.read d.observed.names x y query
 same_lists x y query d e s = same_query_lists x y (Some (set_of query)) d e s
-
-pub adjust_once : (format : Format) (bytes : List ℕ) (x y : Names) (query : Query) → OneOutcome (IsAnswerOn bytes (λ d. AdjustAnswer format d x y query))
-adjust_once format bytes x y query = one_for_diagrams bytes (λ d. adjust_lists d.read d.observed.names x y query) (λ q l. ListsAnswer format query q l)
-    (same_lists x y query) (λ d. lists_once format query (graph_of d.observed.graph) (adjust_lists d.read d.observed.names x y query) d.observed.sized)

@@ -2,7 +2,6 @@ pub mod Queries
 pub mod Lines
 pub mod Objects
 pub mod Verdicts
-pub mod Answers
 pub mod Right
 pub mod Telling
 pub mod Bare

@@ -1,6 +1,9 @@
 -- What `adjust` is asked.
-use Rattle.std.specs.Prelude.{ℕ, ◌≡◌, ◌≤◌, Bool, List, Option, Some, None, if◌then◌else◌}
+use Rattle.std.specs.Prelude.{ℕ, ◌≡◌, ◌≤◌, Bool, List, [], Option, Some, None, if◌then◌else◌}
 use Rattle.command_words.specs.Vocabulary.{names_in}
+use Rattle.dag_reader.specs.declared.graph.ReadGraph.{ReadGraph}
+use Rattle.targets.specs.Vocabulary.{Lists}
+use Rattle.diagram.specs.Vocabulary.{Names, query_lists}
 use Rattle.adjust_command.specs.declared.query.Query.{Query as CodeQuery}
 use Rattle.adjust_command.specs.declared.query.Query.TheVariants as query
 
@@ -29,3 +32,13 @@ HasRange q = (k : ℕ) → q ≡ listing k → (1 ≤ k) × (k ≤ 10000)
 abbrev pub query_for : Option (List (List ℕ)) → (back_door counted : Bool) → (most : ℕ) → Option Query
 query_for (Some names) back_door counted most = if counted then None else (if back_door then Some (by_back_door names) else Some (by_set names))
 query_for None back_door counted most = if back_door then None else Some (listing most)
+
+-- the names of the set that is asked about; a listing has none
+abbrev pub set_of : Query → List (List ℕ)
+set_of (by_set set) = set
+set_of (by_back_door set) = set
+set_of (listing most) = []
+
+-- the lists of a query, on a graph with these observed names: those that are given, or else the exposures and the outcomes; and the set
+abbrev pub adjust_lists : ReadGraph → (observed : List (List ℕ)) → (x y : Names) → Query → Lists
+adjust_lists g observed x y query = query_lists g observed x y (Some (set_of query))

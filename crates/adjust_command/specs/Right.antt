@@ -12,8 +12,7 @@ use Rattle.adjustment.specs.Vocabulary.{IsAdmissible, adjustment_formula}
 use Rattle.minimal_sets.specs.Vocabulary.{IsListingOf, IsMinimalSet, IsMinimalAdjustment}
 use Rattle.diagram.specs.declared.diagram.Diagram.{Diagram}
 use Rattle.diagram.specs.Vocabulary.{Names}
-use Rattle.adjust_command.specs.Answers.{adjust_lists}
-use Rattle.adjust_command.specs.Queries.{Query, by_set, by_back_door, listing}
+use Rattle.adjust_command.specs.Queries.{Query, by_set, by_back_door, listing, adjust_lists}
 use Rattle.adjust_command.specs.Verdicts.{IsVerdict}
 use Rattle.adjust_command.specs.declared.answer.Answer.{Answer}
 use Rattle.adjust_command.specs.declared.answer.Answer.TheVariants.{Admissible, NotAdmissible, Listed, NoSet}

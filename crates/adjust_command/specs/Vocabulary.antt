@@ -1,5 +1,4 @@
 -- What other crates cite of this one, from one place.
-pub use Rattle.adjust_command.specs.Answers.{AdjustAnswer, CriterionAnswer, SetTexts, adjust_lists, texts_of}
 pub use Rattle.adjust_command.specs.Command.{adjust_command}
 pub use Rattle.adjust_command.specs.Lines.{not_admissible_text}
 pub use Rattle.adjust_command.specs.Objects.{not_admissible_members}

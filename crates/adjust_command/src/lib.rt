@@ -15,5 +15,5 @@ mod texts;
 pub use answer::Answer;
 pub use criteria::{Verdict, judge};
 pub use query::Query;
-pub use reply::{adjust_answer, adjust_reply, not_admissible};
+pub use reply::{adjust_answer, adjust_reply};
 pub use request::{ROW, Request};

@@ -6,8 +6,7 @@ ghost use Rattle.do_rules.specs.Vocabulary.{AreThreeSets};
 ghost use Rattle.targets.specs.Vocabulary.{OrMemory};
 ghost use Rattle.replies.specs.Vocabulary.{told_of};
 ghost use Rattle.told.specs.Vocabulary.{plain_form, target_refusal, Tells};
-ghost use Rattle.adjust_command.specs.Answers.{texts_of, set_of, adjust_lists};
-ghost use Rattle.adjust_command.specs.Queries.{query_of, IsInRange};
+ghost use Rattle.adjust_command.specs.Queries.{query_of, IsInRange, set_of, adjust_lists};
 ghost use Rattle.adjust_command.specs.Requests.{request_of};
 ghost use Rattle.adjust_command.specs.Right.{Decides, IsNotDecided, IsForLists, IsAdjustFault, IsAdjustAnswer};
 ghost use Rattle.adjust_command.specs.Telling.{adjust_telling};
@@ -17,13 +16,12 @@ use crate::criteria::by_criterion;
 use crate::listing::list_sets;
 use crate::query::Query;
 use crate::request::Request;
-use adjustment::AdjFault;
 use diagram::{Diagram, asked_query};
-use mixed_graph::{Graph, Names};
-use replies::{Format, Reply};
+use mixed_graph::Graph;
+use replies::Reply;
 use std::alloc::{AllocError, Global};
 use targets::{Sets, TargetFault};
-use told::{Form, reply, tell};
+use told::{Form, reply};
 
 /// What is told of a set that may be adjusted for, or of the minimal sets that may.
 pub fn adjust_reply(
@@ -41,25 +39,6 @@ pub fn adjust_reply(
         &diagram.observed.names,
         &answer,
     )
-}
-
-/// What is told of a set that a criterion doesn't allow: its text in a format.
-pub fn not_admissible(
-    alloc: Global,
-    format: Format,
-    names: &Names,
-    sets: Sets,
-    fault: &AdjFault,
-) -> Result<Vec<u8>, AllocError>
-    ensures { IfOk result (λ v. v.items ≡ (texts_of format names.now).breaks sets.x.bits sets.y.bits sets.given.bits fault.now) }
-{
-    let told = tell(
-        alloc,
-        Form::plain(format),
-        names,
-        &Answer::NotAdmissible(sets, *fault),
-    )?;
-    Ok(told.text)
 }
 
 /// Whether a set may be adjusted for to compute the effect of x on y, in the observed graph, or the minimal

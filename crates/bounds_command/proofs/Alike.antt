@@ -1,5 +1,5 @@
 -- Two tables of the same bytes give the same bounds, crossings and faults.
-use Rattle.std.proofs.Common.{◌≡◌, ◌==◌, ℕ, Bool, List, Option, None, Result, Err, cond}
+use Rattle.std.proofs.Common.{◌≡◌, ◌==◌, ℕ, Bool, List, None, Result, Err, cond}
 use Rattle.std.specs.Prelude.{length}
 use Rattle.std.specs.List.{find}
 use Rattle.count_rows.specs.Vocabulary.{Table}

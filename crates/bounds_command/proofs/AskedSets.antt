@@ -13,7 +13,7 @@ use Rattle.targets.proofs.Walking.{same_first_fault}
 use Rattle.natural_bounds.specs.Vocabulary.{fixed}
 use Rattle.bound_values.specs.declared.questions.Question.{Question}
 use Rattle.bound_values.specs.Vocabulary.{asked_of}
-use Rattle.bounds_command.specs.Asking.{BoundLists, later_fault, AreNamed}
+use Rattle.bounds_command.specs.Asking.{BoundLists, AreNamed}
 
 or_or : (a b c : Bool) → (a || (b || c)) ≡ ((a || b) || c)
 or_or true b c = refl

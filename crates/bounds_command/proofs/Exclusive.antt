@@ -1,19 +1,16 @@
 -- Right answers end alike.
-use Rattle.std.proofs.Common.{◌≡◌, ◌<◌, ◌≤◌, ℕ, Bool, List, Option, Some, None, Result, Ok, Err, length, refl, sym, subst, ◌∙◌, arith}
+use Rattle.std.proofs.Common.{◌≡◌, ◌<◌, ◌≤◌, ℕ, Bool, List, Option, None, Result, Ok, Err, length, refl, sym, subst, ◌∙◌, arith}
 use Rattle.std.proofs.lemmas.Option.{none-some}
 use Rattle.mixed_graph.specs.Vocabulary.{MixedGraph}
 use Rattle.targets.specs.declared.fault.TargetFault.{TargetFault}
-use Rattle.replies.specs.declared.outcome.Outcome.{Outcome}
 use Rattle.told.specs.Vocabulary.{target_refusal, outcome_in}
-use Rattle.count_rows.specs.declared.fault.CountFault.{CountFault}
 use Rattle.count_rows.specs.Vocabulary.{Field, Table}
 use Rattle.count_answers.specs.Vocabulary.{HoldsCounts}
 use Rattle.count_answers.proofs.OneReading.{AreAlike, one_table}
 use Rattle.bound_values.specs.declared.questions.Question.{Question}
-use Rattle.bound_values.specs.declared.values.CellBounds.{CellBounds}
 use Rattle.bound_values.specs.declared.values.CellFault.{CellFault}
 use Rattle.bound_values.specs.declared.found.Found.TheVariants.{Crossed, Bounded}
-use Rattle.bound_values.specs.Vocabulary.{asked_of, joint_mask, printed_cells, over_table, cell_bounds, bounds_at, crossing_in, IsFound, IsUnfound}
+use Rattle.bound_values.specs.Vocabulary.{asked_of, joint_mask, printed_cells, over_table, cell_bounds, bounds_at, crossing_in, IsFound}
 use Rattle.bound_values.specs.declared.values.CellFault.TheVariants as cell
 use Rattle.bound_values.specs.declared.found.Found.{Found}
 use Rattle.bounds_command.specs.declared.answer.Answer.{Answer}
@@ -24,7 +21,7 @@ use Rattle.bounds_command.specs.BoundsTelling.{bounds_telling, found_outcome}
 use Rattle.bounds_command.specs.Faults.{bounds_refusal}
 use Rattle.bounds_command.specs.First.{unmet_telling, IsNotAsked}
 use Rattle.bounds_command.specs.Asking.{AskedLists, IsAsked}
-use Rattle.bounds_command.specs.Right.{IsOverTable, IsFaultOver, IsForCounts, IsFaultFor, IsBounded}
+use Rattle.bounds_command.specs.Right.{IsForCounts, IsFaultFor, IsBounded}
 use Rattle.bounds_command.proofs.Alike.{same_over, same_crossing, same_bounds}
 use Rattle.bounds_command.proofs.OneQuestion.{not_unmet, no_asked_fault, no_unmet_fault}
 

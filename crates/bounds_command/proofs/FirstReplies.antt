@@ -2,8 +2,6 @@
 use Rattle.std.proofs.Common.{◌≡◌, false, true, Result, Ok, Err, ap, subst}
 use Rattle.mixed_graph.specs.Vocabulary.{MixedGraph}
 use Rattle.targets.specs.declared.fault.TargetFault.{TargetFault}
-use Rattle.targets.specs.declared.fault.TargetFault.TheVariants.{NoMemory}
-use Rattle.targets.specs.Vocabulary.{OrMemory}
 use Rattle.targets.proofs.Faults.{not_memory}
 use Rattle.diagram.specs.declared.diagram.Diagram.{Diagram}
 use Rattle.diagram.specs.Vocabulary.{Names}
@@ -13,7 +11,7 @@ use Rattle.bounds_command.specs.declared.first.First.TheVariants as first
 use Rattle.bounds_command.specs.declared.first.Unmet.{Unmet}
 use Rattle.bounds_command.specs.Ways.{Way}
 use Rattle.bounds_command.specs.Asking.{AskedLists, asked_lists, IsAskedFault}
-use Rattle.bounds_command.specs.First.{IsUnmet, IsNotAsked, IsFirst}
+use Rattle.bounds_command.specs.First.{IsNotAsked, IsFirst}
 
 -- an answer that isn't want of memory is right
 pub right_answer : (g : MixedGraph) (l : AskedLists) (r : Result Unmet TargetFault) → IsFirst g l (first.Answered r)

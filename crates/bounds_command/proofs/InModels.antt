@@ -1,8 +1,8 @@
 -- What is found holds in every model of the graph that has the counts.
-use Rattle.std.proofs.Common.{◌≡◌, ◌<◌, ◌≤◌, ℕ, Bool, true, false, ◌||◌, List, All, length, refl, sym, ap, subst, ◌∙◌, inl, inr, arith}
+use Rattle.std.proofs.Common.{◌≡◌, ◌<◌, ◌≤◌, ℕ, Bool, true, false, ◌||◌, List, length, sym, ap, subst, ◌∙◌, arith}
 use Rattle.std.proofs.lemmas.Bool.{or_left, true≢false}
 use Rattle.std.proofs.Common.{get_or}
-use Rattle.mixed_graph.specs.Vocabulary.{has, members_below, MixedGraph, IsMixedGraph, Within}
+use Rattle.mixed_graph.specs.Vocabulary.{has, MixedGraph, Within}
 use Rattle.mixed_graph.proofs.Masks.{has-zero}
 use Rattle.finite_models.proofs.Bools.{either}
 use Rattle.count_rows.specs.Vocabulary.{Table}

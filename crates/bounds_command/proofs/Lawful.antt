@@ -1,18 +1,16 @@
 -- The command's words ask for one request, and its answers have one outcome.
-use Rattle.std.proofs.Common.{◌≡◌, ℕ, List, Option, Some, Result, Ok, Err, refl, sym, ap, subst, ◌∙◌}
+use Rattle.std.proofs.Common.{◌≡◌, ℕ, List, Some, Result, Ok, Err, refl, sym, subst, ◌∙◌}
 use Rattle.std.specs.Prelude.{codes}
 use Rattle.std.proofs.lemmas.Option.{same_Some}
-use Rattle.command_words.specs.Vocabulary.{Text, Use, value_of}
+use Rattle.command_words.specs.Vocabulary.{Use, value_of}
 use Rattle.command_words.proofs.OneValue.{one_listed}
 use Rattle.mixed_graph.specs.Vocabulary.{MixedGraph, graph_of}
 use Rattle.targets.specs.declared.fault.TargetFault.{TargetFault}
 use Rattle.diagram.specs.declared.diagram.Diagram.{Diagram}
 use Rattle.diagram.specs.Vocabulary.{Names}
 use Rattle.diagram.proofs.OneDiagram.{AreSameDiagrams, same_drawing, same_query_lists}
-use Rattle.replies.specs.declared.outcome.Outcome.{Outcome}
 use Rattle.replies.specs.Vocabulary.{IsAnswerOn, IsAnswered, IsLeft}
 use Rattle.replies.specs.OneOutcome.{OneOutcome}
-use Rattle.replies.specs.Told.{Told}
 use Rattle.replies.proofs.Commands.{IsLawful, lawful_on_two_inputs}
 use Rattle.replies.proofs.OneOutcome.{one_on_diagram}
 use Rattle.told.specs.Vocabulary.{plain_form, target_refusal, Tells, outcome_in}

@@ -1,10 +1,10 @@
 -- The faults of the lists of a question.
-use Rattle.std.proofs.Common.{◌≡◌, ℕ, List, Option, Some, None, inl, inr, refl}
+use Rattle.std.proofs.Common.{◌≡◌, ℕ, inl, inr}
 use Rattle.targets.specs.declared.fault.TargetFault.{TargetFault}
 use Rattle.targets.specs.declared.fault.TargetFault.TheVariants.{EmptyY, EmptyX, NotOneX, Bidirected, OtherNames, NoMemory}
-use Rattle.targets.specs.Vocabulary.{Lists, NameFault, IsNameFault, IsFaultOfTarget, OrMemory, IsTargetFault, AreSets}
+use Rattle.targets.specs.Vocabulary.{IsNameFault, IsFaultOfTarget, OrMemory, IsTargetFault, AreSets}
 use Rattle.targets.specs.declared.fault.TargetFault.TheVariants.{Unknown, Latent, Twice}
-use Rattle.bounds_command.specs.Asking.{BoundLists, later_fault, IsLaterFault, IsBoundFault}
+use Rattle.bounds_command.specs.Asking.{BoundLists, later_fault, IsBoundFault}
 
 -- a fault of x, y and given
 pub query_fault : (l : BoundLists) (f : TargetFault) → OrMemory (IsTargetFault l.query) f → OrMemory (IsBoundFault l) f

@@ -1,5 +1,5 @@
 -- Where no way is asked for by the lists of four values, none is asked for by any lists of the same values.
-use Rattle.std.proofs.Common.{◌≡◌, ℕ, List, Option, Some, None, sym, ap, ◌∙◌}
+use Rattle.std.proofs.Common.{◌≡◌, ℕ, List, Option, Some, None, sym, ◌∙◌}
 use Rattle.std.proofs.lemmas.Option.{none-some}
 use Rattle.command_words.specs.Vocabulary.{Text, IsListed, IsListedOrEmpty}
 use Rattle.command_words.proofs.OneValue.{one_listed, one_listed_or_empty}

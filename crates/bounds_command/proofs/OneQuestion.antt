@@ -1,10 +1,10 @@
 -- Lists ask for one question, and have no fault where they ask for one.
-use Rattle.std.proofs.Common.{◌≡◌, ◌⊎◌, ℕ, List, [], Option, Some, None, inl, inr, sym, ap, subst, ◌∙◌}
+use Rattle.std.proofs.Common.{◌≡◌, ◌⊎◌, ℕ, [], inl, inr, sym, subst, ◌∙◌}
 use Rattle.std.specs.Prelude.{slice_index}
 use Rattle.mixed_graph.specs.declared.sets.VSet.{VSet}
 use Rattle.mixed_graph.specs.Vocabulary.{has, MixedGraph}
 use Rattle.targets.specs.declared.fault.TargetFault.{TargetFault}
-use Rattle.targets.specs.Vocabulary.{Lists, IsListedSet, AreSets}
+use Rattle.targets.specs.Vocabulary.{Lists}
 use Rattle.adjustment.specs.declared.criteria.AdjFault.{AdjFault}
 use Rattle.adjustment.specs.declared.criteria.AdjFault.TheVariants.{Forbidden, Unblocked}
 use Rattle.adjustment.specs.Vocabulary.{IsAdmissible, IsAdjustmentFault, steps_of}

@@ -3,7 +3,6 @@ use Rattle.std.specs.Prelude.{Bool, Option, Some}
 use Rattle.command_words.specs.Vocabulary.{Text}
 use Rattle.mixed_graph.specs.Vocabulary.{graph_of}
 use Rattle.dag_reader.specs.declared.graph.ReadGraph.{ReadGraph}
-use Rattle.diagram.specs.declared.diagram.Diagram.{Diagram}
 use Rattle.replies.specs.declared.format.Format.{Format}
 use Rattle.replies.specs.Vocabulary.{CommandForm, on_two_inputs, Remainder}
 use Rattle.told.specs.Vocabulary.{plain_form, target_refusal, Tells}

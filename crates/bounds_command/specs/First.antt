@@ -1,6 +1,6 @@
 -- What is known before counts are read.
-use Rattle.std.specs.Prelude.{ℕ, List, ◌∷◌, ◌++◌, Result, Ok, Err, codes}
-use Rattle.json.specs.Json.{Json, string}
+use Rattle.std.specs.Prelude.{ℕ, List, ◌∷◌, ◌++◌, Result, Ok, Err}
+use Rattle.json.specs.Json.{Json}
 use Rattle.mixed_graph.specs.Vocabulary.{has, MixedGraph, graph_of}
 use Rattle.targets.specs.declared.fault.TargetFault.{TargetFault}
 use Rattle.targets.specs.Vocabulary.{OrMemory, AreSets}

@@ -1,5 +1,5 @@
 -- Which answers of `bounds` are right over the bytes of counts.
-use Rattle.std.specs.Prelude.{ℕ, ◌≡◌, ◌<◌, ◌≤◌, Bool, List, All, Option, Some, None, Result, Ok, Err, length}
+use Rattle.std.specs.Prelude.{ℕ, ◌≡◌, ◌<◌, ◌≤◌, Bool, List, All, Option, Some, Result, Ok, Err, length}
 use Rattle.mixed_graph.specs.Vocabulary.{has, members_below, MixedGraph, IsMixedGraph, Apart}
 use Rattle.replies.specs.declared.format.Format.{Format}
 use Rattle.replies.specs.declared.outcome.Outcome.{Outcome}
@@ -22,7 +22,7 @@ use Rattle.bound_values.specs.declared.values.CellFault.TheVariants as cell
 use Rattle.bound_values.specs.declared.found.Found.{Found}
 use Rattle.bounds_command.specs.declared.answer.Answer.{Answer}
 use Rattle.bounds_command.specs.declared.faults.BoundsFault.{BoundsFault}
-use Rattle.bounds_command.specs.declared.faults.BoundsFault.TheVariants.{TooLong, Counts, NoRecords, TooWide, NoMemory}
+use Rattle.bounds_command.specs.declared.faults.BoundsFault.TheVariants.{TooLong, Counts, NoRecords, TooWide}
 use Rattle.bounds_command.specs.BoundsTelling.{bounds_telling}
 use Rattle.bounds_command.specs.Faults.{bounds_refusal}
 

@@ -12,7 +12,6 @@ use Rattle.natural_bounds.specs.declared.ends.End.TheVariants.{AtLeast, AtMost}
 use Rattle.natural_bounds.proofs.Drawn.{bounding_is_as_drawn, no_model_is_as_drawn}
 use Rattle.bound_values.specs.declared.questions.Question.{Question}
 use Rattle.bound_values.specs.declared.values.Value.{Value}
-use Rattle.bound_values.specs.declared.values.CellBounds.{CellBounds}
 use Rattle.bound_values.specs.declared.found.Found.TheVariants.{Crossed, Bounded}
 use Rattle.bound_values.specs.Vocabulary.{number_of}
 use Rattle.bound_values.specs.declared.found.Found.{Found}

@@ -2,7 +2,7 @@
 use Rattle.std.proofs.Common.{ℕ, ◌≡◌, ◌<◌, Bool, sym, subst, ◌∙◌}
 use Rattle.mixed_graph.specs.Vocabulary.{has, MixedGraph, graph_of}
 use Rattle.fractions.proofs.FractionLaws.{equal_sym, equal_trans}
-use Rattle.finite_models.specs.Vocabulary.{FiniteModel, IsAssignment}
+use Rattle.finite_models.specs.Vocabulary.{IsAssignment}
 use Rattle.prob_expr.specs.Vocabulary.{PlainTarget, term_value, effect}
 use Rattle.dag_reader.specs.declared.graph.ReadGraph.{ReadGraph}
 use Rattle.diagram.specs.Vocabulary.{IsObservedGraph}

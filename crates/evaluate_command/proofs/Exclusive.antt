@@ -22,16 +22,13 @@ use Rattle.count_answers.specs.Vocabulary.{HoldsCounts}
 use Rattle.diagram.specs.declared.diagram.Diagram.{Diagram}
 use Rattle.diagram.specs.Vocabulary.{Names, effect_lists, query_lists}
 use Rattle.diagram.proofs.OneDiagram.{AreSameDiagrams, same_drawing, same_effect_lists, same_query_lists}
-use Rattle.replies.specs.declared.format.Format.TheVariants.{Text}
 use Rattle.replies.specs.declared.outcome.Outcome.TheVariants.{Yes, No}
-use Rattle.replies.specs.Vocabulary.{answer_of}
-use Rattle.replies.proofs.OneTarget.{one_set, same_two, no_fault_of, no_effect_fault, some_list, is_some_list}
+use Rattle.replies.proofs.OneTarget.{one_set, same_two, same_three, no_fault_of, no_effect_fault, some_list, is_some_list}
 use Rattle.told.specs.Vocabulary.{target_refusal, outcome_in}
 use Rattle.effect_answers.specs.declared.hedges.EffectHedge.{EffectHedge}
 use Rattle.adjust_command.specs.declared.criteria.Verdict.TheVariants.{Meets, Breaks}
-use Rattle.adjust_command.specs.Vocabulary.{texts_of, adjust_lists, IsNotDecided, IsAdjustFault, IsVerdict}
-use Rattle.adjust_command.proofs.Exclusive as adjusting
-use Rattle.adjust_command.proofs.Verdicts.{shown, broken}
+use Rattle.adjust_command.specs.Vocabulary.{IsNotDecided, IsAdjustFault, IsVerdict}
+use Rattle.adjust_command.proofs.Exclusive.{verdict_once}
 use Rattle.adjustment.specs.declared.criteria.AdjFault.{AdjFault}
 use Rattle.identify_command.specs.Vocabulary.{IsJointHedge}
 use Rattle.identify_command.proofs.Lists.{one_target}
@@ -49,7 +46,6 @@ use Rattle.evaluate_command.specs.declared.answer.Values.TheVariants.{Exact, Bou
 use Rattle.evaluate_command.specs.declared.faults.ValuesFault.{ValuesFault}
 use Rattle.evaluate_command.specs.declared.faults.ValuesFault.TheVariants.{TooLong, Counts, NoValue, NoMemory}
 use Rattle.evaluate_command.proofs.OneEffect.{same_identified, same_values}
-use Rattle.evaluate_command.proofs.Unmet.{criterion_answer}
 
 -- ---- lists that name sets have no fault
 
@@ -157,29 +153,12 @@ module _ (d : Diagram) (x y : Names) (e : PlainEffect) where
   broken_or_met : (back_door : Bool) (set : List (List ℕ)) (s : Sets) (fault : AdjFault)
       → IsUnmet (by_adjusting back_door set) d x y (answers.NotAdmissible s fault) → Identifies (by_adjusting back_door set) d x y e → ⊥
   broken_or_met back_door set s fault r i =
-      let query = criterion_query back_door set in
       let q = graph_of d.observed.graph in
       let by = i.found in
-      let texts = texts_of Text d.observed.names in
-      let yes = answer_of (texts.meets e.x e.y by.0) in
-      let no = answer_of (texts.breaks s.x.bits s.y.bits s.given.bits fault) in
       let meets = subst (λ (g : MixedGraph). IsVerdict back_door g e.x e.y by.0 Meets) i.graph by.2.meets in
-      let clash = adjusting.lists_once Text query q (adjust_lists d.read d.observed.names x y query) d.observed.sized No Yes no yes
-      (criterion_answer Text d x y set No no back_door (record {
-        x = s.x.bits;
-        y = s.y.bits;
-        z = s.given.bits;
-        sets = r.0;
-        answer = broken back_door q texts s.x.bits s.y.bits s.given.bits fault no r.1 refl;
-      }))
-      (criterion_answer Text d x y set Yes yes back_door (record {
-        x = e.x;
-        y = e.y;
-        z = by.0;
-        sets = by.1;
-        answer = shown back_door q texts e.x e.y by.0 yes meets refl;
-      })) in
-      cc clash
+      verdict_once q back_door e.x e.y by.0 fault meets
+      (same_three (λ u v w. IsVerdict back_door q u v w (Breaks fault)) (query_lists d.read d.observed.names x y (Some set)) e.x e.y by.0
+      s.x.bits s.y.bits s.given.bits by.1 r.0 r.1)
 
   alone_on : (way : Way) (a : Result Answer TargetFault) → IsForDiagram way d x y a → Identifies way d x y e → ⊥
   alone_on (by_procedure short) (Ok (answers.Hedge h)) r i = hedge_or_formula short h r i

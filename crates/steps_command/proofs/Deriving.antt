@@ -80,11 +80,6 @@ module _ (q : MixedGraph) (e : EffectFormula) (d : Derivation) (found : e.deriva
         explains = g (formula_view e.formula) is_derived;
       }) explains
 
--- there is one
-pub some_derivation : (q : MixedGraph) (e : EffectFormula) → e.derivation ≡ None → IsDerivable q e → ⊥
-some_derivation q e none h = absurd (none-some (formula h.target h.main h.derivation)
-    (subst (λ (o : Option Derivation). option_map (certified e) o ≡ Some (formula h.target h.main h.derivation)) none h.certificate))
-
 -- any other answer than an accepted formula is told as it is
 pub told_as_checked : (q : MixedGraph) (a : CheckAnswer) → ((e : EffectFormula) → a ≡ AcceptedFormula e → ⊥) → IsTold q (Checked a)
 told_as_checked q (AcceptedFormula e) other = absurd (other e refl)

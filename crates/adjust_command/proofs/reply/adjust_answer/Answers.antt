@@ -5,7 +5,7 @@ use Rattle.targets.specs.Vocabulary.{Lists, AreSets, IsTargetFault, OrMemory}
 use Rattle.targets.proofs.Effects.{query_exposure}
 use Rattle.diagram.specs.Vocabulary.{Names, lent, query_lists}
 use Rattle.diagram.proofs.Lent.{lent_owned}
-use Rattle.adjust_command.specs.Answers.{adjust_lists}
+use Rattle.adjust_command.specs.Queries.{adjust_lists}
 use Rattle.adjust_command.specs.Queries.{query_of}
 use Rattle.adjust_command.specs.Requests.{request_of}
 use Rattle.adjust_command.proofs.Faults.{listed_fault, answer_of_sets, fault_of_sets}
