@@ -1,7 +1,7 @@
 /* The code of the proved library, made by portable/make. Change nothing here: what it is made from stands in crates/.
  *
  * kit: rattle-kit-13f
- * sources: 68ea8eb7dabe35954645070eb023cc91669724f0c8dd4d4139fbb6cf9612b994
+ * sources: a264df916e92f9c9fe56664ae035f5a557b956fd99374d3b112207349d8b058d
  * parts: 8
  */
 #define WORDS 3154
