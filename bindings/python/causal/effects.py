@@ -60,7 +60,7 @@ class Value(Printed):
     def __str__(self) -> str:
         if self.is_exact:
             return f"= {self.lower.numerator}/{self.lower.denominator}"
-        return f"from {digits(self.lower)} to {digits(self.upper)}"
+        return f"from {digits(self.lower)} to {digits(self.upper, up=True)}"
 
     def floats(self) -> Tuple[float, float]:
         """The bounds as floats, rounded outward, so that they still hold."""
@@ -123,16 +123,20 @@ class Value(Printed):
         return Value(self.lower + other.lower, self.upper + other.upper)
 
 
-def digits(value: Fraction) -> str:
-    """The value with 18 digits behind the point.
+def digits(value: Fraction, up: bool = False) -> str:
+    """The value with 18 digits behind the point, and what has more of them rounded down, or `up`.
 
     >>> from fractions import Fraction
     >>> from causal.effects import digits
-    >>> digits(Fraction(5, 4))
-    '1.250000000000000000'
+    >>> digits(Fraction(5, 4)), digits(Fraction(-1, 8))
+    ('1.250000000000000000', '-0.125000000000000000')
+    >>> digits(Fraction(2, 3)), digits(Fraction(2, 3), up=True)
+    ('0.666666666666666666', '0.666666666666666667')
     """
     units = value * 10**18
-    return f"{units // 10**18}.{int(units % 10**18):018d}"
+    rounded = math.ceil(units) if up else math.floor(units)
+    whole, behind = divmod(abs(rounded), 10**18)
+    return f"{'-' if rounded < 0 else ''}{whole}.{behind:018d}"
 
 
 def number_of(level: Level) -> Optional[Fraction]:

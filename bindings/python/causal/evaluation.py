@@ -73,6 +73,8 @@ class Evaluation:
         design: Design = Design(),
     ) -> None:
         self.diagram, self.design, self.zero, self.short = diagram, design, zero, short
+        # Whether the strata that occur had to be taken.
+        self.is_narrowed = False
         self.levels_given = dict(given) if isinstance(given, Mapping) else None
         names = list(given) if isinstance(given, Mapping) else given
         self.members: Optional[Tuple[str, ...]] = None
@@ -162,7 +164,7 @@ class Evaluation:
         try:
             found = inner.bootstrap_over(own, sample, resamples, level, seed, kind, progress, exact)
         except EvaluationError as error:
-            raise self.remedied(error, data) from None
+            raise self.remedied(error if narrow is None else narrow[1].retold(error, self.formula, table), data) from None
         return told_doubts(found if narrow is None else replace(found, effects=narrow[1].told(found.effects, self.formula)))
 
     def bootstrap_over(
@@ -262,7 +264,10 @@ class Evaluation:
         """The effects over a table, or over another text of counts with the same levels."""
         narrow = self.narrowed(table)
         if narrow is not None:
-            return narrow[1].told(narrow[0].over_table(narrow[1].table, exact), self.formula)
+            try:
+                return narrow[1].told(narrow[0].over_table(narrow[1].table, exact), self.formula)
+            except EvaluationError as error:
+                raise narrow[1].retold(error, self.formula, table) from None
         table.check_size()
         words = [f"--count={table.count_column}", *(["--exact"] if exact else [])]
         return self.over_text(table.text() if text is None else text, words, table.level, table.dropped, table.orders)
@@ -273,6 +278,7 @@ class Evaluation:
         found = occurring_in(self.formula, table, self.zero) if table.is_wide else None
         if found is None:
             return None
+        self.is_narrowed = True
         target = self.formula.target
         inner = Evaluation(type(self.diagram).from_edges(found.edges), target.x, target.y, self.count, set=[found.name])
         inner.typed, inner.design = self.typed, self.design
@@ -354,7 +360,8 @@ class Evaluation:
         if error.number != 1:
             return error
         hint = next((words for words, way in self.other_ways() if self.answers(way, data)), None)
-        members = self.set_of_formula()
+        # (bounds over a set read all combinations of its levels, which are too many here)
+        members = None if self.is_narrowed else self.set_of_formula()
         otherwise = OTHERWISE.format("" if members is None else f", set={list(members)}")
         sentence = f"{error.sentence}; {otherwise if hint is None else f'{hint} gives a value'}"
         return EvaluationError(sentence, error.number, error.place, error.excerpt, error.printed)

@@ -11,7 +11,9 @@ from dataclasses import dataclass, replace
 from typing import TYPE_CHECKING, Dict, List, Mapping, Optional, Sequence, Tuple
 
 from causal.effects import Effects, levels_text
+from causal.errors import EvaluationError, EvaluationPlace
 from causal.estimators import pattern_of
+from causal.formula import Term, nodes_of
 from causal.names import printed_set
 from causal.samples import Sample
 from causal.tables import Cell, Table
@@ -61,6 +63,21 @@ class Occurring:
     def told(self, effects: Effects, formula: "Formula") -> Effects:
         """The effects as those of the formula that was asked for."""
         return replace(effects, formula=formula, remarks=(*effects.remarks, self.note))
+
+    def retold(self, error: EvaluationError, formula: "Formula", table: Table) -> EvaluationError:
+        """A refusal as that of the formula that was asked for, over the table that this is made of."""
+        cell, given = error.place and error.place.cell, pattern_of(formula)
+        if error.number != 1 or not cell or self.name not in cell or given is None:
+            return error
+        number = list(self.table.levels[0]).index(cell[self.name])
+        codes = next(codes for codes, stratum in self.strata.items() if stratum == number)
+        there = {name: table.levels[place][code] for name, place, code in zip(self.members, _places(table.names, self.members), codes)}
+        there.update((name, level) for name, level in cell.items() if name != self.name)
+        tree, y = formula._known()[-1], formula.target.y
+        node = next(number for number, it in enumerate(nodes_of(tree)) if "term" in it and set(it["term"]) == set(y))
+        at = ", ".join(levels_text({name: there[name]}) for name in given)
+        sentence = f"no record has {at}, which {Term(y, (), given)} is given"
+        return EvaluationError(sentence, 1, EvaluationPlace(None, node, there), error.excerpt, error.printed)
 
 
 def occurring_in(formula: "Formula", table: Table, zero: bool) -> Optional[Occurring]:

@@ -39,6 +39,14 @@ class OddsRatio(unittest.TestCase):
         found = KIDNEY.contrast(COUNTS, treated="A", control="B", outcome="success", count="n").odds_ratio
         self.assertTrue(found.lower < true < found.upper and float(found.upper - found.lower) < 1e-15)
 
+    def test_printed_bounds_enclose(self):
+        # also below 0, where they once were printed by their distance to the number below
+        contrast = KIDNEY.contrast(COUNTS, treated="B", control="A", outcome="success", count="n", resamples=0)
+        for value in (contrast.difference, contrast.ratio, contrast.odds_ratio):
+            lower, upper = (Fraction(text) for text in str(value).split()[1::2])
+            self.assertTrue(lower <= value.lower <= value.upper <= upper < lower + Fraction(1, 10**16), str(value))
+        self.assertTrue(str(contrast.difference).startswith("from -0.053671"))
+
     def test_none(self):
         zero, half, one = (Value(Fraction(n, 2), Fraction(n, 2)) for n in range(3))
         self.assertEqual(Contrast(half, zero).odds_ratio, None)

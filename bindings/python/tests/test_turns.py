@@ -1,6 +1,7 @@
 """No wrong turn in silence: what once gave another answer than was asked for, or a number that said more than it held."""
 import datetime
 import random
+import re
 import unittest
 import warnings
 from fractions import Fraction
@@ -345,6 +346,24 @@ class Records(unittest.TestCase):
         with self.assertRaisesRegex(causal.CountsError, "268435456 combinations of levels"):
             Diagram(front).effects({**data, "M": data["X"]}, "X", "Y")
 
+    def test_strata_that_lack_an_arm(self):
+        names = [f"c{k}" for k in range(10)]
+        diagram = Diagram.from_edges([("X", "Y"), *((name, it) for name in names for it in "XY")], exposure="X", outcome="Y")
+        source = random.Random(3)
+        data = {name: [source.randrange(4) for _ in range(60)] for name in names}
+        data.update(X=[0, 1] * 30, Y=[0, 0, 1] * 20)
+        for ask in (diagram.effects, lambda data: diagram.contrast(data, treated=1, control=0, outcome=1, resamples=5)):
+            with self.assertRaises(causal.EvaluationError) as caught:
+                ask(data)
+            place, told = caught.exception.place, str(caught.exception)
+            self.assertEqual(set(place.cell), {*names, "X", "Y"})
+            term = str(diagram.identify(short=True).divisor_at(place.definition, place.node).term)
+            self.assertRegex(told, rf"no record has .*c0={place.cell['c0']}, .*which {re.escape(term)} is given")
+            # bounds over the set would be refused, since all its combinations are too many; those that are named are there
+            self.assertIn("bounds(data) what", told)
+            self.assertNotIn("stratum", told)
+        self.assertEqual(len(diagram.bounds(data)), 4)
+
     def test_strata_that_occur(self):
         source = random.Random(2)
         names = [f"c{k}" for k in range(10)]
@@ -383,7 +402,7 @@ class Records(unittest.TestCase):
             self.assertIn("that occur", str(drawn))
         # a stratum without one arm has no value, and is named
         thin = {name: [*held, *([3] * 2 if name not in "XY" else [1, 1])] for name, held in data.items()}
-        with self.assertRaisesRegex(causal.EvaluationError, "c0=3,c1=3"):
+        with self.assertRaisesRegex(causal.EvaluationError, "c1=3, c2=3"):
             diagram.effects(thin, "X", "Y")
 
 

@@ -96,6 +96,10 @@ with_levels <- function(fault, table, asked) {
   for (name in names(fault$cell)) fault$cell[[name]] <- level_labels(table$levels[[name]])[as.integer(fault$cell[[name]])]
   hint <- switch(fault$number, "", "; bounds (exact = FALSE) may do", "; exact fractions (exact = TRUE) may do")
   fault$sentence <- paste0(fault$sentence, hint)
+  if (!is.null(asked$outer)) {
+    asked <- asked$outer
+    fault <- fault_of_set(fault, table, asked)
+  }
   divisor <- if (!is.null(fault$cell)) divisor_at(asked$trees, fault)
   if (!is.null(divisor)) {
     fault$condition <- fault$cell[names(fault$cell) %in% divisor$names]
@@ -122,14 +126,16 @@ set_with_value <- function(asked, table) {
 
 # What may have a value where this has none, in the words of the caller.
 remedies <- function(asked, set = NULL) {
+  if (!is.null(asked$outer)) asked <- asked$outer
   tried <- c(if (!asked$zero) "zero = TRUE", if (is.null(asked$set) && !asked$short) "short = TRUE")
   other <- if (is.null(set)) "another `set` of adjustment_sets()" else paste0("set = ", paste(deparse(set, width.cutoff = 500), collapse = " "), " (it has a value)")
   paste0("What may help: ", if (length(tried)) paste0(paste(tried, collapse = ", "), ", "), other, ", fewer classes; ",
          "support() shows where records lack, estimate() fills in by models, and bounds_effect(", bounds_words(asked), ") says what the effect is at least and at most")
 }
 
-# The set to adjust for that the formula sums over, as `bounds_effect` takes it.
+# The set to adjust for that the formula sums over, as `bounds_effect` takes it; none where all combinations of its levels are too many.
 bounds_words <- function(asked) {
+  if (isTRUE(asked$is_wide)) return("")
   set <- if (!is.null(asked$set)) as.character(asked$set) else if (!length(asked$given) && length(asked$x)) summed_set(asked)
   if (is.null(asked$set) && !is.null(set) && !adjusts(asked$diagram, set, asked$x, asked$y)$holds) set <- NULL
   if (is.null(set)) "" else paste0("set = ", paste(deparse(set, width.cutoff = 500), collapse = " "))

@@ -11,7 +11,20 @@ narrowed <- function(asked, table) {
   edges <- rbind(data.frame(from = name, to = c(asked$x, asked$y)), expand.grid(from = asked$x, to = asked$y, stringsAsFactors = FALSE))
   inner <- asked_of(as_causal_diagram(edges), asked$x, asked$y, set = name, zero = TRUE)
   inner$typed <- asked$typed
+  inner$outer <- c(asked, list(is_wide = TRUE))
   list(asked = inner, table = found)
+}
+
+# A fault over the strata that occur, as one of the formula that was asked for: at the levels of its set, and at its node.
+fault_of_set <- function(fault, table, asked) {
+  if (is.null(fault$cell)) return(fault)
+  name <- table$names[1]
+  levels <- lapply(table$members, `[`, match(fault$cell[[name]], table$levels[[1]]))
+  fault$cell <- c(levels, fault$cell[names(fault$cell) != name])
+  nodes <- divisors_of(asked$trees)
+  is_outcome <- vapply(nodes[[length(nodes)]], function(node) !is.null(node$term) && all(names(levels) %in% node$names), NA)
+  fault$node <- which(is_outcome)[1] - 1L
+  fault
 }
 
 # The set that a formula sums over, in the form above: those of its members that the outcome is given; NULL where it has another form.
@@ -31,7 +44,8 @@ summed_set <- function(asked) {
 strata_table <- function(table, members, name, others) {
   key <- row_keys(lapply(members, function(it) table$codes[, it]), lengths(table$levels[members]))
   first <- !duplicated(key)
-  labels <- do.call(paste, c(lapply(members, function(it) paste0(it, "=", level_labels(table$levels[[it]])[table$codes[first, it]])), list(sep = ",")))
+  table$members <- lapply(stats::setNames(members, members), function(it) level_labels(table$levels[[it]])[table$codes[first, it]])
+  labels <- do.call(paste, c(lapply(members, function(it) paste0(it, "=", table$members[[it]])), list(sep = ",")))
   table$codes <- cbind(matrix(as.integer(key), dimnames = list(NULL, name)), table$codes[, others, drop = FALSE])
   table$strata <- paste0("over the ", length(labels), " strata of ", paste(members, collapse = ", "), " that occur, of ",
                          format(prod(lengths(table$levels[members])), big.mark = ",", scientific = FALSE), " combinations")

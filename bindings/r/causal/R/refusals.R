@@ -24,7 +24,7 @@ meant <- function(name, among) {
     apart <- drop(utils::adist(name, among, ignore.case = TRUE))
     if (min(apart) <= min(2, (nchar(name) - 1) / 2)) found <- among[which.min(apart)]
   }
-  if (length(found)) paste0("; did you mean ", found[1], "?") else ""
+  if (length(found)) paste0("; did you mean ", if (grepl("^\\s|\\s$", found[1])) paste0('"', found[1], '"') else found[1], "?") else ""
 }
 
 # Whether a word is one of those that are there.

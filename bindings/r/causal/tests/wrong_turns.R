@@ -147,6 +147,13 @@ refused(evaluate("dag { X -> Y X <-> Y }", sparse, "X", "Y"), "not_identifiable"
 wide <- as.data.frame(lapply(stats::setNames(1:10, LETTERS[1:10]), function(k) (seq_len(60) * k) %/% 7 %% 4))
 confounders <- paste("dag { X [exposure] Y [outcome] X -> Y", paste(LETTERS[1:10], "-> X", LETTERS[1:10], "-> Y", collapse = " "), "}")
 refused(evaluate(confounders, cbind(wide, X = 0:1, Y = c(0, 1, 1)), zero = FALSE), "counts_fault", "A 4, B 4, C 4")
+# and over the strata that occur it speaks of the columns, and names no bounds that would be refused
+for (call in list(evaluate, contrast)) {
+  refused(call(confounders, cbind(wide, X = 0:1, Y = c(0, 1, 1))), "evaluation_fault", "A=0, B=0, C=0")
+  refused(call(confounders, cbind(wide, X = 0:1, Y = c(0, 1, 1))), "evaluation_fault", "which P(Y|X,A,B,C,D,E,F,G,H,I,J) is given")
+  refused(call(confounders, cbind(wide, X = 0:1, Y = c(0, 1, 1))), "evaluation_fault", "and bounds_effect() says")
+}
+refused(evaluate("dag { X -> Y }", stats::setNames(sparse[3:4], c("X ", "Y")), "X", "Y"), "counts_fault", "did you mean \"X \"?")
 
 # Old words warn, and are what they were
 answer <- contrast("dag { X -> Y }", none, "X", "Y", resamples = 20)
