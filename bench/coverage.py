@@ -18,6 +18,8 @@ CONFOUNDED = Diagram("dag { X [exposure] Y [outcome] Z -> X -> Y <- Z }")
 TWO = Diagram("dag { X [exposure] Y [outcome] A -> X -> Y <- A B -> X B -> Y }")
 FRONT_DOOR = Diagram("dag { X [exposure] Y [outcome] X -> M -> Y X <-> Y }")
 MEDIATED = Diagram("dag { X [exposure] Y [outcome] C -> X -> M -> Y X -> Y C -> M C -> Y }")
+NAPKIN = Diagram("dag { X [exposure] Y [outcome] W -> Z -> X -> Y W <-> X W <-> Y }")
+OVER_TIME = Diagram("dag { L0 -> A0 L0 -> L1 A0 -> L1 L1 -> A1 A0 -> Y A1 -> Y L1 -> Y }")
 IN_PARTS = Diagram("dag { X [exposure] Y [outcome] X -> W -> Y X <-> W V -> Y V -> X }")
 ARMS = {"treated": 1, "control": 0, "outcome": 1}
 
@@ -39,6 +41,61 @@ def confounder(source, size):
         for name, value in zip("ZXY", (z, x, chance(source, 0.2 + 0.2 * x + 0.3 * z))):
             data[name].append(value)
     return data, 0.2
+
+
+def in_a_group(source, size):
+    """The same, where x adds 0.1 in one group and 0.2 in the other; the truth is that of the second."""
+    data = {"Z": [], "X": [], "Y": []}
+    for _ in range(size):
+        z = chance(source, 0.4)
+        x = chance(source, 0.3 + 0.3 * z)
+        for name, value in zip("ZXY", (z, x, chance(source, 0.1 + 0.1 * x + 0.2 * z + 0.1 * x * z))):
+            data[name].append(value)
+    return data, 0.2
+
+
+def rare(source, size):
+    """Risks of 1.8 and 3.8 %, with a confounder; the truth is 0.02."""
+    data = {"Z": [], "X": [], "Y": []}
+    for _ in range(size):
+        z = chance(source, 0.5)
+        x = chance(source, 0.3 + 0.4 * z)
+        for name, value in zip("ZXY", (z, x, chance(source, 0.008 + 0.02 * x + 0.02 * z))):
+            data[name].append(value)
+    return data, 0.02
+
+
+def napkin(source, size):
+    """Two hidden causes, of W and X and of W and Y; the truth is 0.3."""
+    data = {"W": [], "Z": [], "X": [], "Y": []}
+    for _ in range(size):
+        one, two = chance(source, 0.5), chance(source, 0.5)
+        w = chance(source, 0.2 + 0.3 * one + 0.3 * two)
+        z = chance(source, 0.2 + 0.6 * w)
+        x = chance(source, 0.2 + 0.4 * z + 0.3 * one)
+        for name, value in zip("WZXY", (w, z, x, chance(source, 0.1 + 0.3 * x + 0.4 * two))):
+            data[name].append(value)
+    return data, 0.3
+
+
+def over_time(source, size):
+    """Two treatments, of which the first acts on what the second is given by; the truth of both against none is -0.15 - 0.2 * 0.3."""
+    data = {"L0": [], "A0": [], "L1": [], "A1": [], "Y": []}
+    for _ in range(size):
+        before = chance(source, 0.5)
+        first = chance(source, 0.3 + 0.4 * before)
+        between = chance(source, 0.3 + 0.3 * before - 0.2 * first)
+        second = chance(source, 0.2 + 0.5 * between)
+        y = chance(source, 0.4 - 0.1 * first - 0.05 * second + 0.3 * between)
+        for name, value in zip(data, (before, first, between, second, y)):
+            data[name].append(value)
+    return data, -0.21
+
+
+def both_arms(data):
+    """The interval of both treatments against none."""
+    arms = {"treated": (1, 1), "control": (0, 0), "outcome": 1}
+    return OVER_TIME.contrast(data, ["A0", "A1"], "Y", **arms, resamples=400).interval.difference
 
 
 def front_door(source, size):
@@ -186,6 +243,11 @@ SCENARIOS = {
     "confounder-500": (confounder, 500, lambda data: counted(CONFOUNDED, data)),
     "confounder-500-bca": (confounder, 500, lambda data: counted(CONFOUNDED, data, interval="bca")),
     "front-door-400": (front_door, 400, lambda data: counted(FRONT_DOOR, data)),
+    "napkin-1000": (napkin, 1000, lambda data: counted(NAPKIN, data)),
+    "over-time-800": (over_time, 800, both_arms),
+    "in-a-group-500": (in_a_group, 500, lambda data: counted(CONFOUNDED, data, given={"Z": 1})),
+    "rare-500": (rare, 500, lambda data: counted(CONFOUNDED, data)),
+    "rare-500-bca": (rare, 500, lambda data: counted(CONFOUNDED, data, interval="bca")),
     "logistic-300": (smooth, 300, lambda data: modelled(TWO, data)),
     "logistic-1000": (smooth, 1000, lambda data: modelled(TWO, data)),
     "ipw-1000": (smooth, 1000, lambda data: modelled(TWO, data, method="ipw")),
