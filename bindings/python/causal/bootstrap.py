@@ -36,6 +36,9 @@ class MeanInterval(Printed):
     given: Dict[str, Level] = field(default_factory=dict)
     note: str = ""
 
+    def __hash__(self) -> int:
+        return hash((self.value, self.interval))
+
     def __str__(self) -> str:
         at = "".join(f"{name}={level_text(level)}, " for name, level in (*self.x.items(), *self.given.items()))
         return beside(f"{at}mean {told(self.value, self.interval)}", self.note)

@@ -54,6 +54,9 @@ class EffectBound(Printed):
     exact: bool = False
     interval: Optional[Interval] = None
 
+    def __hash__(self) -> int:
+        return hash((self.at_least, self.at_most))
+
     @property
     def cell(self) -> str:
         """The probability, as it is printed."""

@@ -151,6 +151,9 @@ class Contrast(Framed):
     notes: Tuple[str, ...] = ()
     interval: Optional[ContrastInterval] = field(default=None, repr=False, compare=False)
 
+    def __hash__(self) -> int:
+        return hash((self.treated, self.control))
+
     @property
     def difference(self) -> Value:
         """The risk difference: treated less control."""

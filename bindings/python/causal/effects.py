@@ -161,6 +161,9 @@ class Mean(Printed):
     value: Value
     given: Dict[str, Level] = field(default_factory=dict)
 
+    def __hash__(self) -> int:
+        return hash(self.value)
+
     def __str__(self) -> str:
         under = {**self.x, **self.given}
         return f"mean at {levels_text(under)} {self.value}" if under else f"mean {self.value}"
@@ -174,6 +177,9 @@ class Effect(Printed):
     x: Dict[str, Level]
     value: Value
     given: Dict[str, Level] = field(default_factory=dict)
+
+    def __hash__(self) -> int:
+        return hash(self.value)
 
     @property
     def cell(self) -> str:

@@ -91,6 +91,9 @@ class Estimates(Framed):
     # The levels of the exposures that were observed, where the effect is that among the treated.
     observed: Dict[str, Level] = field(default_factory=dict)
 
+    def __hash__(self) -> int:
+        return hash((self.method, self.rows))
+
     @property
     def treated(self) -> Estimate:
         """The risk, or the mean, under the treated level."""

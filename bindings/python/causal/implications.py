@@ -57,6 +57,9 @@ class Implication(Printed):
     given: Tuple[str, ...]
     difference: Optional[Difference] = None
 
+    def __hash__(self) -> int:
+        return hash((self.a, self.b, self.given))
+
     def __str__(self) -> str:
         pair = f"{printed_name(self.a)} from {printed_name(self.b)} given {printed_set(self.given)}"
         return pair if self.difference is None else f"{pair}\n{self.difference}"

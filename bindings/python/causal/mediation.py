@@ -91,6 +91,9 @@ class Mediation(Framed):
     records: int = 0
     interval_kind: str = "percentile"
 
+    def __hash__(self) -> int:
+        return hash(self.rows)
+
     def number(self, measure: str) -> MediatedNumber:
         """One of the numbers, by its name."""
         return self.rows[MEASURES.index(measure)]

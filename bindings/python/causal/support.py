@@ -35,6 +35,9 @@ class SupportTable(Framed):
     records: Tuple[Tuple[int, ...], ...]
     dropped: int = 0
 
+    def __hash__(self) -> int:
+        return hash((self.members, self.records))
+
     @property
     def lacking(self) -> Tuple[Dict[str, Level], ...]:
         """The strata that lack an arm."""

@@ -334,6 +334,17 @@ class Records(unittest.TestCase):
         data, edge = {"X": [0, 1] * 10, "Y": [0, 0, 1, 1] * 5}, Diagram("dag { X -> Y }")
         for ask in (lambda: edge.effects(data, "X", "Y"), lambda: edge.bootstrap(data, "X", "Y", resamples=5)):
             self.assertEqual(len({ask(), ask()}), 1)
+        arms = {"treated": 1, "control": 0, "outcome": 1}
+        for resamples in (0, 5):
+            contrasts = [edge.contrast(data, "X", "Y", **arms, resamples=resamples) for _ in range(2)]
+            self.assertEqual(len({*contrasts}), 1)
+        bounds, drawn = edge.bounds(data, "X", "Y"), edge.bootstrap(data, "X", "Y", resamples=5)
+        held = [edge.effects(data, "X", "Y")[0], drawn.contrast(1, 1, 0), *drawn.effect_means(), edge.support(data, "X", "Y"), bounds[0]]
+        held += [bounds.difference(1, 1, 0), edge.compare(data, "X", "Y", **arms, resamples=0), *Diagram("dag { X Y }").implications(data)]
+        self.assertEqual(len({*held}), len(held))
+        # what is equal has one hash, also where levels are of another type, or in another order
+        one, other = (causal.effects.Effect({"Y": y}, x, drawn.effects[0].value) for y, x in ((1, {"A": 0, "B": 1}), (True, {"B": 1, "A": 0})))
+        self.assertEqual(len({one, other}), 1)
 
     def test_too_many_cells_are_counted(self):
         source = random.Random(2)
