@@ -10,7 +10,7 @@ static const char usage[] =
     "    identify FILE [--x L] [--y L] [--given L] [--certificate] [--latex] [--short] [--json]\n"
     "    check FILE CERTIFICATE [--experiments E] [--json]\n"
     "    adjust FILE [--x L] [--y L] [--set L [--back-door] | --most N] [--json]\n"
-    "    evaluate FILE COUNTS [--x L] [--y L] [--given L | --set L [--back-door]] [--count NAME] [--exact] [--zero] [--matched] [--short] [--json]\n"
+    "    evaluate FILE COUNTS [--x L] [--y L] [--given L | --set L [--back-door]] [--count NAME] [--exact] [--zero] [--matched] [--short] [--treated | --natural --through L] [--json]\n"
     "    equivalent FILE FILE2 [--x L] [--y L] [--given L] [--json]\n"
     "    survey N [--json]\n"
     "    implications FILE [COUNTS] [--count NAME] [--json]\n"

@@ -351,7 +351,8 @@ def asks_through_mediators(s):
     s.write("dag { X [exposure] Y [outcome] X -> L -> M -> Y L -> Y X -> Y }")
     s.soon("a recanting witness", lambda: "Not identifiable" in s.panel() and "L is a recanting witness" in s.panel(), s.panel)
     s.check("is marked", s.marked("witness") == ["L"] and len(s.all("#drawing .over path.open")) == 1, s.marked("witness"))
-    s.check("and printed", s.printed() == "P(Y[X,M[X']]) is not identifiable\nL reads X and X'\nP(Y|do(X)) is identifiable", s.printed())
+    s.check("and printed", s.printed() == "P(Y[X,M[X']]) is not identifiable\nL reads X and X'\nP(Y|do(X)) is identifiable\nanother effect, the "
+            "interventional one: sum{M} P(M|do(X')) * P(Y|do(X,M)) = sum{M} (sum{L} P(L|X') * P(M|L)) * (sum{L} P(L|X) * P(Y|X,L,M))", s.printed())
     s.check("that says no", "no" in s.one("#tab-effect .dot").get_attribute("class").split())
     s.write("dag { X [exposure] Y [outcome] U [latent] X -> M -> Y X -> Y U -> M U -> Y }")
     s.soon("a district that reads both values", lambda: "Common hidden causes join Y and M" in s.panel(), s.panel)

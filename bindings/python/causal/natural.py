@@ -49,8 +49,11 @@ class District:
     @property
     def lines(self) -> List[str]:
         """Its formula and definitions, where it has some."""
-        if not self.definitions:
-            return []
+        return self.whole if self.definitions else []
+
+    @property
+    def whole(self) -> List[str]:
+        """Its formula, its definitions, and what it reads beside the vertices of its effect."""
         return [f"{self.effect} = {self.expression}", *(f"q{k} = {it}" for k, it in enumerate(self.definitions)), *self.free_line]
 
     @property
@@ -138,12 +141,32 @@ class NaturalFormula(Shown):
 
 
 @dataclass(frozen=True)
+class Interventional(Shown):
+    """Another effect than a natural one: the mediators are drawn as they are distributed under the second value of x.
+
+    It is the product of two ordinary effects, summed over the mediators: of x, at its second value, on the mediators, and of x and the
+    mediators on y. It is proved that the formula of each equals its effect in every positive finite model that fits the diagram's observed
+    graph, and so does the whole.
+    """
+
+    effect: str
+    expression: str
+    mediators: District
+    outcome: District
+
+    def __str__(self) -> str:
+        factors = [it for it in (self.mediators, self.outcome) if it.definitions or it.free]
+        lines = [line for factor in factors for line in factor.whole]
+        return "\n".join([f"another effect, the interventional one: {self.effect} = {self.expression}", *lines])
+
+
+@dataclass(frozen=True)
 class NoNaturalFormula(Shown):
     """Why there is no formula for a natural effect; it counts as false.
 
     Where `hedge` is there, its two models show that the joint effect has no formula, nor has this one. Else the joint effect has one, and
     both values of `treatment` are read: by `witness`, a child of it that leads to y both through a mediator and past all of them, or by the
-    vertices of `district`. It is proved that two models differ there too.
+    vertices of `district`. It is proved that two models differ there too. Then `interventional` is another effect, where it has a formula.
     """
 
     sets: NaturalSets
@@ -152,6 +175,7 @@ class NoNaturalFormula(Shown):
     treatment: Optional[str] = None
     witness: Optional[str] = None
     district: Tuple[str, ...] = ()
+    interventional: Optional[Interventional] = None
 
     identifiable = False
 
@@ -165,7 +189,7 @@ class NoNaturalFormula(Shown):
         both = [printed_name(name) for name in (self.treatment, second.get(self.treatment or "")) if name is not None]
         reader = printed_name(self.witness) if self.witness is not None else f"district {printed_set(self.district)}"
         lines = [f"{self.sets.effect} is not identifiable", f"{reader} reads {' and '.join(both)}", f"{self.joint} is identifiable"]
-        return "\n".join([*lines, *self.sets.nil])
+        return "\n".join([*lines, *([] if self.interventional is None else [str(self.interventional)]), *self.sets.nil])
 
 
 Natural = Union[NaturalFormula, NoNaturalFormula]
@@ -191,10 +215,22 @@ def read_natural(told: Told) -> Natural:
     term = Term(tuple(joint["y"]), tuple(joint["x"]))
     if told["answer"] == "hedge":
         return NoNaturalFormula(sets, term, Hedge(**reading.hedge_parts({**told, "given": []}, None)))
-    return NoNaturalFormula(sets, term, None, told["treatment"], told.get("witness"), tuple(told.get("district", ())))
+    read = told["treatment"], told.get("witness"), tuple(told.get("district", ()))
+    return NoNaturalFormula(sets, term, None, *read, _interventional(sets, told.get("interventional")))
+
+
+def _interventional(sets: NaturalSets, told: Optional[Told]) -> Optional[Interventional]:
+    if told is None:
+        return None
+    mediators, outcome = _factor(sets.through, told["mediators"]), _factor(sets.y, told["outcome"])
+    return Interventional(told["effect"], told["formula"], mediators, outcome)
 
 
 def _district(told: Told) -> District:
+    return _factor(tuple(told["district"]), told)
+
+
+def _factor(members: Tuple[str, ...], told: Told) -> District:
     lists = {name: tuple(told[name]) for name in ("definitions", "free")}
     trees = (*told["definition_trees"], told["tree"])
-    return District(tuple(told["district"]), tuple(told["reads"]), told["effect"], told["formula"], trees=trees, latex=told["latex"], **lists)
+    return District(members, tuple(told["reads"]), told["effect"], told["formula"], trees=trees, latex=told["latex"], **lists)

@@ -29,7 +29,7 @@ Answers questions about causal diagrams with hidden confounders, by a proved pro
     identify FILE [--x L] [--y L] [--given L] [--certificate] [--latex] [--short] [--json]
     check FILE CERTIFICATE [--experiments E] [--json]
     adjust FILE [--x L] [--y L] [--set L [--back-door] | --most N] [--json]
-    evaluate FILE COUNTS [--x L] [--y L] [--given L | --set L [--back-door]] [--count NAME] [--exact] [--zero] [--matched] [--short] [--json]
+    evaluate FILE COUNTS [--x L] [--y L] [--given L | --set L [--back-door]] [--count NAME] [--exact] [--zero] [--matched] [--short] [--treated | --natural --through L] [--json]
     equivalent FILE FILE2 [--x L] [--y L] [--given L] [--json]
     survey N [--json]
     implications FILE [COUNTS] [--count NAME] [--json]

@@ -2,7 +2,7 @@
 import json
 import unittest
 
-from worked import cases_in_text
+from worked import cases_in_text, is_of_another_world
 
 import causal
 from causal import Diagram, effects, errors, faults, formula, reading
@@ -91,7 +91,7 @@ class PrintedAgain(unittest.TestCase):
 
     def test_effects(self):
         for case in cases_in_text():
-            if case.status == 0 and case.words[0] == "evaluate":
+            if case.status == 0 and case.words[0] == "evaluate" and not is_of_another_world(case):
                 with self.subTest(case.name):
                     told = asked(case.words, case.inputs)
                     sets = (tuple(told[key]) for key in ("y", "x", "given"))

@@ -5,7 +5,7 @@ import tempfile
 import threading
 import unittest
 
-from worked import all_cases, cases_in_text
+from worked import all_cases, cases_in_text, is_of_another_world
 
 import causal
 from causal.bounds import BoundsQuestion
@@ -174,6 +174,8 @@ class Questions(unittest.TestCase):
         with tempfile.TemporaryDirectory() as folder:
             for case in cases_in_text():
                 if case.words[:1] == ["survey"] or "--matched" in case.words or case.status in (2, 6) or self.is_refused_before(case):
+                    continue
+                if is_of_another_world(case):
                     continue
                 number += 1
                 with self.subTest(case.name):

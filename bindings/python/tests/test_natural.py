@@ -123,9 +123,26 @@ class Answers(unittest.TestCase):
         self.assertFalse(first)
         self.assertEqual(str(first), "P(Y[X,M[X']]) is not identifiable\nL reads X and X'\nP(Y|do(X)) is identifiable")
         self.assertEqual(str(second).splitlines()[1], "district {M,Y} reads X and X'")
+        self.assertIsNone(first.interventional)
         with answering((1, witness, "")), self.assertRaisesRegex(causal.NotIdentifiable, "is not identifiable") as refused:
             diagram.mediate(drawn(20), "X", "Y", through="M", treated=1, control=0, outcome=1)
         self.assertEqual(refused.exception.place.witness, "L")
+
+    def test_interventional(self):
+        tree = {"term": ["M"], "do": [], "given": ["X'"]}
+        plain = {"definitions": [], "free": [], "latex": "", "tree": tree, "definition_trees": []}
+        mediators = {**plain, "reads": ["X'"], "effect": "P(M|do(X'))", "formula": "sum{L} P(L|X') * P(M|A,L)", "free": ["A"]}
+        outcome = {**plain, "reads": ["X"], "effect": "P(Y|do(X,M))", "formula": "P(Y|X,M)"}
+        effect, formula = "sum{M} P(M|do(X')) * P(Y|do(X,M))", "sum{M} (sum{L} P(L|X') * P(M|A,L)) * P(Y|X,M)"
+        other = {"effect": effect, "formula": formula, "mediators": mediators, "outcome": outcome}
+        witness = {"answer": "witness", **SETS, "joint": {"y": ["Y"], "x": ["X"]}, "treatment": "X", "witness": "L", "interventional": other}
+        with answering((1, witness, "")):
+            found = Diagram("dag { X -> L -> M -> Y X -> Y L -> Y }").natural("X", "Y", through="M")
+        self.assertEqual(found.interventional.mediators.free, ("A",))
+        self.assertEqual(
+            str(found).splitlines()[3:],
+            [f"another effect, the interventional one: {effect} = {formula}", "P(M|do(X')) = sum{L} P(L|X') * P(M|A,L)", "free {A}"],
+        )
 
 
 class Values(unittest.TestCase):

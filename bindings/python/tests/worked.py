@@ -70,3 +70,9 @@ def all_cases(objects: bool = False) -> List[Case]:
 def cases_in_text() -> List[Case]:
     """The cases that ask for a text, of a library that isn't made to fail. The package asks for objects, and shows the texts."""
     return [case for case in all_cases() if "--json" not in case.words and not case.fails]
+
+
+def is_of_another_world(case: Case) -> bool:
+    """Whether values over counts are asked for among the treated, or of a natural effect: `causal.run` asks these, and no call of the
+    package."""
+    return case.words[:1] == ["evaluate"] and bool({"--treated", "--natural"} & {*case.words})

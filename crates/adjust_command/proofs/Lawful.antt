@@ -15,9 +15,10 @@ use Rattle.replies.proofs.OneOutcome.{one_on_diagram}
 use Rattle.adjust_command.specs.Queries.{query_for, adjust_lists}
 use Rattle.replies.specs.Vocabulary.{IsAnswered}
 use Rattle.replies.proofs.Commands.{IsLawful, lawful_on_file}
+use Rattle.told.proofs.OneSubject.{one_subject}
 use Rattle.told.specs.Vocabulary.{plain_form, target_refusal, Tells}
 use Rattle.told.proofs.ToldOnce.{told_answered}
-use Rattle.adjust_command.specs.Requests.{Request, IsRequest}
+use Rattle.adjust_command.specs.Requests.{Request, IsRequest, adjust_row}
 use Rattle.adjust_command.specs.Command.{adjust_command}
 use Rattle.adjust_command.specs.Right.{IsForNames, IsAdjustAnswer}
 use Rattle.adjust_command.specs.Telling.{adjust_telling}
@@ -36,10 +37,10 @@ one_adjusting uses q r a b =
 
 -- the uses ask for one request
 one_request : (uses : List Use) (q r : Request) → IsRequest uses q → IsRequest uses r → r ≡ q
-one_request uses q r a b = λ i. record {
-  file = same_Some r.file q.file (sym b.file ∙ a.file) i;
-  x = one_listed (value_of uses (codes "x")) q.x r.x a.x b.x i;
-  y = one_listed (value_of uses (codes "y")) q.y r.y a.y b.y i;
+one_request uses q r a b = let s = one_subject adjust_row uses q.file r.file q.x q.y r.x r.y a.subject b.subject in λ i. record {
+  file = s.0 i;
+  x = s.1 i;
+  y = s.2 i;
   query = one_adjusting uses q r a b i;
   format = (b.format ∙ sym a.format) i;
 }

@@ -43,8 +43,10 @@ impl Object {
         Ok(object)
     }
 
-    /// Where it gets memory.
-    pub fn alloc(&self) -> Global {
+    /// Where it gets memory: the one handle that there is.
+    pub fn alloc(&self) -> Global
+        ensures { (handle : Global) → result ≡ handle }
+    {
         self.alloc
     }
 

@@ -3,7 +3,6 @@ use Rattle.std.proofs.Common.{◌≡◌, ℕ, List, Some, Result, Ok, Err, refl,
 use Rattle.std.specs.Prelude.{codes}
 use Rattle.std.proofs.lemmas.Option.{same_Some}
 use Rattle.command_words.specs.Vocabulary.{Use, value_of}
-use Rattle.command_words.proofs.OneValue.{one_listed}
 use Rattle.mixed_graph.specs.Vocabulary.{MixedGraph, graph_of}
 use Rattle.targets.specs.declared.fault.TargetFault.{TargetFault}
 use Rattle.diagram.specs.declared.diagram.Diagram.{Diagram}
@@ -13,6 +12,7 @@ use Rattle.replies.specs.Vocabulary.{IsAnswerOn, IsAnswered, IsLeft}
 use Rattle.replies.specs.OneOutcome.{OneOutcome}
 use Rattle.replies.proofs.Commands.{IsLawful, lawful_on_two_inputs}
 use Rattle.replies.proofs.OneOutcome.{one_on_diagram}
+use Rattle.told.proofs.OneSubject.{one_subject}
 use Rattle.told.specs.Vocabulary.{plain_form, target_refusal, Tells, outcome_in}
 use Rattle.told.proofs.ToldOnce.{told_answered}
 use Rattle.bound_values.specs.declared.questions.Question.{Question}
@@ -22,7 +22,7 @@ use Rattle.bounds_command.specs.declared.answer.Answer.{Answer}
 use Rattle.bounds_command.specs.declared.faults.BoundsFault.{BoundsFault}
 use Rattle.bounds_command.specs.declared.faults.BoundsFault.TheVariants.{TooLong, Counts, NoRecords, TooWide, NoMemory}
 use Rattle.bounds_command.specs.declared.first.Unmet.{Unmet}
-use Rattle.bounds_command.specs.Requests.{Request, IsRequest}
+use Rattle.bounds_command.specs.Requests.{Request, IsRequest, bounds_row}
 use Rattle.bounds_command.specs.Ways.{Way, by_instruments, by_adjusting}
 use Rattle.bounds_command.specs.Asking.{AskedLists, of_instruments, of_set, asked_lists, IsAsked}
 use Rattle.bounds_command.specs.BoundsTelling.{bounds_telling, found_outcome}
@@ -51,11 +51,11 @@ lists_in uses q is = record {
 -- the uses ask for one request
 one_request : (uses : List Use) (q r : Request) → IsRequest uses q → IsRequest uses r → r ≡ q
 unfolding lists_in
-one_request uses q r a b = λ i. record {
-  file = same_Some r.file q.file (sym b.file ∙ a.file) i;
+one_request uses q r a b = let s = one_subject bounds_row uses q.file r.file q.x q.y r.x r.y a.subject b.subject in λ i. record {
+  file = s.0 i;
   counts = same_Some r.counts q.counts (sym b.counts ∙ a.counts) i;
-  x = one_listed (value_of uses (codes "x")) q.x r.x a.x b.x i;
-  y = one_listed (value_of uses (codes "y")) q.y r.y a.y b.y i;
+  x = s.1 i;
+  y = s.2 i;
   way = same_Some r.way q.way (sym b.is_way ∙ one_way (value_of uses (codes "set")) (value_of uses (codes "given")) (value_of uses (codes "instrument"))
       (value_of uses (codes "strata")) (lists_in uses q a) (lists_in uses r b) ∙ a.is_way) i;
   count = (sym b.count ∙ a.count) i;

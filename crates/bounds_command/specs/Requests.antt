@@ -1,5 +1,5 @@
 -- What `bounds` is asked for.
-use Rattle.std.specs.Prelude.{ℕ, ◌≡◌, Bool, List, Option, Some, [], ◌∷◌, codes, option_map}
+use Rattle.std.specs.Prelude.{ℕ, ◌≡◌, Bool, List, [], Option, Some, ◌∷◌, codes, option_map}
 use Rattle.command_words.specs.Vocabulary.{Text, Row, Use, word_of, value_of, has_flag, names_in}
 use Rattle.command_words.specs.Values as values
 use Rattle.diagram.specs.Vocabulary.{Names}
@@ -45,11 +45,9 @@ request_of r = record {
 
 -- the uses ask for this
 pub record IsRequest (uses : List Use) (r : Request) : Type 0 where
-  pub file : word_of bounds_row uses (codes "file") ≡ Some r.file
+  pub subject : values.IsSubject bounds_row uses r.file r.x r.y
   pub counts : word_of bounds_row uses (codes "counts") ≡ Some r.counts
   pub inputs : values.AreTwoInputs r.file r.counts
-  pub x : values.IsListed (value_of uses (codes "x")) r.x
-  pub y : values.IsListed (value_of uses (codes "y")) r.y
   pub set : Names
   pub is_set : values.IsListed (value_of uses (codes "set")) set
   pub given : List (List ℕ)

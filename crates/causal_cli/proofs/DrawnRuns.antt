@@ -1,5 +1,6 @@
 -- From the end of a run to the right answers that were told.
-use Rattle.std.proofs.Common.{◌≡◌, ◌∙◌, ℕ, ◌<◌, ◌≤◌, Bool, List, Option, Some, None, Result, Ok, Err, refl, ap, subst, arith}
+use Rattle.std.proofs.Common.{◌≡◌, ◌∙◌, ℕ, ◌<◌, ◌≤◌, Bool, List, Option, Some, None, Result, Ok, Err, refl, sym, ap, subst, arith}
+use Rattle.std.proofs.lemmas.Bool.{false≢true}
 use Rattle.std.proofs.lemmas.Option.{none-some}
 use Rattle.std.specs.Prelude.{IfSome}
 use Rattle.std.specs.Io.KnownBytes.{Appends}
@@ -12,14 +13,13 @@ use Rattle.replies.specs.Vocabulary.{code_of}
 use Rattle.replies.specs.Told.{Told}
 use Rattle.diagram.specs.declared.diagram.Diagram.{Diagram}
 use Rattle.diagram.specs.Vocabulary.{Names}
-use Rattle.told.specs.Vocabulary.{plain_form, target_refusal, Tells, outcome_in}
-use Rattle.identify_command.specs.Vocabulary.{is_certified, told_form, IsIdentifyAnswer, identify_telling}
+use Rattle.told.specs.Vocabulary.{is_certified, plain_form, target_refusal, Tells, outcome_in}
+use Rattle.identify_command.specs.Vocabulary.{told_form, IsIdentifyAnswer, identify_telling}
 use Rattle.identify_command.specs.Requests as identify_requests
 use Rattle.adjust_command.specs.Requests as adjust_requests
 use Rattle.adjust_command.specs.Vocabulary.{IsAdjustAnswer, adjust_telling}
 use Rattle.surrogate_command.specs.Vocabulary.{wants_common, told_form as surrogate_form, IsSurrogateAnswer, surrogate_telling}
 use Rattle.surrogate_command.specs.Requests as surrogate_requests
-use Rattle.treated_command.specs.declared.fault.TreatedFault.{TreatedFault}
 use Rattle.treated_command.specs.Vocabulary.{treated_refusal, IsTreatedAnswer, treated_telling}
 use Rattle.treated_command.specs.Requests as treated_requests
 use Rattle.separation_commands.specs.SeparateRequests as separate_requests
@@ -38,7 +38,6 @@ use Rattle.check_command.specs.Vocabulary.{certificate_refusal, AreExperimentsOn
 use Rattle.check_command.specs.Requests as check_requests
 use Rattle.steps_command.specs.declared.answer.Answer.{Answer as StepsAnswer}
 use Rattle.steps_command.specs.Vocabulary.{IsForFirst as IsStepsFirst, IsForCertificate as IsForSteps, checked_of, steps_telling}
-use Rattle.steps_command.specs.Requests as steps_requests
 use Rattle.check_command.specs.declared.fault.CertificateFault.TheVariants as certificates
 use Rattle.evaluate_command.specs.declared.answer.Answer.{Answer as EvaluateAnswer}
 use Rattle.evaluate_command.specs.declared.faults.ValuesFault.{ValuesFault}
@@ -47,7 +46,7 @@ use Rattle.evaluate_command.specs.Requests as evaluate_requests
 use Rattle.evaluate_command.specs.Right as evaluations_right
 use Rattle.evaluate_command.specs.Ways.{Way}
 use Rattle.evaluate_command.specs.declared.answer.Answer.TheVariants as evaluations
-use Rattle.evaluate_command.specs.declared.faults.ValuesFault.TheVariants as faults
+use Rattle.command_choice.specs.Choice as choice
 use Rattle.bounds_command.specs.declared.faults.BoundsFault.{BoundsFault}
 use Rattle.bounds_command.specs.declared.first.Unmet.{Unmet}
 use Rattle.bounds_command.specs.Vocabulary.{IsAsked, bounds_telling, bounds_refusal, lists_of, unmet_telling}
@@ -65,19 +64,18 @@ use Rattle.causal_cli.specs.declared.commands.Command.TheVariants.{Bounds, Natur
 use Rattle.causal_cli.specs.Drawn.{IsIdentifiedAsDrawn, IsAdjusted, IsSurrogated, IsSeparated, IsRuled, IsImplied, IsImpliedOverCounts, IsImpliedIn}
 use Rattle.causal_cli.specs.Drawn.{Implied, RightAsDrawn, IsTreated, IsChecked, IsStepped, IsEvaluated, IsUnevaluated, IsBounded}
 use Rattle.causal_cli.proofs.AsDrawn.{identifies, adjusts, surrogates, treats, separates, rules, implies, implies_over_counts, unevaluated, checks}
+use Rattle.causal_cli.proofs.DrawnAmong.{evaluated_among, unevaluated_among}
+use Rattle.causal_cli.proofs.DrawnNested.{evaluated_nested, unevaluated_nested}
 use Rattle.causal_cli.proofs.DrawnBounds.{bounds_drawn}
 use Rattle.causal_cli.proofs.DrawnCounts.{evaluates}
 use Rattle.causal_cli.proofs.NaturalDrawn.{natural}
+use Rattle.causal_cli.proofs.Refused.{treated_refused, values_refused}
 use Rattle.causal_cli.proofs.CallAnswers.{CallAnswer, on_words, on_file, on_both, on_held, Gave, under_name, under_names, written_for}
 use Rattle.causal_cli.proofs.ToldAnswers.{answered, answered_on_both}
 
 -- names that are refused have status 3
 target_refused : (e : TargetFault) → 1 < code_of (target_refusal.outcome e)
 target_refused e = omega arith
-
--- and so have those of an effect among the treated
-treated_refused : (e : TreatedFault) → 1 < code_of (treated_refusal.outcome e)
-treated_refused e = omega arith
 
 -- and so have counts that are, another
 counts_refused : (e : CountsFault) → 1 < code_of (counts_refusal.outcome e)
@@ -187,13 +185,6 @@ certificate_refused certificates.TooLong = omega arith
 certificate_refused (certificates.Faulty fault) = omega arith
 certificate_refused certificates.NoMemory = omega arith
 
--- and so have evaluations
-values_refused : (e : ValuesFault) → 1 < code_of (values_refusal.outcome e)
-values_refused faults.TooLong = omega arith
-values_refused (faults.Counts fault) = omega arith
-values_refused (faults.NoValue names t fault) = omega arith
-values_refused faults.NoMemory = omega arith
-
 -- the diagram alone has no answer of `check`
 not_first : (d : Diagram) (experiments : Experiments) (code : ℕ) (o : Outcome) (r : Result CheckAnswer TargetFault) → IsForFirst d experiments r
     → code ≡ code_of o → code ≤ 1 → o ≡ outcome_in check_telling target_refusal r → ⊥
@@ -236,7 +227,7 @@ module _ (r : Call) (uses : List Use) (code : ℕ) (o : Outcome) (text : Told) (
   }
 
   pub stepped : CallAnswer r Steps uses o text
-      → WrittenForBoth steps_requests.IsRequest (λ q. q.file) (λ q. q.certificate) (λ q bytes other. IsStepped q bytes other code) r uses
+      → WrittenForBoth check_requests.IsRequest (λ q. q.file) (λ q. q.certificate) (λ q bytes other. IsStepped q bytes other code) r uses
   stepped (on_words q is h) = absurd h
   stepped (on_file q is file names h) = record {
     request = q;
@@ -275,29 +266,35 @@ module _ (r : Call) (uses : List Use) (code : ℕ) (text : Told) (status : code 
   no_values_alone way d x y (Ok (evaluations.NotAdmissible s fault)) right e = let c : 0 ≡ 1 = ap code_of e in omega (arith, c)
   no_values_alone way d x y (Err fault) right e = let c : 0 ≡ 3 = ap code_of e in omega (arith, c)
 
-  pub evaluated : CallAnswer r Evaluate uses Yes text
+  pub evaluated : evaluate_requests.AskPlainly uses → CallAnswer r Evaluate uses Yes text
       → WrittenForBoth evaluate_requests.IsRequest (λ q. q.file) (λ q. q.counts) (λ q bytes other. IsEvaluated q bytes other code) r uses
-  evaluated (on_words q is h) = absurd h
-  evaluated (on_file q is file names h) = record {
+  evaluated plain (on_words (choice.first q) is h) = absurd h
+  evaluated plain (on_words (choice.second (choice.first q)) is h) = absurd h
+  evaluated plain (on_words (choice.second (choice.second q)) is h) = absurd h
+  evaluated plain (on_file (choice.second (choice.first q)) is file names h) = absurd (false≢true (sym plain.treated ∙ is.treated))
+  evaluated plain (on_file (choice.second (choice.second q)) is file names h) = absurd (false≢true (sym plain.natural ∙ is.natural))
+  evaluated plain (on_both (choice.second (choice.first q)) is file second names names_second other all h) = absurd (false≢true (sym plain.treated ∙ is.treated))
+  evaluated plain (on_both (choice.second (choice.second q)) is file second names names_second other all h) = absurd (false≢true (sym plain.natural ∙ is.natural))
+  evaluated plain (on_file (choice.first q) is file names h) = record {
     request = q;
     told = text;
     asks = is;
-    right = under_name r.held q.file file (λ bytes. HoldsAnswer commands (of Evaluate q) bytes Yes text)
+    right = under_name r.held q.file file (λ bytes. HoldsAnswer commands (of Evaluate (choice.first q)) bytes Yes text)
         (λ bytes. IfSome (r.held_second q.counts) (λ other. IsEvaluated q bytes other code text))
         (λ bytes b. absurd (no_values_alone q.way b.diagram q.x q.y b.answer.answer b.answer.right b.answer.ends)) names h;
     whole = whole;
   }
-  evaluated (on_both q is file second names names_second other all h) = record {
+  evaluated plain (on_both (choice.first q) is file second names names_second other all h) = record {
     request = q;
     told = text;
     asks = is;
-    right = under_names r.held r.held_second q.file file q.counts second (λ bytes other. DefinedWith commands (of Evaluate q) bytes other Yes text)
+    right = under_names r.held r.held_second q.file file q.counts second (λ bytes other. DefinedWith commands (of Evaluate (choice.first q)) bytes other Yes text)
         (λ bytes other. IsEvaluated q bytes other code text)
         (λ bytes other d. answered_on_both evaluate_telling values_refusal values_refused (plain_form q.format) bytes code Yes text status
         (omega (arith, status)) other (λ d. Identifies q.way d q.x q.y) (λ d e. evaluations_right.IsForCounts q.exact q.zero q.matched e q.count)
         IsEvaluatedAsDrawn (λ d e a identifies h. evaluates q.way q.x q.y q.exact q.zero q.matched q.count other d e a identifies h) d.0 d.1 d.3.0 d.3.1
         (subst (λ (names : List (List ℕ)). Tells evaluate_telling values_refusal (evaluations_right.IsForCounts q.exact q.zero q.matched d.3.0 q.count other)
-        (plain_form q.format) names Yes text) d.3.1.names d.3.2)) names names_second (on_held r (of Evaluate q) Yes text file second other all h);
+        (plain_form q.format) names Yes text) d.3.1.names d.3.2)) names names_second (on_held r (of Evaluate (choice.first q)) Yes text file second other all h);
     whole = whole;
   }
 
@@ -312,24 +309,30 @@ module _ (r : Call) (uses : List Use) (code : ℕ) (text : Told) (status : code 
   no_over_counts exact zero matched e count other (Err fault) right n = let c : 1 ≡ code_of (values_refusal.outcome fault) = ap code_of n in
       omega (arith, c, values_refused fault)
 
-  pub not_evaluated : CallAnswer r Evaluate uses No text
+  pub not_evaluated : evaluate_requests.AskPlainly uses → CallAnswer r Evaluate uses No text
       → WrittenFor evaluate_requests.IsRequest (λ q. q.file) (λ q bytes. IsUnevaluated q bytes code) r uses
-  not_evaluated (on_words q is h) = absurd h
-  not_evaluated (on_file q is file names h) = record {
+  not_evaluated plain (on_words (choice.first q) is h) = absurd h
+  not_evaluated plain (on_words (choice.second (choice.first q)) is h) = absurd h
+  not_evaluated plain (on_words (choice.second (choice.second q)) is h) = absurd h
+  not_evaluated plain (on_file (choice.second (choice.first q)) is file names h) = absurd (false≢true (sym plain.treated ∙ is.treated))
+  not_evaluated plain (on_file (choice.second (choice.second q)) is file names h) = absurd (false≢true (sym plain.natural ∙ is.natural))
+  not_evaluated plain (on_both (choice.second (choice.first q)) is file second names names_second other all h) = absurd (false≢true (sym plain.treated ∙ is.treated))
+  not_evaluated plain (on_both (choice.second (choice.second q)) is file second names names_second other all h) = absurd (false≢true (sym plain.natural ∙ is.natural))
+  not_evaluated plain (on_file (choice.first q) is file names h) = record {
     request = q;
     told = text;
     asks = is;
-    right = under_name r.held q.file file (λ bytes. HoldsAnswer commands (of Evaluate q) bytes No text)
+    right = under_name r.held q.file file (λ bytes. HoldsAnswer commands (of Evaluate (choice.first q)) bytes No text)
         (λ bytes. IsUnevaluated q bytes code text)
         (λ bytes b. answered evaluate_telling target_refusal target_refused (plain_form q.format) bytes code No text status (omega (arith, status))
         (λ d. IsForDiagram q.way d q.x q.y) (IsUnevaluatedAsDrawn q.way) (unevaluated q.way q.x q.y) b.diagram b.holds b.answer) names h;
     whole = whole;
   }
-  not_evaluated (on_both q is file second names names_second other all h) = record {
+  not_evaluated plain (on_both (choice.first q) is file second names names_second other all h) = record {
     request = q;
     told = text;
     asks = is;
-    right = under_name r.held q.file file (λ bytes. DefinedWith commands (of Evaluate q) bytes other No text) (λ bytes. IsUnevaluated q bytes code text)
+    right = under_name r.held q.file file (λ bytes. DefinedWith commands (of Evaluate (choice.first q)) bytes other No text) (λ bytes. IsUnevaluated q bytes code text)
         (λ bytes d. absurd (no_over_counts q.exact q.zero q.matched d.3.0 q.count other d.3.2.answer d.3.2.right d.3.2.ends)) names h;
     whole = whole;
   }
@@ -390,8 +393,12 @@ right_as_drawn_of r code Yes text c g = let h = g (omega (arith, c)) in record {
   checked = λ uses call small. checked r uses code Yes text c small h.whole (λ w bytes a. a) (h.answers Check uses call);
   stepped = λ uses call small. stepped r uses code Yes text c small h.whole (λ w bytes a. a) (h.answers Steps uses call);
   implied = λ uses call zero. implied r code text c uses h.whole (h.answers Implications uses call);
-  evaluated = λ uses call zero. evaluated r uses code text zero h.whole (h.answers Evaluate uses call);
-  unevaluated = λ uses call one. absurd (omega (arith, c, one));
+  evaluated = λ uses call plain zero. evaluated r uses code text zero h.whole plain (h.answers Evaluate uses call);
+  unevaluated = λ uses call plain one. absurd (omega (arith, c, one));
+  evaluated_among = λ uses call is zero. evaluated_among r uses code text is zero h.whole (h.answers Evaluate uses call);
+  evaluated_nested = λ uses call is zero. evaluated_nested r uses code text is zero h.whole (h.answers Evaluate uses call);
+  unevaluated_among = λ uses call is one. absurd (omega (arith, c, one));
+  unevaluated_nested = λ uses call is one. absurd (omega (arith, c, one));
   bounded = λ uses call zero. bounded r uses code text zero h.whole (h.answers Bounds uses call);
 }
 right_as_drawn_of r code No text c g = let h = g (omega (arith, c)) in record {
@@ -405,8 +412,12 @@ right_as_drawn_of r code No text c g = let h = g (omega (arith, c)) in record {
   checked = λ uses call small. checked r uses code No text c small h.whole (λ w bytes a. a) (h.answers Check uses call);
   stepped = λ uses call small. stepped r uses code No text c small h.whole (λ w bytes a. a) (h.answers Steps uses call);
   implied = λ uses call zero. absurd (omega (arith, c, zero));
-  evaluated = λ uses call zero. absurd (omega (arith, c, zero));
-  unevaluated = λ uses call one. not_evaluated r uses code text one h.whole (h.answers Evaluate uses call);
+  evaluated = λ uses call plain zero. absurd (omega (arith, c, zero));
+  unevaluated = λ uses call plain one. not_evaluated r uses code text one h.whole plain (h.answers Evaluate uses call);
+  evaluated_among = λ uses call is zero. absurd (omega (arith, c, zero));
+  evaluated_nested = λ uses call is zero. absurd (omega (arith, c, zero));
+  unevaluated_among = λ uses call is one. unevaluated_among r uses code text is one h.whole (h.answers Evaluate uses call);
+  unevaluated_nested = λ uses call is one. unevaluated_nested r uses code text is one h.whole (h.answers Evaluate uses call);
   bounded = λ uses call zero. absurd (omega (arith, c, zero));
 }
 right_as_drawn_of r code o text c g = record {
@@ -420,7 +431,11 @@ right_as_drawn_of r code o text c g = record {
   implied = λ uses call zero. absurd (omega (arith, c, zero));
   checked = λ uses call small. absurd (omega (arith, c, small));
   stepped = λ uses call small. absurd (omega (arith, c, small));
-  evaluated = λ uses call zero. absurd (omega (arith, c, zero));
-  unevaluated = λ uses call one. absurd (omega (arith, c, one));
+  evaluated = λ uses call plain zero. absurd (omega (arith, c, zero));
+  unevaluated = λ uses call plain one. absurd (omega (arith, c, one));
+  evaluated_among = λ uses call is zero. absurd (omega (arith, c, zero));
+  evaluated_nested = λ uses call is zero. absurd (omega (arith, c, zero));
+  unevaluated_among = λ uses call is one. absurd (omega (arith, c, one));
+  unevaluated_nested = λ uses call is one. absurd (omega (arith, c, one));
   bounded = λ uses call zero. absurd (omega (arith, c, zero));
 }

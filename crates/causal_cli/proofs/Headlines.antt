@@ -1,5 +1,5 @@
 -- From the end of a run to its headline.
-use Rattle.std.proofs.Common.{◌≡◌, ◌⊎◌, ℕ, List, [], ◌∷◌, Option, Some, None, Result, Ok, Err, inl, inr, ◌<◌, ◌≤◌, refl, sym, ap, ◌∙◌, subst, arith}
+use Rattle.std.proofs.Common.{◌≡◌, ◌⊎◌, ℕ, List, [], ◌∷◌, Option, Some, None, Result, Ok, Err, inl, inr, refl, sym, ap, ◌∙◌, subst, arith}
 use Rattle.std.proofs.lemmas.Option.{same_Some, none-some}
 use Rattle.std.specs.Prelude.{Bool, unwrap_or, IfSome}
 use Rattle.std.specs.Option.{option_or}
@@ -23,10 +23,10 @@ use Rattle.diagram.specs.declared.diagram.Diagram.{Diagram}
 use Rattle.diagram.specs.Vocabulary.{IsObservedGraph, observed_names, Names, effect_lists}
 use Rattle.diagram.proofs.OneObserved.{same_observed_names}
 use Rattle.diagram.proofs.ObservedParts.{as_read, part_of}
-use Rattle.told.specs.Vocabulary.{target_refusal, outcome_in}
+use Rattle.told.specs.Vocabulary.{is_certified, target_refusal, outcome_in}
 use Rattle.identify_command.specs.declared.answer.Answer.{Answer}
 use Rattle.identify_command.specs.declared.answer.Answer.TheVariants.{Formula, Hedge, Joint}
-use Rattle.identify_command.specs.Vocabulary.{identify_command, is_certified, told_form, IsRequest, identify_row, IsFaultFor, IsForEffect, IsIdentifyAnswer, asked_of, identify_telling}
+use Rattle.identify_command.specs.Vocabulary.{identify_command, told_form, IsRequest, identify_row, IsFaultFor, IsForEffect, IsIdentifyAnswer, asked_of, identify_telling}
 use Rattle.identify_command.specs.Requests.{Request as Asked}
 use Rattle.identify_command.proofs.Lawful.{identify_lawful}
 use Rattle.command_run.specs.Vocabulary.{Request, of, command_of, Asks, IsRequest as IsRequestOf, Defined, ReadsName, file, second, NothingFailed}
@@ -39,7 +39,7 @@ use Rattle.causal_cli.specs.Commands.{commands, form_of}
 use Rattle.causal_cli.specs.declared.commands.Command.{Command}
 use Rattle.causal_cli.specs.declared.commands.Command.TheVariants.{Identify}
 use Rattle.causal_cli.specs.Drawn.{IsIdentifiedAsDrawn, RightAsDrawn}
-use Rattle.causal_cli.specs.Headline.{IsIdentified, Identified, AsksEffect, Headline}
+use Rattle.causal_cli.specs.Headline.{IsIdentified, AsksEffect, Headline}
 use Rattle.causal_cli.proofs.AsDrawn.{drawn, effect_lost}
 use Rattle.causal_cli.proofs.CallAnswers.{CallAnswer, on_words, on_file, on_both, by_table, is_of, by_them, call_answer}
 
@@ -107,7 +107,7 @@ is_identified q bytes code told h none =
     of_effect q bytes code told h.diagram.read h.holds k.0 k.1 q.form.short certified h.answer k.2.0 h.status k.2.1
 
 identified_written : (r : Call) (code : ℕ) (uses : List Use) → WrittenFor IsRequest (λ q. q.file) (λ q bytes. IsIdentifiedAsDrawn q bytes code) r uses
-    → Identified r code uses
+    → WrittenFor IsRequest (λ q. q.file) (λ q bytes told. unwrap_or q.given [] ≡ [] → IsIdentified q bytes code told) r uses
 identified_written r code uses w = record {
   request = w.request;
   told = w.told;

@@ -2,6 +2,7 @@
 use Rattle.std.specs.Prelude.{◌≡◌, Option, Some, refl, find}
 use Rattle.std.specs.Str.{bytes_eq}
 use Rattle.std.proofs.Common.{sym, ap, ◌∙◌}
+use Rattle.std.proofs.lemmas.Bool.{false≢true}
 use Rattle.std.proofs.lemmas.Option.{same_Some}
 use Rattle.command_words.specs.Vocabulary.{Text}
 use Rattle.replies.proofs.Commands.{IsLawful}
@@ -12,6 +13,13 @@ use Rattle.identify_command.proofs.Lawful.{identify_lawful}
 use Rattle.check_command.proofs.Lawful.{check_lawful}
 use Rattle.adjust_command.proofs.Lawful.{adjust_lawful}
 use Rattle.evaluate_command.proofs.Lawful.{evaluate_lawful}
+use Rattle.evaluate_command.specs.Vocabulary.{evaluate_command}
+use Rattle.evaluate_treated.proofs.Lawful.{evaluate_treated_lawful}
+use Rattle.evaluate_treated.specs.Vocabulary.{evaluate_treated_command}
+use Rattle.evaluate_natural.proofs.Lawful.{evaluate_natural_lawful}
+use Rattle.evaluate_natural.specs.Vocabulary.{evaluate_natural_command}
+use Rattle.command_choice.specs.Choice.{OneOf, first, one_of, second, NoWordsAskBoth}
+use Rattle.command_choice.proofs.OneOfTwo.{one_of_lawful}
 use Rattle.equivalent_command.proofs.Lawful.{equivalent_lawful}
 use Rattle.implications_command.proofs.Lawful.{implications_lawful}
 use Rattle.survey_command.proofs.Lawful.{survey_lawful}
@@ -38,6 +46,11 @@ by_its_name c = refl
 apart : AreApart commands
 apart c d e = same_Some c d (sym (by_its_name c) ∙ ap (λ r. named r.name) e ∙ by_its_name d)
 
+-- the words of `evaluate` ask for an effect as it is, or for one of two others
+plain_or_other : NoWordsAskBoth evaluate_command (one_of evaluate_treated_command evaluate_natural_command)
+plain_or_other uses q (first r) a b = false≢true (sym a.plain.treated ∙ b.treated)
+plain_or_other uses q (second r) a b = false≢true (sym a.plain.natural ∙ b.natural)
+
 each : (c : Command) → IsLawful (form_of c)
 each command.Graph = graph_lawful
 each command.Separate = separate_lawful
@@ -45,7 +58,10 @@ each command.Rule = rule_lawful
 each command.Identify = identify_lawful
 each command.Check = check_lawful
 each command.Adjust = adjust_lawful
-each command.Evaluate = evaluate_lawful
+each command.Evaluate = one_of_lawful evaluate_command (one_of evaluate_treated_command evaluate_natural_command) evaluate_lawful
+    (one_of_lawful evaluate_treated_command evaluate_natural_command evaluate_treated_lawful evaluate_natural_lawful
+    (λ uses q r a b. false≢true (sym b.alone.flags.treated ∙ a.treated)))
+    plain_or_other
 each command.Equivalent = equivalent_lawful
 each command.Implications = implications_lawful
 each command.Survey = survey_lawful

@@ -2,6 +2,10 @@ pub mod Lawful
 pub mod CallAnswers
 mod AsDrawn
 mod DrawnCounts
+mod DrawnAmong
+mod DrawnNested
+mod Refused
+mod LongCounts
 mod DrawnBounds
 mod NaturalDrawn
 mod ToldAnswers

@@ -1,7 +1,8 @@
 -- What right answers of `natural` say of the diagram as drawn, and from the end of a run to those that were told.
-use Rattle.std.proofs.Common.{ℕ, ◌≡◌, ◌<◌, ◌≤◌, List, Ok, refl, sym, subst, arith}
+use Rattle.std.proofs.Common.{ℕ, ◌≡◌, ◌<◌, ◌≤◌, List, Option, Some, None, Ok, refl, sym, subst, arith}
 use Rattle.std.specs.Io.KnownBytes.{Appends}
 use Rattle.mixed_graph.specs.Vocabulary.{has, MixedGraph, union, graph_of}
+use Rattle.prob_expr.specs.Vocabulary.{formula_view}
 use Rattle.command_words.specs.Vocabulary.{Use}
 use Rattle.replies.specs.declared.outcome.Outcome.{Outcome}
 use Rattle.replies.specs.Vocabulary.{code_of}
@@ -15,6 +16,9 @@ use Rattle.natural_drawn.proofs.Differing.{nested_difference_is_drawn}
 use Rattle.natural_drawn.proofs.Formulas.{right_parts_are_drawn}
 use Rattle.natural_drawn.proofs.Lost.{nested_lost_is_drawn}
 use Rattle.natural_drawn.proofs.Nil.{no_indirect_path_is_drawn, no_direct_path_is_drawn}
+use Rattle.interventional_id.specs.declared.answer.Interventional.{Interventional}
+use Rattle.interventional_id.specs.Vocabulary.{IsRight as IsInterventional}
+use Rattle.interventional_id.proofs.Drawing.{interventional_is_drawn}
 use Rattle.natural_command.specs.declared.asking.Question.{Question}
 use Rattle.natural_command.specs.declared.answer.Asked.{Asked}
 use Rattle.natural_command.specs.declared.answer.Answer.{Answer}
@@ -27,7 +31,7 @@ use Rattle.natural_command.proofs.Ways.{target_of}
 use Rattle.command_run.specs.Vocabulary.{HoldsAnswer, Defined, Request, of}
 use Rattle.causal_cli.specs.Calls.{Call, WrittenFor}
 use Rattle.causal_cli.specs.Commands.{commands}
-use Rattle.causal_cli.specs.NaturalDrawn.{AreNilAsDrawn, IsNaturalAsDrawn, IsNatural}
+use Rattle.causal_cli.specs.NaturalDrawn.{AreNilAsDrawn, IsAnotherAsDrawn, IsNaturalAsDrawn, IsNatural}
 use Rattle.causal_cli.specs.declared.commands.Command.TheVariants.{Natural}
 use Rattle.causal_cli.proofs.AsDrawn.{effect_lost}
 use Rattle.causal_cli.proofs.CallAnswers.{CallAnswer, written_for}
@@ -61,6 +65,13 @@ module _ (d : Diagram) (q : Question) (target : IsNaturalTarget (graph_of d.obse
       (sym h.question) (nested_difference_is_drawn g d.read.graph.valid (has d.read.latent.bits) seen observed q.x.bits q.through.bits q.y.bits q.given.bits
       target.x_low lost.models)
 
+  another : (a : Asked) → IsAskedFor seen q a → (other : Option Interventional)
+      → IsInterventional seen q.x.bits q.through.bits q.y.bits q.given.bits other → IsAnotherAsDrawn d a.question other
+  another a h None r = tt
+  another a h (Some i) r = subst (λ (k : Question). IsAnotherAsDrawn d k (Some i)) (sym h.question)
+      (interventional_is_drawn g d.read.graph.valid (has d.read.latent.bits) seen observed q.x.bits q.through.bits q.y.bits q.given.bits
+      (formula_view i.mediators) (formula_view i.outcome) r.mediators.effect r.outcome.effect)
+
   of_question : (a : Answer) → Decides seen q a → IsNaturalAsDrawn d a
   of_question (Formula a f) h = (
     nil a h.0,
@@ -76,11 +87,11 @@ module _ (d : Diagram) (q : Question) (target : IsNaturalTarget (graph_of d.obse
         (nested_lost_is_drawn g d.read.graph.valid (has d.read.latent.bits) seen observed q.x.bits q.through.bits q.y.bits q.given.bits target.asked
         (effect_lost d.read seen observed q.x.bits (union q.y.bits q.given.bits) pair h.1.right.counter)),
   )
-  of_question (Witness a w) h = (nil a h.0, differ a h.0 h.1.lost)
-  of_question (Split a s) h = (nil a h.0, differ a h.0 h.1.lost)
+  of_question (Witness a w other) h = (nil a h.0, differ a h.0 h.1.lost, another a h.0 other h.1.another)
+  of_question (Split a s other) h = (nil a h.0, differ a h.0 h.1.lost, another a h.0 other h.1.another)
 
 -- a right answer of `natural`
-naturals : (x y : Names) (through given : List (List ℕ)) (d : Diagram) (a : Answer) → IsNaturalAnswer d x y through given (Ok a) → IsNaturalAsDrawn d a
+pub naturals : (x y : Names) (through given : List (List ℕ)) (d : Diagram) (a : Answer) → IsNaturalAnswer d x y through given (Ok a) → IsNaturalAsDrawn d a
 naturals x y through given d a h =
     let sets = four_sets (natural_lists d x y through given) h.question h.named d.observed.graph.n d.observed.sized in
     of_question d h.question (target_of (graph_of d.observed.graph) h.question sets h.is.before) a h.is.decided
@@ -88,7 +99,7 @@ naturals x y through given d a h =
 -- ---- a run
 
 -- what is refused has status 3
-natural_refused : (e : NaturalFault) → 1 < code_of (natural_refusal.outcome e)
+pub natural_refused : (e : NaturalFault) → 1 < code_of (natural_refusal.outcome e)
 natural_refused e = omega arith
 
 pub natural : (r : Call) (uses : List Use) (code : ℕ) (o : Outcome) (text : Told) → code ≡ code_of o → code ≤ 1 → Appends r.before r.after text.text

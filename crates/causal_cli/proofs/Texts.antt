@@ -28,7 +28,7 @@ use Rattle.diagram.proofs.OneDiagram.{AreSameDiagrams, same_drawing, same_effect
 use Rattle.replies.proofs.OneGraph.{one_holding}
 use Rattle.replies.proofs.OneTarget.{one_set}
 use Rattle.told.specs.declared.form.Form.{Form}
-use Rattle.told.specs.Vocabulary.{plain_form, target_refusal, Refusal, Tells, outcome_in, told_in}
+use Rattle.told.specs.Vocabulary.{is_certified, plain_form, target_refusal, Refusal, Tells, outcome_in, told_in}
 use Rattle.told.proofs.OneTold.{one_told as told_once}
 use Rattle.told.specs.Telling.{Telling}
 use Rattle.effect_answers.specs.Vocabulary.{joint_text, joint_object}
@@ -44,7 +44,7 @@ use Rattle.separation_commands.specs.declared.rule.answer.Answer.{Answer as Rule
 use Rattle.separation_commands.specs.declared.rule.answer.Answer.TheVariants as ruled
 use Rattle.identify_command.specs.declared.form.Form.{Form as IdentifyForm}
 use Rattle.identify_command.specs.declared.answer.Answer.{Answer as IdentifyAnswer}
-use Rattle.identify_command.specs.Vocabulary.{identify_command, is_certified, told_form, Asked, an_effect, a_target, asked_of, IsForNames, IsFaultFor, IsJointHedge, identify_telling}
+use Rattle.identify_command.specs.Vocabulary.{identify_command, told_form, Asked, an_effect, a_target, asked_of, IsForNames, IsFaultFor, IsJointHedge, identify_telling}
 use Rattle.identify_command.specs.declared.answer.Answer.TheVariants as identified
 use Rattle.identify_command.proofs.Lawful.{same_asked}
 use Rattle.identify_command.proofs.Lists.{one_target}

@@ -30,7 +30,8 @@ use Rattle.adjust_command.specs.Vocabulary.{by_set, by_back_door, listing}
 use Rattle.adjust_command.specs.declared.answer.Answer.TheVariants as adjusted
 use Rattle.surrogate_command.specs.declared.answer.Answer.{Answer as SurrogateAnswer}
 use Rattle.surrogate_command.specs.declared.answer.Answer.TheVariants as surrogated
-use Rattle.treated_drawn.specs.Vocabulary.{EqualsAmongAsDrawn, IsLostAmongAsDrawn, IsUnfixedAmongAsDrawn}
+use Rattle.treated_drawn.specs.Vocabulary.{EqualsAmongAsDrawn, IsLostAmongAsDrawn, IsUnfixedAmongAsDrawn, drawn_with_primes}
+use Rattle.treated_drawn.specs.Drawn.{drawn_among}
 use Rattle.treated_command.specs.declared.answer.Answer.{Answer as TreatedAnswer}
 use Rattle.treated_command.specs.declared.answer.Answer.TheVariants as treated
 use Rattle.separation_commands.specs.declared.separate.answer.Answer.{Answer as SeparateAnswer}
@@ -44,6 +45,13 @@ use Rattle.implications_command.specs.declared.answer.Answer.TheVariants as impl
 use Rattle.evaluate_command.specs.declared.answer.Answer.{Answer as EvaluateAnswer}
 use Rattle.evaluate_command.specs.Vocabulary.{CellValue, plain_in, exact_numbers, bounds_numbers, PlainEffect, target_of, by_procedure, by_adjusting, by_condition}
 use Rattle.evaluate_command.specs.Ways.{Way}
+use Rattle.evaluate_treated.specs.Vocabulary.{PlainAmong}
+use Rattle.evaluate_treated.specs.declared.answer.Answer.{Answer as AmongAnswer}
+use Rattle.natural_drawn.specs.Vocabulary.{drawn_nested_effect}
+use Rattle.hidden_models.specs.Vocabulary.{drawn_weights}
+use Rattle.evaluate_natural.specs.Cells.{second_levels}
+use Rattle.evaluate_natural.specs.Vocabulary.{PlainNested}
+use Rattle.evaluate_natural.specs.declared.answer.Answer.{Answer as NestedAnswer}
 use Rattle.evaluate_command.specs.declared.answer.Values.{Values}
 use Rattle.evaluate_command.specs.declared.answer.Values.TheVariants as values
 use Rattle.evaluate_command.specs.declared.answer.Answer.TheVariants as evaluated
@@ -252,6 +260,47 @@ pub record IsEvaluatedAsDrawn (d : Diagram) (e : PlainEffect) (a : EvaluateAnswe
   pub formula : IsRightAsDrawn d.read (target_of e) e.formula
   pub values : AreCoveredAsDrawn d e a
   pub no_model : IsUnmatchedAsDrawn d e a
+
+-- ---- evaluate, among the treated
+
+-- The quantity covers P(y under do(x) | x and z as observed) at the cell in the diagram as drawn: in every model of the graph that was read that is positive
+-- on the observed vertices and whose observed weights are those of the counts, up to one factor, where the levels of names are values of it.
+abbrev pub CoversAmongAsDrawn : (Pair → Fraction → Type 0) → ReadGraph → PlainAmong → Table → CellValue → Type 0
+CoversAmongAsDrawn covers g e t v = (m : FiniteModel) → Fits (graph_of g.graph) m → IsObservedPositive (has g.latent.bits) m
+    → IsMatchedAsDrawn (has g.latent.bits) (is_used t) (weights_in e.graph.vertices t) (total t.rows) m
+    → IsAssignment (drawn_with_primes (has g.latent.bits) m e.asked.sets.x.bits).vertices (drawn_with_primes (has g.latent.bits) m e.asked.sets.x.bits).size
+    (cell_of v.cell)
+    → covers v.quantity (drawn_among (has g.latent.bits) m e.asked.sets.x.bits e.asked.sets.y.bits e.asked.sets.given.bits (cell_of v.cell))
+
+-- so does each value, in exact fractions or in bounds
+abbrev pub EachCoversAmongAsDrawn : ReadGraph → PlainAmong → Table → Values → Type 0
+EachCoversAmongAsDrawn g e t (values.Exact list) = All (CoversAmongAsDrawn Equals g e t) (plain_in exact_numbers list.items)
+EachCoversAmongAsDrawn g e t (values.Bounds list) = All (CoversAmongAsDrawn Covers g e t) (plain_in bounds_numbers list.items)
+
+-- those of an answer
+abbrev pub AreAmongAsDrawn : Diagram → PlainAmong → AmongAnswer → Type 0
+AreAmongAsDrawn d e a = EachCoversAmongAsDrawn d.read e a.counts a.values
+
+-- ---- evaluate, nested effects
+
+-- The quantity covers P(y[x, m[x']], given z) at the cell in the diagram as drawn: in every model of the graph that was read that is positive on the observed
+-- vertices and whose observed weights are those of the counts, up to one factor, where both the first and the second levels are values of it.
+abbrev pub CoversNestedAsDrawn : (Pair → Fraction → Type 0) → ReadGraph → PlainNested → Table → CellValue → Type 0
+CoversNestedAsDrawn covers g e t v = (m : FiniteModel) → Fits (graph_of g.graph) m → IsObservedPositive (has g.latent.bits) m
+    → IsMatchedAsDrawn (has g.latent.bits) (is_used t) (weights_in e.graph.vertices t) (total t.rows) m
+    → IsAssignment (drawn_weights (has g.latent.bits) m).vertices (drawn_weights (has g.latent.bits) m).size (cell_of v.cell)
+    → IsAssignment (drawn_weights (has g.latent.bits) m).vertices (drawn_weights (has g.latent.bits) m).size (second_levels e v.cell)
+    → covers v.quantity (drawn_nested_effect (has g.latent.bits) m e.asked.question.x.bits e.asked.question.through.bits e.asked.question.y.bits
+    e.asked.question.given.bits (cell_of v.cell) (second_levels e v.cell))
+
+-- so does each value, in exact fractions or in bounds
+abbrev pub EachCoversNestedAsDrawn : ReadGraph → PlainNested → Table → Values → Type 0
+EachCoversNestedAsDrawn g e t (values.Exact list) = All (CoversNestedAsDrawn Equals g e t) (plain_in exact_numbers list.items)
+EachCoversNestedAsDrawn g e t (values.Bounds list) = All (CoversNestedAsDrawn Covers g e t) (plain_in bounds_numbers list.items)
+
+-- those of an answer
+abbrev pub AreNestedAsDrawn : Diagram → PlainNested → NestedAnswer → Type 0
+AreNestedAsDrawn d e a = EachCoversNestedAsDrawn d.read e a.counts a.values
 
 -- ---- check
 

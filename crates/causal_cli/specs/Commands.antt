@@ -16,6 +16,11 @@ use Rattle.adjust_command.specs.Vocabulary.{adjust_command}
 use Rattle.adjust_command.specs.Requests as of_adjust
 use Rattle.evaluate_command.specs.Vocabulary.{evaluate_command, evaluate_left, effect_in}
 use Rattle.evaluate_command.specs.Requests as of_evaluate
+use Rattle.evaluate_treated.specs.Vocabulary.{among_in, evaluate_treated_command, evaluate_treated_left}
+use Rattle.evaluate_treated.specs.Requests as of_evaluate_treated
+use Rattle.evaluate_natural.specs.Vocabulary.{nested_in, evaluate_natural_command, evaluate_natural_left}
+use Rattle.evaluate_natural.specs.Requests as of_evaluate_natural
+use Rattle.command_choice.specs.Choice as choice
 use Rattle.equivalent_command.specs.Vocabulary.{equivalent_command, equivalent_left}
 use Rattle.equivalent_command.specs.Requests as of_equivalent
 use Rattle.implications_command.specs.Vocabulary.{implications_command, implications_left}
@@ -81,7 +86,7 @@ form_of command.Rule = rule_command
 form_of command.Identify = identify_command
 form_of command.Check = check_command
 form_of command.Adjust = adjust_command
-form_of command.Evaluate = evaluate_command
+form_of command.Evaluate = choice.one_of evaluate_command (choice.one_of evaluate_treated_command evaluate_natural_command)
 form_of command.Equivalent = equivalent_command
 form_of command.Survey = survey_command
 form_of command.Implications = implications_command
@@ -106,7 +111,9 @@ request_of (request.Rule q) = of command.Rule (of_rule.request_of q)
 request_of (request.Identify q) = of command.Identify (of_identify.request_of q)
 request_of (request.Check q) = of command.Check (of_check.request_of q)
 request_of (request.Adjust q) = of command.Adjust (of_adjust.request_of q)
-request_of (request.Evaluate q) = of command.Evaluate (of_evaluate.request_of q)
+request_of (request.Evaluate q) = of command.Evaluate (choice.first (of_evaluate.request_of q))
+request_of (request.EvaluateTreated q) = of command.Evaluate (choice.second (choice.first (of_evaluate_treated.request_of q)))
+request_of (request.EvaluateNatural q) = of command.Evaluate (choice.second (choice.second (of_evaluate_natural.request_of q)))
 request_of (request.Equivalent q) = of command.Equivalent (of_equivalent.request_of q)
 request_of (request.Implications q) = of command.Implications (of_implications.request_of q)
 request_of (request.Survey q) = of command.Survey (of_survey.request_of q)
@@ -115,13 +122,17 @@ request_of (request.Bounds q) = of command.Bounds (of_bounds.request_of q)
 request_of (request.Treated q) = of command.Treated (of_treated.request_of q)
 request_of (request.Instruments q) = of command.Instruments (of_instruments.request_of q)
 request_of (request.Natural q) = of command.Natural (of_natural.request_of q)
-request_of (request.Steps q) = of command.Steps (of_steps.request_of q)
+request_of (request.Steps q) = of command.Steps (of_check.request_of q)
 
 -- what is left to answer on a diagram
 abbrev pub left_of : Diagram → SecondInput → Remainder
 left_of d (input.Check experiments certificate format) = check_left format d (masks_of experiments.items) certificate.now
 left_of d (input.Evaluate found counts count exact zero matched format) =
     evaluate_left format (effect_in d.observed found) counts.now (option_map (λ s. s.now) count) exact zero matched
+left_of d (input.EvaluateTreated found counts count exact form) =
+    evaluate_treated_left form (among_in d.observed found) counts.now (option_map (λ s. s.now) count) exact
+left_of d (input.EvaluateNatural found counts count exact form) =
+    evaluate_natural_left form (nested_in d.observed found) counts.now (option_map (λ s. s.now) count) exact
 left_of d (input.Equivalent sets second format) = equivalent_left format d sets second.now
 left_of d (input.Implications pairs counts count format) = implications_left format d pairs.items counts.now (option_map (λ s. s.now) count)
 left_of d (input.Bounds question counts count exact format) = bounds_left format d.observed question counts.now (option_map (λ s. s.now) count) exact

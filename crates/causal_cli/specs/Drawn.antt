@@ -1,11 +1,11 @@
 -- What the answers of the commands say of the diagram as drawn, with its hidden vertices, beside what they say of the observed graph.
-use Rattle.std.specs.Prelude.{ℕ, ◌≡◌, ◌≤◌, List, Option, Some, None, IfSome}
+use Rattle.std.specs.Prelude.{ℕ, ◌≡◌, ◌≤◌, true, List, Option, Some, None, IfSome, codes}
 use Rattle.std.specs.Io.KnownBytes.{Appends}
 use Rattle.mixed_graph.specs.Vocabulary.{graph_of}
-use Rattle.command_words.specs.Vocabulary.{Text, Use}
+use Rattle.command_words.specs.Vocabulary.{Text, Use, has_flag}
 use Rattle.replies.specs.Told.{Told}
-use Rattle.told.specs.Vocabulary.{plain_form}
-use Rattle.identify_command.specs.Vocabulary.{is_certified, told_form, identify_row, IsIdentifyAnswer, identify_telling}
+use Rattle.told.specs.Vocabulary.{is_certified, plain_form}
+use Rattle.identify_command.specs.Vocabulary.{told_form, identify_row, IsIdentifyAnswer, identify_telling}
 use Rattle.identify_command.specs.Requests as identify_requests
 use Rattle.adjust_command.specs.Vocabulary.{adjust_row, IsAdjustAnswer, adjust_telling}
 use Rattle.adjust_command.specs.Requests as adjust_requests
@@ -23,19 +23,29 @@ use Rattle.implications_command.specs.Requests as implications_requests
 use Rattle.check_command.specs.Vocabulary.{check_row, AreExperimentsOn, IsForCertificate, check_telling}
 use Rattle.check_command.specs.Requests as check_requests
 use Rattle.steps_command.specs.Vocabulary.{steps_row, IsForCertificate as IsForSteps, steps_telling}
-use Rattle.steps_command.specs.Requests as steps_requests
 use Rattle.evaluate_command.specs.Vocabulary.{Identifies, IsForDiagram, evaluate_row, evaluate_telling}
 use Rattle.evaluate_command.specs.Requests as evaluate_requests
 use Rattle.evaluate_command.specs.Right as evaluate_right
+use Rattle.evaluate_treated.specs.Effects as among_effects
+use Rattle.evaluate_treated.specs.First as among_first
+use Rattle.evaluate_treated.specs.Requests as among_requests
+use Rattle.evaluate_treated.specs.Right as among_right
+use Rattle.evaluate_treated.specs.Vocabulary.{among_telling}
+use Rattle.evaluate_natural.specs.Effects as nested_effects
+use Rattle.evaluate_natural.specs.First as nested_first
+use Rattle.evaluate_natural.specs.Requests as nested_requests
+use Rattle.evaluate_natural.specs.Right as nested_right
+use Rattle.evaluate_natural.specs.Vocabulary.{nested_telling}
+use Rattle.natural_command.specs.Vocabulary.{natural_telling}
 use Rattle.bounds_command.specs.Vocabulary.{IsAsked, bounds_telling, lists_of, bounds_row}
 use Rattle.bounds_command.specs.Requests as bounds_requests
 use Rattle.bounds_command.specs.Right as bounds_right
 use Rattle.causal_cli.specs.Answered.{IsAnswered, IsAnsweredOnBoth}
 use Rattle.causal_cli.specs.AsDrawn.{IdentifiesAsDrawn, IsAdjustedAsDrawn, IsSurrogateAsDrawn, IsSeparatedAsDrawn, IsRuledAsDrawn, ArePairsAsDrawn}
 use Rattle.causal_cli.specs.AsDrawn.{AreDifferencesAsDrawn}
-use Rattle.causal_cli.specs.AsDrawn.{IsTreatedAsDrawn, IsUnevaluatedAsDrawn, IsEvaluatedAsDrawn, IsCheckedAsDrawn, IsSteppedAsDrawn, IsBoundedAsDrawn}
+use Rattle.causal_cli.specs.AsDrawn.{AreAmongAsDrawn, AreNestedAsDrawn, IsTreatedAsDrawn, IsUnevaluatedAsDrawn, IsEvaluatedAsDrawn, IsCheckedAsDrawn, IsSteppedAsDrawn, IsBoundedAsDrawn}
 use Rattle.causal_cli.specs.Calls.{Call, IsCallOf, WrittenFor, WrittenForBoth}
-use Rattle.causal_cli.specs.NaturalDrawn.{IsNatural}
+use Rattle.causal_cli.specs.NaturalDrawn.{IsNatural, IsNaturalAsDrawn}
 
 -- ---- identify, adjust, surrogate, treated, separate and rule
 
@@ -97,7 +107,7 @@ IsChecked q = IsAnsweredOnBoth check_telling (λ d. AreExperimentsOn d.read.name
     (λ d. IsForCertificate (graph_of d.observed.graph) d.observed.names) IsCheckedAsDrawn (plain_form q.format)
 
 -- the answer to a request of `steps` on a certificate
-abbrev pub IsStepped : steps_requests.Request → (bytes other : List ℕ) (code : ℕ) (told : Told) → Type 0
+abbrev pub IsStepped : check_requests.Request → (bytes other : List ℕ) (code : ℕ) (told : Told) → Type 0
 IsStepped q = IsAnsweredOnBoth steps_telling (λ d. AreExperimentsOn d.read.names d.observed.names q.experiments)
     (λ d. IsForSteps (graph_of d.observed.graph) d.observed.names) IsSteppedAsDrawn (plain_form q.format)
 
@@ -109,6 +119,24 @@ IsEvaluated q = IsAnsweredOnBoth evaluate_telling (λ d. Identifies q.way d q.x 
 -- and before they are read
 abbrev pub IsUnevaluated : evaluate_requests.Request → (bytes : List ℕ) (code : ℕ) (told : Told) → Type 0
 IsUnevaluated q = IsAnswered evaluate_telling (λ d. IsForDiagram q.way d q.x q.y) (IsUnevaluatedAsDrawn q.way) (plain_form q.format)
+
+-- the answer to a request of `evaluate --treated` over counts
+abbrev pub IsEvaluatedAmong : among_requests.Request → (bytes other : List ℕ) (code : ℕ) (told : Told) → Type 0
+IsEvaluatedAmong q = IsAnsweredOnBoth among_telling (λ d. among_effects.Identifies d q.effect) (λ d e. among_right.IsForCounts q.exact e q.count)
+    AreAmongAsDrawn q.effect.form
+
+-- and before they are read
+abbrev pub IsUnevaluatedAmong : among_requests.Request → (bytes : List ℕ) (code : ℕ) (told : Told) → Type 0
+IsUnevaluatedAmong q = IsAnswered treated_telling (λ d. among_first.IsForDiagram d q.effect) IsTreatedAsDrawn q.effect.form
+
+-- the answer to a request of `evaluate --natural` over counts
+abbrev pub IsEvaluatedNested : nested_requests.Request → (bytes other : List ℕ) (code : ℕ) (told : Told) → Type 0
+IsEvaluatedNested q = IsAnsweredOnBoth nested_telling (λ d. nested_effects.Identifies d q.effect) (λ d e. nested_right.IsForCounts q.exact e q.count)
+    AreNestedAsDrawn q.effect.form
+
+-- and before they are read
+abbrev pub IsUnevaluatedNested : nested_requests.Request → (bytes : List ℕ) (code : ℕ) (told : Told) → Type 0
+IsUnevaluatedNested q = IsAnswered natural_telling (λ d. nested_first.IsForDiagram d q.effect) IsNaturalAsDrawn q.effect.form
 
 -- the answer to a request of `bounds` over counts
 abbrev pub IsBounded : bounds_requests.Request → (bytes other : List ℕ) (code : ℕ) (told : Told) → Type 0
@@ -139,10 +167,18 @@ pub record RightAsDrawn (r : Call) (code : ℕ) : Type 0 where
   pub checked : (uses : List Use) → IsCallOf check_row r.words uses → code ≤ 1
       → WrittenForBoth check_requests.IsRequest (λ q. q.file) (λ q. q.certificate) (λ q bytes other. IsChecked q bytes other code) r uses
   pub stepped : (uses : List Use) → IsCallOf steps_row r.words uses → code ≤ 1
-      → WrittenForBoth steps_requests.IsRequest (λ q. q.file) (λ q. q.certificate) (λ q bytes other. IsStepped q bytes other code) r uses
-  pub evaluated : (uses : List Use) → IsCallOf evaluate_row r.words uses → code ≡ 0
+      → WrittenForBoth check_requests.IsRequest (λ q. q.file) (λ q. q.certificate) (λ q bytes other. IsStepped q bytes other code) r uses
+  pub evaluated : (uses : List Use) → IsCallOf evaluate_row r.words uses → evaluate_requests.AskPlainly uses → code ≡ 0
       → WrittenForBoth evaluate_requests.IsRequest (λ q. q.file) (λ q. q.counts) (λ q bytes other. IsEvaluated q bytes other code) r uses
-  pub unevaluated : (uses : List Use) → IsCallOf evaluate_row r.words uses → code ≡ 1
+  pub unevaluated : (uses : List Use) → IsCallOf evaluate_row r.words uses → evaluate_requests.AskPlainly uses → code ≡ 1
       → WrittenFor evaluate_requests.IsRequest (λ q. q.file) (λ q bytes. IsUnevaluated q bytes code) r uses
+  pub evaluated_among : (uses : List Use) → IsCallOf evaluate_row r.words uses → has_flag uses (codes "treated") ≡ true → code ≡ 0
+      → WrittenForBoth among_requests.IsRequest (λ q. q.effect.file) (λ q. q.counts) (λ q bytes other. IsEvaluatedAmong q bytes other code) r uses
+  pub unevaluated_among : (uses : List Use) → IsCallOf evaluate_row r.words uses → has_flag uses (codes "treated") ≡ true → code ≡ 1
+      → WrittenFor among_requests.IsRequest (λ q. q.effect.file) (λ q bytes. IsUnevaluatedAmong q bytes code) r uses
+  pub evaluated_nested : (uses : List Use) → IsCallOf evaluate_row r.words uses → has_flag uses (codes "natural") ≡ true → code ≡ 0
+      → WrittenForBoth nested_requests.IsRequest (λ q. q.effect.file) (λ q. q.counts) (λ q bytes other. IsEvaluatedNested q bytes other code) r uses
+  pub unevaluated_nested : (uses : List Use) → IsCallOf evaluate_row r.words uses → has_flag uses (codes "natural") ≡ true → code ≡ 1
+      → WrittenFor nested_requests.IsRequest (λ q. q.effect.file) (λ q bytes. IsUnevaluatedNested q bytes code) r uses
   pub bounded : (uses : List Use) → IsCallOf bounds_row r.words uses → code ≡ 0
       → WrittenForBoth bounds_requests.IsRequest (λ q. q.file) (λ q. q.counts) (λ q bytes other. IsBounded q bytes other code) r uses

@@ -1,11 +1,13 @@
 -- What an answer of `natural` says of the diagram as drawn, with its hidden vertices: of the models of the graph that was read, whatever the mechanisms
 -- of these.
-use Rattle.std.specs.Prelude.{ℕ, ◌≡◌, false, List}
+use Rattle.std.specs.Prelude.{ℕ, ◌≡◌, false, List, Option}
 use Rattle.mixed_graph.specs.Vocabulary.{has, graph_of}
 use Rattle.replies.specs.Told.{Told}
 use Rattle.diagram.specs.declared.diagram.Diagram.{Diagram}
 use Rattle.natural_id.specs.Vocabulary.{parts_view}
 use Rattle.natural_drawn.specs.Vocabulary.{EqualsNaturalAsDrawn, IsLostNestedAsDrawn, DifferOnNestedAsDrawn, IsIndirectNilAsDrawn, IsDirectNilAsDrawn}
+use Rattle.interventional_id.specs.declared.answer.Interventional.{Interventional}
+use Rattle.interventional_id.specs.Vocabulary.{IsRightAsDrawn as IsInterventionalAsDrawn}
 use Rattle.natural_command.specs.Requests as natural_requests
 use Rattle.natural_command.specs.declared.asking.Question.{Question}
 use Rattle.natural_command.specs.declared.answer.Asked.{Asked}
@@ -21,6 +23,11 @@ pub record AreNilAsDrawn (d : Diagram) (q : Question) (a : Asked) : Type 0 where
   pub direct_nil : a.direct ≡ false
       → IsDirectNilAsDrawn (graph_of d.read.graph) (has d.read.latent.bits) q.x.bits q.through.bits q.y.bits q.given.bits
 
+-- where the interventional effect is told, its two formulas equal the effects of which it is made, and the sum of their product equals it
+abbrev pub IsAnotherAsDrawn : Diagram → Question → Option Interventional → Type 0
+IsAnotherAsDrawn d q other =
+    IsInterventionalAsDrawn (graph_of d.read.graph) (has d.read.latent.bits) q.x.bits q.through.bits q.y.bits q.given.bits other
+
 -- A formula equals the nested effect. Else no formula does, and two models show it: those of the hedge for the joint effect, where it has one.
 abbrev pub IsNaturalAsDrawn : Diagram → Answer → Type 0
 IsNaturalAsDrawn d (Formula a f) = AreNilAsDrawn d a.question a
@@ -29,12 +36,14 @@ IsNaturalAsDrawn d (Formula a f) = AreNilAsDrawn d a.question a
 IsNaturalAsDrawn d (Excluded a h pair) = AreNilAsDrawn d a.question a
     × IsLostNestedAsDrawn (graph_of d.read.graph) (has d.read.latent.bits) d.observed.graph.n a.question.x.bits a.question.through.bits a.question.y.bits
     a.question.given.bits
-IsNaturalAsDrawn d (Witness a w) = AreNilAsDrawn d a.question a
+IsNaturalAsDrawn d (Witness a w other) = AreNilAsDrawn d a.question a
     × DifferOnNestedAsDrawn (graph_of d.read.graph) (has d.read.latent.bits) d.observed.graph.n a.question.x.bits a.question.through.bits a.question.y.bits
     a.question.given.bits
-IsNaturalAsDrawn d (Split a s) = AreNilAsDrawn d a.question a
+    × IsAnotherAsDrawn d a.question other
+IsNaturalAsDrawn d (Split a s other) = AreNilAsDrawn d a.question a
     × DifferOnNestedAsDrawn (graph_of d.read.graph) (has d.read.latent.bits) d.observed.graph.n a.question.x.bits a.question.through.bits a.question.y.bits
     a.question.given.bits
+    × IsAnotherAsDrawn d a.question other
 
 -- the answer to a request of `natural`
 abbrev pub IsNatural : natural_requests.Request → (bytes : List ℕ) (code : ℕ) (told : Told) → Type 0

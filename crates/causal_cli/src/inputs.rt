@@ -88,6 +88,12 @@ fn inputs_of_request<'a>(request: &Request<'a>) -> Inputs<'a>
         Request::Check(asked) => Inputs::two(asked.file, asked.certificate, MOST_BYTES),
         Request::Adjust(asked) => Inputs::file(asked.file),
         Request::Evaluate(asked) => Inputs::two(asked.file, asked.counts, MOST_BYTES),
+        Request::EvaluateTreated(asked) => {
+            Inputs::two(asked.effect.file, asked.counts, MOST_BYTES)
+        }
+        Request::EvaluateNatural(asked) => {
+            Inputs::two(asked.effect.file, asked.counts, MOST_BYTES)
+        }
         Request::Equivalent(asked) => Inputs::two(asked.file, asked.second, MOST_GRAPH_BYTES),
         Request::Implications(asked) => counted(asked),
         Request::Survey(_) => Inputs::none(),

@@ -20,6 +20,8 @@ use command_words::values::Values;
 use diagram::Diagram;
 use equivalent_command::accept_first;
 use evaluate_command::{first_reply, identify_first};
+use evaluate_natural::identify_nested;
+use evaluate_treated::identify_among;
 use identify_command::identify_reply;
 use implications_command::{counted_pairs, pairs_reply};
 use instruments_command::instruments_reply;
@@ -43,6 +45,8 @@ pub enum Request<'a> {
     Check(check_command::Request<'a>),
     Adjust(adjust_command::Request<'a>),
     Evaluate(evaluate_command::Request<'a>),
+    EvaluateTreated(evaluate_treated::Request<'a>),
+    EvaluateNatural(evaluate_natural::Request<'a>),
     Equivalent(equivalent_command::Request<'a>),
     Implications(implications_command::Request<'a>),
     Survey(survey_command::Request),
@@ -51,7 +55,7 @@ pub enum Request<'a> {
     Treated(treated_command::Request<'a>),
     Instruments(instruments_command::Request<'a>),
     Natural(natural_command::Request<'a>),
-    Steps(steps_command::Request<'a>),
+    Steps(check_command::Request<'a>),
 }
 
 impl<'a> command_run::Request<'a> for Request<'a> {
@@ -97,6 +101,8 @@ impl<'a> command_run::Request<'a> for Request<'a> {
             Request::Check(asked) => asked.format,
             Request::Adjust(asked) => asked.format,
             Request::Evaluate(asked) => asked.format,
+            Request::EvaluateTreated(asked) => asked.effect.form.format,
+            Request::EvaluateNatural(asked) => asked.effect.form.format,
             Request::Equivalent(asked) => asked.format,
             Request::Implications(asked) => asked.format,
             Request::Surrogate(asked) => asked.form.format,
@@ -118,6 +124,8 @@ impl<'a> command_run::Request<'a> for Request<'a> {
             Request::Check(asked) => Ok(AfterWords::Reads(asked.file)),
             Request::Adjust(asked) => Ok(AfterWords::Reads(asked.file)),
             Request::Evaluate(asked) => Ok(AfterWords::Reads(asked.file)),
+            Request::EvaluateTreated(asked) => Ok(AfterWords::Reads(asked.effect.file)),
+            Request::EvaluateNatural(asked) => Ok(AfterWords::Reads(asked.effect.file)),
             Request::Equivalent(asked) => Ok(AfterWords::Reads(asked.file)),
             Request::Implications(asked) => Ok(AfterWords::Reads(asked.file)),
             Request::Surrogate(asked) => Ok(AfterWords::Reads(asked.file)),
@@ -160,7 +168,7 @@ fn read_values<'a>(
         Command::Identify => Ok(Request::Identify(identify_command::Request::read(alloc, values)?)),
         Command::Check => Ok(Request::Check(check_command::Request::read(alloc, values)?)),
         Command::Adjust => Ok(Request::Adjust(adjust_command::Request::read(alloc, values)?)),
-        Command::Evaluate => Ok(Request::Evaluate(evaluate_command::Request::read(alloc, values)?)),
+        Command::Evaluate => read_evaluate(alloc, values),
         Command::Equivalent => Ok(Request::Equivalent(equivalent_command::Request::read(
             alloc, values,
         )?)),
@@ -177,8 +185,27 @@ fn read_values<'a>(
             alloc, values,
         )?)),
         Command::Natural => Ok(Request::Natural(natural_command::Request::read(alloc, values)?)),
-        Command::Steps => Ok(Request::Steps(steps_command::Request::read(alloc, values)?)),
+        Command::Steps => Ok(Request::Steps(steps_command::read_request(alloc, values)?)),
     }
+}
+
+/// What the values of words of `evaluate` ask for: an effect as it is, one among the treated, or a nested one.
+fn read_evaluate<'a>(alloc: Global, values: &Values<'a>) -> Result<Request<'a>, RequestFault>
+    ensures row { IfOk result (λ r. command_of commands (request_of r) ≡ Command.Evaluate) }
+    ensures ok { (uses : List Use) → HoldsCall (row_for Command.Evaluate) uses values.now → IfOk result (λ r. IsRequest commands uses (request_of r)) }
+    ensures none { (uses : List Use) → HoldsCall (row_for Command.Evaluate) uses values.now → IsErrOf result RequestFault.NotUnderstood
+        → AsksNothing commands Command.Evaluate uses }
+{
+    if values.flag("treated") {
+        let asked = evaluate_treated::Request::read(alloc, values)?;
+        return Ok(Request::EvaluateTreated(asked));
+    }
+    if values.flag("natural") {
+        let asked = evaluate_natural::Request::read(alloc, values)?;
+        return Ok(Request::EvaluateNatural(asked));
+    }
+    let asked = evaluate_command::Request::read(alloc, values)?;
+    Ok(Request::Evaluate(asked))
 }
 
 /// What a request gives on its diagram.
@@ -198,6 +225,8 @@ fn reply_on<'a>(
         Request::Check(asked) => check_over(alloc, diagram, asked),
         Request::Adjust(asked) => replied(adjust_reply(alloc, diagram, &asked)),
         Request::Evaluate(asked) => evaluate_over(alloc, diagram, asked),
+        Request::EvaluateTreated(asked) => evaluate_among(alloc, diagram, asked),
+        Request::EvaluateNatural(asked) => evaluate_nested(alloc, diagram, asked),
         Request::Equivalent(asked) => compare_with(alloc, diagram, asked),
         Request::Implications(asked) => list_implications(alloc, diagram, asked),
         Request::Survey(_) => unreachable!(),
@@ -241,6 +270,56 @@ fn evaluate_over<'a>(
             matched: asked.matched,
             format: asked.format,
         })),
+    }
+}
+
+/// What an evaluation among the treated gives on its diagram.
+fn evaluate_among<'a>(
+    alloc: Global,
+    diagram: &Diagram,
+    asked: evaluate_treated::Request<'a>,
+) -> Result<AfterFile<SecondInput<'a>>, AllocError>
+    ensures { IfOk result (GivesOn (left_of diagram.now) commands (request_of (Request.EvaluateTreated asked.entry)) diagram.now) }
+{
+    let form = asked.effect.form;
+    match identify_among(alloc, diagram, &asked) {
+        evaluate_treated::First::Answered(answer) => {
+            replied(evaluate_treated::first_reply(alloc, diagram, &answer, form))
+        }
+        evaluate_treated::First::Found(found) => Ok(AfterFile::Continues(
+            SecondInput::EvaluateTreated {
+                found,
+                counts: asked.counts,
+                count: asked.count,
+                exact: asked.exact,
+                form,
+            },
+        )),
+    }
+}
+
+/// What an evaluation of a nested effect gives on its diagram.
+fn evaluate_nested<'a>(
+    alloc: Global,
+    diagram: &Diagram,
+    asked: evaluate_natural::Request<'a>,
+) -> Result<AfterFile<SecondInput<'a>>, AllocError>
+    ensures { IfOk result (GivesOn (left_of diagram.now) commands (request_of (Request.EvaluateNatural asked.entry)) diagram.now) }
+{
+    let form = asked.effect.form;
+    match identify_nested(alloc, diagram, &asked) {
+        evaluate_natural::First::Answered(answer) => {
+            replied(evaluate_natural::first_reply(alloc, diagram, &answer, form))
+        }
+        evaluate_natural::First::Found(found) => Ok(AfterFile::Continues(
+            SecondInput::EvaluateNatural {
+                found,
+                counts: asked.counts,
+                count: asked.count,
+                exact: asked.exact,
+                form,
+            },
+        )),
     }
 }
 
@@ -300,7 +379,7 @@ fn check_over<'a>(
 fn explain_over<'a>(
     alloc: Global,
     diagram: &Diagram,
-    asked: steps_command::Request<'a>,
+    asked: check_command::Request<'a>,
 ) -> Result<AfterFile<SecondInput<'a>>, AllocError>
     ensures { IfOk result (GivesOn (left_of diagram.now) commands (request_of (Request.Steps asked.entry)) diagram.now) }
 {

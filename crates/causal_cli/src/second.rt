@@ -9,6 +9,8 @@ use check_command::{check_reply, long_certificate};
 use diagram::Diagram;
 use equivalent_command::{equivalent_reply, long_second_graph};
 use evaluate_command::{Identified, evaluate_reply, long_counts};
+use evaluate_natural::nested_reply;
+use evaluate_treated::among_reply;
 use implications::Implication;
 use implications_command::differences_reply;
 use mixed_graph::VSet;
@@ -16,6 +18,7 @@ use replies::{Format, Reply};
 use std::alloc::{AllocError, Global};
 use steps_command::steps_reply;
 use targets::Sets;
+use told::Form;
 
 /// What is left to answer once the file was accepted, where a second input is read. It keeps no diagram: that is lent to it.
 #[derive(Drop)]
@@ -36,6 +39,22 @@ pub enum SecondInput<'a> {
         zero: bool,
         matched: bool,
         format: Format,
+    },
+    /// The values of an effect among the treated over counts, whose column may have a name, in exact fractions or in bounds.
+    EvaluateTreated {
+        found: evaluate_treated::Identified,
+        counts: &'a str,
+        count: Option<&'a [u8]>,
+        exact: bool,
+        form: Form,
+    },
+    /// The values of a nested effect over counts, whose column may have a name, in exact fractions or in bounds.
+    EvaluateNatural {
+        found: evaluate_natural::Identified,
+        counts: &'a str,
+        count: Option<&'a [u8]>,
+        exact: bool,
+        form: Form,
     },
     /// Whether a second graph is equivalent, and what both say of sets that are asked about.
     Equivalent {
@@ -73,6 +92,8 @@ impl<'a> command_run::SecondInput for SecondInput<'a> {
         match self {
             SecondInput::Check { certificate, .. } => certificate,
             SecondInput::Evaluate { counts, .. } => counts,
+            SecondInput::EvaluateTreated { counts, .. } => counts,
+            SecondInput::EvaluateNatural { counts, .. } => counts,
             SecondInput::Equivalent { second, .. } => second,
             SecondInput::Implications { counts, .. } => counts,
             SecondInput::Bounds { counts, .. } => counts,
@@ -84,6 +105,8 @@ impl<'a> command_run::SecondInput for SecondInput<'a> {
         match self {
             SecondInput::Check { .. } => 67_108_864,
             SecondInput::Evaluate { .. } => 67_108_864,
+            SecondInput::EvaluateTreated { .. } => 67_108_864,
+            SecondInput::EvaluateNatural { .. } => 67_108_864,
             SecondInput::Equivalent { .. } => 1_048_576,
             SecondInput::Implications { .. } => 67_108_864,
             SecondInput::Bounds { .. } => 67_108_864,
@@ -109,6 +132,20 @@ impl<'a> command_run::SecondInput for SecondInput<'a> {
             } => evaluate_reply(
                 alloc, diagram, found, *count, *exact, *zero, *matched, other, *format,
             ),
+            SecondInput::EvaluateTreated {
+                found,
+                count,
+                exact,
+                form,
+                ..
+            } => among_reply(alloc, diagram, found, *count, *exact, other, *form),
+            SecondInput::EvaluateNatural {
+                found,
+                count,
+                exact,
+                form,
+                ..
+            } => nested_reply(alloc, diagram, found, *count, *exact, other, *form),
             SecondInput::Equivalent { sets, format, .. } => equivalent_reply(
                 alloc, diagram, *sets, other, *format,
             ),
@@ -137,6 +174,8 @@ impl<'a> command_run::SecondInput for SecondInput<'a> {
         match self {
             SecondInput::Check { .. } => long_certificate(alloc),
             SecondInput::Evaluate { .. } => long_counts(alloc),
+            SecondInput::EvaluateTreated { .. } => evaluate_treated::long_counts(alloc),
+            SecondInput::EvaluateNatural { .. } => evaluate_natural::long_counts(alloc),
             SecondInput::Equivalent { .. } => long_second_graph(alloc),
             SecondInput::Implications { .. } => implications_command::long_counts(alloc),
             SecondInput::Bounds { .. } => bounds_command::long_counts(alloc),

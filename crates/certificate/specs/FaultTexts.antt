@@ -24,6 +24,9 @@ key_text key.Roots = codes "roots"
 key_text key.Choice = codes "choice"
 key_text key.Links = codes "links"
 key_text key.Extra = codes "extra"
+key_text key.Parts = codes "parts"
+key_text key.Through = codes "through"
+key_text key.District = codes "district"
 
 -- the text of a fault; want of memory has none
 abbrev pub cert_fault_text : CertFault → List ℕ

@@ -7,6 +7,9 @@ use Rattle.hedge.specs.declared.joined_sets.lists.Links.{Links}
 use Rattle.hedge.specs.declared.hedge.Hedge.{Hedge}
 use Rattle.certificate.specs.declared.values.Certificate.{Certificate}
 use Rattle.certificate.specs.declared.values.Certificate.TheVariants as cases
+use Rattle.certificate.specs.declared.values.PartCertificate.{PartCertificate}
+use Rattle.certificate.specs.declared.values.PartCertificate.TheVariants as part_cases
+use Rattle.derived_parts.specs.Vocabulary.{PlainDerivedPart, derived_views}
 
 -- a hedge: its three sets; for each of 64 vertices its choice, or 64 for none; and each found vertex with its partner, the first with 0
 pub record PlainHedge : Type 0 where
@@ -33,3 +36,13 @@ pub data PlainCertificate : Type 0 where
 abbrev pub certificate_view : Certificate → PlainCertificate
 certificate_view (cases.Formula t f d) = formula (target_view t) (formula_view f) (derivation_view d)
 certificate_view (cases.Hedge t h) = hedge (target_view t) (hedge_view h)
+
+-- a certificate in parts: of an effect among the treated, or of a nested effect, with its mediators
+pub data PlainPartCertificate : Type 0 where
+  treated : PlainTarget → List PlainDerivedPart → PlainPartCertificate
+  natural : PlainTarget → (through : ℕ) → List PlainDerivedPart → PlainPartCertificate
+
+-- the plain trees of a certificate in parts
+abbrev pub part_certificate_view : PartCertificate → PlainPartCertificate
+part_certificate_view (part_cases.Treated t ps) = treated (target_view t) (derived_views ps.items)
+part_certificate_view (part_cases.Natural t m ps) = natural (target_view t) m.bits (derived_views ps.items)

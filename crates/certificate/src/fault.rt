@@ -28,6 +28,9 @@ pub enum Key {
     Choice,
     Links,
     Extra,
+    Parts,
+    Through,
+    District,
 }
 
 impl Key {
@@ -51,6 +54,9 @@ impl Key {
             Key::Choice => "choice",
             Key::Links => "links",
             Key::Extra => "extra",
+            Key::Parts => "parts",
+            Key::Through => "through",
+            Key::District => "district",
         }
     }
 }

@@ -25,7 +25,7 @@ use std::alloc::Global;
 use step_json::{ValueFault, read_filled_set, read_set, read_step};
 
 // What was read of the member of a key.
-fn at_key<T>(key: Key, read: Result<T, ValueFault>) -> Result<T, CertFault>
+pub(crate) fn at_key<T>(key: Key, read: Result<T, ValueFault>) -> Result<T, CertFault>
     ensures { result ≡ at_key key read }
 {
     match read {
@@ -43,7 +43,8 @@ fn x_in(alloc: Global, names: &Names, d: &Value) -> Result<VSet, CertFault>
     }
 }
 
-fn y_in(alloc: Global, names: &Names, x: VSet, d: &Value) -> Result<VSet, CertFault>
+/// The set y, which isn't empty and doesn't meet x.
+pub fn y_in(alloc: Global, names: &Names, x: VSet, d: &Value) -> Result<VSet, CertFault>
     ensures { Gives (λ s. s.bits) result (member_by keys.Y (codes "y") (filled_set_in names.now x.bits) (data_view d.now)) }
 {
     match d.get("y") {

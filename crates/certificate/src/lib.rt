@@ -25,17 +25,29 @@
 //! | `choice` | a list of `[vertex, child]` in index order |
 //! | `links` | a list of `[start]` and then `[found, partner]` |
 //!
-//! `read_answer(alloc, text, &names)` gives the certificate that a text holds.
+//! One of version 3 is of a counterfactual effect in parts:
+//!
+//! | Key | Value |
+//! |---|---|
+//! | `answer` | `"treated"` or `"natural"` |
+//! | `version` | 3 |
+//! | `x`, `y`, `given` | lists of names in index order; only what is given may be empty |
+//! | `through` | a list of names in index order, which isn't empty: the mediators of `"natural"` |
+//! | `parts` | a list of objects, each with `district`, a list of names, and the four keys of a formula |
+//!
+//! `read_answer(alloc, text, &names)` gives the certificate that a text holds, and `read_part_answer` one in parts.
 #![tactic(auto)]
 
 mod fault;
 mod formulas;
 mod hedges;
 mod keys;
+mod parts;
 mod reading;
 mod sizes;
 mod values;
 
 pub use fault::{CertFault, Key};
+pub use parts::read_part_answer;
 pub use reading::read_answer;
-pub use values::Certificate;
+pub use values::{Certificate, PartCertificate};

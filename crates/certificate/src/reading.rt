@@ -15,9 +15,9 @@ use mixed_graph::Names;
 use serde_json::Value;
 use std::alloc::Global;
 
-// The value of a text.
+/// The value of a text.
 #[tactic(auto, using(crate::proofs::Texts::some_text, crate::proofs::Texts::no_text))]
-fn json_of(alloc: Global, text: &[u8]) -> Result<Value, CertFault>
+pub(crate) fn json_of(alloc: Global, text: &[u8]) -> Result<Value, CertFault>
     ensures { Gives (λ d. view d) result (or_fault NotJson (json_of text.now)) }
 {
     match Value::from_slice(alloc, text) {

@@ -32,11 +32,11 @@ use Rattle.certificate_json.proofs.Pairs.{IsWithin}
 -- ---- members
 
 -- a member that is there and reads back
-member_back : {A : Type 0} (key : Key) (name : List ℕ) (f : Data → Result A ValueFault) (d v : Data) (x : A) → get name d ≡ Some v → f v ≡ Ok x
+pub member_back : {A : Type 0} (key : Key) (name : List ℕ) (f : Data → Result A ValueFault) (d v : Data) (x : A) → get name d ≡ Some v → f v ≡ Ok x
     → member_by key name f d ≡ Ok x
 member_back key name f d v x at reads = ap (λ r. or_fault (Member key) r >>= λ v. at_key key (f v)) at ∙ ap (at_key key) reads
 
-none_apart : (set : ℕ) → is_apart 0 set ≡ true
+pub none_apart : (set : ℕ) → is_apart 0 set ≡ true
 none_apart set = apart_from 0 set (λ v h. absurd (nothing_in v h))
   where
     nothing_in : (v : ℕ) → has 0 v ≡ true → ⊥
@@ -49,13 +49,13 @@ set_back names key name d set are within at = member_back key name (set_in names
     set at (set_reads_back names 0 set are within (none_apart set))
 
 -- the parts of a target
-record TargetParts (n : ℕ) (t : PlainTarget) : Type 0 where
-  x_below : is_below n t.x ≡ true
-  y_below : is_below n t.y ≡ true
-  given_below : is_below n t.given ≡ true
-  apart : is_apart t.x t.y ≡ true
-  given_apart : is_apart (union t.x t.y) t.given ≡ true
-  some : not (is_empty t.y) ≡ true
+pub record TargetParts (n : ℕ) (t : PlainTarget) : Type 0 where
+  pub x_below : is_below n t.x ≡ true
+  pub y_below : is_below n t.y ≡ true
+  pub given_below : is_below n t.given ≡ true
+  pub apart : is_apart t.x t.y ≡ true
+  pub given_apart : is_apart (union t.x t.y) t.given ≡ true
+  pub some : not (is_empty t.y) ≡ true
 
 other_way : (a b : ℕ) → is_apart a b ≡ true → is_apart b a ≡ true
 other_way a b h = apart_from b a (λ v e. go v e (has a v) refl)
@@ -72,7 +72,7 @@ neither_meets a b c h k = apart_from (union a b) c (λ v e. go v (has a v) refl 
     go v true e both = apart_has a c v h e
     go v false e both = apart_has b c v k (ap (λ p. p || has b v) (sym e) ∙ both)
 
-target_parts : (n : ℕ) (t : PlainTarget) → IsTargetWithin n t → TargetParts n t
+pub target_parts : (n : ℕ) (t : PlainTarget) → IsTargetWithin n t → TargetParts n t
 target_parts n t within =
     let a = and_true (are_term_sets n t.y t.x t.given) (not (is_empty t.y)) within in
     let s = and_true (is_below n t.y && (is_below n t.x && is_below n t.given)) (is_apart t.y t.x && (is_apart t.y t.given && is_apart t.x t.given)) a.0 in
@@ -108,20 +108,20 @@ target_back names version d t are p at_x at_y given =
 
 -- ---- formulas
 
-defs_checked : (names : List (List ℕ)) (f : PlainFormula) → fault_in (length names) f ≡ None → fault_in_defs (length names) 0 f.defs ≡ None
+pub defs_checked : (names : List (List ℕ)) (f : PlainFormula) → fault_in (length names) f ≡ None → fault_in_defs (length names) 0 f.defs ≡ None
 defs_checked names f ok = (neither (fault_in_defs (length names) 0 f.defs) (fault_of (check_tree (length names) None (length f.defs) f.main 0)) ok).0
 
-def_list_back : (names : List (List ℕ)) (ds : List Tree) → more_defs names [] (expr_items names ds) ≡ Ok ds → defs_in names (array (expr_items names ds))
+pub def_list_back : (names : List (List ℕ)) (ds : List Tree) → more_defs names [] (expr_items names ds) ≡ Ok ds → defs_in names (array (expr_items names ds))
     ≡ Ok ds
 unfolding defs_in
 def_list_back names ds h = h
 
-lemma_list_back : (names : List (List ℕ)) (ls : List PlainLemma) → each (lemma_in names) [] (lemma_items names ls) ≡ Ok ls
+pub lemma_list_back : (names : List (List ℕ)) (ls : List PlainLemma) → each (lemma_in names) [] (lemma_items names ls) ≡ Ok ls
     → lemmas_in names (array (lemma_items names ls)) ≡ Ok ls
 unfolding lemmas_in
 lemma_list_back names ls h = h
 
-formula_back : (names : List (List ℕ)) (d : Data) (f : PlainFormula) → main_in names (string (text_of names f.main)) ≡ Ok f.main
+pub formula_back : (names : List (List ℕ)) (d : Data) (f : PlainFormula) → main_in names (string (text_of names f.main)) ≡ Ok f.main
     → defs_in names (array (expr_items names f.defs)) ≡ Ok f.defs
     → is_ok (check_tree (length names) None (length f.defs) f.main 0) ≡ true
     → get (codes "formula") d ≡ Some (string (text_of names f.main)) → get (codes "defs") d ≡ Some (array (expr_items names f.defs))
@@ -134,7 +134,7 @@ formula_back names d f main defs ok at_main at_defs =
     (member_back keys.Defs (codes "defs") (defs_in names) d (array (expr_items names f.defs)) f.defs at_defs defs)
     ∙ ap (λ b. cond b (Ok f) (Err (Member keys.Formula))) ok
 
-derivation_back : (names : List (List ℕ)) (d : Data) (p : PlainDerivation) → lemmas_in names (array (lemma_items names p.lemmas)) ≡ Ok p.lemmas
+pub derivation_back : (names : List (List ℕ)) (d : Data) (p : PlainDerivation) → lemmas_in names (array (lemma_items names p.lemmas)) ≡ Ok p.lemmas
     → step_in names (step_value names p.main) ≡ Ok p.main
     → get (codes "lemmas") d ≡ Some (array (lemma_items names p.lemmas)) → get (codes "main") d ≡ Some (step_value names p.main)
     → derivation_in names d ≡ Ok p

@@ -25,10 +25,10 @@ use Rattle.certificate_json.proofs.Values.{names_value, set_value, step_value, e
 
 -- ---- formulas
 
-expr_seen : (names : List (List ℕ)) (t : Tree) (n : ℕ) → AreNames names → IsSeen (expr_json names t) (string (text_of names t)) n
+pub expr_seen : (names : List (List ℕ)) (t : Tree) (n : ℕ) → AreNames names → IsSeen (expr_json names t) (string (text_of names t)) n
 expr_seen names t n are = text_seen (text_of names t) n (text_is_utf8 names t are)
 
-exprs_seen : (names : List (List ℕ)) (ts : List Tree) (n : ℕ) → AreNames names → AreSeen (map (expr_json names) ts) (expr_items names ts) n
+pub exprs_seen : (names : List (List ℕ)) (ts : List Tree) (n : ℕ) → AreNames names → AreSeen (map (expr_json names) ts) (expr_items names ts) n
 exprs_seen names [] n are = none_seen n
 exprs_seen names (t ∷ ts) n are =
     one_more (expr_json names t) (string (text_of names t)) (map (expr_json names) ts) (expr_items names ts) n (expr_seen names t n are)
@@ -43,7 +43,7 @@ lemma_seen names l are short shallow =
     (set_seen names l.set 120 are)
     (one_more (step_json names l.plan) (step_value names l.plan) [] no_items 121 step (none_seen 121)))
 
-lemmas_seen : (names : List (List ℕ)) (ls : List PlainLemma) → AreNames names → are_steps_short ls ≡ true → AreStepsShallow ls
+pub lemmas_seen : (names : List (List ℕ)) (ls : List PlainLemma) → AreNames names → are_steps_short ls ≡ true → AreStepsShallow ls
     → AreSeen (map (lemma_json names) ls) (lemma_items names ls) 122
 lemmas_seen names [] are short shallow = none_seen 122
 lemmas_seen names (l ∷ ls) are short shallow =

@@ -6,6 +6,7 @@ pub mod Keeping
 pub mod Members
 mod NamesBack
 mod Pairs
+pub mod PartsBack
 pub mod ReadsBack
 mod Seen
 mod SetsBack

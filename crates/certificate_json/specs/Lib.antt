@@ -4,4 +4,5 @@ pub mod Certificates
 pub mod Writable
 pub mod Kept
 pub mod ReadsBack
+pub mod PartCertificates
 pub mod Vocabulary

@@ -118,7 +118,7 @@ pub fn push_hedge_certificate(
 }
 
 /// What is known of names: they differ, and each has the form of a name.
-fn known(names: &Names)
+pub(crate) fn known(names: &Names)
     ensures { AreNames names.now }
 {
     names.count();

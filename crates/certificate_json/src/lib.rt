@@ -2,6 +2,7 @@
 //!
 //! `formula_certificate_line(alloc, &names, &target, &formula, &derivation)` gives the line of a formula's certificate, and
 //! `push_formula_certificate(&mut object, &names, &target, &formula, &derivation)` writes the same object as a value; so it is for a hedge.
+//! `part_certificate_line(alloc, &names, &certificate)` gives the line of one in parts.
 //! What is written is read back by `certificate::read_answer` (`written_is_read`).
 #![tactic(auto)]
 
@@ -9,6 +10,7 @@ mod certificates;
 mod formulas;
 mod hedges;
 mod laws;
+mod parts;
 mod steps;
 
 pub use certificates::{
@@ -17,4 +19,5 @@ pub use certificates::{
 };
 pub use formulas::{push_expr, push_exprs_at};
 pub use laws::written_is_read;
+pub use parts::part_certificate_line;
 pub use steps::push_step;

@@ -18,7 +18,7 @@ use Rattle.check_command.specs.declared.answer.Answer.TheVariants.{AcceptedFormu
 use Rattle.check_command.proofs.Exclusive.{first_alike, first_alone, second_alike}
 
 -- the uses ask for one request
-one_request : (uses : List Use) (q r : Request) → IsRequest uses q → IsRequest uses r → r ≡ q
+pub one_request : (uses : List Use) (q r : Request) → IsRequest uses q → IsRequest uses r → r ≡ q
 one_request uses q r a b = λ i. record {
   file = same_Some r.file q.file (sym b.file ∙ a.file) i;
   certificate = same_Some r.certificate q.certificate (sym b.certificate ∙ a.certificate) i;

@@ -1,5 +1,5 @@
--- What `check` is asked for.
-use Rattle.std.specs.Prelude.{◌≡◌, List, Some, [], ◌∷◌, codes}
+-- What `check` is asked for, and `steps`, whose words differ in the command's name alone.
+use Rattle.std.specs.Prelude.{◌≡◌, List, [], Some, ◌∷◌, codes}
 use Rattle.command_words.specs.Vocabulary.{Text, Row, Use, word_of, value_of, has_flag}
 use Rattle.command_words.specs.Values as values
 use Rattle.replies.specs.declared.format.Format.{Format}
@@ -7,16 +7,20 @@ use Rattle.replies.specs.Vocabulary.{format_of}
 use Rattle.experiment_lists.specs.Vocabulary.{lists_in, Lists, AreOptionalExperiments}
 use Rattle.check_command.specs.declared.request.Request.{Request as CodeRequest}
 
--- `check FILE CERTIFICATE [--experiments E] [--json]`
-abbrev pub check_row : Row
-check_row = record {
-  name = codes "check";
+-- `NAME FILE CERTIFICATE [--experiments E] [--json]`
+abbrev pub certificate_row : (name : Text) → Row
+certificate_row name = record {
+  name = name;
   positionals = codes "file" ∷ codes "certificate" ∷ [];
   optional = [];
   required = [];
   options = codes "experiments" ∷ [];
   flags = codes "json" ∷ [];
 }
+
+-- the row of `check`
+abbrev pub check_row : Row
+check_row = certificate_row (codes "check")
 
 -- a request
 pub record Request : Type 0 where

@@ -4,6 +4,6 @@ pub use Rattle.check_command.specs.Command.{check_command, check_left}
 pub use Rattle.check_command.specs.Firsts.{IsAcceptance}
 pub use Rattle.check_command.specs.Refusals.{cert_fault_told, cert_size_told}
 pub use Rattle.check_command.specs.Replies.{IsSoundDerivation, IsSoundTarget}
-pub use Rattle.check_command.specs.Requests.{check_row}
+pub use Rattle.check_command.specs.Requests.{Request, IsRequest, certificate_row, check_row, request_of}
 pub use Rattle.check_command.specs.Right.{AreExperimentsOn, HoldsCertificate, IsAcceptedFormula, IsCertificateFault, IsForCertificate, IsForFirst, IsForText, of_formula, of_hedge}
 pub use Rattle.check_command.specs.Telling.{check_telling}

@@ -1,7 +1,7 @@
 //! What `check` is asked.
 
 ghost use Rattle.std.specs.Prelude.{◌≡◌, ℕ, List, true, IfOk, IsErrOf};
-ghost use Rattle.command_words.specs.Vocabulary.{Row, Use, is_among, value_names, value_of, HoldsCall};
+ghost use Rattle.command_words.specs.Vocabulary.{Row, Text, Use, is_among, value_names, value_of, HoldsCall};
 ghost use Rattle.experiment_lists.specs.Vocabulary.{lists_in, AreOptionalExperiments, Lists};
 
 use command_words::forms::Entry;
@@ -33,12 +33,21 @@ pub struct Request<'a> {
 impl<'a> Request<'a> {
     ghost use Rattle.replies.specs.Command.{AsksNothing};
     ghost use Rattle.check_command.specs.Command.{check_command};
-    ghost use Rattle.check_command.specs.Requests.{check_row, request_of, IsRequest};
+    ghost use Rattle.check_command.specs.Requests.{Request as Asked, certificate_row, check_row, request_of, IsRequest};
 
     /// What the words ask for, exactly where their values are what they have to be.
     pub fn read(alloc: Global, values: &Values<'a>) -> Result<Self, RequestFault>
         ensures ok { (uses : List Use) → HoldsCall check_row uses values.now → IfOk result (λ r. IsRequest uses (request_of r)) }
         ensures none { (uses : List Use) → HoldsCall check_row uses values.now → IsErrOf result RequestFault.NotUnderstood → AsksNothing check_command uses }
+    {
+        Request::read_named(alloc, values)
+    }
+
+    /// The same of a command of any name.
+    pub fn read_named(alloc: Global, values: &Values<'a>) -> Result<Self, RequestFault>
+        ensures ok { (name : Text) (uses : List Use) → HoldsCall (certificate_row name) uses values.now → IfOk result (λ r. IsRequest uses (request_of r)) }
+        ensures none { (name : Text) (uses : List Use) → HoldsCall (certificate_row name) uses values.now → IsErrOf result RequestFault.NotUnderstood
+            → (q : Asked) → IsRequest uses q → ⊥ }
     {
         let file = required_word(values, "file")?;
         let certificate = second_input(values, file, "certificate")?;

@@ -30,6 +30,9 @@ fn key_text(key: Key) -> &'static str
         Key::Choice => "choice",
         Key::Links => "links",
         Key::Extra => "extra",
+        Key::Parts => "parts",
+        Key::Through => "through",
+        Key::District => "district",
     }
 }
 
@@ -53,7 +56,10 @@ fn key_message(key: Key) -> &'static str
         | Key::Small
         | Key::Roots
         | Key::Choice
-        | Key::Links => "the value of this key is missing or has another form",
+        | Key::Links
+        | Key::Parts
+        | Key::Through
+        | Key::District => "the value of this key is missing or has another form",
     }
 }
 

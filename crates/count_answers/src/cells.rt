@@ -13,7 +13,7 @@ use mixed_graph::{MembersLeft, Names, VSet};
 use std::alloc::AllocError;
 
 /// The level of vertex v with the number k; empty where it has no such level.
-fn level_text(counts: &Counts, v: u8, k: u32) -> &[u8]
+pub fn level_text(counts: &Counts, v: u8, k: u32) -> &[u8]
     ensures { result.now ≡ level_text counts.now v k }
 {
     if k >= counts.levels(v) {
@@ -60,7 +60,7 @@ fn push_all_escaped(out: &mut Vec<u8>, level: &[u8]) -> Result<(), AllocError>
 }
 
 /// Appends a level: its bytes, or between quotation marks where it has a line feed, a carriage return or a quotation mark.
-fn push_level(out: &mut Vec<u8>, level: &[u8]) -> Result<(), AllocError>
+pub fn push_level(out: &mut Vec<u8>, level: &[u8]) -> Result<(), AllocError>
     ensures { OnOk result (out.new.items ≡ out.old.items ++ printed_level level.now) }
 {
     if is_unbroken(level) {

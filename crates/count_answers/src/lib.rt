@@ -5,7 +5,9 @@ ghost use Rattle.count_answers.specs.Lines.{LevelsKeepToLine, LevelsAreToldApart
 
 mod cells;
 
-pub use cells::{entries, number_at, push_assignment, push_assignments, separator};
+pub use cells::{
+    entries, level_text, number_at, push_assignment, push_assignments, push_level, separator,
+};
 
 /// What is printed of levels: no line feed, and of two levels never the same.
 pub fn laws()

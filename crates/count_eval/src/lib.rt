@@ -19,7 +19,7 @@ pub use failure::{EvalFault, Failure};
 pub use lookup::Lookup;
 use quantity::Quantity;
 pub use spot::Spot;
-pub use values::{value_by, value_by_nodes};
+pub use values::{fault_of, value_by, value_by_nodes};
 
 /// What the values have to do with fractions, and with models.
 pub fn laws<Q: Quantity>()

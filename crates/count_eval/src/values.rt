@@ -44,7 +44,7 @@ fn cell_within(used: VSet, cell: [u32; 64]) -> [u32; 64]
 }
 
 /// The fault that a failure is, over a table whose used vertices these are.
-fn fault_of(used: VSet, failure: Failure) -> EvalFault
+pub fn fault_of(used: VSet, failure: Failure) -> EvalFault
     ensures { IsEvaluationFault (has used.bits) result (stop_of failure) }
 {
     let place = Place {

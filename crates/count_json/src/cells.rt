@@ -3,25 +3,14 @@
 ghost use Rattle.std.specs.Prelude.{◌≡◌, map, OnOk};
 ghost use Rattle.mixed_graph.specs.Vocabulary.{has, members_below};
 ghost use Rattle.count_eval.specs.Vocabulary.{cell_of};
-ghost use Rattle.count_answers.specs.Vocabulary.{level_text};
 ghost use Rattle.answer_json.specs.Vocabulary.{with_value, with_values};
 ghost use Rattle.count_json.specs.Cells.{level_json, cell_json};
 
 use answer_json::Object;
-use count_answers::number_at;
+use count_answers::{level_text, number_at};
 use count_table::Counts;
 use mixed_graph::{Names, VSet};
 use std::alloc::AllocError;
-
-/// The level of vertex v with the number k; empty where it has no such level.
-fn level_text(counts: &Counts, v: u8, k: u32) -> &[u8]
-    ensures { result.now ≡ level_text counts.now v k }
-{
-    if k >= counts.levels(v) {
-        return b"";
-    }
-    counts.level(v, k)
-}
 
 /// A vertex with its level of that number.
 pub fn push_level(

@@ -1,7 +1,7 @@
 pub mod Mentions
 pub mod Columns
 pub mod CellLists
-mod Members
+pub mod Members
 pub mod Printed
 pub mod Stops
 pub mod Evaluable

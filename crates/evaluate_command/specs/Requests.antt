@@ -1,5 +1,5 @@
 -- What `evaluate` is asked for.
-use Rattle.std.specs.Prelude.{ℕ, ◌≡◌, Bool, List, Option, Some, [], ◌∷◌, codes, option_map}
+use Rattle.std.specs.Prelude.{ℕ, ◌≡◌, Bool, false, List, Option, Some, None, [], ◌∷◌, codes, option_map}
 use Rattle.command_words.specs.Vocabulary.{Text, Row, Use, word_of, value_of, has_flag, names_in}
 use Rattle.command_words.specs.Values as values
 use Rattle.diagram.specs.Vocabulary.{Names}
@@ -8,15 +8,16 @@ use Rattle.replies.specs.Vocabulary.{format_of}
 use Rattle.evaluate_command.specs.Ways.{Way, way_of, way_for}
 use Rattle.evaluate_command.specs.declared.request.Request.{Request as CodeRequest}
 
--- `evaluate FILE COUNTS [--x L] [--y L] [--given L] [--set L] [--back-door] [--count NAME] [--exact] [--zero] [--matched] [--short] [--json]`
+-- `evaluate FILE COUNTS [--x L] [--y L] [--given L] [--set L] [--back-door] [--count NAME] [--exact] [--zero] [--matched] [--short] [--treated] [--natural]
+-- [--through L] [--json]`
 abbrev pub evaluate_row : Row
 evaluate_row = record {
   name = codes "evaluate";
   positionals = codes "file" ∷ codes "counts" ∷ [];
   optional = [];
   required = [];
-  options = codes "x" ∷ codes "y" ∷ codes "given" ∷ codes "set" ∷ codes "count" ∷ [];
-  flags = codes "back-door" ∷ codes "exact" ∷ codes "zero" ∷ codes "matched" ∷ codes "short" ∷ codes "json" ∷ [];
+  options = codes "x" ∷ codes "y" ∷ codes "given" ∷ codes "set" ∷ codes "count" ∷ codes "through" ∷ [];
+  flags = codes "back-door" ∷ codes "exact" ∷ codes "zero" ∷ codes "matched" ∷ codes "short" ∷ codes "treated" ∷ codes "natural" ∷ codes "json" ∷ [];
 }
 
 -- a request
@@ -47,8 +48,15 @@ request_of r = record {
   format = r.format;
 }
 
+-- the uses ask for an effect as it is: not among those who were treated, and not through mediators
+pub record AskPlainly (uses : List Use) : Type 0 where
+  pub treated : has_flag uses (codes "treated") ≡ false
+  pub natural : has_flag uses (codes "natural") ≡ false
+  pub through : value_of uses (codes "through") ≡ None
+
 -- the uses ask for this
 pub record IsRequest (uses : List Use) (r : Request) : Type 0 where
+  pub plain : AskPlainly uses
   pub file : word_of evaluate_row uses (codes "file") ≡ Some r.file
   pub counts : word_of evaluate_row uses (codes "counts") ≡ Some r.counts
   pub inputs : values.AreTwoInputs r.file r.counts

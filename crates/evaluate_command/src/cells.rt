@@ -19,7 +19,7 @@ use quantity::Quantity;
 use std::alloc::{AllocError, Global};
 
 /// Appends a cell with its quantity.
-fn push_valued<Q: Quantity>(
+pub fn push_valued<Q: Quantity>(
     alloc: Global,
     out: &mut Vec<Valued<Q>>,
     cell: &[u32],

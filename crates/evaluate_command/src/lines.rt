@@ -20,7 +20,7 @@ use prob_expr::Target;
 use std::alloc::{AllocError, Global};
 
 /// Appends what is done: nothing where x is empty.
-fn push_doing(
+pub fn push_doing(
     out: &mut Vec<u8>,
     names: &Names,
     target: &Target,
@@ -39,7 +39,7 @@ fn push_doing(
 }
 
 /// Appends what is given, behind a bar or a comma: nothing where nothing is given.
-fn push_given(
+pub fn push_given(
     out: &mut Vec<u8>,
     names: &Names,
     target: &Target,
@@ -82,7 +82,7 @@ fn push_effect(
 }
 
 /// What stands between an effect and its value.
-fn sign_of(exact: bool) -> &'static [u8]
+pub fn sign_of(exact: bool) -> &'static [u8]
     ensures { result.now ≡ sign_of exact }
 {
     if exact { b" = " } else { b" " }
@@ -143,7 +143,7 @@ fn push_pinned(
 }
 
 /// The lines of vertices at their first levels.
-fn pinned_lines(
+pub fn pinned_lines(
     alloc: Global,
     names: &Names,
     counts: &Counts,

@@ -17,8 +17,8 @@ use mixed_graph::{Names, VSet};
 use prob_expr::Target;
 use std::alloc::AllocError;
 
-/// The levels of y, of x and of what is given in a cell.
-fn push_levels(
+/// The members of the levels of y, of x and of what is given in a cell.
+pub fn push_levels(
     object: &mut Object,
     names: &Names,
     target: &Target,

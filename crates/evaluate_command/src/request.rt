@@ -5,6 +5,7 @@ ghost use Rattle.command_words.specs.Vocabulary.{Use, HoldsCall, names_in};
 ghost use Rattle.std.specs.Prelude.{option_map};
 ghost use Rattle.evaluate_command.specs.Ways.{way_of, way_for};
 
+use crate::plain::is_plain;
 use crate::way::Way;
 use command_words::forms::Entry;
 use command_words::typed::{
@@ -14,14 +15,24 @@ use command_words::values::Values;
 use replies::Format;
 use std::alloc::Global;
 
-/// `evaluate FILE COUNTS [--x L] [--y L] [--given L] [--set L] [--back-door] [--count NAME] [--exact] [--zero] [--matched] [--short] [--json]`
+/// `evaluate FILE COUNTS [--x L] [--y L] [--given L] [--set L] [--back-door] [--count NAME] [--exact] [--zero] [--matched] [--short] [--treated] [--natural]
+/// [--through L] [--json]`
 pub const ROW: Entry = Entry {
     name: "evaluate",
     positionals: &["file", "counts"],
     optional: &[],
     required: &[],
-    options: &["x", "y", "given", "set", "count"],
-    flags: &["back-door", "exact", "zero", "matched", "short", "json"],
+    options: &["x", "y", "given", "set", "count", "through"],
+    flags: &[
+        "back-door",
+        "exact",
+        "zero",
+        "matched",
+        "short",
+        "treated",
+        "natural",
+        "json",
+    ],
 };
 
 /// What is asked for.
@@ -49,6 +60,9 @@ impl<'a> Request<'a> {
         ensures ok { (uses : List Use) → HoldsCall evaluate_row uses values.now → IfOk result (λ r. IsRequest uses (request_of r)) }
         ensures none { (uses : List Use) → HoldsCall evaluate_row uses values.now → IsErrOf result RequestFault.NotUnderstood → AsksNothing evaluate_command uses }
     {
+        if !is_plain(values) {
+            return Err(RequestFault::NotUnderstood);
+        }
         let Subject { file, x, y } = Subject::read(alloc, values)?;
         let counts = second_input(values, file, "counts")?;
         let count = value_bytes(values, "count");

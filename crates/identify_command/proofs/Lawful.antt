@@ -1,10 +1,10 @@
 -- The command's words ask for one request, and its right answers end alike.
-use Rattle.std.proofs.Common.{◌≡◌, Bool, true, false, List, [], ◌∷◌, Some, None, Result, Ok, Err, refl, sym, ap, subst, ◌∙◌}
+use Rattle.std.proofs.Common.{◌≡◌, Bool, List, [], ◌∷◌, Some, None, Result, Ok, Err, refl, sym, ap, subst, ◌∙◌}
 use Rattle.std.specs.Prelude.{codes}
 use Rattle.std.proofs.lemmas.Option.{same_Some}
 use Rattle.mixed_graph.specs.Vocabulary.{MixedGraph, graph_of}
 use Rattle.prob_expr.specs.Vocabulary.{PlainTarget, formula_view}
-use Rattle.command_words.specs.Vocabulary.{Use, value_of, has_flag}
+use Rattle.command_words.specs.Vocabulary.{Use, value_of}
 use Rattle.command_words.proofs.OneValue.{one_listed}
 use Rattle.targets.specs.declared.fault.TargetFault.{TargetFault}
 use Rattle.targets.specs.declared.fault.TargetFault.TheVariants.{EmptyX}
@@ -16,17 +16,15 @@ use Rattle.replies.specs.Vocabulary.{IsAnswered}
 use Rattle.replies.proofs.Commands.{IsLawful}
 use Rattle.replies.proofs.OneGraph.{one_holding}
 use Rattle.replies.proofs.OneTarget.{same_two, no_fault_of, no_effect_fault, some_list, is_some_list}
-use Rattle.told.specs.declared.form.Writing.{Writing}
-use Rattle.told.specs.Vocabulary.{target_refusal, outcome_in}
+use Rattle.told.proofs.OneSubject.{one_subject}
+use Rattle.told.specs.Vocabulary.{is_certified, target_refusal, outcome_in}
 use Rattle.told.proofs.ToldOnce.{lawful_told}
 use Rattle.identify.specs.Vocabulary.{IsRightHedge}
 use Rattle.effect_answers.specs.declared.formulas.EffectFormula.{EffectFormula}
 use Rattle.effect_answers.specs.declared.hedges.EffectHedge.{EffectHedge}
-use Rattle.identify_command.specs.declared.form.Form.{Form}
 use Rattle.identify_command.specs.declared.answer.Answer.{Answer}
 use Rattle.identify_command.specs.declared.answer.Answer.TheVariants.{Formula, Hedge, Joint}
-use Rattle.identify_command.specs.Forms.{IsForm, IsWriting, is_certified}
-use Rattle.identify_command.specs.Requests.{Request, IsRequest}
+use Rattle.identify_command.specs.Requests.{Request, IsRequest, identify_row}
 use Rattle.identify_command.specs.Command.{identify_command}
 use Rattle.identify_command.specs.Telling.{identify_telling}
 use Rattle.identify_command.specs.Right.{IsJointHedge, Asked, an_effect, a_target, asked_of, IsForEffect, IsForTarget}
@@ -34,29 +32,14 @@ use Rattle.identify_command.specs.Right.{IsAnswerFor, IsFaultFor, IsForNames, Ar
 use Rattle.identify_command.specs.Laws.{FormsAgree}
 use Rattle.identify_command.proofs.Lists.{one_target}
 
-one_writing : (certificate latex json : Bool) (f h : Writing) → IsWriting certificate latex json f → IsWriting certificate latex json h → h ≡ f
-one_writing false false json f h a b = b ∙ sym a
-one_writing true false json f h a b = b ∙ sym a
-one_writing false true false f h a b = b ∙ sym a
-one_writing false true true f h a b = absurd a
-one_writing true true json f h a b = absurd a
-
-one_form : (certificate latex short json : Bool) (f h : Form) → IsForm certificate latex short json f → IsForm certificate latex short json h → h ≡ f
-one_form certificate latex short json f h a b = λ i. record {
-  writing = one_writing certificate latex json f.writing h.writing a.writing b.writing i;
-  short = (b.short ∙ sym a.short) i;
-  format = (b.format ∙ sym a.format) i;
-}
-
 -- the uses ask for one request
 one_request : (uses : List Use) (q r : Request) → IsRequest uses q → IsRequest uses r → r ≡ q
-one_request uses q r a b = λ i. record {
-  file = same_Some r.file q.file (sym b.file ∙ a.file) i;
-  x = one_listed (value_of uses (codes "x")) q.x r.x a.x b.x i;
-  y = one_listed (value_of uses (codes "y")) q.y r.y a.y b.y i;
+one_request uses q r a b = let s = one_subject identify_row uses q.file r.file q.x q.y r.x r.y a.subject b.subject in λ i. record {
+  file = s.0 i;
+  x = s.1 i;
+  y = s.2 i;
   given = one_listed (value_of uses (codes "given")) q.given r.given a.given b.given i;
-  form = one_form (has_flag uses (codes "certificate")) (has_flag uses (codes "latex")) (has_flag uses (codes "short"))
-      (has_flag uses (codes "json")) q.form r.form a.form b.form i;
+  form = same_Some r.form q.form (sym b.form ∙ a.form) i;
 }
 
 -- right answers in two forms end alike

@@ -17,7 +17,7 @@ use Rattle.replies.specs.declared.outcome.Outcome.TheVariants.{Yes}
 use Rattle.replies.specs.Vocabulary.{code_of, answer_of, text_in}
 use Rattle.told.specs.declared.form.Writing.{Writing}
 use Rattle.told.specs.declared.form.Writing.TheVariants.{Certificate}
-use Rattle.told.specs.Vocabulary.{target_refusal, told_in}
+use Rattle.told.specs.Vocabulary.{is_certified, target_refusal, told_in}
 use Rattle.effect_answers.specs.declared.formulas.EffectFormula.{EffectFormula}
 use Rattle.effect_answers.specs.declared.hedges.EffectHedge.{EffectHedge}
 use Rattle.effect_answers.specs.Vocabulary.{joint_text, joint_object, IsKept}
@@ -26,7 +26,7 @@ use Rattle.effect_answers.proofs.Telling.{one_certificate, one_formula_text, one
 use Rattle.identify_command.specs.declared.form.Form.{Form}
 use Rattle.identify_command.specs.declared.answer.Answer.{Answer}
 use Rattle.identify_command.specs.declared.answer.Answer.TheVariants.{Formula, Hedge, Joint}
-use Rattle.identify_command.specs.Forms.{is_certified, told_form}
+use Rattle.identify_command.specs.Forms.{told_form}
 use Rattle.identify_command.specs.Right.{IsJointHedge, Asked, an_effect, a_target, IsForEffect, IsForTarget, IsAnswerFor, IsEffectFormula, IsTargetFormula}
 use Rattle.identify_command.specs.Telling.{identify_telling, identify_text, identify_object}
 use Rattle.identify_command.proofs.Lists.{one_target}

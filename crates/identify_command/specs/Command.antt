@@ -1,7 +1,7 @@
 -- The command `identify`.
 use Rattle.replies.specs.Vocabulary.{CommandForm}
-use Rattle.told.specs.Vocabulary.{told_on_file}
-use Rattle.identify_command.specs.Forms.{is_certified, told_form}
+use Rattle.told.specs.Vocabulary.{is_certified, told_on_file}
+use Rattle.identify_command.specs.Forms.{told_form}
 use Rattle.identify_command.specs.Right.{IsIdentifyAnswer}
 use Rattle.identify_command.specs.Telling.{identify_telling}
 use Rattle.identify_command.specs.Requests.{Request, IsRequest}

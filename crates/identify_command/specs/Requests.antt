@@ -1,10 +1,10 @@
 -- What `identify` is asked for.
-use Rattle.std.specs.Prelude.{◌≡◌, List, Some, [], ◌∷◌, codes, option_map}
-use Rattle.command_words.specs.Vocabulary.{Text, Row, Use, word_of, value_of, has_flag, names_in}
+use Rattle.std.specs.Prelude.{◌≡◌, List, [], Some, ◌∷◌, codes, option_map}
+use Rattle.command_words.specs.Vocabulary.{Text, Row, Use, value_of, has_flag, names_in}
 use Rattle.command_words.specs.Values as values
 use Rattle.diagram.specs.Vocabulary.{Names}
 use Rattle.identify_command.specs.declared.form.Form.{Form}
-use Rattle.identify_command.specs.Forms.{IsForm}
+use Rattle.identify_command.specs.Forms.{form_for}
 use Rattle.identify_command.specs.declared.request.Request.{Request as CodeRequest}
 
 -- `identify FILE [--x L] [--y L] [--given L] [--certificate] [--latex] [--short] [--json]`
@@ -32,9 +32,6 @@ request_of r = record { file = r.file.now; x = option_map names_in r.x; y = opti
 
 -- the uses ask for this
 pub record IsRequest (uses : List Use) (r : Request) : Type 0 where
-  pub file : word_of identify_row uses (codes "file") ≡ Some r.file
-  pub x : values.IsListed (value_of uses (codes "x")) r.x
-  pub y : values.IsListed (value_of uses (codes "y")) r.y
+  pub subject : values.IsSubject identify_row uses r.file r.x r.y
   pub given : values.IsListed (value_of uses (codes "given")) r.given
-  pub form : IsForm (has_flag uses (codes "certificate")) (has_flag uses (codes "latex")) (has_flag uses (codes "short")) (has_flag uses (codes "json"))
-      r.form
+  pub form : form_for (has_flag uses (codes "certificate")) (has_flag uses (codes "latex")) (has_flag uses (codes "short")) (has_flag uses (codes "json")) ≡ Some r.form

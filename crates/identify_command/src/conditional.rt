@@ -6,7 +6,7 @@ ghost use Rattle.do_rules.specs.Vocabulary.{AreThreeSets};
 ghost use Rattle.prob_expr.specs.Vocabulary.{target_view};
 ghost use Rattle.targets.specs.Vocabulary.{OrMemory, IsListFault};
 ghost use Rattle.diagram.specs.Vocabulary.{query_lists};
-ghost use Rattle.identify_command.specs.Forms.{is_certified};
+ghost use Rattle.told.specs.Vocabulary.{is_certified};
 ghost use Rattle.identify_command.specs.Requests.{request_of};
 ghost use Rattle.identify_command.specs.Right.{DecidesTarget, IsForTarget};
 
@@ -40,7 +40,13 @@ pub fn conditional_answer(
         given: sets.given,
     };
     let g = &diagram.observed.graph;
-    let Ok(answer) = decide_given(alloc, g, target, asked.form.short, asked.form.certified()) else {
+    let Ok(answer) = decide_given(
+        alloc,
+        g,
+        target,
+        asked.form.short,
+        asked.form.writing.is_certified(),
+    ) else {
         return Err(TargetFault::NoMemory);
     };
     Ok(answer)

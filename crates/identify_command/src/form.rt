@@ -17,15 +17,30 @@ pub struct Form {
 }
 
 impl Form {
-    ghost use Rattle.identify_command.specs.Forms.{is_certified, told_form};
+    ghost use Rattle.identify_command.specs.Forms.{form_for, told_form};
 
-    /// Whether the certificate is asked for.
-    pub fn certified(self) -> bool
-        ensures { result ≡ is_certified self.writing }
+    /// The form by the flags, where at most one way to write an answer is asked for, and LaTeX not as JSON.
+    pub fn read(certificate: bool, latex: bool, short: bool, json: bool) -> Option<Self>
+        ensures { result ≡ form_for certificate latex short json }
     {
-        match self.writing {
-            Writing::Plain | Writing::Latex => false,
-            Writing::Certificate => true,
+        let format = Format::of(json);
+        match (certificate, latex, json) {
+            (false, false, _) => Some(Form {
+                writing: Writing::Plain,
+                short,
+                format,
+            }),
+            (true, false, _) => Some(Form {
+                writing: Writing::Certificate,
+                short,
+                format,
+            }),
+            (false, true, false) => Some(Form {
+                writing: Writing::Latex,
+                short,
+                format,
+            }),
+            (false, true, true) | (true, true, _) => None,
         }
     }
 

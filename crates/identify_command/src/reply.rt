@@ -5,8 +5,8 @@ ghost use Rattle.mixed_graph.specs.Vocabulary.{has, Within, Apart, graph_of};
 ghost use Rattle.targets.specs.Vocabulary.{OrMemory, IsEffectFault};
 ghost use Rattle.diagram.specs.Vocabulary.{effect_lists};
 ghost use Rattle.replies.specs.Vocabulary.{told_of};
-ghost use Rattle.told.specs.Vocabulary.{target_refusal, Tells};
-ghost use Rattle.identify_command.specs.Forms.{is_certified, told_form};
+ghost use Rattle.told.specs.Vocabulary.{target_refusal, Tells, is_certified};
+ghost use Rattle.identify_command.specs.Forms.{told_form};
 ghost use Rattle.identify_command.specs.Requests.{request_of};
 ghost use Rattle.identify_command.specs.Right.{DecidesEffect, IsForEffect, IsAnswerFor, IsFaultFor, IsIdentifyAnswer, asked_of};
 ghost use Rattle.identify_command.specs.Telling.{identify_telling};
@@ -73,7 +73,13 @@ fn effect_answer(
     let (x, y) = (asked.x.as_deref(), asked.y.as_deref());
     let sets = asked_effect(alloc, diagram, x, y)?;
     let g = &diagram.observed.graph;
-    let Ok(answer) = decide(alloc, g, sets, asked.form.short, asked.form.certified()) else {
+    let Ok(answer) = decide(
+        alloc,
+        g,
+        sets,
+        asked.form.short,
+        asked.form.writing.is_certified(),
+    ) else {
         return Err(TargetFault::NoMemory);
     };
     Ok(answer)

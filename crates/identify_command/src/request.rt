@@ -2,17 +2,12 @@
 
 ghost use Rattle.std.specs.Prelude.{◌≡◌, List, IfOk, IsErrOf};
 ghost use Rattle.command_words.specs.Vocabulary.{Use, HoldsCall};
-ghost use Rattle.std.specs.Prelude.{IfSome, IfNone};
-ghost use Rattle.identify_command.specs.Forms.{IsWriting};
-ghost use Rattle.told.specs.declared.form.Writing as asked;
 
 use crate::form::Form;
 use command_words::forms::Entry;
 use command_words::typed::{RequestFault, Subject, listed_names};
 use command_words::values::Values;
-use replies::Format;
 use std::alloc::Global;
-use told::Writing;
 
 /// `identify FILE [--x L] [--y L] [--given L] [--certificate] [--latex] [--short] [--json]`
 pub const ROW: Entry = Entry {
@@ -48,35 +43,17 @@ impl<'a> Request<'a> {
         let latex = values.flag("latex");
         let short = values.flag("short");
         let json = values.flag("json");
-        let Some(writing) = read_writing(certificate, latex, json) else {
+        let Some(form) = Form::read(certificate, latex, short, json) else {
             return Err(RequestFault::NotUnderstood);
         };
         let Subject { file, x, y } = Subject::read(alloc, values)?;
         let given = listed_names(alloc, values, "given")?;
-        let format = Format::of(json);
         Ok(Request {
             file,
             x,
             y,
             given,
-            form: Form {
-                writing,
-                short,
-                format,
-            },
+            form,
         })
-    }
-}
-
-/// How an answer is written, where at most one way is asked for, and LaTeX not as JSON.
-fn read_writing(certificate: bool, latex: bool, json: bool) -> Option<Writing>
-    ensures some { IfSome result (λ w. IsWriting certificate latex json w) }
-    ensures none { IfNone result ((w : asked.Writing) → IsWriting certificate latex json w → ⊥) }
-{
-    match (certificate, latex, json) {
-        (false, false, _) => Some(Writing::Plain),
-        (true, false, _) => Some(Writing::Certificate),
-        (false, true, false) => Some(Writing::Latex),
-        (false, true, true) | (true, true, _) => None,
     }
 }

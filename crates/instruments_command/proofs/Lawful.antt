@@ -1,10 +1,9 @@
 -- The command's words ask for one request, and its right answers end alike.
 use Rattle.std.proofs.Common.{◌≡◌, ℕ, List, [], Some, Ok, Err, refl, sym, ◌∙◌}
 use Rattle.std.specs.Prelude.{codes}
-use Rattle.std.proofs.lemmas.Option.{same_Some}
 use Rattle.mixed_graph.specs.Vocabulary.{has, MixedGraph}
 use Rattle.command_words.specs.Vocabulary.{Use, value_of}
-use Rattle.command_words.proofs.OneValue.{one_listed, one_number_or}
+use Rattle.command_words.proofs.OneValue.{one_number_or}
 use Rattle.targets.specs.declared.fault.TargetFault.{TargetFault}
 use Rattle.targets.specs.Vocabulary.{Lists, AreSets, IsTargetFault}
 use Rattle.diagram.specs.Vocabulary.{query_lists}
@@ -12,11 +11,12 @@ use Rattle.diagram.proofs.OneDiagram.{same_query_lists}
 use Rattle.replies.specs.Vocabulary.{IsAnswered}
 use Rattle.replies.proofs.Commands.{IsLawful}
 use Rattle.replies.proofs.OneTarget.{no_fault_of, same_three}
+use Rattle.told.proofs.OneSubject.{one_subject}
 use Rattle.told.specs.Vocabulary.{target_refusal}
 use Rattle.told.proofs.ToldOnce.{EndAlike, lawful_told}
 use Rattle.instruments_command.specs.declared.answer.Answer.{Answer}
 use Rattle.instruments_command.specs.declared.answer.Answer.TheVariants.{Listed, NoInstrument}
-use Rattle.instruments_command.specs.Requests.{Request, IsRequest}
+use Rattle.instruments_command.specs.Requests.{Request, IsRequest, instruments_row}
 use Rattle.instruments_command.specs.Command.{instruments_command}
 use Rattle.instruments_command.specs.Telling.{instruments_telling}
 use Rattle.instruments_command.specs.Right.{HasNoInstrument, IsForLists, IsForNames}
@@ -24,10 +24,10 @@ use Rattle.instruments_command.proofs.NoStrata.{strata_show}
 
 -- the uses ask for one request
 one_request : (uses : List Use) (q r : Request) → IsRequest uses q → IsRequest uses r → r ≡ q
-one_request uses q r a b = λ i. record {
-  file = same_Some r.file q.file (sym b.file ∙ a.file) i;
-  x = one_listed (value_of uses (codes "x")) q.x r.x a.x b.x i;
-  y = one_listed (value_of uses (codes "y")) q.y r.y a.y b.y i;
+one_request uses q r a b = let s = one_subject instruments_row uses q.file r.file q.x q.y r.x r.y a.subject b.subject in λ i. record {
+  file = s.0 i;
+  x = s.1 i;
+  y = s.2 i;
   most = one_number_or 100 (value_of uses (codes "most")) 1 10000 q.most r.most a.most b.most i;
   format = (b.format ∙ sym a.format) i;
 }

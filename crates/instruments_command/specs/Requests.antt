@@ -1,6 +1,6 @@
 -- What `instruments` is asked for.
-use Rattle.std.specs.Prelude.{ℕ, ◌≡◌, List, Some, [], ◌∷◌, codes, option_map}
-use Rattle.command_words.specs.Vocabulary.{Text, Row, Use, word_of, value_of, has_flag, names_in}
+use Rattle.std.specs.Prelude.{ℕ, ◌≡◌, List, [], ◌∷◌, codes, option_map}
+use Rattle.command_words.specs.Vocabulary.{Text, Row, Use, value_of, has_flag, names_in}
 use Rattle.command_words.specs.Values as values
 use Rattle.diagram.specs.Vocabulary.{Names}
 use Rattle.replies.specs.declared.format.Format.{Format}
@@ -32,8 +32,6 @@ request_of r = record { file = r.file.now; x = option_map names_in r.x; y = opti
 
 -- the uses ask for this
 pub record IsRequest (uses : List Use) (r : Request) : Type 0 where
-  pub file : word_of instruments_row uses (codes "file") ≡ Some r.file
-  pub x : values.IsListed (value_of uses (codes "x")) r.x
-  pub y : values.IsListed (value_of uses (codes "y")) r.y
+  pub subject : values.IsSubject instruments_row uses r.file r.x r.y
   pub most : values.IsNumberOr 100 (value_of uses (codes "most")) 1 10000 r.most
   pub format : r.format ≡ format_of (has_flag uses (codes "json"))

@@ -1,13 +1,13 @@
 -- The command's words ask for one request, and its right answers end alike.
-use Rattle.std.proofs.Common.{◌≡◌, Bool, true, false, List, Some, Result, Ok, Err, refl, sym, ◌∙◌, subst, arith, inl, inr}
+use Rattle.std.proofs.Common.{◌≡◌, List, Some, Result, Ok, Err, refl, sym, ◌∙◌, subst, arith, inl, inr}
 use Rattle.std.specs.Prelude.{codes, ◌⊎◌}
 use Rattle.std.proofs.lemmas.Option.{same_Some}
 use Rattle.mixed_graph.specs.declared.sets.VSet.{VSet}
 use Rattle.mixed_graph.specs.Vocabulary.{MixedGraph, union, graph_of}
 use Rattle.hedge.specs.declared.hedge.Hedge.{Hedge}
 use Rattle.hedge.specs.Vocabulary.{IsHedge}
-use Rattle.command_words.specs.Vocabulary.{Use, value_of, has_flag}
-use Rattle.command_words.proofs.OneValue.{one_listed, one_listed_or_empty, one_needed_list}
+use Rattle.command_words.specs.Vocabulary.{Use, value_of}
+use Rattle.command_words.proofs.OneValue.{one_listed_or_empty, one_needed_list}
 use Rattle.targets.specs.declared.fault.TargetFault.{TargetFault}
 use Rattle.diagram.specs.declared.diagram.Diagram.{Diagram}
 use Rattle.diagram.proofs.OneDiagram.{AreSameDiagrams, same_drawing, same_query_lists}
@@ -18,8 +18,7 @@ use Rattle.replies.specs.Told.{Told}
 use Rattle.replies.proofs.Commands.{IsLawful, lawful_on_file}
 use Rattle.replies.proofs.OneOutcome.{one_on_diagram}
 use Rattle.replies.proofs.OneTarget.{one_set, no_fault_of}
-use Rattle.told.specs.declared.form.Form.{Form}
-use Rattle.told.specs.declared.form.Writing.{Writing}
+use Rattle.told.proofs.OneSubject.{one_subject}
 use Rattle.told.specs.Vocabulary.{Tells}
 use Rattle.told.proofs.ToldOnce.{EndAlike, told_answered}
 use Rattle.natural_id.specs.Vocabulary.{ReadsBoth}
@@ -32,29 +31,18 @@ use Rattle.natural_command.specs.Asking.{NaturalLists, natural_lists, through_fa
 use Rattle.natural_command.specs.Faults.{natural_refusal}
 use Rattle.natural_command.specs.Right.{Decides, IsForQuestion, IsOfQuestion, IsFaultOfQuestion, IsFault, IsForNames}
 use Rattle.natural_command.specs.Telling.{natural_telling}
-use Rattle.natural_command.specs.Requests.{Request, IsRequest, IsForm, IsWriting}
+use Rattle.natural_command.specs.Requests.{Request, IsRequest, natural_row}
 use Rattle.natural_command.specs.Command.{natural_command}
-
-one_writing : (latex json : Bool) (v w : Writing) → IsWriting latex json v → IsWriting latex json w → w ≡ v
-one_writing false json v w a b = b ∙ sym a
-one_writing true false v w a b = b ∙ sym a
-one_writing true true v w a b = absurd a
-
-one_form : (latex json : Bool) (f h : Form) → IsForm latex json f → IsForm latex json h → h ≡ f
-one_form latex json f h a b = λ i. record {
-  format = (b.format ∙ sym a.format) i;
-  writing = one_writing latex json f.writing h.writing a.writing b.writing i;
-}
 
 -- the uses ask for one request
 one_request : (uses : List Use) (q r : Request) → IsRequest uses q → IsRequest uses r → r ≡ q
-one_request uses q r a b = λ i. record {
-  file = same_Some r.file q.file (sym b.file ∙ a.file) i;
-  x = one_listed (value_of uses (codes "x")) q.x r.x a.x b.x i;
-  y = one_listed (value_of uses (codes "y")) q.y r.y a.y b.y i;
+one_request uses q r a b = let s = one_subject natural_row uses q.file r.file q.x q.y r.x r.y a.subject b.subject in λ i. record {
+  file = s.0 i;
+  x = s.1 i;
+  y = s.2 i;
   through = one_needed_list (value_of uses (codes "through")) q.through r.through a.through b.through i;
   given = one_listed_or_empty (value_of uses (codes "given")) q.given r.given a.given b.given i;
-  form = one_form (has_flag uses (codes "latex")) (has_flag uses (codes "json")) q.form r.form a.form b.form i;
+  form = same_Some r.form q.form (sym b.form ∙ a.form) i;
 }
 
 -- whether something reads both values of a treatment, or the joint effect has a hedge, settles how an answer ends
@@ -64,8 +52,8 @@ IsHindered g q = ReadsBoth g q.x.bits q.through.bits q.y.bits q.given.bits ⊎ (
 abbrev IsSettled : MixedGraph → Question → Answer → Type 0
 IsSettled g q (Formula a f) = IsHindered g q → ⊥
 IsSettled g q (Excluded a h pair) = IsHindered g q
-IsSettled g q (Witness a w) = IsHindered g q
-IsSettled g q (Split a s) = IsHindered g q
+IsSettled g q (Witness a w other) = IsHindered g q
+IsSettled g q (Split a s other) = IsHindered g q
 
 neither : {A B : Type 0} → (A → ⊥) → (B → ⊥) → (A ⊎ B) → ⊥
 neither a b (inl h) = a h
@@ -74,8 +62,8 @@ neither a b (inr h) = b h
 settled : (g : MixedGraph) (q : Question) (a : Answer) → Decides g q a → IsSettled g q a
 settled g q (Formula a f) d = neither d.1.clear (λ h. d.1.no_hedge h.0 h.1)
 settled g q (Excluded a h pair) d = inr d.1.evidence
-settled g q (Witness a w) d = inl (inl (w, d.1.witness))
-settled g q (Split a s) d = inl (inr (s, d.1.split))
+settled g q (Witness a w other) d = inl (inl (w, d.1.witness))
+settled g q (Split a s other) d = inl (inr (s, d.1.split))
 
 -- a formula is the one answer that ends well
 abbrev HasKind : (hindered : Type 0) → Outcome → Type 0
@@ -84,8 +72,8 @@ HasKind hindered o = ((hindered → ⊥) × (o ≡ Yes)) ⊎ (hindered × (o ≡
 kind : (g : MixedGraph) (q : Question) (a : Answer) → IsSettled g q a → HasKind (IsHindered g q) (natural_telling.outcome a)
 kind g q (Formula a f) h = inl (h, refl)
 kind g q (Excluded a k pair) h = inr (h, refl)
-kind g q (Witness a w) h = inr (h, refl)
-kind g q (Split a s) h = inr (h, refl)
+kind g q (Witness a w other) h = inr (h, refl)
+kind g q (Split a s other) h = inr (h, refl)
 
 same_kinds : {P : Type 0} (o p : Outcome) → HasKind P o → HasKind P p → o ≡ p
 same_kinds o p (inl a) (inl b) = a.1 ∙ sym b.1
@@ -98,7 +86,7 @@ vertex_set a b e = λ i. record { bits = e i }
 
 module _ (g : MixedGraph) (l : NaturalLists) where
   -- lists ask for one question
-  one_question : (a b : Question) → AreNamed l a → AreNamed l b → b ≡ a
+  pub one_question : (a b : Question) → AreNamed l a → AreNamed l b → b ≡ a
   one_question a b s t = λ i. record {
     x = vertex_set a.x b.x (one_set l.query.observed l.query.x a.x.bits b.x.bits s.query.set_x t.query.set_x) i;
     through = vertex_set a.through b.through (one_set l.query.observed l.through a.through.bits b.through.bits s.through t.through) i;
@@ -141,7 +129,7 @@ module _ (g : MixedGraph) (l : NaturalLists) where
   answered_no_fault a TooMany f h = of_question a TooMany f h
   answered_no_fault a NoMemory f h = of_question a NoMemory f h
 
-alike : EndAlike natural_telling natural_refusal IsForNames
+pub alike : EndAlike natural_telling natural_refusal IsForNames
 alike g l (Ok a) (Ok b) f h = same_outcome g l a b f h
 alike g l (Ok a) (Err fault) f h = absurd (answered_no_fault g l a fault f h)
 alike g l (Err fault) (Ok b) f h = absurd (answered_no_fault g l b fault h f)
@@ -150,8 +138,8 @@ alike g l (Err fault) (Err other) f h = refl
 answered : (a : Answer) → IsAnswered (natural_telling.outcome a)
 answered (Formula a f) = tt
 answered (Excluded a h pair) = tt
-answered (Witness a w) = tt
-answered (Split a s) = tt
+answered (Witness a w other) = tt
+answered (Split a s other) = tt
 
 -- what holds of each command holds of it
 pub natural_lawful : IsLawful natural_command

@@ -1,5 +1,5 @@
 -- The faults of listed names, and the sets that the lists of a question name.
-use Rattle.std.proofs.Common.{◌≡◌, ℕ, Bool, true, false, ◌||◌, List, ◌++◌, length, refl, sym, ap, ap₂, subst, ◌∙◌, inl, inr, arith}
+use Rattle.std.proofs.Common.{◌≡◌, ◌<◌, ℕ, Bool, true, false, ◌||◌, List, ◌++◌, length, refl, sym, ap, ap₂, subst, ◌∙◌, inl, inr, arith}
 use Rattle.std.specs.Str.{bytes_eq}
 use Rattle.std.proofs.lemmas.List.Folds.{list_any-append}
 use Rattle.mixed_graph.specs.Vocabulary.{has, is_named, Within, Apart}
@@ -11,7 +11,7 @@ use Rattle.targets.specs.Vocabulary.{first_fault, walked_in, Lists, IsNameFault,
 use Rattle.targets.specs.declared.fault.TargetFault.TheVariants.{Unknown, Latent, Twice}
 use Rattle.targets.proofs.Disjoint.{disjoint_sets}
 use Rattle.targets.proofs.Queries.{set_test, set_within}
-use Rattle.targets.proofs.RuleWalks.{not_walked, sets_apart}
+use Rattle.targets.proofs.RuleWalks.{not_walked, sets_apart, some_in}
 use Rattle.targets.proofs.Walking.{same_first_fault}
 use Rattle.natural_command.specs.declared.asking.Question.{Question}
 use Rattle.natural_command.specs.Asking.{NaturalLists, through_fault, AreNamed, IsNamesFault}
@@ -108,3 +108,8 @@ module _ (l : NaturalLists) (q : Question) (named : AreNamed l q) where
         z_w = turned (has q.given.bits) (has q.through.bits)
             (sets_apart l.query.observed l.query.given l.through q.given.bits q.through.bits named.query.set_given named.through (λ m h. (in_none m h).1.1));
       }
+
+  -- there is a mediator
+  pub some_mediator : 0 < q.through.bits
+  some_mediator = some_in l.query.all l.query.observed (is_named (l.query.x ++ (l.query.y ++ l.query.given))) l.through q.through.bits named.no_fault named.some
+      named.through

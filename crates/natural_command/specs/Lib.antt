@@ -4,6 +4,7 @@ pub mod Faults
 pub mod Second
 pub mod Sentences
 pub mod Objects
+pub mod Another
 pub mod Telling
 pub mod Right
 pub mod Command

@@ -1,5 +1,5 @@
 -- Which answers of `natural` are right: what y would be under do(x), were the mediators as under another value of x; in the observed graph.
-use Rattle.std.specs.Prelude.{ℕ, ◌≡◌, ◌<◌, ◌≤◌, ◌||◌, true, false, List, Result, Ok, Err, IsTrue}
+use Rattle.std.specs.Prelude.{ℕ, ◌≡◌, ◌<◌, ◌≤◌, ◌||◌, true, false, List, Option, Result, Ok, Err, IsTrue}
 use Rattle.mixed_graph.specs.Vocabulary.{has, MixedGraph, IsDescendant, union, name_of, graph_of}
 use Rattle.finite_models.specs.Vocabulary.{FiniteModel, Fits, IsAssignment, weight_of}
 use Rattle.hedge.specs.declared.hedge.Hedge.{Hedge}
@@ -14,7 +14,9 @@ use Rattle.nested_models.specs.Vocabulary.{weight_of_nested, HasNoIndirectPath, 
 use Rattle.natural_id.specs.declared.answers.NaturalFormula.{NaturalFormula}
 use Rattle.natural_id.specs.declared.answers.Witness.{Witness as Recanting}
 use Rattle.natural_id.specs.declared.answers.Split.{Split as Parted}
-use Rattle.natural_id.specs.Vocabulary.{EqualsNatural, parts_view, IsWitness, IsSplit, ReadsBoth, IsLostNested}
+use Rattle.natural_id.specs.Vocabulary.{EqualsNatural, IsFormulaByParts, parts_view, IsWitness, IsSplit, ReadsBoth, IsLostNested}
+use Rattle.interventional_id.specs.declared.answer.Interventional.{Interventional}
+use Rattle.interventional_id.specs.Vocabulary.{IsRight as IsInterventional}
 use Rattle.targets.specs.Vocabulary.{OrMemory}
 use Rattle.natural_command.specs.Asking.{NaturalLists, natural_lists, AreNamed, IsNamesFault, IsListsFault}
 use Rattle.natural_command.specs.declared.asking.Question.{Question}
@@ -50,9 +52,11 @@ pub record IsAskedFor (g : MixedGraph) (q : Question) (a : Asked) : Type 0 where
 abbrev pub HasNoHedge : MixedGraph → Question → Type 0
 HasNoHedge g q = (h : Hedge) → IsHedge g q.x.bits (union q.y.bits q.given.bits) h → ⊥
 
--- nothing reads both values of a treatment, the joint effect has no hedge, and the formula equals P(y[x, m[x']] | z) in each positive model of g, at each assignment
+-- nothing reads both values of a treatment, the joint effect has no hedge, and the formula is that which the procedure finds: it equals P(y[x, m[x']] | z) in
+-- each positive model of g, at each assignment
 pub record IsFormulaFor (g : MixedGraph) (q : Question) (f : NaturalFormula) : Type 0 where
   pub equals : EqualsNatural g q.x.bits q.through.bits q.y.bits q.given.bits f.summed.bits (parts_view f.parts.items)
+  pub found : IsFormulaByParts g q.x.bits q.through.bits q.y.bits q.given.bits f.summed.bits (parts_view f.parts.items)
   pub clear : ReadsBoth g q.x.bits q.through.bits q.y.bits q.given.bits → ⊥
   pub no_hedge : HasNoHedge g q
 
@@ -62,24 +66,30 @@ pub record IsExcluded (g : MixedGraph) (q : Question) (h : Hedge) (pair : Counte
   pub evidence : (k : Hedge) × IsHedge g q.x.bits (union q.y.bits q.given.bits) k
   pub no_formula : HasNoFormulaNested g q.x.bits q.through.bits q.y.bits q.given.bits
 
+-- the formulas of the interventional effect; none where one of its two effects has none
+abbrev pub IsAnother : MixedGraph → Question → Option Interventional → Type 0
+IsAnother g q other = IsInterventional g q.x.bits q.through.bits q.y.bits q.given.bits other
+
 -- a child of x leads to y both through the mediators and past them: two models show that no formula equals the nested effect; and there is no hedge
-pub record IsWitnessed (g : MixedGraph) (q : Question) (w : Recanting) : Type 0 where
+pub record IsWitnessed (g : MixedGraph) (q : Question) (w : Recanting) (other : Option Interventional) : Type 0 where
   pub witness : IsWitness g q.x.bits q.through.bits q.y.bits w
   pub lost : IsLostNested g q.x.bits q.through.bits q.y.bits q.given.bits
   pub no_hedge : HasNoHedge g q
+  pub another : IsAnother g q other
 
 -- a district has children of one treatment of both kinds: two models show that no formula equals the nested effect; and there is no hedge
-pub record IsParted (g : MixedGraph) (q : Question) (s : Parted) : Type 0 where
+pub record IsParted (g : MixedGraph) (q : Question) (s : Parted) (other : Option Interventional) : Type 0 where
   pub split : IsSplit g q.x.bits q.through.bits q.y.bits q.given.bits s
   pub lost : IsLostNested g q.x.bits q.through.bits q.y.bits q.given.bits
   pub no_hedge : HasNoHedge g q
+  pub another : IsAnother g q other
 
 -- the answer to this question in the observed graph g
 abbrev pub Decides : MixedGraph → Question → Answer → Type 0
 Decides g q (Formula a f) = IsAskedFor g q a × IsFormulaFor g q f
 Decides g q (Excluded a h pair) = IsAskedFor g q a × IsExcluded g q h pair
-Decides g q (Witness a w) = IsAskedFor g q a × IsWitnessed g q w
-Decides g q (Split a s) = IsAskedFor g q a × IsParted g q s
+Decides g q (Witness a w other) = IsAskedFor g q a × IsWitnessed g q w other
+Decides g q (Split a s other) = IsAskedFor g q a × IsParted g q s other
 
 -- x acts on none of what is given
 abbrev pub AreBefore : MixedGraph → Question → Type 0

@@ -13,19 +13,13 @@ use Rattle.counter_models.specs.declared.counter_pair.CounterPair.{CounterPair}
 use Rattle.identify_text.specs.Vocabulary.{answer_in, effect_term, vertex_text, hedge_answer}
 use Rattle.primed_names.specs.Vocabulary.{primed_names}
 use Rattle.told.specs.declared.form.Writing.{Writing}
-use Rattle.told.specs.declared.form.Writing.TheVariants.{Plain, Latex, Certificate}
+use Rattle.told.specs.Vocabulary.{notation_of}
 use Rattle.natural_id.specs.declared.answers.Part.{Part}
 use Rattle.natural_id.specs.declared.answers.NaturalFormula.{NaturalFormula}
 use Rattle.natural_id.specs.declared.answers.Witness.{Witness}
 use Rattle.natural_id.specs.declared.answers.Split.{Split}
 use Rattle.natural_command.specs.declared.answer.Asked.{Asked}
 use Rattle.natural_command.specs.Second.{names_read}
-
--- the notation of a formula
-abbrev pub notation_of : Writing → Notation
-notation_of Plain = notations.Plain
-notation_of Latex = notations.Latex
-notation_of Certificate = notations.Plain
 
 -- ---- the effect that is asked for
 

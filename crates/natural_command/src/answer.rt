@@ -1,11 +1,13 @@
 //! What is answered of a nested effect.
 
+use crate::another::{push_split_with, push_witness_with, split_with, witness_with};
 use crate::asking::Question;
-use crate::objects::{push_excluded, push_formula_of, push_split, push_witness};
-use crate::texts::{excluded_text, formula_text, split_text, witness_text};
+use crate::objects::{push_excluded, push_formula_of};
+use crate::texts::{excluded_text, formula_text};
 use answer_json::Object;
 use counter_models::CounterPair;
 use hedge::Hedge;
+use interventional_id::Interventional;
 use mixed_graph::{Names, VSet};
 use natural_id::{NaturalFormula, Split, Witness};
 use replies::Outcome;
@@ -29,10 +31,10 @@ pub enum Answer {
     Formula(Asked, NaturalFormula),
     /// There is none: two models of a hedge for the joint effect on y and what is given show it.
     Excluded(Asked, Hedge, CounterPair),
-    /// There is none, since a vertex reads both values of a treatment; the joint effect has a formula.
-    Witness(Asked, Witness),
-    /// There is none, since a district reads both values of a treatment; the joint effect has a formula.
-    Split(Asked, Split),
+    /// There is none, since a vertex reads both values of a treatment; the joint effect has a formula, and another effect may have one.
+    Witness(Asked, Witness, Option<Interventional>),
+    /// There is none, since a district reads both values of a treatment; the joint effect has a formula, and another effect may have one.
+    Split(Asked, Split, Option<Interventional>),
 }
 
 impl Told for Answer {
@@ -44,8 +46,8 @@ impl Told for Answer {
         match self {
             Answer::Formula(_, _) => Outcome::Yes,
             Answer::Excluded(_, _, _) => Outcome::No,
-            Answer::Witness(_, _) => Outcome::No,
-            Answer::Split(_, _) => Outcome::No,
+            Answer::Witness(_, _, _) => Outcome::No,
+            Answer::Split(_, _, _) => Outcome::No,
         }
     }
 
@@ -53,8 +55,8 @@ impl Told for Answer {
         match self {
             Answer::Formula(asked, f) => formula_text(alloc, names, *asked, f, writing),
             Answer::Excluded(asked, h, pair) => excluded_text(alloc, names, *asked, h, pair),
-            Answer::Witness(asked, w) => witness_text(alloc, names, *asked, *w),
-            Answer::Split(asked, s) => split_text(alloc, names, *asked, *s),
+            Answer::Witness(asked, w, other) => witness_with(alloc, names, *asked, *w, other),
+            Answer::Split(asked, s, other) => split_with(alloc, names, *asked, *s, other),
         }
     }
 
@@ -67,8 +69,8 @@ impl Told for Answer {
         match self {
             Answer::Formula(asked, f) => push_formula_of(object, names, *asked, f),
             Answer::Excluded(asked, h, pair) => push_excluded(object, names, *asked, h, pair),
-            Answer::Witness(asked, w) => push_witness(object, names, *asked, *w),
-            Answer::Split(asked, s) => push_split(object, names, *asked, *s),
+            Answer::Witness(asked, w, other) => push_witness_with(object, names, *asked, *w, other),
+            Answer::Split(asked, s, other) => push_split_with(object, names, *asked, *s, other),
         }
     }
 }

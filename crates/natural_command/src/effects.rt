@@ -31,7 +31,12 @@ fn push_list(alloc: Global, out: &mut Vec<u8>, names: &Names, set: VSet) -> Resu
 }
 
 /// Appends the name of a set of one member, or any other set in braces.
-fn push_group(alloc: Global, out: &mut Vec<u8>, names: &Names, set: VSet) -> Result<(), AllocError>
+pub fn push_group(
+    alloc: Global,
+    out: &mut Vec<u8>,
+    names: &Names,
+    set: VSet,
+) -> Result<(), AllocError>
     ensures { OnOk result (out.new.items ≡ out.old.items ++ group_text names.now set.bits) }
 {
     if set.count() == 1 {

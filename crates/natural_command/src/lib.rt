@@ -1,6 +1,7 @@
 //! The command `natural`: what y would be under do(x), were mediators as under another value of x.
 #![tactic(auto)]
 
+mod another;
 mod answer;
 mod asking;
 mod effects;
@@ -13,6 +14,9 @@ mod texts;
 
 pub use answer::{Answer, Asked};
 pub use asking::Question;
+pub use effects::push_group;
 pub use fault::NaturalFault;
+pub use objects::push_asked;
 pub use reply::{natural_answer, natural_reply};
 pub use request::{ROW, Request};
+pub use second::names_read;

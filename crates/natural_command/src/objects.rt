@@ -16,9 +16,8 @@ use crate::texts::{body_text, district_effect, equation_in, joint_of};
 use answer_json::Object;
 use answer_text::Notation;
 use counter_models::CounterPair;
-use effect_answers::objects::push_formula;
+use effect_answers::objects::{push_formula, push_pair};
 use hedge::Hedge;
-use hedge_json::{push_hedge, push_models};
 use mixed_graph::{Names, VSet};
 use natural_id::{NaturalFormula, Part, Split, Witness};
 use primed_names::primed_names;
@@ -60,8 +59,8 @@ fn push_ways(object: &mut Object, names: &Names, asked: Asked) -> Result<(), All
     object.text_at("effect", effect.as_slice())
 }
 
-/// What all answers begin with.
-fn push_asked(
+/// What all answers begin with: the answer's word, the sets, the second names of x, and the effect.
+pub fn push_asked(
     object: &mut Object,
     word: &str,
     names: &Names,
@@ -190,10 +189,7 @@ fn push_hedge_of(
     ensures { OnOk result (object.new ≡ with_members (hedge_members_of names.now asked h.now pair.now) object.old) }
 {
     push_joint(object, names, asked)?;
-    object.key("hedge")?;
-    push_hedge(object, names, h)?;
-    object.key("models")?;
-    push_models(object, names, pair)
+    push_pair(object, names, h, pair)
 }
 
 /// The members where the joint effect has a hedge.

@@ -19,6 +19,7 @@ use crate::fault::{NaturalFault, after};
 use crate::request::Request;
 use dag_reader::ReadGraph;
 use diagram::Diagram;
+use interventional_id::interventional;
 use mixed_graph::{Graph, joined};
 use natural_id::{Natural, leading_past, leading_through, natural};
 use replies::Reply;
@@ -66,6 +67,7 @@ fn decide(alloc: Global, seen: &ReadGraph, question: Question) -> Result<Answer,
     requires sets { let q = question in AreFourSets seen.now.graph.n (has q.x.bits) (has q.y.bits) (has q.through.bits) (has q.given.bits) }
     requires some { 0 < question.x.bits }
     requires outcome { 0 < question.y.bits }
+    requires mediator { 0 < question.through.bits }
     ensures answer { IfOk result (IsForQuestion (graph_of seen.now.graph) question) }
     ensures fault { IfErr result (IsQuestionFaultOrMemory (graph_of seen.now.graph) seen.now.names question) }
 {
@@ -108,6 +110,7 @@ fn identified(alloc: Global, g: &Graph, question: Question) -> Result<Answer, Al
     requires sets { let q = question in AreFourSets g.now.n (has q.x.bits) (has q.y.bits) (has q.through.bits) (has q.given.bits) }
     requires some { 0 < question.x.bits }
     requires outcome { 0 < question.y.bits }
+    requires mediator { 0 < question.through.bits }
     requires before { AreBefore (graph_of g.now) question }
     requires few { name_count g.now.n question.x.bits ≤ 64 }
     ensures { IfOk result (Decides (graph_of g.now) question) }
@@ -122,7 +125,13 @@ fn identified(alloc: Global, g: &Graph, question: Question) -> Result<Answer, Al
     match natural(alloc, g, x, through, y, given)? {
         Natural::Formula(formula) => Ok(Answer::Formula(asked, formula)),
         Natural::Hedge(hedge, pair) => Ok(Answer::Excluded(asked, hedge, pair)),
-        Natural::Witness(witness) => Ok(Answer::Witness(asked, witness)),
-        Natural::Split(split) => Ok(Answer::Split(asked, split)),
+        Natural::Witness(witness) => {
+            let other = interventional(alloc, g, x, through, y, given)?;
+            Ok(Answer::Witness(asked, witness, other))
+        }
+        Natural::Split(split) => {
+            let other = interventional(alloc, g, x, through, y, given)?;
+            Ok(Answer::Split(asked, split, other))
+        }
     }
 }

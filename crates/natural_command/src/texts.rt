@@ -8,7 +8,7 @@ ghost use Rattle.expr_text.specs.Vocabulary.{expr_in, formula_in, wrapped, paren
 ghost use Rattle.mixed_graph.specs.Vocabulary.{has};
 ghost use Rattle.answer_text.specs.Vocabulary.{term_in};
 ghost use Rattle.natural_command.specs.Second.{names_read};
-ghost use Rattle.natural_command.specs.Sentences.{notation_of, district_effect, is_defined, operand_in, part_in, times_before, parts_in, summed_in, sum_in, over_in, body_in, equation_in, part_lines, no_path_text, indirect_line, direct_line, nil_lines, formula_text, joint_of, excluded_text, read_twice_text, reads_text, witness_text, split_text};
+ghost use Rattle.natural_command.specs.Sentences.{district_effect, is_defined, operand_in, part_in, times_before, parts_in, summed_in, sum_in, over_in, body_in, equation_in, part_lines, no_path_text, indirect_line, direct_line, nil_lines, formula_text, joint_of, excluded_text, read_twice_text, reads_text, witness_text, split_text};
 
 use crate::answer::Asked;
 use crate::effects::{effect_in, effect_text};
@@ -25,16 +25,6 @@ use natural_id::{NaturalFormula, Part, Split, Witness};
 use prob_expr::{Expr, Formula, Target};
 use std::alloc::{AllocError, Global};
 use told::Writing;
-
-/// The notation of a formula.
-fn notation_of(writing: Writing) -> Notation
-    ensures { result ≡ notation_of writing }
-{
-    match writing {
-        Writing::Plain | Writing::Certificate => Notation::Plain,
-        Writing::Latex => Notation::Latex,
-    }
-}
 
 /// The outcomes of the joint effect: y and what is given.
 pub fn joint_of(asked: Asked) -> VSet
@@ -57,7 +47,7 @@ pub fn district_effect(names: &Names, part: &Part) -> Target
 }
 
 /// Whether a formula has definitions.
-fn is_defined(f: &Formula) -> bool
+pub fn is_defined(f: &Formula) -> bool
     ensures { result ≡ is_defined (formula_view f.now) }
 {
     f.defs.len() != 0
@@ -96,7 +86,7 @@ fn push_parenthesized(
 }
 
 /// Appends the factor of a part's formula.
-fn push_operand(
+pub fn push_operand(
     alloc: Global,
     out: &mut Vec<u8>,
     notation: Notation,
@@ -162,7 +152,7 @@ fn push_parts(
 }
 
 /// Appends the sign of a sum over a set, where it isn't empty.
-fn push_summed(
+pub fn push_summed(
     out: &mut Vec<u8>,
     notation: Notation,
     names: &Names,
@@ -396,7 +386,7 @@ pub fn formula_text(
 ) -> Result<Vec<u8>, AllocError>
     ensures { IfOk result (λ v. v.items ≡ formula_text writing names.now asked f.now) }
 {
-    let notation = notation_of(writing);
+    let notation = writing.notation();
     let mut text = equation_in(alloc, notation, names, asked, f)?;
     text.extend_from_slice(b"\n")?;
     push_lines(

@@ -2,7 +2,7 @@
 use Rattle.std.proofs.Common.{ℕ, ◌≡◌, ◌<◌, Bool, true, sym, subst}
 use Rattle.mixed_graph.specs.Vocabulary.{has, MixedGraph, IsMixedGraph}
 use Rattle.fractions.proofs.FractionLaws.{equal_sym, equal_trans}
-use Rattle.finite_models.specs.Vocabulary.{FiniteModel, Fits, IsAssignment, IsPositiveModel, ServesTwo}
+use Rattle.finite_models.specs.Vocabulary.{FiniteModel, Fits, IsAssignment, IsPositiveModel}
 use Rattle.latent_projection.specs.Vocabulary.{IsObserved}
 use Rattle.prob_expr.specs.Vocabulary.{PlainFormula, value_of}
 use Rattle.prob_expr.proofs.Allowed.{in_second}

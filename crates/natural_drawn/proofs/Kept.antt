@@ -4,7 +4,7 @@ use Rattle.std.proofs.lemmas.Bool.{and_from}
 use mathlib.Core.Path.{fun_ext}
 use Rattle.mixed_graph.specs.Vocabulary.{members_below, MixedGraph, IsMixedGraph}
 use Rattle.finite_models.specs.Vocabulary.{set_at, FiniteModel, IsAssignment, solution, agree, intervene, world_weight, total}
-use Rattle.finite_models.proofs.Bools.{and_first, and_second, not_both, same_truth}
+use Rattle.finite_models.proofs.Bools.{and_second, not_both}
 use Rattle.finite_models.proofs.Following.{Follows, follows_intervene, intervene_alike}
 use Rattle.finite_models.proofs.Indicators.{number, cond-number}
 use Rattle.finite_models.proofs.Solutions.{IsRanked, solution_within, agree_from, agree_gives, agree_same}

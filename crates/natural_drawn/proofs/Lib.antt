@@ -4,6 +4,7 @@ mod Kept
 mod Folding
 mod Shared
 mod Carried
+pub mod Matched
 pub mod Formulas
 pub mod Lost
 pub mod Differing

@@ -1,22 +1,20 @@
 -- A model of the observed graph that shares its worlds with one of the diagram as drawn gives each event of several worlds its probability.
 use Rattle.std.proofs.Common.{ℕ, ◌*◌, ◌≡◌, ◌<◌, Bool, true, false, cond, not, refl, sym, ap, ap₂, ◌∙◌, ◌||◌, ◌&&◌, subst}
-use Rattle.std.proofs.lemmas.Bool.{not_from_false}
 use mathlib.Core.Path.{fun_ext}
 use Rattle.mixed_graph.specs.Vocabulary.{MixedGraph, IsMixedGraph}
 use Rattle.finite_models.specs.Vocabulary.{sum_over, product_below, FiniteModel, Fits, IsAssignment, solution, agree, intervene, sum_worlds, world_weight, total}
 use Rattle.finite_models.proofs.Following.{follows_of, follows_intervene}
 use Rattle.finite_models.proofs.Solutions.{solution_within}
-use Rattle.finite_models.proofs.SumLaws.{over-congr, over-congr_within}
+use Rattle.finite_models.proofs.SumLaws.{over-congr_within}
 use Rattle.hidden_models.specs.Vocabulary.{Folds, new_number, set_before, values_before, SharesWorlds}
-use Rattle.hidden_models.proofs.FoldingLaw.{position, member}
-use Rattle.hidden_models.proofs.Positions.{position_lt, member_is}
+use Rattle.hidden_models.proofs.FoldingLaw.{member}
+use Rattle.hidden_models.proofs.Positions.{member_is}
 use Rattle.hidden_models.proofs.ReachingLaw.{observed_of}
-use Rattle.treated_models.specs.Vocabulary.{is_both, weight_of_both}
-use Rattle.treated_drawn.specs.Vocabulary.{drawn_both}
+use Rattle.treated_models.specs.Vocabulary.{is_both}
 use Rattle.treated_drawn.proofs.Both.{solution_none, no_member}
 use Rattle.nested_models.specs.Nested.{nested}
-use Rattle.nested_models.specs.Vocabulary.{is_nested, weight_of_nested}
-use Rattle.natural_drawn.specs.Drawn.{FoldsNested, drawn_nested}
+use Rattle.nested_models.specs.Vocabulary.{is_nested}
+use Rattle.natural_drawn.specs.Drawn.{FoldsNested}
 use Rattle.natural_drawn.proofs.Worlds.{set_union, agree_kept, same_rounds}
 
 module _ (g : MixedGraph) (ok : IsMixedGraph g) (l : ℕ → Bool) (q : MixedGraph) (w w' : FiniteModel) (fit : Fits g w) (fit' : Fits q w')

@@ -1,15 +1,16 @@
 -- What is true of nested effects in the diagram as drawn.
 use Rattle.std.specs.Prelude.{ℕ, ◌≡◌, ◌<◌, Bool, true, List}
 use Rattle.mixed_graph.specs.Vocabulary.{has, MixedGraph, IsMixedGraph, union}
-use Rattle.finite_models.specs.Vocabulary.{FiniteModel, Fits}
+use Rattle.fractions.specs.Vocabulary.{IsEqual}
+use Rattle.finite_models.specs.Vocabulary.{FiniteModel, Fits, IsAssignment, IsPositiveModel, total}
 use Rattle.latent_projection.specs.Vocabulary.{IsObserved}
-use Rattle.prob_expr.specs.Vocabulary.{PlainFormula, effect_on}
-use Rattle.hidden_models.specs.Vocabulary.{NotIdentifiableAsDrawn}
+use Rattle.prob_expr.specs.Vocabulary.{AreProportional, PlainFormula, Weights, effect_on, weights_of}
+use Rattle.hidden_models.specs.Vocabulary.{IsMatchedAsDrawn, IsObservedPositive, NotIdentifiableAsDrawn, drawn_weights}
 use Rattle.treated_models.specs.Vocabulary.{FormulaNamesOnce}
-use Rattle.nested_models.specs.Vocabulary.{IsNestedQuery, HasNoIndirectPath, HasNoDirectPath, EqualsNested}
+use Rattle.nested_models.specs.Vocabulary.{nested_effect, IsNestedQuery, HasNoIndirectPath, HasNoDirectPath, EqualsNested}
 use Rattle.natural_id.specs.Vocabulary.{PlainPart, EqualsNatural}
 use Rattle.twisted_models.specs.Vocabulary.{DifferOnNested}
-use Rattle.natural_drawn.specs.Drawn.{FoldsNested, EqualsNaturalAsDrawn, EqualsNestedAsDrawn, IsLostNestedAsDrawn, DifferOnNestedAsDrawn}
+use Rattle.natural_drawn.specs.Drawn.{FoldsNested, drawn_nested_effect, EqualsNaturalAsDrawn, EqualsNestedAsDrawn, IsLostNestedAsDrawn, DifferOnNestedAsDrawn}
 use Rattle.natural_drawn.specs.Drawn.{IsIndirectNilAsDrawn, IsDirectNilAsDrawn}
 
 -- a model of the observed graph q that folds w, nested events too
@@ -22,6 +23,21 @@ pub record HasNestedFolded (q : MixedGraph) (l : ℕ → Bool) (w : FiniteModel)
 abbrev pub EachHasNestedFolded : Type 0
 EachHasNestedFolded = (g : MixedGraph) → IsMixedGraph g → (l : ℕ → Bool) (q : MixedGraph) → IsObserved g l q → (w : FiniteModel) → Fits g w
     → HasNestedFolded q l w
+
+-- a positive model of the observed graph q with the values of observed vertices and the nested effects of w, whose observed weights are these, up to one factor
+pub record HasNestedMatched (q : MixedGraph) (l : ℕ → Bool) (w : FiniteModel) (used : ℕ → Bool) (v : Weights) (all : ℕ) : Type 0 where
+  pub folded : FiniteModel
+  pub fits : Fits q folded
+  pub positive : IsPositiveModel folded
+  pub matched : AreProportional used v all (weights_of folded) (total folded)
+  pub same : (x m y z : ℕ) (s t : ℕ → ℕ) → IsAssignment folded.vertices folded.size s → IsAssignment folded.vertices folded.size t
+      → IsEqual (nested_effect folded (has x) (has m) (has y) (has z) s t) (drawn_nested_effect l w x m y z s t)
+  pub levels : (s : ℕ → ℕ) → IsAssignment (drawn_weights l w).vertices (drawn_weights l w).size s → IsAssignment folded.vertices folded.size s
+
+-- every model of a graph with hidden vertices that is positive on the observed ones, and whose observed weights are these, has one
+abbrev pub EachHasNestedMatched : Type 0
+EachHasNestedMatched = (g : MixedGraph) → IsMixedGraph g → (l : ℕ → Bool) (q : MixedGraph) → IsObserved g l q → (w : FiniteModel) → Fits g w
+    → IsObservedPositive l w → (used : ℕ → Bool) (v : Weights) (all : ℕ) → IsMatchedAsDrawn l used v all w → HasNestedMatched q l w used v all
 
 -- a formula of parts that equals a nested effect in every positive model of the observed graph q equals it in the diagram as drawn
 abbrev pub RightPartsAreDrawn : Type 0

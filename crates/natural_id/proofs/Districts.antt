@@ -39,7 +39,7 @@ in_one (t ∷ ts) v (inr h) = bools (has t v) (is_in ts v) (in_one ts v h)
     bools a b h = grind (arith, h)
 
 -- ---- parts that are closed within d are unjoined
-unjoined : (g : MixedGraph) (d : ℕ) (ts : List ℕ) → AreParts g d ts → AreApart ts → ((v : ℕ) → IsInOne ts v → has d v ≡ true) → AreUnjoined g ts
+pub unjoined : (g : MixedGraph) (d : ℕ) (ts : List ℕ) → AreParts g d ts → AreApart ts → ((v : ℕ) → IsInOne ts v → has d v ≡ true) → AreUnjoined g ts
 unjoined g d [] parts apart inside = tt
 unjoined g d (t ∷ ts) parts apart inside = (
   λ u v i j. (

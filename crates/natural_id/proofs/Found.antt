@@ -98,6 +98,33 @@ module _ (g : MixedGraph) (ok : IsMixedGraph g) (c : ℕ) (low : (v : ℕ) → h
       made_or_stopped g order c part.a (Source.Under 0) part.k part.defs part.value big part.factor
       (subst (λ a. IsStopped g c a big) a_is (subst (λ v. IsStopped g v h.a big) c_is h.stops))
 
+  -- a district of a set that has its parents is the district of itself among its ancestors: identification of it doesn't stop
+  pub never_closed : (s : ℕ) → ((p v : ℕ) → g.arrow p v ≡ true → has s v ≡ true → has s p ≡ true) → ((v : ℕ) → has c v ≡ true → has s v ≡ true) → IsHome g s c
+      → (small big : ℕ) → IsUnidentified g (minus (all g.vertices) c) c small big → ⊥
+  never_closed s closed inside_s place small big u =
+      let h = stop_in g u.order 0 u.stop.split.districts small big u.stop.stops in
+      let d_is = whole u.stop.split.d u.stop.split.is_d in
+      let home : IsHome g c h.c = home_of g c 0 u.order u.stop.split.districts h.c
+      (subst (λ d. AreDistricts g d 0 u.order u.stop.split.districts) d_is u.stop.split.are_districts) h.among in
+      let c_is = own h.c home in
+      stopped h.a big (subst (λ v. AreAncestorsIn g (all g.vertices) v h.a) c_is h.ancestors) (subst (λ v. IsStopped g v h.a big) c_is h.stops)
+    where
+      along : (v end : ℕ) (path : List ℕ) → IsDirectedPath (induced g (has (all g.vertices))) v path end → has c end ≡ true → has s v ≡ true
+      along v end [] p i = inside_s v (ap (has c) p ∙ i)
+      along v end (w ∷ path) p i = closed v w (and_first (g.arrow v w) (has (all g.vertices) v && has (all g.vertices) w) p.0) (along w end path p.1 i)
+
+      linked : (a v : ℕ) → AreAncestorsIn g (all g.vertices) c a → IsLinked g (has a) (has c) v → has c v ≡ true
+      linked a v are (at e) = e
+      linked a v are (by {v = w} i b r) = let k = are.sound v i in
+          place.district.complete v (by (along v k.end k.path k.leads k.inside) b (place.district.sound w (linked a w are r)))
+
+      district_is : (a t : ℕ) → AreAncestorsIn g (all g.vertices) c a → IsDistrict g a c t → t ≡ c
+      district_is a t are d = same_from_has t c (λ v. same_truth (has t v) (has c v) (λ e. linked a v are (d.sound v e)) (λ e. d.complete v (at e)))
+
+      stopped : (a big : ℕ) → AreAncestorsIn g (all g.vertices) c a → IsStopped g c a big → ⊥
+      stopped a _ are (IsStopped.here {t = t} d larger leads) = larger (district_is a t are d)
+      stopped a _ are (IsStopped.later {t = t} d larger leads smaller more r) = larger (district_is a t are d)
+
   pub found : (x y : ℕ) → x ≢ 0 → (d : ℕ) → AreAncestorsIn g (minus (all g.vertices) x) y d → (ts : List ℕ) → AreDistrictsOf g d ts → Among c ts
       → (f : PlainFormula) → IsIdentified g x y f → (small big : ℕ) → IsUnidentified g (minus (all g.vertices) c) c small big → ⊥
   found x y some d are ts districts m f i small big u = go i.answer
@@ -124,3 +151,12 @@ districts_found g ok x y joint same some d are ts districts maximal f i k e lt s
     let is = maximal k e lt in
     found g ok (get_or ts k e) (λ v h. (are.sound v (is.inside v h)).vertex) is.joined x joint (λ z. absurd (omega (arith, some, z))) d are ts districts
     (among_at ts k e lt) f (subst (λ j. IsIdentified g x j f) (sym same) i) small big u
+
+-- no district of a set that has its parents stops
+pub districts_never : (g : MixedGraph) → IsMixedGraph g → (s : ℕ) → ((v : ℕ) → has s v ≡ true → v < g.vertices)
+    → ((p v : ℕ) → g.arrow p v ≡ true → has s v ≡ true → has s p ≡ true) → (ts : List ℕ) → AreDistrictsOf g s ts → All (IsMaximalJoined g s) ts
+    → All (λ c. (small big : ℕ) → IsUnidentified g (minus (all g.vertices) c) c small big → ⊥) ts
+districts_never g ok s low closed ts districts maximal k e lt small big u =
+    let is = maximal k e lt in
+    never_closed g ok (get_or ts k e) (λ v h. low v (is.inside v h)) is.joined s closed is.inside
+    (home_of g s 0 districts.order ts (get_or ts k e) districts.districts (among_at ts k e lt)) small big u

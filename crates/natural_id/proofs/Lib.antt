@@ -4,3 +4,4 @@ pub mod Leading
 pub mod Found
 pub mod Making
 pub mod Answered
+pub mod One

@@ -9,16 +9,17 @@ use Rattle.mixed_graph.specs.Vocabulary.{has, MixedGraph, minus, all}
 use Rattle.prob_expr.specs.Vocabulary.{effect_on, EqualsEffect, formula_view}
 use Rattle.natural_id.specs.declared.answers.Part.{Part}
 use Rattle.natural_id.specs.declared.answers.Split.{Split}
-use Rattle.natural_id.specs.Parts.{PlainPart, IsRightPart, AreRightParts, districts_of}
-use Rattle.natural_id.specs.Answers.{part_view, parts_view, AreAlike, IsPartOf, IsSplitIn}
+use Rattle.natural_id.specs.Parts.{PlainPart, IsRightPart, AreRightParts, IsFoundPart, AreFoundParts, districts_of}
+use Rattle.natural_id.specs.Answers.{part_view, parts_view, AreAlike, IsFormulaOf, IsPartOf, IsSplitIn}
 
 -- the parts of the districts so far
 pub record AreMade (g : MixedGraph) (x through : ℕ) (ts : List ℕ) (ps : List Part) : Type 0 where
   pub districts : districts_of (parts_view ps) ≡ ts
   pub parts : AreRightParts g x through (parts_view ps)
+  pub found : AreFoundParts g x through (parts_view ps)
 
 pub made_none : (g : MixedGraph) (x through : ℕ) (ps : List Part) → ps ≡ [] → AreMade g x through [] ps
-made_none g x through ps e = subst (AreMade g x through []) (sym e) (record { districts = refl; parts = tt })
+made_none g x through ps e = subst (AreMade g x through []) (sym e) (record { districts = refl; parts = tt; found = tt })
 
 districts_more : (ps : List PlainPart) (p : PlainPart) → districts_of (ps ++ p ∷ []) ≡ districts_of ps ++ p.district ∷ []
 districts_more [] p = refl
@@ -29,19 +30,42 @@ parts_more : (g : MixedGraph) (x through : ℕ) (ps : List PlainPart) (p : Plain
 parts_more g x through [] p h k = (k, tt)
 parts_more g x through (q ∷ ps) p h k = (h.0, parts_more g x through ps p h.1 k)
 
+found_more : (g : MixedGraph) (x through : ℕ) (ps : List PlainPart) (p : PlainPart) → AreFoundParts g x through ps
+    → IsFoundPart g x through p → AreFoundParts g x through (ps ++ p ∷ [])
+found_more g x through [] p h k = (k, tt)
+found_more g x through (q ∷ ps) p h k = (h.0, found_more g x through ps p h.1 k)
+
+-- the treatments with a child in c that leads to y through m are these
+abbrev pub AreRead : MixedGraph → (x through c second : ℕ) → Type 0
+AreRead g x through c second = (q : ℕ) → (has second q ≡ true)
+    ↔ ((has x q ≡ true) × ((v : ℕ) × (has c v ≡ true) × (has through v ≡ true) × (g.arrow q v ≡ true)))
+
 -- one part more
 pub made_more : (g : MixedGraph) (x through : ℕ) (ts next : List ℕ) (ps ps' : List Part) (c second : VSet) (p : Part)
     → AreMade g x through ts ps → ps' ≡ ps ++ p ∷ [] → next ≡ ts ++ c.bits ∷ [] → IsPartOf g c second p
-    → ((q v : ℕ) → g.arrow q v ≡ true → has x q ≡ true → has c.bits v ≡ true → has through v ≡ has second.bits q) → AreMade g x through next ps'
-made_more g x through ts next ps ps' c second p made e n is reads = record {
+    → ((q v : ℕ) → g.arrow q v ≡ true → has x q ≡ true → has c.bits v ≡ true → has through v ≡ has second.bits q) → AreRead g x through c.bits second.bits
+    → AreMade g x through next ps'
+made_more g x through ts next ps ps' c second p made e n is reads read = record {
   districts = ap (λ l. districts_of (parts_view l)) e ∙ ap districts_of (map-append part_view ps (p ∷ []))
       ∙ districts_more (parts_view ps) (part_view p) ∙ ap₂ (λ l d. l ++ d ∷ []) made.districts (ap (λ (s : VSet). s.bits) is.district) ∙ sym n;
   parts = subst (AreRightParts g x through) (sym (ap parts_view e ∙ map-append part_view ps (p ∷ [])))
       (parts_more g x through (parts_view ps) (part_view p) made.parts (record {
-        formula = subst (λ (s : VSet). EqualsEffect g (effect_on (minus (all g.vertices) s.bits) s.bits) (formula_view p.formula)) (sym is.district) is.formula;
+        formula = right.equals;
         reads = λ q v a e i. reads q v a e (subst (λ (s : VSet). has s.bits v ≡ true) is.district i) ∙ ap (λ (s : VSet). has s.bits q) (sym is.second);
       }));
+  found = subst (AreFoundParts g x through) (sym (ap parts_view e ∙ map-append part_view ps (p ∷ [])))
+      (found_more g x through (parts_view ps) (part_view p) made.found (record {
+        second = subst (λ (s : VSet). AreRead g x through p.district.bits s.bits) (sym is.second)
+            (subst (λ (s : VSet). AreRead g x through s.bits second.bits) (sym is.district) read);
+        identified = right.identified;
+        formed = right.formed;
+        do_free = right.do_free;
+        names = right.names;
+      }));
 }
+  where
+    right : IsFormulaOf g p.district.bits (formula_view p.formula)
+    right = subst (λ (s : VSet). IsFormulaOf g s.bits (formula_view p.formula)) (sym is.district) is.formula
 
 no_of : (b : Bool) → not b ≡ true → b ≡ false
 no_of b h = grind (arith, h)
@@ -115,3 +139,15 @@ module _ (g : MixedGraph) (c x through : ℕ) where
         (λ h. let k = (are_parents q).0 (and_second (has x q) (has parents q) (sym (is_second q) ∙ h)) in
         let in_both = sym (is_inside k.0) ∙ k.1 in
         alike q v k.0 e a k.2 i (and_first (has c k.0) (has through k.0) in_both) ∙ and_second (has c k.0) (has through k.0) in_both)
+
+  -- and exactly the treatments with such a child are read at their second values
+  module _ (inside parents second : ℕ) (is_inside : (v : ℕ) → has inside v ≡ (has c v && has through v))
+      (are_parents : (q : ℕ) → (has parents q ≡ true) ↔ ((v : ℕ) × (has inside v ≡ true) × (g.arrow q v ≡ true)))
+      (is_second : (q : ℕ) → has second q ≡ (has x q && has parents q)) where
+    pub are_read : AreRead g x through c second
+    are_read q = (
+      λ h. let both = sym (is_second q) ∙ h in let k = (are_parents q).0 (and_second (has x q) (has parents q) both) in let i = sym (is_inside k.0) ∙ k.1 in
+          (and_first (has x q) (has parents q) both, (k.0, and_first (has c k.0) (has through k.0) i, and_second (has c k.0) (has through k.0) i, k.2)),
+      λ h. let v = h.1.0 in is_second q ∙ and_from (has x q) (has parents q) h.0
+          ((are_parents q).1 (v, is_inside v ∙ and_from (has c v) (has through v) h.1.1 h.1.2, h.1.3)),
+    )

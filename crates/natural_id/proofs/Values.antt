@@ -61,14 +61,14 @@ module _ (g : MixedGraph) (ok : IsMixedGraph g) (w : FiniteModel) (fit : Fits g 
       (λ e. agree_from w.vertices a (solution (intervene w b s) u) s (λ v il i. one v il ∙ agree_gives w.vertices a (solution (intervene w c s) u) s e v il i)))))
 
 module _ (g : MixedGraph) (ok : IsMixedGraph g) (w : FiniteModel) (fit : Fits g w) (positive : IsPositiveModel w) where
-  none_is_total : (b : ℕ → Bool) (s : ℕ → ℕ) → weight_of w b (has 0) s ≡ total w
+  pub none_is_total : (b : ℕ → Bool) (s : ℕ → ℕ) → weight_of w b (has 0) s ≡ total w
   none_is_total b s = weight-none (intervene w b s) (has 0) s (λ v. has-zero v)
 
-  some_worlds : (s : ℕ → ℕ) → IsAssignment w.vertices w.size s → 1 ≤ total w
+  pub some_worlds : (s : ℕ → ℕ) → IsAssignment w.vertices w.size s → 1 ≤ total w
   some_worlds s within = let k = positive_weight g w ok (follows_of g w fit) positive (λ v. false) (has 0) s within in
       let e = none_is_total (λ v. false) s in omega (arith, k, e)
 
-  or_none : (a : ℕ) → ◌≡◌ {A = ℕ → Bool} (λ v. has a v || has 0 v) (has a)
+  pub or_none : (a : ℕ) → ◌≡◌ {A = ℕ → Bool} (λ v. has a v || has 0 v) (has a)
   or_none a = fun_ext (λ v. ap (λ b. has a v || b) (has-zero v) ∙ go (has a v))
     where
       go : (b : Bool) → (b || false) ≡ b
@@ -76,7 +76,7 @@ module _ (g : MixedGraph) (ok : IsMixedGraph g) (w : FiniteModel) (fit : Fits g 
       go false = refl
 
   -- a right formula of a set has its weight where all other vertices are set, over all
-  part_is : (d : ℕ) (f : PlainFormula) → EqualsEffect g (effect_on (minus (all g.vertices) d) d) f → (c : ℕ → ℕ) → IsAssignment w.vertices w.size c
+  pub part_is : (d : ℕ) (f : PlainFormula) → EqualsEffect g (effect_on (minus (all g.vertices) d) d) f → (c : ℕ → ℕ) → IsAssignment w.vertices w.size c
       → IsEqual (value_of (weights_of w) f c) (over (weight_of w (λ v. not (has d v)) (has d) c) (total w))
   part_is d f right c within = subst (IsEqual (value_of (weights_of w) f c)) (ap₂ over
       (ap (λ a. weight_of w (has others) a c) (or_none d)
@@ -92,7 +92,7 @@ module _ (g : MixedGraph) (ok : IsMixedGraph g) (w : FiniteModel) (fit : Fits g 
     abbrev pub point : PlainPart → (ℕ → ℕ) → ℕ → ℕ
     point p c v = cond (has x v) (cond (has p.second v) (t v) (s v)) (c v)
 
-    point_within : (p : PlainPart) (c : ℕ → ℕ) → IsAssignment w.vertices w.size c → IsAssignment w.vertices w.size (point p c)
+    pub point_within : (p : PlainPart) (c : ℕ → ℕ) → IsAssignment w.vertices w.size c → IsAssignment w.vertices w.size (point p c)
     point_within p c hc v il = go (has x v) (has p.second v)
       where
         go : (a b : Bool) → cond a (cond b (t v) (s v)) (c v) < w.size v
@@ -140,7 +140,7 @@ module _ (g : MixedGraph) (ok : IsMixedGraph g) (w : FiniteModel) (fit : Fits g 
         or_two : (a b : Bool) → b ≡ true → (a || b) ≡ true
         or_two a b h = grind (arith, h)
 
-    powers : (n : ℕ) → 1 ≤ total w → 1 ≤ total w ^ n
+    pub powers : (n : ℕ) → 1 ≤ total w → 1 ≤ total w ^ n
     powers zero h = let e = pow-zero (total w) in omega (arith, e)
     powers (suc n) h = let e = pow-suc (total w) n in let k : 1 ≤ total w ^ n * total w = mul-pos (powers n h) h in omega (arith, e, k)
 

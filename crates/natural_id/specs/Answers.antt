@@ -1,15 +1,15 @@
 -- Right answers to the question for P(y[x, m[x']] | z).
 use Rattle.std.specs.Prelude.{ℕ, ◌≡◌, ◌⊎◌, Bool, true, false, List, map, Option, Some, None, IsTrue}
 use Rattle.mixed_graph.specs.declared.sets.VSet.{VSet}
-use Rattle.mixed_graph.specs.Vocabulary.{has, MixedGraph, union, minus, all}
+use Rattle.mixed_graph.specs.Vocabulary.{has, MixedGraph, IsAncestor, union, minus, all}
 use Rattle.hedge.specs.declared.hedge.Hedge.{Hedge}
 use Rattle.hedge.specs.Vocabulary.{IsMaximalJoined, IsHedge}
-use Rattle.prob_expr.specs.Vocabulary.{effect_on, PlainFormula, EqualsEffect, formula_view}
-use Rattle.identification_theory.specs.Vocabulary.{IsIdentified}
+use Rattle.prob_expr.specs.Vocabulary.{effect_on, fault_in, is_do_free, PlainFormula, EqualsEffect, formula_view}
+use Rattle.identification_theory.specs.Vocabulary.{FormulaNamesOnly, IsIdentified}
 use Rattle.identify.specs.Vocabulary.{IsRightHedge}
 use Rattle.nested_models.specs.Vocabulary.{LeadsPast, LeadsThrough, HasNoFormulaNested, IsSplitDistrict}
 use Rattle.twisted_models.specs.Vocabulary.{DifferOnNested}
-use Rattle.natural_id.specs.Parts.{PlainPart, EqualsNatural, AreRightParts, districts_of}
+use Rattle.natural_id.specs.Parts.{PlainPart, EqualsNatural, AreRightParts, AreFoundParts, IsFormulaByParts, districts_of}
 use Rattle.natural_id.specs.declared.answers.Part.{Part}
 use Rattle.natural_id.specs.declared.answers.Witness.{Witness}
 use Rattle.natural_id.specs.declared.answers.Split.{Split}
@@ -64,9 +64,16 @@ is_hedge (answers.Witness w) = false
 is_hedge (answers.Split s) = false
 is_hedge (answers.Hedge h pair) = true
 
--- a right answer that is no hedge
+-- the fact holds of what is summed and of the parts, where a formula is answered
+abbrev pub IfFormula : Natural → (ℕ → List PlainPart → Type 0) → Type 0
+IfFormula (answers.Formula f) P = P f.summed.bits (parts_view f.parts.items)
+IfFormula (answers.Witness w) P = Unit {0}
+IfFormula (answers.Split s) P = Unit {0}
+IfFormula (answers.Hedge h pair) P = Unit {0}
+
+-- a right answer that is no hedge, with the formula that the procedure finds, if it is one
 abbrev pub IsFound : MixedGraph → (x m y z : ℕ) → Natural → Type 0
-IsFound g x m y z a = IsRight g x m y z a × (is_hedge a ≡ false)
+IsFound g x m y z a = IsRight g x m y z a × (is_hedge a ≡ false) × IfFormula a (IsFormulaByParts g x m y z)
 
 -- ---- the parts of the code
 
@@ -81,11 +88,19 @@ IsWitnessOrNone g x through past (Some w) = IsTrue (has x w.treatment) × IsTrue
     × IsTrue (has past w.child)
 IsWitnessOrNone g x through past None = (p c : ℕ) → IsTrue (has x p) → IsTrue (g.arrow p c) → IsTrue (has through c) → IsTrue (has past c) → ⊥
 
--- the part of the district c, with a right formula
+-- the formula is that of P(c | do(all other vertices))
+pub record IsFormulaOf (g : MixedGraph) (c : ℕ) (f : PlainFormula) : Type 0 where
+  pub equals : EqualsEffect g (effect_on (minus (all g.vertices) c) c) f
+  pub identified : IsIdentified g (minus (all g.vertices) c) c f
+  pub formed : fault_in g.vertices f ≡ None
+  pub do_free : is_do_free f ≡ true
+  pub names : FormulaNamesOnly (IsAncestor g (has c)) f
+
+-- the part of the district c, with its formula
 pub record IsPartOf (g : MixedGraph) (c : VSet) (reading : VSet) (p : Part) : Type 0 where
   pub district : p.district ≡ c
   pub second : p.second ≡ reading
-  pub formula : EqualsEffect g (effect_on (minus (all g.vertices) c.bits) c.bits) (formula_view p.formula)
+  pub formula : IsFormulaOf g c.bits (formula_view p.formula)
 
 -- the district has a child of the treatment outside `through`, and one in it
 pub record IsSplitIn (g : MixedGraph) (x through : ℕ) (s : Split) : Type 0 where
@@ -110,4 +125,5 @@ IsSplitOrNone g x through c None = AreAlike g x through c.bits
 -- the right parts of these districts; or one of them with children of both kinds
 abbrev pub ArePartsOrSplit : MixedGraph → (x through d : ℕ) → List ℕ → Parted → Type 0
 ArePartsOrSplit g x through d ts (parted.Parts ps) = (districts_of (parts_view ps.items) ≡ ts) × AreRightParts g x through (parts_view ps.items)
+    × AreFoundParts g x through (parts_view ps.items)
 ArePartsOrSplit g x through d ts (parted.Split s) = IsMaximalJoined g d s.district.bits × IsSplitIn g x through s

@@ -1,3 +1,3 @@
 -- What other crates cite of this one, from one place.
-pub use Rattle.natural_id.specs.Answers.{IsLostNested, IsRight, IsSplit, IsWitness, ReadsBoth, is_hedge, parts_view}
-pub use Rattle.natural_id.specs.Parts.{EqualsNatural, IsNaturalTarget, PlainPart, natural_value, parts_value}
+pub use Rattle.natural_id.specs.Answers.{AreAlike, IfFormula, IsLostNested, IsRight, IsSplit, IsSplitIn, IsSplitOrNone, IsWitness, IsWitnessOrNone, ReadsBoth, is_hedge, part_view, parts_view}
+pub use Rattle.natural_id.specs.Parts.{AreFoundParts, AreNaturalParts, AreRightParts, EqualsNatural, IsFormulaByParts, IsFoundPart, IsNaturalTarget, PlainPart, districts_of, natural_value, parts_value}

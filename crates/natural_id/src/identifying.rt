@@ -6,8 +6,8 @@ ghost use Rattle.hedge.specs.declared.hedge.Hedge.{Hedge as HedgeData};
 ghost use Rattle.hedge.specs.Vocabulary.{IsHedge};
 ghost use Rattle.prob_expr.specs.Vocabulary.{PlainFormula};
 ghost use Rattle.identification_theory.specs.Vocabulary.{IsIdentified};
-ghost use Rattle.natural_id.specs.Answers.{IsRight, IsFound, IsSettled, IsWitnessOrNone, is_hedge};
-ghost use Rattle.natural_id.specs.Parts.{IsNaturalTarget};
+ghost use Rattle.natural_id.specs.Answers.{IfFormula, IsRight, IsFound, IsSettled, IsWitnessOrNone, is_hedge};
+ghost use Rattle.natural_id.specs.Parts.{IsFormulaByParts, IsNaturalTarget};
 
 use crate::answers::{Natural, NaturalFormula, Witness};
 use crate::parts::{Parted, parts_of};
@@ -41,7 +41,7 @@ fn settle(alloc: Global, g: &Graph, x: VSet, y: VSet) -> Result<Settled, AllocEr
 }
 
 /// A child of x that leads to y both through m and past it.
-fn witness_of(g: &Graph, x: VSet, children: VSet, through: VSet, past: VSet) -> Option<Witness>
+pub fn witness_of(g: &Graph, x: VSet, children: VSet, through: VSet, past: VSet) -> Option<Witness>
     requires children { (v : ℕ) → IsTrue (has children.bits v) ↔ ((p : ℕ) × IsTrue (has x.bits p) × IsTrue ((graph_of g.now).arrow p v)) }
     ensures { IsWitnessOrNone (graph_of g.now) x.bits through.bits past.bits result }
 {
@@ -105,6 +105,7 @@ pub fn natural(
     requires y_some { 0 < y.bits }
     ensures right { IfOk result (IsRight (graph_of g.now) x.bits m.bits y.bits z.bits) }
     ensures exact { IfOk result (λ a. IsTrue (is_hedge a) ↔ ((h : HedgeData) × IsHedge (graph_of g.now) x.bits (union y.bits z.bits) h)) }
+    ensures formula { IfOk result (λ a. IfFormula a (IsFormulaByParts (graph_of g.now) x.bits m.bits y.bits z.bits)) }
 {
     let joint = y.union(z);
     match settle(alloc, g, x, joint)? {

@@ -10,6 +10,7 @@ mod theory;
 mod ways;
 
 pub use answers::{Natural, NaturalFormula, Part, Split, Witness};
-pub use identifying::natural;
+pub use identifying::{natural, witness_of};
+pub use parts::split_in;
 pub use theory::laws;
 pub use ways::{leading_past, leading_through};

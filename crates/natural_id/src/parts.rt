@@ -38,7 +38,7 @@ fn part_of(alloc: Global, g: &Graph, c: VSet, second: VSet) -> Result<Part, Allo
 }
 
 /// How c reads both values of a treatment, where it does: by a child of it outside `through`, and by one in it.
-fn split_in(g: &Graph, x: VSet, through: VSet, c: VSet) -> Option<Split>
+pub fn split_in(g: &Graph, x: VSet, through: VSet, c: VSet) -> Option<Split>
     ensures { IsSplitOrNone (graph_of g.now) x.bits through.bits c result }
 {
     let direct = c.difference(through);

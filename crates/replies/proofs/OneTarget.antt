@@ -9,8 +9,6 @@ use Rattle.targets.specs.declared.fault.TargetFault.TheVariants.{EmptyY, EmptyX}
 use Rattle.targets.specs.Vocabulary.{NameFault, IsListedSet, IsFaultOfTarget, Lists, AreSets, EffectLists, effect_fault, AreEffectSets, IsEffectFault}
 use Rattle.targets.specs.declared.fault.TargetFault.TheVariants.{Unknown, Latent, Twice}
 use Rattle.targets.specs.Targets.{unknown, latent, twice}
-use Rattle.replies.specs.Observed.{IsTargetRefusal}
-use Rattle.replies.specs.Told.{Told}
 
 -- a list names one set
 pub one_set : (observed list : List (List ℕ)) (a b : ℕ) → IsListedSet observed list a → IsListedSet observed list b → b ≡ a
@@ -34,10 +32,6 @@ some_list = [] ∷ []
 pub is_some_list : some_list ≡ [] → ⊥
 unfolding some_list
 is_some_list e = cc e
-
--- lists that name the sets of a query aren't refused
-pub sets_refused : (l : Lists) (x y given : ℕ) (told : Told) → AreSets l x y given → IsTargetRefusal l told → ⊥
-sets_refused l x y given told s r = no_fault_of _ l.y l.x r.fault s.no_fault s.some_y s.some_x r.is_fault
 
 -- an empty x is no fault of an effect
 effect_fault_of : (l : EffectLists) (f : TargetFault) → IsEffectFault l f → IsFaultOfTarget (effect_fault l) l.y some_list f

@@ -1,7 +1,6 @@
 -- The command's words ask for one request, and its right answers end alike.
 use Rattle.std.proofs.Common.{◌≡◌, ◌-◌, ℕ, List, Ok, Err, refl, sym, ◌∙◌}
 use Rattle.std.specs.Prelude.{codes, slice_index}
-use Rattle.std.proofs.lemmas.Option.{same_Some}
 use Rattle.mixed_graph.specs.Vocabulary.{has, MixedGraph}
 use Rattle.m_separation.specs.declared.paths.OpenPath.{OpenPath}
 use Rattle.m_separation.specs.Vocabulary.{steps_from, IsOpenPath}
@@ -16,21 +15,22 @@ use Rattle.diagram.proofs.OneDiagram.{same_query_lists}
 use Rattle.replies.specs.Vocabulary.{IsAnswered}
 use Rattle.replies.proofs.Commands.{IsLawful}
 use Rattle.replies.proofs.OneTarget.{no_fault_of, same_three}
+use Rattle.told.proofs.OneSubject.{one_subject}
 use Rattle.told.specs.Vocabulary.{target_refusal}
 use Rattle.told.proofs.ToldOnce.{EndAlike, lawful_told}
 use Rattle.separation_commands.specs.declared.separate.answer.Answer.{Answer}
 use Rattle.separation_commands.specs.declared.separate.answer.Answer.TheVariants.{Separated, Connected}
-use Rattle.separation_commands.specs.SeparateRequests.{Request, IsRequest}
+use Rattle.separation_commands.specs.SeparateRequests.{Request, IsRequest, separate_row}
 use Rattle.separation_commands.specs.SeparateCommand.{separate_command}
 use Rattle.separation_commands.specs.SeparateTelling.{separate_telling}
 use Rattle.separation_commands.specs.SeparateRight.{AreSeparated, AreConnected, IsForLists, IsForNames}
 
 -- the uses ask for one request
 one_request : (uses : List Use) (q r : Request) → IsRequest uses q → IsRequest uses r → r ≡ q
-one_request uses q r a b = λ i. record {
-  file = same_Some r.file q.file (sym b.file ∙ a.file) i;
-  x = one_listed (value_of uses (codes "x")) q.x r.x a.x b.x i;
-  y = one_listed (value_of uses (codes "y")) q.y r.y a.y b.y i;
+one_request uses q r a b = let s = one_subject separate_row uses q.file r.file q.x q.y r.x r.y a.subject b.subject in λ i. record {
+  file = s.0 i;
+  x = s.1 i;
+  y = s.2 i;
   given = one_listed (value_of uses (codes "given")) q.given r.given a.given b.given i;
   format = (b.format ∙ sym a.format) i;
 }

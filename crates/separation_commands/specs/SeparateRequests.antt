@@ -1,6 +1,6 @@
 -- What `separate` is asked for.
-use Rattle.std.specs.Prelude.{◌≡◌, List, Some, [], ◌∷◌, codes, option_map}
-use Rattle.command_words.specs.Vocabulary.{Text, Row, Use, word_of, value_of, has_flag, names_in}
+use Rattle.std.specs.Prelude.{◌≡◌, List, [], ◌∷◌, codes, option_map}
+use Rattle.command_words.specs.Vocabulary.{Text, Row, Use, value_of, has_flag, names_in}
 use Rattle.command_words.specs.Values as values
 use Rattle.diagram.specs.Vocabulary.{Names}
 use Rattle.replies.specs.declared.format.Format.{Format}
@@ -32,8 +32,6 @@ request_of r = record { file = r.file.now; x = option_map names_in r.x; y = opti
 
 -- the uses ask for this
 pub record IsRequest (uses : List Use) (r : Request) : Type 0 where
-  pub file : word_of separate_row uses (codes "file") ≡ Some r.file
-  pub x : values.IsListed (value_of uses (codes "x")) r.x
-  pub y : values.IsListed (value_of uses (codes "y")) r.y
+  pub subject : values.IsSubject separate_row uses r.file r.x r.y
   pub given : values.IsListed (value_of uses (codes "given")) r.given
   pub format : r.format ≡ format_of (has_flag uses (codes "json"))

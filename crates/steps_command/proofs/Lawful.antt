@@ -1,14 +1,10 @@
 -- The command's words ask for one request, and its right answers end alike.
 use Rattle.std.proofs.Common.{◌≡◌, ℕ, List, Result, Ok, Err, refl, sym, ◌∙◌}
-use Rattle.std.specs.Prelude.{codes}
-use Rattle.std.proofs.lemmas.Option.{same_Some}
 use Rattle.mixed_graph.specs.Vocabulary.{graph_of}
-use Rattle.command_words.specs.Vocabulary.{Use, value_of}
 use Rattle.targets.specs.declared.fault.TargetFault.{TargetFault}
 use Rattle.diagram.specs.declared.diagram.Diagram.{Diagram}
 use Rattle.diagram.proofs.OneDiagram.{AreSameDiagrams}
 use Rattle.experiment_lists.specs.Vocabulary.{Lists}
-use Rattle.experiment_lists.proofs.OneWord.{one_optional}
 use Rattle.replies.specs.Vocabulary.{IsAnswered}
 use Rattle.replies.proofs.Commands.{IsLawful}
 use Rattle.told.specs.Vocabulary.{target_refusal, outcome_in}
@@ -17,22 +13,13 @@ use Rattle.check_command.specs.Vocabulary.{AreExperimentsOn, certificate_refusal
 use Rattle.check_command.specs.declared.fault.CertificateFault.{CertificateFault}
 use Rattle.check_command.specs.declared.answer.Answer.TheVariants.{AcceptedFormula, RefusedDerivation, AcceptedHedge, RefusedHedge, MetHedge}
 use Rattle.check_command.proofs.Exclusive.{first_alone, second_alike}
+use Rattle.check_command.proofs.Lawful.{one_request}
 use Rattle.steps_command.specs.Command.{steps_command}
-use Rattle.steps_command.specs.Requests.{Request, IsRequest}
 use Rattle.steps_command.specs.Right.{IsForFirst, IsForCertificate}
 use Rattle.steps_command.specs.Telling.{steps_telling}
 use Rattle.steps_command.specs.declared.answer.Answer.{Answer}
 use Rattle.steps_command.specs.declared.answer.Answer.TheVariants.{Explained, Checked}
 use Rattle.steps_command.proofs.Checking.{lowered, lowered_right, lowered_ends}
-
--- the uses ask for one request
-one_request : (uses : List Use) (q r : Request) → IsRequest uses q → IsRequest uses r → r ≡ q
-one_request uses q r a b = λ i. record {
-  file = same_Some r.file q.file (sym b.file ∙ a.file) i;
-  certificate = same_Some r.certificate q.certificate (sym b.certificate ∙ a.certificate) i;
-  experiments = one_optional (value_of uses (codes "experiments")) q.experiments r.experiments a.experiments b.experiments i;
-  format = (b.format ∙ sym a.format) i;
-}
 
 answered : (a : Answer) → IsAnswered (steps_telling.outcome a)
 answered (Explained f parts) = tt

@@ -7,8 +7,7 @@ use Rattle.replies.specs.declared.format.Format.{Format}
 use Rattle.replies.specs.Vocabulary.{CommandForm, Remainder}
 use Rattle.told.specs.Vocabulary.{plain_form, Tells, told_on_two_inputs}
 use Rattle.experiment_lists.specs.Vocabulary.{Lists}
-use Rattle.check_command.specs.Vocabulary.{certificate_refusal, AreExperimentsOn}
-use Rattle.steps_command.specs.Requests.{Request, IsRequest}
+use Rattle.check_command.specs.Vocabulary.{Request, IsRequest, certificate_refusal, AreExperimentsOn}
 use Rattle.steps_command.specs.Right.{IsForFirst, IsForCertificate}
 use Rattle.steps_command.specs.Telling.{steps_telling}
 

@@ -14,4 +14,4 @@ mod texts;
 pub use accepting::accept_experiments;
 pub use answer::Answer;
 pub use reply::{long_certificate, steps_answer, steps_reply};
-pub use request::{ROW, Request};
+pub use request::{ROW, read_request};

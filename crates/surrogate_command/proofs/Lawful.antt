@@ -1,11 +1,10 @@
 -- The command's words ask for one request, and its right answers end alike.
-use Rattle.std.proofs.Common.{◌≡◌, ℕ, Bool, true, false, List, Ok, Err, refl, sym, subst, ◌∙◌}
+use Rattle.std.proofs.Common.{◌≡◌, ℕ, Bool, List, Ok, Err, refl, sym, subst, ◌∙◌}
 use Rattle.std.specs.Prelude.{codes}
 use Rattle.std.proofs.lemmas.Option.{same_Some}
 use Rattle.mixed_graph.specs.Vocabulary.{MixedGraph}
 use Rattle.prob_expr.specs.Vocabulary.{masks_of}
-use Rattle.command_words.specs.Vocabulary.{Use, value_of, has_flag}
-use Rattle.command_words.proofs.OneValue.{one_listed}
+use Rattle.command_words.specs.Vocabulary.{Use, value_of}
 use Rattle.experiment_lists.proofs.OneSet.{one_by_one}
 use Rattle.experiment_lists.proofs.OneWord.{one_word}
 use Rattle.targets.specs.declared.fault.TargetFault.{TargetFault}
@@ -16,41 +15,28 @@ use Rattle.surrogates.proofs.RightAnswers.{some_blocked}
 use Rattle.replies.specs.Vocabulary.{IsAnswered}
 use Rattle.replies.proofs.Commands.{IsLawful}
 use Rattle.replies.proofs.OneTarget.{same_two, no_fault_of, some_list, is_some_list}
+use Rattle.told.proofs.OneSubject.{one_subject}
 use Rattle.told.specs.Vocabulary.{target_refusal}
 use Rattle.told.proofs.ToldOnce.{EndAlike, lawful_told}
-use Rattle.surrogate_command.specs.declared.form.Form.{Form}
-use Rattle.surrogate_command.specs.declared.form.Writing.{Writing}
 use Rattle.surrogate_command.specs.declared.sets.SurrogateSets.{SurrogateSets}
 use Rattle.surrogate_command.specs.declared.answer.Answer.{Answer}
 use Rattle.surrogate_command.specs.declared.answer.Answer.TheVariants.{Formula, Unfound, Blocked}
-use Rattle.surrogate_command.specs.Forms.{IsWriting, IsForm, wants_common}
-use Rattle.surrogate_command.specs.Requests.{Request, IsRequest}
+use Rattle.surrogate_command.specs.Forms.{wants_common}
+use Rattle.surrogate_command.specs.Requests.{Request, IsRequest, surrogate_row}
 use Rattle.surrogate_command.specs.Command.{surrogate_command}
-use Rattle.surrogate_command.specs.Right.{IsFormula, IsStop, IsForLists, IsForNames}
+use Rattle.surrogate_command.specs.Right.{IsStop, IsForLists, IsForNames}
 use Rattle.surrogate_command.specs.Sets.{SurrogateLists, surrogate_lists, surrogate_fault, AreSurrogateSets, IsSurrogateFault}
 use Rattle.surrogate_command.specs.Telling.{surrogate_telling}
 use Rattle.surrogate_command.proofs.Exclusive.{same_surrogate_lists}
 
-one_writing : (models certificate : Bool) (f h : Writing) → IsWriting models certificate f → IsWriting models certificate h → h ≡ f
-one_writing false false f h a b = b ∙ sym a
-one_writing true false f h a b = b ∙ sym a
-one_writing false true f h a b = b ∙ sym a
-one_writing true true f h a b = absurd a
-
-one_form : (models certificate json : Bool) (f h : Form) → IsForm models certificate json f → IsForm models certificate json h → h ≡ f
-one_form models certificate json f h a b = λ i. record {
-  writing = one_writing models certificate f.writing h.writing a.writing b.writing i;
-  format = (b.format ∙ sym a.format) i;
-}
-
 -- the uses ask for one request
 one_request : (uses : List Use) (q r : Request) → IsRequest uses q → IsRequest uses r → r ≡ q
-one_request uses q r a b = λ i. record {
-  file = same_Some r.file q.file (sym b.file ∙ a.file) i;
-  x = one_listed (value_of uses (codes "x")) q.x r.x a.x b.x i;
-  y = one_listed (value_of uses (codes "y")) q.y r.y a.y b.y i;
+one_request uses q r a b = let s = one_subject surrogate_row uses q.file r.file q.x q.y r.x r.y a.subject b.subject in λ i. record {
+  file = s.0 i;
+  x = s.1 i;
+  y = s.2 i;
   experiments = one_word (value_of uses (codes "experiments")) q.experiments r.experiments a.experiments b.experiments i;
-  form = one_form (has_flag uses (codes "models")) (has_flag uses (codes "certificate")) (has_flag uses (codes "json")) q.form r.form a.form b.form i;
+  form = same_Some r.form q.form (sym b.form ∙ a.form) i;
 }
 
 module _ (wanted : Bool) (q : MixedGraph) (l : SurrogateLists) where

@@ -1,5 +1,5 @@
 -- The form of an answer, by its three flags.
-use Rattle.std.specs.Prelude.{◌≡◌, Bool, true, false}
+use Rattle.std.specs.Prelude.{Bool, true, false, Option, Some, None}
 use Rattle.replies.specs.Vocabulary.{format_of}
 use Rattle.told.specs.declared.form.Form.{Form as ToldForm}
 use Rattle.told.specs.declared.form.Writing.{Writing as ToldWriting}
@@ -8,17 +8,12 @@ use Rattle.surrogate_command.specs.declared.form.Form.{Form}
 use Rattle.surrogate_command.specs.declared.form.Writing.{Writing}
 use Rattle.surrogate_command.specs.declared.form.Writing.TheVariants.{Plain, Models, Certificate}
 
--- how an answer is written, by two flags, of which one stands at most
-abbrev pub IsWriting : (models certificate : Bool) → Writing → Type 0
-IsWriting false false w = w ≡ Plain
-IsWriting true false w = w ≡ Models
-IsWriting false true w = w ≡ Certificate
-IsWriting true true w = ⊥
-
--- the form of an answer: how it is written, and the format
-pub record IsForm (models certificate json : Bool) (f : Form) : Type 0 where
-  pub writing : IsWriting models certificate f.writing
-  pub format : f.format ≡ format_of json
+-- the form, by the flags for the models and for a certificate, of which one stands at most
+abbrev pub form_for : (models certificate json : Bool) → Option Form
+form_for false false json = Some (record { writing = Plain; format = format_of json })
+form_for true false json = Some (record { writing = Models; format = format_of json })
+form_for false true json = Some (record { writing = Certificate; format = format_of json })
+form_for true true json = None
 
 -- whether the common hedge of a stop is asked for
 abbrev pub wants_common : Writing → Bool

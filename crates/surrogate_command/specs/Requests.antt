@@ -1,11 +1,11 @@
 -- What `surrogate` is asked for.
-use Rattle.std.specs.Prelude.{◌≡◌, List, Some, [], ◌∷◌, codes, option_map}
-use Rattle.command_words.specs.Vocabulary.{Text, Row, Use, word_of, value_of, has_flag, names_in}
+use Rattle.std.specs.Prelude.{◌≡◌, List, [], Some, ◌∷◌, codes, option_map}
+use Rattle.command_words.specs.Vocabulary.{Text, Row, Use, value_of, has_flag, names_in}
 use Rattle.command_words.specs.Values as values
 use Rattle.diagram.specs.Vocabulary.{Names}
 use Rattle.experiment_lists.specs.Vocabulary.{Lists, AreNeededExperiments, lists_in}
 use Rattle.surrogate_command.specs.declared.form.Form.{Form}
-use Rattle.surrogate_command.specs.Forms.{IsForm}
+use Rattle.surrogate_command.specs.Forms.{form_for}
 use Rattle.surrogate_command.specs.declared.request.Request.{Request as CodeRequest}
 
 -- `surrogate FILE [--x L] [--y L] --experiments E [--models] [--certificate] [--json]`
@@ -33,8 +33,6 @@ request_of r = record { file = r.file.now; x = option_map names_in r.x; y = opti
 
 -- the uses ask for this
 pub record IsRequest (uses : List Use) (r : Request) : Type 0 where
-  pub file : word_of surrogate_row uses (codes "file") ≡ Some r.file
-  pub x : values.IsListed (value_of uses (codes "x")) r.x
-  pub y : values.IsListed (value_of uses (codes "y")) r.y
+  pub subject : values.IsSubject surrogate_row uses r.file r.x r.y
   pub experiments : AreNeededExperiments (value_of uses (codes "experiments")) r.experiments
-  pub form : IsForm (has_flag uses (codes "models")) (has_flag uses (codes "certificate")) (has_flag uses (codes "json")) r.form
+  pub form : form_for (has_flag uses (codes "models")) (has_flag uses (codes "certificate")) (has_flag uses (codes "json")) ≡ Some r.form

@@ -25,7 +25,29 @@ pub struct Form {
 }
 
 impl Form {
-    ghost use Rattle.surrogate_command.specs.Forms.{wants_common, told_form};
+    ghost use Rattle.surrogate_command.specs.Forms.{form_for, wants_common, told_form};
+
+    /// The form by the flags, where at most one way to write an answer is asked for.
+    pub fn read(models: bool, certificate: bool, json: bool) -> Option<Self>
+        ensures { result ≡ form_for models certificate json }
+    {
+        let format = Format::of(json);
+        match (models, certificate) {
+            (false, false) => Some(Form {
+                writing: Writing::Plain,
+                format,
+            }),
+            (true, false) => Some(Form {
+                writing: Writing::Models,
+                format,
+            }),
+            (false, true) => Some(Form {
+                writing: Writing::Certificate,
+                format,
+            }),
+            (true, true) => None,
+        }
+    }
 
     /// Whether the common hedge is asked for.
     pub fn wants_common(self) -> bool

@@ -1,17 +1,14 @@
 //! What `surrogate` is asked.
 
-ghost use Rattle.std.specs.Prelude.{◌≡◌, ℕ, List, true, IfOk, IfSome, IfNone, IsErrOf};
+ghost use Rattle.std.specs.Prelude.{◌≡◌, ℕ, List, true, IfOk, IsErrOf};
 ghost use Rattle.command_words.specs.Vocabulary.{Row, Use, is_among, value_names, value_of, HoldsCall};
 ghost use Rattle.experiment_lists.specs.Vocabulary.{AreFilled, AreNeededExperiments, Lists, lists_in};
-ghost use Rattle.surrogate_command.specs.Forms.{IsWriting};
-ghost use Rattle.surrogate_command.specs.declared.form.Writing as asked;
 
-use crate::form::{Form, Writing};
+use crate::form::Form;
 use command_words::forms::Entry;
 use command_words::typed::{RequestFault, Subject};
 use command_words::values::Values;
 use experiment_lists::read_experiments;
-use replies::Format;
 use std::alloc::Global;
 
 /// `surrogate FILE [--x L] [--y L] --experiments E [--models] [--certificate] [--json]`
@@ -48,32 +45,18 @@ impl<'a> Request<'a> {
         let models = values.flag("models");
         let certificate = values.flag("certificate");
         let json = values.flag("json");
-        let Some(writing) = read_writing(models, certificate) else {
+        let Some(form) = Form::read(models, certificate, json) else {
             return Err(RequestFault::NotUnderstood);
         };
         let Subject { file, x, y } = Subject::read(alloc, values)?;
         let experiments = needed_experiments(alloc, values, "experiments")?;
-        let format = Format::of(json);
         Ok(Request {
             file,
             x,
             y,
             experiments,
-            form: Form { writing, format },
+            form,
         })
-    }
-}
-
-/// How an answer is written, where at most one way is asked for.
-fn read_writing(models: bool, certificate: bool) -> Option<Writing>
-    ensures some { IfSome result (λ w. IsWriting models certificate w) }
-    ensures none { IfNone result ((w : asked.Writing) → IsWriting models certificate w → ⊥) }
-{
-    match (models, certificate) {
-        (false, false) => Some(Writing::Plain),
-        (true, false) => Some(Writing::Models),
-        (false, true) => Some(Writing::Certificate),
-        (true, true) => None,
     }
 }
 

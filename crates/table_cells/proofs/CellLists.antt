@@ -24,7 +24,8 @@ one_number : (cell : List ℕ) (v : ℕ) (vs : List ℕ) (k : ℕ) (tails : List
 one_number cell v vs k [] = refl
 one_number cell v vs k (ks ∷ tails) = ap (λ (cs : List (List ℕ)). with_levels (set cell v k) vs ks ∷ cs) (one_number cell v vs k tails)
 
-each_number : (cell : List ℕ) (v : ℕ) (vs : List ℕ) (tails : List (List ℕ)) (numbers : List ℕ)
+-- the cells of all numbers of the first vertex
+pub each_number : (cell : List ℕ) (v : ℕ) (vs : List ℕ) (tails : List (List ℕ)) (numbers : List ℕ)
     → map (with_levels cell (v ∷ vs)) (flat_map (λ k. map (λ (ks : List ℕ). k ∷ ks) tails) numbers)
     ≡ flat_map (λ k. map (with_levels (set cell v k) vs) tails) numbers
 each_number cell v vs tails [] = refl

@@ -1,26 +1,23 @@
 -- The command's words ask for one request, and its right answers end alike.
-use Rattle.std.proofs.Common.{◌≡◌, Bool, true, false, List, Some, Result, Ok, Err, refl, sym, ◌∙◌, subst, arith}
+use Rattle.std.proofs.Common.{◌≡◌, ℕ, List, Some, Result, Ok, Err, refl, sym, ◌∙◌, subst, arith}
 use Rattle.std.specs.Prelude.{codes}
 use Rattle.std.proofs.lemmas.Option.{same_Some}
 use Rattle.mixed_graph.specs.Vocabulary.{MixedGraph, graph_of}
-use Rattle.command_words.specs.Vocabulary.{Use, value_of, has_flag}
-use Rattle.command_words.proofs.OneValue.{one_listed, one_listed_or_empty}
+use Rattle.command_words.specs.Vocabulary.{Use, value_of}
+use Rattle.command_words.proofs.OneValue.{one_listed_or_empty}
 use Rattle.targets.specs.declared.query.Sets.{Sets}
 use Rattle.targets.specs.declared.fault.TargetFault.{TargetFault}
 use Rattle.targets.specs.Vocabulary.{Lists, AreListedSets, IsListFault, IsFaultOfTarget, fault_in}
 use Rattle.targets.specs.declared.fault.TargetFault.TheVariants as listed
 use Rattle.diagram.specs.declared.diagram.Diagram.{Diagram}
-use Rattle.diagram.specs.Vocabulary.{query_lists}
+use Rattle.diagram.specs.Vocabulary.{Names, query_lists}
 use Rattle.diagram.proofs.OneDiagram.{AreSameDiagrams, same_drawing, same_query_lists}
-use Rattle.replies.specs.declared.outcome.Outcome.{Outcome}
 use Rattle.replies.specs.Vocabulary.{IsAnswered}
-use Rattle.replies.specs.Told.{Told}
 use Rattle.replies.proofs.Commands.{IsLawful, lawful_on_file}
 use Rattle.replies.proofs.OneOutcome.{one_on_diagram}
 use Rattle.replies.proofs.OneTarget.{one_set, no_fault_of, some_list, is_some_list}
-use Rattle.told.specs.declared.form.Form.{Form}
-use Rattle.told.specs.declared.form.Writing.{Writing}
-use Rattle.told.specs.Vocabulary.{Tells}
+use Rattle.told.proofs.OneSubject.{one_subject}
+use Rattle.told.specs.Vocabulary.{Tells, outcome_in}
 use Rattle.told.proofs.ToldOnce.{EndAlike, told_answered}
 use Rattle.treated_id.specs.Vocabulary.{IsConfounded}
 use Rattle.treated_command.specs.declared.answer.Answer.{Answer}
@@ -28,30 +25,19 @@ use Rattle.treated_command.specs.declared.answer.Answer.TheVariants.{Formula, Ex
 use Rattle.treated_command.specs.declared.fault.TreatedFault.{TreatedFault}
 use Rattle.treated_command.specs.declared.fault.TreatedFault.TheVariants.{Listed, After, TooMany, NoMemory}
 use Rattle.treated_command.specs.Faults.{treated_refusal}
-use Rattle.treated_command.specs.Right.{Decides, IsForSets, IsOfSets, IsFaultOfSets, IsFault, IsForNames}
+use Rattle.treated_command.specs.Right.{Decides, IsForSets, IsOfSets, IsFaultOfSets, IsFault, IsForNames, IsTreatedAnswer}
 use Rattle.treated_command.specs.Telling.{treated_telling}
-use Rattle.treated_command.specs.Requests.{Request, IsRequest, IsForm, IsWriting}
+use Rattle.treated_command.specs.Requests.{Request, IsRequest, treated_row}
 use Rattle.treated_command.specs.Command.{treated_command}
-
-one_writing : (latex json : Bool) (v w : Writing) → IsWriting latex json v → IsWriting latex json w → w ≡ v
-one_writing false json v w a b = b ∙ sym a
-one_writing true false v w a b = b ∙ sym a
-one_writing true true v w a b = absurd a
-
-one_form : (latex json : Bool) (f h : Form) → IsForm latex json f → IsForm latex json h → h ≡ f
-one_form latex json f h a b = λ i. record {
-  format = (b.format ∙ sym a.format) i;
-  writing = one_writing latex json f.writing h.writing a.writing b.writing i;
-}
 
 -- the uses ask for one request
 one_request : (uses : List Use) (q r : Request) → IsRequest uses q → IsRequest uses r → r ≡ q
-one_request uses q r a b = λ i. record {
-  file = same_Some r.file q.file (sym b.file ∙ a.file) i;
-  x = one_listed (value_of uses (codes "x")) q.x r.x a.x b.x i;
-  y = one_listed (value_of uses (codes "y")) q.y r.y a.y b.y i;
+one_request uses q r a b = let s = one_subject treated_row uses q.file r.file q.x q.y r.x r.y a.subject b.subject in λ i. record {
+  file = s.0 i;
+  x = s.1 i;
+  y = s.2 i;
   given = one_listed_or_empty (value_of uses (codes "given")) q.given r.given a.given b.given i;
-  form = one_form (has_flag uses (codes "latex")) (has_flag uses (codes "json")) q.form r.form a.form b.form i;
+  form = same_Some r.form q.form (sym b.form ∙ a.form) i;
 }
 
 -- whether a treatment is confounded settles how an answer ends
@@ -126,21 +112,19 @@ answered (Formula a f) = tt
 answered (Excluded a c h pair) = tt
 answered (Unfixed a c) = tt
 
+-- right answers on diagrams that are the same end alike
+pub treated_alike : (d e : Diagram) → AreSameDiagrams d e → (x y : Names) (given : List (List ℕ)) (a b : Result Answer TreatedFault)
+    → IsTreatedAnswer d x y given a → IsTreatedAnswer e x y given b
+    → outcome_in treated_telling treated_refusal a ≡ outcome_in treated_telling treated_refusal b
+treated_alike d e s x y given a b f g =
+    let lists = λ (d : Diagram). query_lists d.read d.observed.names x y (Some given) in
+    alike (graph_of d.observed.graph) (lists d) a b f
+    (subst (λ (l : Lists). IsForNames (graph_of d.observed.graph) l b) (same_query_lists x y (Some given) d e s)
+    (subst (λ (q : MixedGraph). IsForNames q (lists e) b) (sym (same_drawing d e s)) g))
+
 -- what holds of each command holds of it
 pub treated_lawful : IsLawful treated_command
 treated_lawful = lawful_on_file one_request
-    (λ q d o told h. told_answered treated_telling treated_refusal answered (λ e. tt) (right q d) q.form d.observed.names o told h)
-    (λ q bytes. one_on_diagram bytes (λ d. Tells treated_telling treated_refusal (right q d) q.form d.observed.names) (once q))
-  where
-    right : Request → Diagram → Result Answer TreatedFault → Type 0
-    right q d = IsForNames (graph_of d.observed.graph) (query_lists d.read d.observed.names q.x q.y (Some q.given))
-
-    once : (q : Request) (d e : Diagram) → AreSameDiagrams d e → (o p : Outcome) (told other : Told)
-        → Tells treated_telling treated_refusal (right q d) q.form d.observed.names o told
-        → Tells treated_telling treated_refusal (right q e) q.form e.observed.names p other → o ≡ p
-    once q d e s o p told other a b =
-        let lists = λ (d : Diagram). query_lists d.read d.observed.names q.x q.y (Some q.given) in
-        a.ends ∙ alike (graph_of d.observed.graph) (lists d) a.answer b.answer a.right
-        (subst (λ (l : Lists). IsForNames (graph_of d.observed.graph) l b.answer) (same_query_lists q.x q.y (Some q.given) d e s)
-        (subst (λ (g : MixedGraph). IsForNames g (lists e) b.answer) (sym (same_drawing d e s)) b.right))
-        ∙ sym b.ends
+    (λ q d o told h. told_answered treated_telling treated_refusal answered (λ e. tt) (IsTreatedAnswer d q.x q.y q.given) q.form d.observed.names o told h)
+    (λ q bytes. one_on_diagram bytes (λ d. Tells treated_telling treated_refusal (IsTreatedAnswer d q.x q.y q.given) q.form d.observed.names)
+    (λ d e s o p told other a b. a.ends ∙ treated_alike d e s q.x q.y q.given a.answer b.answer a.right b.right ∙ sym b.ends))

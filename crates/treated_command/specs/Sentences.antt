@@ -1,8 +1,6 @@
 -- The texts of the answers.
 use Rattle.std.specs.Prelude.{ℕ, ◌==◌, Bool, if◌then◌else◌, List, [], ◌++◌, length, codes}
 use Rattle.std.specs.List.{flat_map}
-use Rattle.answer_text.specs.declared.signs.Notation.{Notation}
-use Rattle.answer_text.specs.declared.signs.Notation.TheVariants as notations
 use Rattle.mixed_graph.specs.Vocabulary.{has, members_below, union}
 use Rattle.prob_expr.specs.Vocabulary.{PlainTarget, PlainFormula, term_of}
 use Rattle.expr_text.specs.Vocabulary.{text_of}
@@ -11,7 +9,7 @@ use Rattle.counter_models.specs.declared.counter_pair.CounterPair.{CounterPair}
 use Rattle.identify_text.specs.Vocabulary.{answer_in, effect_term, vertex_text, hedge_answer}
 use Rattle.primed_names.specs.Vocabulary.{primed_names}
 use Rattle.told.specs.declared.form.Writing.{Writing}
-use Rattle.told.specs.declared.form.Writing.TheVariants.{Plain, Latex, Certificate}
+use Rattle.told.specs.Vocabulary.{notation_of}
 use Rattle.treated_id.specs.declared.answers.Confounding.{Confounding}
 use Rattle.treated_command.specs.declared.answer.Asked.{Asked}
 
@@ -26,12 +24,6 @@ joint_of a = union a.sets.y.bits a.sets.given.bits
 -- the effect that is asked for, as text
 abbrev pub effect_text : List (List ℕ) → Asked → List ℕ
 effect_text names a = text_of (primed_names names a.sets.x.bits) (term_of (target_of a))
-
--- the notation of a formula
-abbrev pub notation_of : Writing → Notation
-notation_of Plain = notations.Plain
-notation_of Latex = notations.Latex
-notation_of Certificate = notations.Plain
 
 -- `P(Y|do(X),X') = sum{M} P(M|X) * P(Y|M,X')`
 abbrev pub formula_text : Writing → List (List ℕ) → Asked → PlainFormula → List ℕ

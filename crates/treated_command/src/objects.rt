@@ -13,9 +13,8 @@ use crate::answer::Asked;
 use crate::texts::{is_single, joint_of, split_text, target_of};
 use answer_json::Object;
 use counter_models::CounterPair;
-use effect_answers::objects::{push_effect as push_target_effect, push_formula};
+use effect_answers::objects::{push_effect as push_target_effect, push_formula, push_pair};
 use hedge::Hedge;
-use hedge_json::{push_hedge, push_models};
 use mixed_graph::Names;
 use primed_names::primed_names;
 use prob_expr::Formula;
@@ -160,10 +159,7 @@ pub fn push_excluded(
     ensures { OnOk result (object.new ≡ with_members (excluded_members names.now asked c.now h.now pair.now) object.old) }
 {
     push_reason(object, "hedge", names, asked, c)?;
-    object.key("hedge")?;
-    push_hedge(object, names, h)?;
-    object.key("models")?;
-    push_models(object, names, pair)
+    push_pair(object, names, h, pair)
 }
 
 /// The member of how the joint effect is made up where the treatment has two values.

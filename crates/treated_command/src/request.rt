@@ -1,16 +1,13 @@
 //! What `treated` is asked.
 
-ghost use Rattle.std.specs.Prelude.{◌≡◌, List, IfOk, IfSome, IfNone, IsErrOf};
+ghost use Rattle.std.specs.Prelude.{◌≡◌, List, IfOk, IsErrOf};
 ghost use Rattle.command_words.specs.Vocabulary.{Use, HoldsCall};
-ghost use Rattle.told.specs.declared.form.Writing as asked;
-ghost use Rattle.treated_command.specs.Requests.{IsWriting};
 
 use command_words::forms::Entry;
 use command_words::typed::{RequestFault, Subject, names_or_empty};
 use command_words::values::Values;
-use replies::Format;
 use std::alloc::Global;
-use told::{Form, Writing};
+use told::Form;
 
 /// `treated FILE [--x L] [--y L] [--given L] [--latex] [--json]`
 pub const ROW: Entry = Entry {
@@ -44,30 +41,17 @@ impl<'a> Request<'a> {
     {
         let latex = values.flag("latex");
         let json = values.flag("json");
-        let Some(writing) = read_writing(latex, json) else {
+        let Some(form) = Form::read(latex, json) else {
             return Err(RequestFault::NotUnderstood);
         };
         let Subject { file, x, y } = Subject::read(alloc, values)?;
         let given = names_or_empty(alloc, values, "given")?;
-        let format = Format::of(json);
         Ok(Request {
             file,
             x,
             y,
             given,
-            form: Form { format, writing },
+            form,
         })
-    }
-}
-
-/// How an answer is written: LaTeX not as JSON.
-fn read_writing(latex: bool, json: bool) -> Option<Writing>
-    ensures some { IfSome result (λ w. IsWriting latex json w) }
-    ensures none { IfNone result ((w : asked.Writing) → IsWriting latex json w → ⊥) }
-{
-    match (latex, json) {
-        (false, _) => Some(Writing::Plain),
-        (true, false) => Some(Writing::Latex),
-        (true, true) => None,
     }
 }

@@ -6,7 +6,7 @@ ghost use Rattle.mixed_graph.specs.Vocabulary.{union};
 ghost use Rattle.prob_expr.specs.Vocabulary.{term_of, formula_view, target_view};
 ghost use Rattle.expr_text.specs.Vocabulary.{text_of};
 ghost use Rattle.primed_names.specs.Vocabulary.{primed_names};
-ghost use Rattle.treated_command.specs.Sentences.{target_of, joint_of, effect_text, step_text, confounding_text, notation_of, formula_text, excluded_text, is_single, share_text, split_text, two_values_line, two_values_text, unfixed_text};
+ghost use Rattle.treated_command.specs.Sentences.{target_of, joint_of, effect_text, step_text, confounding_text, formula_text, excluded_text, is_single, share_text, split_text, two_values_line, two_values_text, unfixed_text};
 
 use crate::answer::Asked;
 use answer_text::{Notation, push_vertex};
@@ -47,16 +47,6 @@ fn effect_text(alloc: Global, names: &Names, asked: Asked) -> Result<Vec<u8>, Al
     target_text(alloc, &target_of(asked), &all)
 }
 
-/// The notation of a formula.
-fn notation_of(writing: Writing) -> Notation
-    ensures { result ≡ notation_of writing }
-{
-    match writing {
-        Writing::Plain | Writing::Certificate => Notation::Plain,
-        Writing::Latex => Notation::Latex,
-    }
-}
-
 /// A formula.
 pub fn formula_text(
     alloc: Global,
@@ -68,7 +58,7 @@ pub fn formula_text(
     ensures { IfOk result (λ v. v.items ≡ formula_text writing names.now asked (formula_view f.now)) }
 {
     let all = primed_names(alloc, names, asked.sets.x)?;
-    answer_in(alloc, notation_of(writing), f, &target_of(asked), &all)
+    answer_in(alloc, writing.notation(), f, &target_of(asked), &all)
 }
 
 /// Appends bidirected edges to each vertex of a path.

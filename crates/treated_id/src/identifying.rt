@@ -29,7 +29,7 @@ pub fn acted_on(g: &Graph, x: VSet, z: VSet) -> VSet
 }
 
 /// The ancestors of y, x and z.
-fn ancestors_of(g: &Graph, x: VSet, y: VSet, z: VSet) -> VSet
+pub fn ancestors_of(g: &Graph, x: VSet, y: VSet, z: VSet) -> VSet
     requires x_within { Within g.now.n (has x.bits) }
     requires y_within { Within g.now.n (has y.bits) }
     requires z_within { Within g.now.n (has z.bits) }

@@ -14,6 +14,7 @@ mod terms;
 mod theory;
 
 pub use answers::{Confounding, Treated};
-pub use identifying::{acted_on, treated};
+pub use identifying::{acted_on, ancestors_of, treated};
 pub use names::{names_of, prime_of};
+pub use pairs::{Pair, confounded_pair};
 pub use theory::laws;

@@ -1,2 +1,2 @@
-mod Levels
+pub mod Levels
 mod Covering

@@ -8,12 +8,6 @@ use Rattle.count_rows.specs.Vocabulary.{Table}
 use Rattle.count_table.specs.Vocabulary.{levels_in, total}
 use Rattle.count_eval.specs.Vocabulary.{IsMatched, is_used, weights_in}
 use Rattle.treated_models.specs.Vocabulary.{as_observed, effect_among, name_count, vertex_of, with_primes}
-use Rattle.treated_id.specs.Vocabulary.{IsConfounded}
-use Rattle.factor_values.specs.Vocabulary.{factors_view}
-use Rattle.named_factors.specs.Vocabulary.{AreFactorsAmong}
-use Rattle.treated_id.specs.Answers.{IsConfounding}
-use Rattle.treated_values.specs.declared.factors.FactorsOrPath.{FactorsOrPath}
-use Rattle.treated_values.specs.declared.factors.FactorsOrPath.TheVariants.{Identified, Confounded}
 
 -- the names' own levels, and at primed names those that were observed: each name whose vertex is used has a level of it
 abbrev pub HaveLevels : (n x : ℕ) → Table → List ℕ → Type 0
@@ -26,8 +20,3 @@ abbrev pub CoversAmong : (Pair → Fraction → Type 0) → MixedGraph → (x y 
 CoversAmong covers g x y z t s p = (m : FiniteModel) → Fits g m → IsPositiveModel m → IsMatched (is_used t) (weights_in g.vertices t) (total t.rows) m
     → IsAssignment (with_primes m x).vertices (with_primes m x).size s
     → covers p (effect_among m (has x) (has y) (λ v. has x v || has z v) s (as_observed m.vertices x s))
-
--- factors of a formula that equals the effect, where no treatment is confounded with a child of its own; or one that is
-abbrev pub AreFactorsOrPath : MixedGraph → (x y z : ℕ) → FactorsOrPath → Type 0
-AreFactorsOrPath g x y z (Identified e) = AreFactorsAmong g x y z (factors_view e) × (IsConfounded g x y z → ⊥)
-AreFactorsOrPath g x y z (Confounded c) = IsConfounding g x y z c × IsConfounded g x y z

@@ -29,7 +29,7 @@ pub struct Among<'a, L> {
 }
 
 /// The levels as observed: those of x at its primed names.
-fn as_observed(n: u32, x: VSet, cell: &[u32; 64]) -> [u32; 64]
+pub fn as_observed(n: u32, x: VSet, cell: &[u32; 64]) -> [u32; 64]
     requires few { name_count n x.bits ≤ 64 }
     requires within { Within n (has x.bits) }
     ensures { (v : ℕ) → slice_index result v ≡ as_observed n x.bits (cell_of cell.now) v }

@@ -7,10 +7,6 @@ pub returns-in_ok-read-in-Adjust-clause-ok : goal.returns-in_ok-read-in-Adjust-c
 returns-in_ok-read-in-Adjust-clause-ok c = λ uses g. c.in_ok-read-in-Adjust.ensures.ok uses
     (subst (λ k. HoldsCall (row_for k) uses c.args.values.now) c.in-Adjust.is g)
 
-pub returns-in_ok-read-in-Evaluate-clause-ok : goal.returns-in_ok-read-in-Evaluate-clause-ok
-returns-in_ok-read-in-Evaluate-clause-ok c = λ uses g. c.in_ok-read-in-Evaluate.ensures.ok uses
-    (subst (λ k. HoldsCall (row_for k) uses c.args.values.now) c.in-Evaluate.is g)
-
 pub returns-in_ok-read-in-Bounds-clause-ok : goal.returns-in_ok-read-in-Bounds-clause-ok
 returns-in_ok-read-in-Bounds-clause-ok c = λ uses g. c.in_ok-read-in-Bounds.ensures.ok uses
     (subst (λ k. HoldsCall (row_for k) uses c.args.values.now) c.in-Bounds.is g)

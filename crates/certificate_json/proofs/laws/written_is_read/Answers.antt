@@ -1,4 +1,5 @@
 use Rattle.certificate_json.proofs.ReadsBack.{set_back, step_back, certificate_back, member_back, text_back}
+use Rattle.certificate_json.proofs.PartsBack.{part_text_back}
 use Rattle.certificate_json.proofs.laws.written_is_read.Goals as goal
 
 pub returns-clause-sets : goal.returns-clause-sets
@@ -15,3 +16,6 @@ returns-clause-members c = member_back
 
 pub returns-clause-texts : goal.returns-clause-texts
 returns-clause-texts c = text_back
+
+pub returns-clause-parts : goal.returns-clause-parts
+returns-clause-parts c = part_text_back

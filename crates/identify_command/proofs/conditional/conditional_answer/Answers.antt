@@ -31,5 +31,5 @@ returns-clause-answer c =
       target = t;
       named = subst (λ (l : Lists). AreListedSets l s.x.bits s.y.bits s.given.bits) same c.in_ok-sets.ensures.sets;
       decided = subst (λ (b : Bool). DecidesTarget c.args.asked.now.form.short b (graph_of c.args.diagram.now.observed.graph) t c.in-Ok.answer)
-          c.certified.ensures c.in-Ok.ensures;
+          c.is_certified.ensures c.in-Ok.ensures;
     }

@@ -1,8 +1,7 @@
 use Rattle.std.proofs.Common.{IfOk, subst}
 use Rattle.told.specs.declared.form.Form.{Form as ToldForm}
-use Rattle.told.specs.Vocabulary.{target_refusal, Tells}
+use Rattle.told.specs.Vocabulary.{is_certified, target_refusal, Tells}
 use Rattle.replies.specs.Vocabulary.{told_of}
-use Rattle.identify_command.specs.Forms.{is_certified}
 use Rattle.identify_command.specs.Requests.{request_of}
 use Rattle.identify_command.specs.Right.{IsIdentifyAnswer}
 use Rattle.identify_command.specs.Telling.{identify_telling}

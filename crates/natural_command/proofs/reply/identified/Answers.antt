@@ -2,7 +2,7 @@ use Rattle.std.proofs.Common.{◌≡◌, false, ap, subst}
 use Rattle.mixed_graph.specs.Vocabulary.{graph_of}
 use Rattle.finite_models.proofs.Bools.{not_both}
 use Rattle.natural_id.specs.declared.answers.Natural.{Natural}
-use Rattle.natural_id.specs.Vocabulary.{IsRight, is_hedge}
+use Rattle.natural_id.specs.Vocabulary.{IfFormula, IsFormulaByParts, IsRight, is_hedge}
 use Rattle.natural_command.specs.Right.{HasNoHedge}
 use Rattle.natural_command.proofs.Ways.{target_of}
 use Rattle.natural_command.proofs.reply.identified.Goals as goal
@@ -17,6 +17,12 @@ right : (c : In_ok-formula) (a : Natural) → c.in_ok-formula.field-0 ≡ a
 right c a is = let q = c.args.question in
     subst (IsRight (graph_of c.args.g.now) q.x.bits q.through.bits q.y.bits q.given.bits) is c.in_ok-formula.ensures.right
 
+-- a formula is that which the procedure finds
+found : (c : In_ok-formula) (a : Natural) → c.in_ok-formula.field-0 ≡ a
+    → (let q = c.args.question in IfFormula a (IsFormulaByParts (graph_of c.args.g.now) q.x.bits q.through.bits q.y.bits q.given.bits))
+found c a is = let q = c.args.question in
+    subst (λ (b : Natural). IfFormula b (IsFormulaByParts (graph_of c.args.g.now) q.x.bits q.through.bits q.y.bits q.given.bits)) is c.in_ok-formula.ensures.formula
+
 -- where no hedge is answered, there is none
 no_hedge : (c : In_ok-formula) → is_hedge c.in_ok-formula.field-0 ≡ false → HasNoHedge (graph_of c.args.g.now) c.args.question
 no_hedge c e h is = not_both (is_hedge c.in_ok-formula.field-0) (c.in_ok-formula.ensures.exact.1 (h, is)) e
@@ -25,7 +31,7 @@ pub returns-in-Formula : goal.returns-in-Formula
 returns-in-Formula c =
     let at = (goal.at.returns-in-Formula c).In_ok-formula in
     let r = right at _ c.in-Formula.is in
-    (c.asked_of-asked.ensures, record { equals = r.0; clear = r.1; no_hedge = no_hedge at (ap is_hedge c.in-Formula.is) })
+    (c.asked_of-asked.ensures, record { equals = r.0; found = found at _ c.in-Formula.is; clear = r.1; no_hedge = no_hedge at (ap is_hedge c.in-Formula.is) })
 
 pub returns-in-Hedge : goal.returns-in-Hedge
 returns-in-Hedge c =
@@ -33,14 +39,14 @@ returns-in-Hedge c =
     let r = right at _ c.in-Hedge.is in
     (c.asked_of-asked.ensures, record { right = r.0; evidence = c.in_ok-formula.ensures.exact.0 (ap is_hedge c.in-Hedge.is); no_formula = r.1 })
 
-pub returns-in-Witness : goal.returns-in-Witness
-returns-in-Witness c =
-    let at = (goal.at.returns-in-Witness c).In_ok-formula in
+pub returns-in_ok-other-in-Witness : goal.returns-in_ok-other-in-Witness
+returns-in_ok-other-in-Witness c =
+    let at = (goal.at.returns-in_ok-other-in-Witness c).In_ok-formula in
     let r = right at _ c.in-Witness.is in
-    (c.asked_of-asked.ensures, record { witness = r.0; lost = r.1; no_hedge = no_hedge at (ap is_hedge c.in-Witness.is) })
+    (c.asked_of-asked.ensures, record { witness = r.0; lost = r.1; no_hedge = no_hedge at (ap is_hedge c.in-Witness.is); another = c.in_ok-other-in-Witness.ensures })
 
-pub returns-in-Split : goal.returns-in-Split
-returns-in-Split c =
-    let at = (goal.at.returns-in-Split c).In_ok-formula in
+pub returns-in_ok-other-in-Split : goal.returns-in_ok-other-in-Split
+returns-in_ok-other-in-Split c =
+    let at = (goal.at.returns-in_ok-other-in-Split c).In_ok-formula in
     let r = right at _ c.in-Split.is in
-    (c.asked_of-asked.ensures, record { split = r.0; lost = r.1; no_hedge = no_hedge at (ap is_hedge c.in-Split.is) })
+    (c.asked_of-asked.ensures, record { split = r.0; lost = r.1; no_hedge = no_hedge at (ap is_hedge c.in-Split.is); another = c.in_ok-other-in-Split.ensures })

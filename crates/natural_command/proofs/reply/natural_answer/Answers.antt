@@ -6,7 +6,7 @@ use Rattle.diagram.proofs.Lent.{lent_owned}
 use Rattle.natural_command.specs.Asking.{NaturalLists, natural_lists}
 use Rattle.natural_command.specs.Requests.{request_of}
 use Rattle.natural_command.specs.Right.{IsForQuestion, IsOfQuestion, IsFaultOrMemory}
-use Rattle.natural_command.proofs.Naming.{four_sets}
+use Rattle.natural_command.proofs.Naming.{four_sets, some_mediator}
 use Rattle.natural_command.proofs.Replying.{of_names, answer_of_lists, fault_of_lists}
 use Rattle.natural_command.proofs.reply.natural_answer.Goals as goal
 use Rattle.natural_command.proofs.reply.natural_answer.Goals.{After-question_of}
@@ -39,6 +39,10 @@ decide-requires-clause-some c =
 pub decide-requires-clause-outcome : goal.decide-requires-clause-outcome
 decide-requires-clause-outcome c =
     let q = c.in-Ok.question in query_outcome _ q.x.bits q.y.bits q.given.bits c.in-Ok.ensures.question.query
+
+pub decide-requires-clause-mediator : goal.decide-requires-clause-mediator
+decide-requires-clause-mediator c =
+    some_mediator (lists (goal.at.decide-requires-clause-mediator c).After-question_of) c.in-Ok.question c.in-Ok.ensures.question
 
 pub returns-in-Ok-clause-answer : goal.returns-in-Ok-clause-answer
 returns-in-Ok-clause-answer c =

@@ -4,6 +4,7 @@ use Rattle.hedge.specs.Vocabulary.{first_masks}
 use Rattle.natural_id.specs.Answers.{parts_view, ArePartsOrSplit}
 use Rattle.natural_id.specs.declared.parts.Parted.TheVariants as parted
 use Rattle.natural_id.proofs.Answered.{formula_right, formula_clear, split_right, witness_right}
+use Rattle.natural_id.proofs.One.{by_procedure}
 use Rattle.natural_id.proofs.Found.{districts_found}
 use Rattle.natural_id.proofs.identifying.by_parts.Goals as goal
 use Rattle.natural_id.proofs.identifying.by_parts.Goals.{In-Parts}
@@ -37,6 +38,11 @@ returns-in-Parts c = (
         (parts_view c.in-Parts.parts.items) (found (goal.at.returns-in-Parts c).In-Parts).0 (found (goal.at.returns-in-Parts c).In-Parts).1,
   ),
   refl,
+  by_procedure (graph_of c.args.g.now) c.args.x.bits c.args.m.bits c.args.y.bits c.args.z.bits c.ancestors_outside-d.result.bits c.union-joint.result.bits
+      c.union-joint.ensures.mask c.ancestors_outside-d.ensures c.leading_through-through.result.bits c.leading_through-through.ensures
+      c.difference.result.bits c.difference.ensures.mask
+      (first_masks c.districts-parts.result.sets c.districts-parts.result.count) c.districts-parts.ensures.districts
+      (parts_view c.in-Parts.parts.items) (found (goal.at.returns-in-Parts c).In-Parts).0 (found (goal.at.returns-in-Parts c).In-Parts).2,
 )
 
 pub returns-in-Some : goal.returns-in-Some
@@ -49,6 +55,7 @@ returns-in-Some c = (
         past = c.leading_past-past.ensures.sound c.in-Some.witness.child c.in-Some.ensures.3;
       }),
   refl,
+  tt,
 )
 
 pub returns-in-Split : goal.returns-in-Split
@@ -62,4 +69,5 @@ returns-in-Split c = (
       (subst (ArePartsOrSplit (graph_of c.args.g.now) c.args.x.bits c.leading_through-through.result.bits c.ancestors_outside-d.result.bits
       (first_masks c.districts-parts.result.sets c.districts-parts.result.count)) c.in-Split.is c.in_ok-parts.ensures).1,
   refl,
+  tt,
 )

@@ -5,7 +5,7 @@ use Rattle.mixed_graph.proofs.Masks.{positive_from_has}
 use Rattle.hedge.specs.Vocabulary.{IsMaximalJoined}
 use Rattle.identification_theory.specs.Vocabulary.{IsUnidentified}
 use Rattle.identify.proofs.GatheredFactors.{district_at, set_at, set_in, sets_all, sets_more}
-use Rattle.natural_id.proofs.Making.{made_more, read_value}
+use Rattle.natural_id.proofs.Making.{made_more, read_value, are_read}
 use Rattle.natural_id.proofs.parts.parts_of.Goals as goal
 use Rattle.natural_id.proofs.parts.parts_of.Goals.{In-loop-c}
 
@@ -49,8 +49,10 @@ loop-c-preserved c =
     c.loop-c.invariant c.in_ok-push.ensures.items (sets_more sets n i c.loop-c-test.true) c.in_ok-part.ensures
     (read_value (graph_of c.args.g.now) at.bits c.args.x.bits c.args.through.bits c.intersection.result.bits c.parents_of.result.bits
     c.intersection-second.result.bits c.in_default.ensures c.intersection.ensures.members c.parents_of.ensures c.intersection-second.ensures.members)
+    (are_read (graph_of c.args.g.now) at.bits c.args.x.bits c.args.through.bits c.intersection.result.bits c.parents_of.result.bits
+    c.intersection-second.result.bits c.intersection.ensures.members c.parents_of.ensures c.intersection-second.ensures.members)
 
 pub returns : goal.returns
 returns c =
     let all_sets = sets_all c.args.districts.now.sets c.args.districts.now.count c.loop-c.c-index c.loop-c-test.false in
-    (c.loop-c.invariant.districts ∙ all_sets, c.loop-c.invariant.parts)
+    (c.loop-c.invariant.districts ∙ all_sets, c.loop-c.invariant.parts, c.loop-c.invariant.found)

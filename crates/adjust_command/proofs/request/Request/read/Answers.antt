@@ -9,13 +9,7 @@ use Rattle.adjust_command.proofs.request.Request.read.Goals as goal
 
 pub returns-in_err-file-clause-none : goal.returns-in_err-file-clause-none
 returns-in_err-file-clause-none c =
-    λ uses g e. record {
-      nothing = λ r is. c.in_err-file.ensures.none adjust_row uses g (refl, refl, refl) (search rules) r.file r.x r.y (record {
-        is_file = is.file;
-        is_x = is.x;
-        is_y = is.y;
-      });
-    }
+    λ uses g e. record { nothing = λ r is. c.in_err-file.ensures.none adjust_row uses g (refl, refl, refl) (search rules) r.file r.x r.y is.subject }
 
 pub returns-in_err-most-clause-none : goal.returns-in_err-most-clause-none
 returns-in_err-most-clause-none c = λ uses g e. record { nothing = λ r is. c.in_err-most.ensures.none adjust_row uses g refl (search rules) is.most is.is_most }
@@ -35,10 +29,8 @@ returns-in_default-clause-none c = λ uses g e. record {
 }
 
 pub returns-clause-ok : goal.returns-clause-ok
-returns-clause-ok c = λ uses g. let s = c.in_ok-file.ensures.ok adjust_row uses g (refl, refl, refl) in record {
-  file = s.is_file;
-  x = s.is_x;
-  y = s.is_y;
+returns-clause-ok c = λ uses g. record {
+  subject = c.in_ok-file.ensures.ok adjust_row uses g (refl, refl, refl);
   set = option_map names_in c.in_ok-set.set;
   is_set = c.in_ok-set.ensures.ok adjust_row uses g refl;
   most = c.in_ok-most.most;

@@ -1,4 +1,4 @@
-use Rattle.std.proofs.Common.{◌≡◌, ◌∙◌, Some, codes, option_map, ap, sym, refl, rules}
+use Rattle.std.proofs.Common.{◌∙◌, codes, option_map, ap, sym, refl, rules}
 use Rattle.command_words.specs.Vocabulary.{value_of, names_in}
 use Rattle.command_words.proofs.Inputs.{with_file}
 use Rattle.replies.specs.Vocabulary.{format_of}
@@ -8,18 +8,12 @@ use Rattle.bounds_command.proofs.request.Request.read.Goals as goal
 
 pub returns-in_err-file-clause-none : goal.returns-in_err-file-clause-none
 returns-in_err-file-clause-none c =
-    λ uses g e. record {
-      nothing = λ r is. c.in_err-file.ensures.none bounds_row uses g (refl, refl, refl) (search rules) r.file r.x r.y (record {
-        is_file = is.file;
-        is_x = is.x;
-        is_y = is.y;
-      });
-    }
+    λ uses g e. record { nothing = λ r is. c.in_err-file.ensures.none bounds_row uses g (refl, refl, refl) (search rules) r.file r.x r.y is.subject }
 
 pub returns-in_err-counts-clause-none : goal.returns-in_err-counts-clause-none
 returns-in_err-counts-clause-none c = λ uses g e. record {
   nothing = λ r is. c.in_err-counts.ensures.none bounds_row uses g refl (search rules) r.counts is.counts
-      (with_file _ _ _ _ is.file (c.in_ok-file.ensures.ok bounds_row uses g (refl, refl, refl)).is_file is.inputs);
+      (with_file _ _ _ _ is.subject.is_file (c.in_ok-file.ensures.ok bounds_row uses g (refl, refl, refl)).is_file is.inputs);
 }
 
 pub returns-in_err-set-clause-none : goal.returns-in_err-set-clause-none
@@ -66,10 +60,8 @@ returns-in_default-clause-none c = λ uses g e. record {
 }
 
 pub returns-clause-ok : goal.returns-clause-ok
-returns-clause-ok c = λ uses g. let s = c.in_ok-file.ensures.ok bounds_row uses g (refl, refl, refl) in record {
-  file = s.is_file;
-  x = s.is_x;
-  y = s.is_y;
+returns-clause-ok c = λ uses g. record {
+  subject = c.in_ok-file.ensures.ok bounds_row uses g (refl, refl, refl);
   counts = c.in_ok-counts.ensures.ok bounds_row uses g refl;
   inputs = c.in_ok-counts.ensures.inputs;
   set = option_map names_in c.in_ok-set.set;

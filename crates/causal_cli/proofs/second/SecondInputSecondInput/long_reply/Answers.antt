@@ -15,6 +15,10 @@ use Rattle.told.specs.declared.form.Form.{Form}
 use Rattle.told.specs.Vocabulary.{plain_form, Tells}
 use Rattle.evaluate_command.specs.Vocabulary.{PlainEffect, effect_in, evaluate_telling, values_refusal}
 use Rattle.evaluate_command.specs.Right as evaluations
+use Rattle.evaluate_treated.specs.Vocabulary.{PlainAmong, among_in, among_telling}
+use Rattle.evaluate_treated.specs.Right as among
+use Rattle.evaluate_natural.specs.Vocabulary.{PlainNested, nested_in, nested_telling}
+use Rattle.evaluate_natural.specs.Right as nested
 use Rattle.equivalent_command.specs.Vocabulary.{IsForSecond, second_refusal, equivalent_telling}
 use Rattle.implications_command.specs.Vocabulary.{counts_refusal, PlainPairs, pairs_in, IsForCounts, implications_telling}
 use Rattle.causal_cli.specs.Commands.{left_of}
@@ -64,6 +68,36 @@ returns-in-Evaluate c =
     (plain_form c.in-Evaluate.format) e.names r.outcome (told_of r))
     (λ r h other long. h (plain_form c.in-Evaluate.format) c.in-Evaluate.exact c.in-Evaluate.zero c.in-Evaluate.matched e count other e.names long)
     c.long_counts.ensures)
+
+pub returns-in-EvaluateTreated : goal.returns-in-EvaluateTreated
+returns-in-EvaluateTreated c =
+    let d = c.args.diagram.now in
+    let e = among_in d.observed c.in-EvaluateTreated.found in
+    let count = option_map (λ s. s.now) c.in-EvaluateTreated.count in
+    subst (λ (it : SecondInput). IfOk c.long_counts-in-EvaluateTreated.result (λ r. (other : List ℕ) → (left_of d it).limit < length other
+    → (left_of d it).answer other r.outcome (told_of r))) (sym c.in-EvaluateTreated.is)
+    (IfOk-weaker c.long_counts-in-EvaluateTreated.result
+    (λ r. (form : Form) (exact : Bool) (e : PlainAmong) (count : Option Field) (bytes : List ℕ) (names : List (List ℕ)) → 67108864 < length bytes
+    → Tells among_telling values_refusal (among.IsForCounts exact e count bytes) form names r.outcome (told_of r))
+    (λ r. (other : List ℕ) → 67108864 < length other
+    → Tells among_telling values_refusal (among.IsForCounts c.in-EvaluateTreated.exact e count other) c.in-EvaluateTreated.form e.names r.outcome (told_of r))
+    (λ r h other long. h c.in-EvaluateTreated.form c.in-EvaluateTreated.exact e count other e.names long)
+    c.long_counts-in-EvaluateTreated.ensures)
+
+pub returns-in-EvaluateNatural : goal.returns-in-EvaluateNatural
+returns-in-EvaluateNatural c =
+    let d = c.args.diagram.now in
+    let e = nested_in d.observed c.in-EvaluateNatural.found in
+    let count = option_map (λ s. s.now) c.in-EvaluateNatural.count in
+    subst (λ (it : SecondInput). IfOk c.long_counts-in-EvaluateNatural.result (λ r. (other : List ℕ) → (left_of d it).limit < length other
+    → (left_of d it).answer other r.outcome (told_of r))) (sym c.in-EvaluateNatural.is)
+    (IfOk-weaker c.long_counts-in-EvaluateNatural.result
+    (λ r. (form : Form) (exact : Bool) (e : PlainNested) (count : Option Field) (bytes : List ℕ) (names : List (List ℕ)) → 67108864 < length bytes
+    → Tells nested_telling values_refusal (nested.IsForCounts exact e count bytes) form names r.outcome (told_of r))
+    (λ r. (other : List ℕ) → 67108864 < length other
+    → Tells nested_telling values_refusal (nested.IsForCounts c.in-EvaluateNatural.exact e count other) c.in-EvaluateNatural.form e.names r.outcome (told_of r))
+    (λ r h other long. h c.in-EvaluateNatural.form c.in-EvaluateNatural.exact e count other e.names long)
+    c.long_counts-in-EvaluateNatural.ensures)
 
 pub returns-in-Equivalent : goal.returns-in-Equivalent
 returns-in-Equivalent c =

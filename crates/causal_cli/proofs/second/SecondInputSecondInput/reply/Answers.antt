@@ -27,3 +27,11 @@ returns-in-Steps c = subst (λ (it : SecondInput). IfOk c.steps_reply.result
 pub returns-in-Bounds : goal.returns-in-Bounds
 returns-in-Bounds c = subst (λ (it : SecondInput). IfOk c.bounds_reply.result
     (λ r. (left_of c.args.diagram.now it).answer c.args.other.now r.outcome (told_of r))) (sym c.in-Bounds.is) c.bounds_reply.ensures
+
+pub returns-in-EvaluateTreated : goal.returns-in-EvaluateTreated
+returns-in-EvaluateTreated c = subst (λ (it : SecondInput). IfOk c.among_reply.result
+    (λ r. (left_of c.args.diagram.now it).answer c.args.other.now r.outcome (told_of r))) (sym c.in-EvaluateTreated.is) c.among_reply.ensures
+
+pub returns-in-EvaluateNatural : goal.returns-in-EvaluateNatural
+returns-in-EvaluateNatural c = subst (λ (it : SecondInput). IfOk c.nested_reply.result
+    (λ r. (left_of c.args.diagram.now it).answer c.args.other.now r.outcome (told_of r))) (sym c.in-EvaluateNatural.is) c.nested_reply.ensures

@@ -1,27 +1,8 @@
-use Rattle.std.proofs.Common.{refl, rules, ap, ◌∙◌}
-use Rattle.command_words.proofs.Inputs.{with_file}
-use Rattle.replies.specs.Vocabulary.{format_of}
-use Rattle.check_command.specs.Requests.{check_row}
+use Rattle.std.proofs.Common.{codes}
 use Rattle.check_command.proofs.request.Request.read.Goals as goal
 
-pub returns-in_err-file-clause-none : goal.returns-in_err-file-clause-none
-returns-in_err-file-clause-none c = λ uses g e. record { nothing = λ r is. c.in_err-file.ensures.none check_row uses g refl (search rules) r.file is.file }
-
-pub returns-in_err-certificate-clause-none : goal.returns-in_err-certificate-clause-none
-returns-in_err-certificate-clause-none c = λ uses g e. record {
-  nothing = λ r is. c.in_err-certificate.ensures.none check_row uses g refl (search rules) r.certificate is.certificate
-      (with_file _ _ _ _ is.file (c.in_ok-file.ensures.ok check_row uses g refl) is.inputs);
-}
-
-pub returns-in_err-experiments-clause-none : goal.returns-in_err-experiments-clause-none
-returns-in_err-experiments-clause-none c =
-    λ uses g e. record { nothing = λ r is. c.in_err-experiments.ensures.none check_row uses g refl (search rules) r.experiments is.experiments }
-
 pub returns-clause-ok : goal.returns-clause-ok
-returns-clause-ok c = λ uses g. record {
-  file = c.in_ok-file.ensures.ok check_row uses g refl;
-  certificate = c.in_ok-certificate.ensures.ok check_row uses g refl;
-  inputs = c.in_ok-certificate.ensures.inputs;
-  experiments = c.in_ok-experiments.ensures.ok check_row uses g refl;
-  format = c.of-format.ensures ∙ ap format_of (c.flag.ensures check_row uses g refl);
-}
+returns-clause-ok c = c.read_named.ensures.ok (codes "check")
+
+pub returns-clause-none : goal.returns-clause-none
+returns-clause-none c = λ uses g e. record { nothing = c.read_named.ensures.none (codes "check") uses g e }

@@ -1,8 +1,9 @@
-use Rattle.std.proofs.Common.{◌≡◌, ◌∙◌, Some, codes, option_map, ap, subst, sym, refl, rules}
+use Rattle.std.proofs.Common.{◌≡◌, ◌∙◌, true, Some, codes, option_map, ap, subst, sym, refl, rules}
+use Rattle.std.specs.Bool.{OnTrue}
 use Rattle.command_words.specs.Vocabulary.{value_of, has_flag, names_in}
 use Rattle.command_words.proofs.Inputs.{with_file}
 use Rattle.replies.specs.Vocabulary.{format_of}
-use Rattle.evaluate_command.specs.Requests.{evaluate_row}
+use Rattle.evaluate_command.specs.Requests.{evaluate_row, AskPlainly}
 use Rattle.evaluate_command.specs.Ways.{way_of, way_for}
 use Rattle.evaluate_command.proofs.NoWays.{no_way}
 use Rattle.evaluate_command.proofs.request.Request.read.Goals as goal
@@ -43,6 +44,7 @@ returns-in_default-clause-none c = λ uses g e. record {
 
 pub returns-clause-ok : goal.returns-clause-ok
 returns-clause-ok c = λ uses g. let s = c.in_ok-file.ensures.ok evaluate_row uses g (refl, refl, refl) in record {
+  plain = let asked : c.is_plain.result ≡ true = search rules in subst (λ b. OnTrue b (AskPlainly uses)) asked (c.is_plain.ensures.yes uses g);
   file = s.is_file;
   x = s.is_x;
   y = s.is_y;

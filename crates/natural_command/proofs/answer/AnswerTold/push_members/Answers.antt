@@ -14,3 +14,8 @@ pub returns-in-Excluded : goal.returns-in-Excluded
 returns-in-Excluded c =
     subst (λ (a : Answer). OnOk c.push_excluded.result (c.push_excluded.new.object ≡ with_members (natural_members c.args.names.now a) c.args.object.now))
     (sym c.in-Excluded.is) c.push_excluded.ensures
+
+pub returns-in-Split : goal.returns-in-Split
+returns-in-Split c =
+    subst (λ (a : Answer). OnOk c.push_split_with.result (c.push_split_with.new.object ≡ with_members (natural_members c.args.names.now a) c.args.object.now))
+    (sym c.in-Split.is) c.push_split_with.ensures

@@ -7,3 +7,13 @@ pub returns-in-Excluded : goal.returns-in-Excluded
 returns-in-Excluded c =
     subst (λ (a : Answer). IfOk c.excluded_text.result (λ v. v.items ≡ natural_text c.args.writing c.args.names.now a)) (sym c.in-Excluded.is)
     c.excluded_text.ensures
+
+pub returns-in-Witness : goal.returns-in-Witness
+returns-in-Witness c =
+    subst (λ (a : Answer). IfOk c.witness_with.result (λ v. v.items ≡ natural_text c.args.writing c.args.names.now a)) (sym c.in-Witness.is)
+    c.witness_with.ensures
+
+pub returns-in-Split : goal.returns-in-Split
+returns-in-Split c =
+    subst (λ (a : Answer). IfOk c.split_with.result (λ v. v.items ≡ natural_text c.args.writing c.args.names.now a)) (sym c.in-Split.is)
+    c.split_with.ensures

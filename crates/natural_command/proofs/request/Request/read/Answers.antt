@@ -1,26 +1,21 @@
-use Rattle.std.proofs.Common.{sym, refl, ap, ◌∙◌, subst, codes, rules}
-use Rattle.command_words.specs.Vocabulary.{has_flag}
-use Rattle.replies.specs.Vocabulary.{format_of}
-use Rattle.natural_command.specs.Requests.{natural_row, IsWriting}
+use Rattle.std.proofs.Common.{◌≡◌, Bool, sym, refl, ap₂, ◌∙◌, rules}
+use Rattle.std.proofs.lemmas.Option.{none-some}
+use Rattle.told.specs.Vocabulary.{form_for}
+use Rattle.natural_command.specs.Requests.{natural_row}
 use Rattle.natural_command.proofs.request.Request.read.Goals as goal
+
+-- the form by the flags as they are read is that by the uses
+flags : {a b latex json : Bool} → a ≡ latex → b ≡ json → form_for a b ≡ form_for latex json
+flags one other = ap₂ form_for one other
 
 pub returns-in_default-clause-none : goal.returns-in_default-clause-none
 returns-in_default-clause-none c = λ uses g e. record {
-  nothing = λ r is.
-      c.in_default.ensures.none r.form.writing (subst (λ b. IsWriting b c.flag-json.result r.form.writing)
-      (sym (c.flag-latex.ensures natural_row uses g refl))
-      (subst (λ b. IsWriting (has_flag uses (codes "latex")) b r.form.writing) (sym (c.flag-json.ensures natural_row uses g refl)) is.form.writing));
+  nothing = λ r is. none-some r.form (c.in_default.ensures ∙ flags (c.flag-latex.ensures natural_row uses g refl) (c.flag-json.ensures natural_row uses g refl) ∙ is.form);
 }
 
 pub returns-in_err-file-clause-none : goal.returns-in_err-file-clause-none
 returns-in_err-file-clause-none c =
-    λ uses g e. record {
-      nothing = λ r is. c.in_err-file.ensures.none natural_row uses g (refl, refl, refl) (search rules) r.file r.x r.y (record {
-        is_file = is.file;
-        is_x = is.x;
-        is_y = is.y;
-      });
-    }
+    λ uses g e. record { nothing = λ r is. c.in_err-file.ensures.none natural_row uses g (refl, refl, refl) (search rules) r.file r.x r.y is.subject }
 
 pub returns-in_err-through-clause-none : goal.returns-in_err-through-clause-none
 returns-in_err-through-clause-none c =
@@ -31,15 +26,9 @@ returns-in_err-given-clause-none c =
     λ uses g e. record { nothing = λ r is. c.in_err-given.ensures.none natural_row uses g refl (search rules) r.given is.given }
 
 pub returns-clause-ok : goal.returns-clause-ok
-returns-clause-ok c = λ uses g. let s = c.in_ok-file.ensures.ok natural_row uses g (refl, refl, refl) in record {
-  file = s.is_file;
-  x = s.is_x;
-  y = s.is_y;
+returns-clause-ok c = λ uses g. record {
+  subject = c.in_ok-file.ensures.ok natural_row uses g (refl, refl, refl);
   through = c.in_ok-through.ensures.ok natural_row uses g refl;
   given = c.in_ok-given.ensures.ok natural_row uses g refl;
-  form = record {
-    writing = subst (λ b. IsWriting b (has_flag uses (codes "json")) c.in-Some.writing) (c.flag-latex.ensures natural_row uses g refl)
-        (subst (λ b. IsWriting c.flag-latex.result b c.in-Some.writing) (c.flag-json.ensures natural_row uses g refl) c.in-Some.ensures.some);
-    format = c.of-format.ensures ∙ ap format_of (c.flag-json.ensures natural_row uses g refl);
-  };
+  form = sym (flags (c.flag-latex.ensures natural_row uses g refl) (c.flag-json.ensures natural_row uses g refl)) ∙ sym c.in-Some.ensures;
 }

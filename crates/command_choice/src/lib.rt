@@ -1,0 +1,2 @@
+//! A command that is one of two, by what its words ask for: no code runs here.
+#![tactic(auto)]

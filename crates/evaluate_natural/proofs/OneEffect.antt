@@ -1,0 +1,140 @@
+-- Lists name one nested effect with one formula, and bytes are the text of one table.
+use Rattle.std.proofs.Common.{◌≡◌, ℕ, Bool, true, false, List, Option, Some, Ok, Result, length, map, refl, sym, ap, ◌∙◌, subst}
+use mathlib.Core.Path.{fun_ext}
+use Rattle.mixed_graph.specs.declared.sets.VSet.{VSet}
+use Rattle.mixed_graph.specs.Vocabulary.{MixedGraph, graph_of}
+use Rattle.identification_theory.proofs.Unique.{one_set}
+use Rattle.prob_expr.specs.Vocabulary.{Weights}
+use Rattle.count_rows.specs.Vocabulary.{Field, records_of, rows_of, Table, counted, rows_in}
+use Rattle.count_table.specs.Vocabulary.{cells_of, levels_in, IsTableOf, layout_in}
+use Rattle.count_eval.specs.Vocabulary.{cell_of}
+use Rattle.count_eval.specs.Stops.{Stop}
+use Rattle.quantity.specs.Vocabulary.{Kind}
+use Rattle.table_cells.specs.Vocabulary.{first_cell, with_levels}
+use Rattle.diagram.specs.declared.diagram.Diagram.{Diagram}
+use Rattle.diagram.proofs.OneDiagram.{AreSameDiagrams, same_drawing, same_query_lists}
+use Rattle.factor_values.specs.Vocabulary.{PlainFactors, factors_outcome}
+use Rattle.natural_id.specs.Vocabulary.{IsFormulaByParts, parts_view}
+use Rattle.natural_id.proofs.One.{one_formula_by_parts}
+use Rattle.natural_command.specs.Requests.{Request}
+use Rattle.natural_command.specs.Right.{IsForNames}
+use Rattle.natural_command.specs.declared.asking.Question.{Question}
+use Rattle.natural_command.specs.declared.answer.Asked.{Asked}
+use Rattle.natural_command.specs.declared.answer.Answer.{Answer}
+use Rattle.natural_command.specs.declared.answer.Answer.TheVariants as natural
+use Rattle.natural_command.specs.declared.fault.NaturalFault.{NaturalFault}
+use Rattle.natural_command.specs.Asking.{NaturalLists, natural_lists}
+use Rattle.natural_command.specs.Vocabulary.{IsAskedFor, IsNaturalAnswer}
+use Rattle.natural_command.proofs.Lawful.{one_question}
+use Rattle.natural_values.specs.Vocabulary.{natural_factors}
+use Rattle.evaluate_command.specs.Vocabulary.{CellValue, values_at}
+use Rattle.evaluate_treated.specs.Cells.{varied}
+use Rattle.evaluate_treated.specs.declared.axes.Axis.{Axis}
+use Rattle.evaluate_natural.specs.Cells.{printed_cells, second_levels, value_in}
+use Rattle.evaluate_natural.specs.Effects.{PlainNested, Identifies, IsFound, read_in}
+
+-- an answer on a diagram is one on each that is the same
+pub same_answer : (q : Request) (d e : Diagram) → AreSameDiagrams d e → (r : Result Answer NaturalFault) → IsNaturalAnswer e q.x q.y q.through q.given r
+    → IsNaturalAnswer d q.x q.y q.through q.given r
+same_answer q d e s r h =
+    subst (λ (l : NaturalLists). IsForNames (graph_of d.observed.graph) l r) same_lists
+    (subst (λ (g : MixedGraph). IsForNames g (natural_lists e q.x q.y q.through q.given) r) (sym (same_drawing d e s)) h)
+  where
+    same_lists : natural_lists e q.x q.y q.through q.given ≡ natural_lists d q.x q.y q.through q.given
+    same_lists = λ i. record { query = same_query_lists q.x q.y (Some q.given) d e s i; through = q.through }
+
+vertex_set : (a b : VSet) → b.bits ≡ a.bits → b ≡ a
+vertex_set a b e = λ i. record { bits = e i }
+
+-- two flags that are true, or false, of the same
+one_flag : (P : Type 0) (a b : Bool) → (a ≡ true → P → ⊥) → (a ≡ false → P) → (b ≡ true → P → ⊥) → (b ≡ false → P) → b ≡ a
+one_flag P true true h i j k = refl
+one_flag P false false h i j k = refl
+one_flag P true false h i j k = absurd (h refl (k refl))
+one_flag P false true h i j k = absurd (j refl (i refl))
+
+-- a question is asked in one way
+one_asked : (g : MixedGraph) (q : Question) (a b : Asked) → IsAskedFor g q a → IsAskedFor g q b → b ≡ a
+one_asked g q a b x y = λ i. record {
+  question = (y.question ∙ sym x.question) i;
+  primes = vertex_set a.primes b.primes (one_set b.primes.bits a.primes.bits _ y.primes x.primes) i;
+  indirect = one_flag _ a.indirect b.indirect x.some_indirect x.no_indirect y.some_indirect y.no_indirect i;
+  direct = one_flag _ a.direct b.direct x.some_direct x.no_direct y.some_direct y.no_direct i;
+}
+
+abbrev effect_for : List (List ℕ) → MixedGraph → Asked → PlainFactors → PlainNested
+effect_for names g a e = record { names = names; graph = g; asked = a; factors = e }
+
+-- and has one formula
+module _ (q : Request) (d : Diagram) (e f : PlainNested) (a : IsFound d q e) (b : IsFound d q f) where
+  abbrev g : MixedGraph
+  g = graph_of d.observed.graph
+
+  same_question : b.answered.question ≡ a.answered.question
+  same_question = one_question g (natural_lists d q.x q.y q.through q.given) a.answered.question b.answered.question a.answered.named b.answered.named
+
+  asked_again : IsAskedFor g a.answered.question f.asked
+  asked_again = subst (λ k. IsAskedFor g k f.asked) same_question b.answered.is.decided.0
+
+  pub same_asked : f.asked ≡ e.asked
+  same_asked = one_asked g a.answered.question e.asked f.asked a.answered.is.decided.0 asked_again
+
+  same_formula : (b.formula.summed.bits ≡ a.formula.summed.bits) × (parts_view b.formula.parts.items ≡ parts_view a.formula.parts.items)
+  same_formula =
+      let k = a.answered.question in
+      one_formula_by_parts g k.x.bits k.through.bits k.y.bits k.given.bits b.formula.summed.bits a.formula.summed.bits
+      (parts_view b.formula.parts.items) (parts_view a.formula.parts.items)
+      (subst (λ (r : Question). IsFormulaByParts g r.x.bits r.through.bits r.y.bits r.given.bits b.formula.summed.bits
+      (parts_view b.formula.parts.items)) same_question b.answered.is.decided.1.found)
+      a.answered.is.decided.1.found
+
+  pub same_factors : f.factors ≡ e.factors
+  same_factors =
+      let given : f.asked.question.given.bits ≡ e.asked.question.given.bits = ap (λ (k : Asked). k.question.given.bits) same_asked in
+      b.factors
+      ∙ ap (λ u. natural_factors u f.asked.question.given.bits (parts_view b.formula.parts.items)) same_formula.0
+      ∙ ap (λ z. natural_factors a.formula.summed.bits z (parts_view b.formula.parts.items)) given
+      ∙ ap (natural_factors a.formula.summed.bits e.asked.question.given.bits) same_formula.1
+      ∙ sym a.factors
+
+pub same_effect : (q : Request) (d d' : Diagram) → AreSameDiagrams d d' → (e f : PlainNested) → Identifies d q e → Identifies d' q f → f ≡ e
+same_effect q d d' s e f a i =
+    let ns : f.names ≡ e.names = i.names ∙ s.observed.names ∙ sym a.names in
+    let gs : f.graph ≡ e.graph = i.graph ∙ sym (same_drawing d d' s) ∙ sym a.graph in
+    let found : IsFound d q f = record {
+      formula = i.found.formula;
+      answered = same_answer q d d' s (Ok (natural.Formula f.asked i.found.formula)) i.found.answered;
+      factors = i.found.factors;
+    } in
+    let asked_same = same_asked q d e f a.found found in
+    let fs = same_factors q d e f a.found found in
+    λ j. effect_for (ns j) (gs j) (asked_same j) (fs j)
+
+-- the values at the printed cells, from the parts of a table that they hang on
+values_of : (kind : Kind) (e : PlainNested) (vertices : List ℕ) (levels : List (List Field)) (weight : (ℕ → Bool) → (ℕ → ℕ) → ℕ) → Result (List CellValue) Stop
+values_of kind e vertices levels weight =
+    let w : Weights = record { vertices = e.graph.vertices; size = λ v. length (levels_in vertices levels v); weight = λ b a s. weight a s } in
+    let axes = varied e.graph.vertices e.asked.question.x.bits e.asked.question.given.bits e.asked.question.y.bits in
+    values_at (λ cell. factors_outcome kind w e.factors (cell_of cell) (second_levels e cell))
+    (map (with_levels (first_cell 64) (map (λ (a : Axis). a.name) axes)) (cells_of (map (λ (a : Axis). length (levels_in vertices levels a.vertex)) axes)))
+
+of_table : (kind : Kind) (e : PlainNested) (t : Table) → values_at (value_in kind e t) (printed_cells e t)
+    ≡ values_of kind e t.vertices t.levels (counted t.vertices t.rows)
+unfolding values_of
+of_table kind e t = refl
+
+-- bytes are the text of one table, as far as values hang on it
+pub same_values : (kind : Kind) (e : PlainNested) (bytes : List ℕ) (count : Option Field) (t u : Table) → IsTableOf bytes e.names (read_in e) count t
+    → IsTableOf bytes e.names (read_in e) count u
+    → values_at (value_in kind e u) (printed_cells e u) ≡ values_at (value_in kind e t) (printed_cells e t)
+same_values kind e bytes count t u a b =
+    let vs : u.vertices ≡ t.vertices = b.vertices ∙ sym a.vertices in
+    let ls : u.levels ≡ t.levels = b.levels ∙ sym a.levels in
+    let all = rows_in (layout_in (records_of bytes) e.names (read_in e) count) (rows_of (records_of bytes)) in
+    let ws : counted u.vertices u.rows ≡ counted t.vertices t.rows =
+    fun_ext (λ k. fun_ext (λ s. b.rows k s ∙ ap (λ (v : List ℕ). counted v all k s) vs ∙ sym (a.rows k s))) in
+    of_table kind e u
+    ∙ ap (λ (v : List ℕ). values_of kind e v u.levels (counted u.vertices u.rows)) vs
+    ∙ ap (λ (l : List (List Field)). values_of kind e t.vertices l (counted u.vertices u.rows)) ls
+    ∙ ap (λ (w : (ℕ → Bool) → (ℕ → ℕ) → ℕ). values_of kind e t.vertices t.levels w) ws
+    ∙ sym (of_table kind e t)

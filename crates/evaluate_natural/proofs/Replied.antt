@@ -1,0 +1,35 @@
+-- The reply tells the answer, or the fault.
+use Rattle.std.proofs.Common.{◌≡◌, ℕ, false, List, Result, Ok, Err, IfOk, ap}
+use Rattle.std.specs.Prelude.{OnOk}
+use Rattle.targets.proofs.Faults.{not_memory}
+use Rattle.diagram.specs.declared.diagram.Diagram.{Diagram}
+use Rattle.replies.specs.declared.outcome.Reply.{Reply}
+use Rattle.replies.specs.Vocabulary.{told_of}
+use Rattle.told.specs.declared.form.Form.{Form}
+use Rattle.told.specs.Vocabulary.{is_memory, Tells, outcome_in, told_in, is_wanting}
+use Rattle.natural_command.specs.Asking.{IsNamesFault, natural_lists}
+use Rattle.natural_command.specs.Requests.{Request}
+use Rattle.natural_command.specs.Vocabulary.{natural_refusal, natural_telling}
+use Rattle.natural_command.specs.declared.answer.Answer.{Answer}
+use Rattle.natural_command.specs.declared.fault.NaturalFault.{NaturalFault}
+use Rattle.natural_command.specs.declared.fault.NaturalFault.TheVariants.{Listed, NoMediator, After, TooMany, NoMemory}
+use Rattle.evaluate_natural.specs.First.{IsAnswered, IsForDiagram}
+
+-- an answer that isn't want of memory is right
+right_answer : (d : Diagram) (q : Request) (r : Result Answer NaturalFault) → IsAnswered d q r → is_wanting natural_refusal r ≡ false → IsForDiagram d q r
+right_answer d q (Ok a) h memory = h
+right_answer d q (Err (Listed f)) h memory = (
+  not_memory (IsNamesFault (natural_lists d q.x q.y q.through q.given)) f (λ e. let t = ap is_memory e in absurd (cc (t, memory))) h,
+  tt,
+)
+right_answer d q (Err NoMediator) h memory = (h, tt)
+right_answer d q (Err (After name)) h memory = (h, tt)
+right_answer d q (Err TooMany) h memory = (h, tt)
+right_answer d q (Err NoMemory) h memory = absurd (cc memory)
+
+pub first_told : {E : Type 0} (d : Diagram) (q : Request) (form : Form) (names : List (List ℕ)) (a : Result Answer NaturalFault) → IsAnswered d q a
+    → (r : Result Reply E) → IfOk r (λ (p : Reply). p.outcome ≡ outcome_in natural_telling natural_refusal a)
+    → IfOk r (λ (p : Reply). told_of p ≡ told_in natural_telling natural_refusal form names a) → OnOk r (is_wanting natural_refusal a ≡ false)
+    → IfOk r (λ (p : Reply). Tells natural_telling natural_refusal (IsForDiagram d q) form names p.outcome (told_of p))
+first_told d q form names a is (Ok p) ends prints memory = record { answer = a; right = right_answer d q a is memory; ends = ends; prints = prints }
+first_told d q form names a is (Err e) ends prints memory = tt

@@ -1,0 +1,11 @@
+pub mod Effects
+pub mod Cells
+pub mod Requests
+pub mod First
+pub mod Lines
+pub mod Objects
+pub mod Telling
+pub mod Right
+pub mod Walking
+pub mod Command
+pub mod Vocabulary

@@ -1,0 +1,216 @@
+//! The lines of an answer.
+
+ghost use Rattle.std.specs.Prelude.{◌≡◌, ◌++◌, codes, drop, map, OnOk, IfOk};
+ghost use Rattle.mixed_graph.specs.Vocabulary.{has, members_below};
+ghost use Rattle.count_eval.specs.Vocabulary.{cell_of};
+ghost use Rattle.count_answers.specs.Vocabulary.{with_commas};
+ghost use Rattle.primed_names.specs.Vocabulary.{primed_names};
+ghost use Rattle.evaluate_command.specs.Vocabulary.{plain_of, sign_of};
+ghost use Rattle.evaluate_natural.specs.Lines.{cells_lines, cells_text, condition_text, effect_text, outcome_text, second_text, under_text, value_line, values_lines};
+
+use crate::answer::Answer;
+use answer_text::push_vertex;
+use count_answers::{level_text, number_at, push_assignments, push_level, separator};
+use count_table::Counts;
+use evaluate_command::{Shown, Valued, Values, pinned_lines, sign_of};
+use evaluate_treated::{Axis, push_observed};
+use mixed_graph::{Names, VSet};
+use natural_command::push_group;
+use primed_names::primed_names;
+use std::alloc::{AllocError, Global};
+
+/// What stands behind the first byte.
+fn behind_first(text: &[u8]) -> &[u8]
+    ensures { result.now ≡ drop 1 text.now }
+{
+    match text {
+        [_, rest @ ..] => rest,
+        [] => text,
+    }
+}
+
+/// Appends names with the levels of their vertices there, as `X'=level`, with commas between them.
+fn push_second(
+    alloc: Global,
+    out: &mut Vec<u8>,
+    all: &Names,
+    counts: &Counts,
+    cell: &[u32],
+    axes: &[Axis],
+) -> Result<(), AllocError>
+    ensures { OnOk result (out.new.items ≡ out.old.items ++ second_text all.now counts.now (cell_of cell.now) axes.now) }
+{
+    let mut text = Vec::new(alloc);
+    push_observed(&mut text, all, counts, cell, axes)?;
+    out.extend_from_slice(behind_first(text.as_slice()))?;
+    Ok(())
+}
+
+/// Appends x at its first levels, and the mediators under the second ones, as `X=level,M[X'=level]`.
+fn push_under(
+    alloc: Global,
+    out: &mut Vec<u8>,
+    names: &Names,
+    all: &Names,
+    answer: &Answer,
+    cell: &[u32],
+) -> Result<(), AllocError>
+    ensures { all.now ≡ primed_names names.now answer.now.asked.question.x.bits
+        → OnOk result (out.new.items ≡ out.old.items ++ under_text names.now answer.now (cell_of cell.now)) }
+{
+    let (question, counts) = (answer.asked.question, &answer.counts);
+    push_assignments(out, names, counts, question.x, cell)?;
+    out.extend_from_slice(b",")?;
+    push_group(alloc, out, names, question.through)?;
+    out.extend_from_slice(b"[")?;
+    push_second(alloc, out, all, counts, cell, answer.second.as_slice())?;
+    out.extend_from_slice(b"]")?;
+    Ok(())
+}
+
+/// Appends a vertex with its level of that number, as `Y[X=level,M[X'=level]]=level`.
+fn push_outcome(
+    out: &mut Vec<u8>,
+    names: &Names,
+    counts: &Counts,
+    under: &[u8],
+    v: u8,
+    k: u32,
+) -> Result<(), AllocError>
+    ensures { OnOk result (out.new.items ≡ out.old.items ++ outcome_text names.now counts.now under.now (λ u. k) v) }
+{
+    push_vertex(out, names, v)?;
+    out.extend_from_slice(b"[")?;
+    out.extend_from_slice(under)?;
+    out.extend_from_slice(b"]=")?;
+    push_level(out, level_text(counts, v, k))?;
+    Ok(())
+}
+
+/// Appends the members of a set with their levels in a cell, in index order with commas between them.
+fn push_outcomes(
+    out: &mut Vec<u8>,
+    names: &Names,
+    counts: &Counts,
+    under: &[u8],
+    set: VSet,
+    cell: &[u32],
+) -> Result<(), AllocError>
+    ensures { OnOk result (out.new.items ≡ out.old.items
+        ++ with_commas (map (outcome_text names.now counts.now under.now (cell_of cell.now)) (members_below (has set.bits) 64))) }
+{
+    let mut rest = set.iter();
+    'members: while let Some(v) = rest.next() {
+        push_outcome(out, names, counts, under, v, number_at(cell, v))?;
+        out.extend_from_slice(separator(&rest))?;
+    }
+    Ok(())
+}
+
+/// Appends what is given behind a bar: nothing where nothing is given.
+fn push_condition(
+    out: &mut Vec<u8>,
+    names: &Names,
+    answer: &Answer,
+    cell: &[u32],
+) -> Result<(), AllocError>
+    ensures { OnOk result (out.new.items ≡ out.old.items ++ condition_text names.now answer.now (cell_of cell.now)) }
+{
+    let given = answer.asked.question.given;
+    if given.is_empty() {
+        return Ok(());
+    }
+    out.extend_from_slice(b"|")?;
+    push_assignments(out, names, &answer.counts, given, cell)?;
+    Ok(())
+}
+
+/// Appends the effect at a cell, as `P(Y[X=level,M[X'=level]]=level|Z=level)`.
+fn push_effect(
+    alloc: Global,
+    out: &mut Vec<u8>,
+    names: &Names,
+    all: &Names,
+    answer: &Answer,
+    cell: &[u32],
+) -> Result<(), AllocError>
+    ensures { all.now ≡ primed_names names.now answer.now.asked.question.x.bits
+        → OnOk result (out.new.items ≡ out.old.items ++ effect_text names.now answer.now (cell_of cell.now)) }
+{
+    let mut under = Vec::new(alloc);
+    push_under(alloc, &mut under, names, all, answer, cell)?;
+    let y = answer.asked.question.y;
+    out.extend_from_slice(b"P(")?;
+    push_outcomes(out, names, &answer.counts, under.as_slice(), y, cell)?;
+    push_condition(out, names, answer, cell)?;
+    out.extend_from_slice(b")")?;
+    Ok(())
+}
+
+/// Appends a quantity behind its sign, and ends the line.
+fn push_quantity<Q: Shown>(alloc: Global, out: &mut Vec<u8>, quantity: &Q) -> Result<(), AllocError>
+    ensures { OnOk result (out.new.items ≡ out.old.items ++ (sign_of Q.IS_EXACT ++ (Q.kind.text (Q.numbers quantity.now) ++ codes "\n"))) }
+{
+    out.extend_from_slice(sign_of(Q::IS_EXACT))?;
+    quantity.print(alloc, out)?;
+    out.push(b'\n')?;
+    Ok(())
+}
+
+/// Appends the line of a cell with its quantity.
+fn push_line<Q: Shown>(
+    alloc: Global,
+    out: &mut Vec<u8>,
+    names: &Names,
+    all: &Names,
+    answer: &Answer,
+    valued: &Valued<Q>,
+) -> Result<(), AllocError>
+    ensures { all.now ≡ primed_names names.now answer.now.asked.question.x.bits
+        → OnOk result (out.new.items ≡ out.old.items ++ value_line Q.kind Q.IS_EXACT names.now answer.now (plain_of Q.numbers valued.now)) }
+{
+    push_effect(alloc, out, names, all, answer, valued.cell.as_slice())?;
+    push_quantity(alloc, out, &valued.quantity)?;
+    Ok(())
+}
+
+/// Appends the lines of cells with their quantities.
+fn push_lines<Q: Shown>(
+    alloc: Global,
+    out: &mut Vec<u8>,
+    names: &Names,
+    answer: &Answer,
+    values: &[Valued<Q>],
+) -> Result<(), AllocError>
+    ensures { OnOk result (out.new.items ≡ out.old.items ++ cells_text Q.numbers Q.kind Q.IS_EXACT names.now answer.now values.now) }
+{
+    let all = primed_names(alloc, names, answer.asked.question.x)?;
+    for valued in values {
+        push_line(alloc, out, names, &all, answer, valued)?;
+    }
+    Ok(())
+}
+
+/// Appends the lines of the values.
+fn push_values(
+    alloc: Global,
+    out: &mut Vec<u8>,
+    names: &Names,
+    answer: &Answer,
+) -> Result<(), AllocError>
+    ensures { OnOk result (out.new.items ≡ out.old.items ++ cells_lines names.now answer.now answer.now.values) }
+{
+    match &answer.values {
+        Values::Exact(values) => push_lines(alloc, out, names, answer, values.as_slice()),
+        Values::Bounds(values) => push_lines(alloc, out, names, answer, values.as_slice()),
+    }
+}
+
+/// The lines of what is pinned, and those of the values.
+pub fn values_text(alloc: Global, names: &Names, answer: &Answer) -> Result<Vec<u8>, AllocError>
+    ensures { IfOk result (λ v. v.items ≡ values_lines names.now answer.now) }
+{
+    let mut text = pinned_lines(alloc, names, &answer.counts, answer.pinned)?;
+    push_values(alloc, &mut text, names, answer)?;
+    Ok(text)
+}

@@ -1,0 +1,11 @@
+pub mod Requests
+pub mod Effects
+pub mod First
+pub mod Cells
+pub mod Right
+pub mod Walking
+pub mod Lines
+pub mod Objects
+pub mod Telling
+pub mod Command
+pub mod Vocabulary

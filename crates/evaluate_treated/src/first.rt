@@ -1,0 +1,72 @@
+//! What is known before counts are read: a formula, or the answer.
+
+ghost use Rattle.std.specs.Prelude.{Ok, Err, IfOk};
+ghost use Rattle.treated_command.specs.Requests.{Request as AskedEffect};
+ghost use Rattle.treated_command.specs.Vocabulary.{IsTreatedAnswer, treated_refusal, treated_telling};
+ghost use Rattle.replies.specs.Vocabulary.{told_of};
+ghost use Rattle.told.specs.Vocabulary.{Tells};
+ghost use Rattle.evaluate_treated.specs.First.{IsAnswered, IsFirst, IsForDiagram};
+ghost use Rattle.evaluate_treated.specs.Requests.{request_of};
+
+use crate::identified::Identified;
+use crate::request::Request;
+use diagram::Diagram;
+use named_factors::named_factors;
+use replies::Reply;
+use std::alloc::{AllocError, Global};
+use told::{Form, reply};
+use treated_command::{Answer, TreatedFault, treated_answer};
+
+/// What is known before counts are read.
+#[derive(Drop)]
+pub enum First {
+    /// The effect has a formula.
+    Found(Identified),
+    /// The answer: there is no formula; or what is wrong with the lists.
+    Answered(Result<Answer, TreatedFault>),
+}
+
+/// Identifies the effect of x on y among those for whom x was observed, in the observed graph: factors for it, or else the answer.
+///
+/// A list that is missing is that of the exposures or of the outcomes, or empty for what is given.
+pub fn identify_among(alloc: Global, diagram: &Diagram, asked: &Request<'_>) -> First
+    ensures { IsFirst diagram.now (request_of asked.now).effect result }
+{
+    match treated_answer(alloc, diagram, &asked.effect) {
+        Ok(answer) => with_factors(alloc, diagram, answer),
+        Err(fault) => First::Answered(Err(fault)),
+    }
+}
+
+/// The answer, with the factors of its formula where it has one.
+fn with_factors(alloc: Global, diagram: &Diagram, answer: Answer) -> First
+    requires { (q : AskedEffect) × IsTreatedAnswer diagram.now q.x q.y q.given (Ok answer) }
+    ensures { (q : AskedEffect) → IsTreatedAnswer diagram.now q.x q.y q.given (Ok answer) → IsFirst diagram.now q result }
+{
+    match answer {
+        Answer::Formula(asked, formula) => {
+            let n = diagram.observed.graph.n;
+            match named_factors(alloc, n, asked.sets.x, &formula.main) {
+                Ok(factors) => First::Found(Identified { asked, factors }),
+                Err(_) => First::Answered(Err(TreatedFault::NoMemory)),
+            }
+        }
+        Answer::Excluded(asked, c, h, pair) => {
+            First::Answered(Ok(Answer::Excluded(asked, c, h, pair)))
+        }
+        Answer::Unfixed(asked, c) => First::Answered(Ok(Answer::Unfixed(asked, c))),
+    }
+}
+
+/// What is told of the answer for which no counts are read.
+pub fn first_reply(
+    alloc: Global,
+    diagram: &Diagram,
+    answer: &Result<Answer, TreatedFault>,
+    form: Form,
+) -> Result<Reply, AllocError>
+    ensures { (q : AskedEffect) → IsAnswered diagram.now q answer.now
+        → IfOk result (λ r. Tells treated_telling treated_refusal (IsForDiagram diagram.now q) form diagram.now.observed.names r.outcome (told_of r)) }
+{
+    reply(alloc, form, &diagram.observed.names, answer)
+}

@@ -1,0 +1,101 @@
+//! The answer over counts.
+
+ghost use Rattle.std.specs.Prelude.{ℕ, ◌≡◌, ◌<◌, ◌≤◌, false, List, Bool, Option, IfOk, IfErr, length, option_map};
+ghost use Rattle.mixed_graph.specs.Vocabulary.{has, members_below};
+ghost use Rattle.count_rows.specs.Vocabulary.{Field};
+ghost use Rattle.replies.specs.Vocabulary.{told_of};
+ghost use Rattle.told.specs.declared.form.Form.{Form as AskedForm};
+ghost use Rattle.told.specs.Vocabulary.{Tells};
+ghost use Rattle.evaluate_command.specs.ValuesFaults.{is_memory, values_refusal};
+ghost use Rattle.evaluate_treated.specs.Effects.{PlainAmong, among_in, read_in, IsIdentified};
+ghost use Rattle.evaluate_treated.specs.Right.{AreValuesOf, HasValues, IsCountsFault, IsFaultOver, IsForCounts};
+ghost use Rattle.evaluate_treated.specs.Telling.{among_telling};
+
+use crate::answer::Answer;
+use crate::axes::observed_axes;
+use crate::evaluating::values_over;
+use crate::identified::Identified;
+use crate::naming::read_for;
+use count_table::{Counts, read_counts};
+use dag_reader::ReadGraph;
+use diagram::Diagram;
+use evaluate_command::ValuesFault;
+use replies::Reply;
+use std::alloc::{AllocError, Global};
+use told::{Form, Refuses, reply};
+
+/// What is told of the effect that was identified on a diagram, at each level of x as it is set and as it was observed, of what is given and of y, from counts
+/// in CSV; or of counts that are refused, or of the first printed cell that has no value. The only error is want of memory.
+pub fn among_reply(
+    alloc: Global,
+    diagram: &Diagram,
+    found: &Identified,
+    count: Option<&[u8]>,
+    exact: bool,
+    bytes: &[u8],
+    form: Form,
+) -> Result<Reply, AllocError>
+    requires identified { IsIdentified (among_in diagram.now.observed found.now) }
+    requires small { length bytes.now ≤ 67108864 }
+    ensures { IfOk result (λ r. Tells among_telling values_refusal
+        (IsForCounts exact (among_in diagram.now.observed found.now) (option_map (λ s. s.now) count.entry) bytes.now) form
+        diagram.now.observed.names r.outcome (told_of r)) }
+{
+    let answer = among_answer(alloc, &diagram.observed, found, count, exact, bytes);
+    reply(alloc, form, &diagram.observed.names, &answer)
+}
+
+/// What is told where there are more than 67,108,864 bytes of counts. The only error is want of memory.
+pub fn long_counts(alloc: Global) -> Result<Reply, AllocError>
+    ensures { IfOk result (λ r. (form : AskedForm) (exact : Bool) (e : PlainAmong) (count : Option Field) (bytes : List ℕ) (names : List (List ℕ)) → 67108864 < length bytes
+        → Tells among_telling values_refusal (IsForCounts exact e count bytes) form names r.outcome (told_of r)) }
+{
+    ValuesFault::TooLong.refuse(alloc)
+}
+
+/// The values of an effect that was identified in an observed graph, from counts in CSV: in exact fractions, or in bounds; or why there are none.
+fn among_answer<'a>(
+    alloc: Global,
+    seen: &'a ReadGraph,
+    found: &Identified,
+    count: Option<&[u8]>,
+    exact: bool,
+    bytes: &[u8],
+) -> Result<Answer, ValuesFault<'a>>
+    requires identified { IsIdentified (among_in seen.now found.now) }
+    requires small { length bytes.now ≤ 67108864 }
+    ensures answer { IfOk result (HasValues exact (among_in seen.now found.now) (option_map (λ s. s.now) count.entry) bytes.now) }
+    ensures fault { IfErr result (λ f. is_memory f ≡ false → IsCountsFault exact (among_in seen.now found.now) (option_map (λ s. s.now) count.entry) bytes.now f) }
+{
+    match read_counts(alloc, bytes, &seen.names, read_for(found), count) {
+        Ok(counts) => over_table(alloc, seen, found, exact, counts),
+        Err(fault) => Err(ValuesFault::Counts(fault)),
+    }
+}
+
+/// The values over a table of counts.
+fn over_table<'a>(
+    alloc: Global,
+    seen: &'a ReadGraph,
+    found: &Identified,
+    exact: bool,
+    counts: Counts,
+) -> Result<Answer, ValuesFault<'a>>
+    requires identified { IsIdentified (among_in seen.now found.now) }
+    requires read { counts.vertices ≡ members_below (has (read_in (among_in seen.now found.now))) 64 }
+    ensures answer { IfOk result (AreValuesOf exact (among_in seen.now found.now) counts) }
+    ensures fault { IfErr result (λ f. is_memory f ≡ false → IsFaultOver exact (among_in seen.now found.now) counts f) }
+{
+    // The clause `table` of `used` is needed: it is a table of counts.
+    let _used = counts.used();
+    let observed = observed_axes(alloc, seen.graph.n, found.asked.sets.x)?;
+    match values_over(alloc, seen, found, &counts, exact) {
+        Ok(values) => Ok(Answer {
+            asked: found.asked,
+            observed,
+            counts,
+            values,
+        }),
+        Err(fault) => Err(ValuesFault::NoValue(&seen.names, counts, fault)),
+    }
+}

@@ -1,0 +1,3 @@
+mod Products
+mod Found
+pub mod Drawing

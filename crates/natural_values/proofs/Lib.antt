@@ -1,0 +1,3 @@
+mod Equal
+mod Uniting
+pub mod Covering

@@ -1,0 +1,4 @@
+pub mod Factors
+pub mod Naming
+pub mod Right
+pub mod Vocabulary

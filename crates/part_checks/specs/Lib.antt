@@ -1,0 +1,4 @@
+pub mod Reading
+pub mod Natural
+pub mod Treated
+pub mod Vocabulary

@@ -1,0 +1,3 @@
+-- What other crates cite of this one, from one place.
+pub use Rattle.part_checks.specs.Natural.{AcceptsNatural, AreNaturallyAccepted, IsNaturalFault}
+pub use Rattle.part_checks.specs.Treated.{AcceptsTreated, AreAcceptedAmong, IsTreatedFault}
