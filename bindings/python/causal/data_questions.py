@@ -120,6 +120,7 @@ class DataQuestions:
         given: Optional[Given] = None,
         zero: bool = True,
         short: bool = True,
+        treated: bool = False,
         weights: Optional[str] = None,
     ) -> Effects:
         """The effects of x on y in the data: the values of the formula of `identify` over the counts.
@@ -150,11 +151,15 @@ class DataQuestions:
         criterion: see `adjusts`. With `given` the effect is that among those with the same values of these variables,
         `P(y | do(x), given)`: names give all levels, and a mapping, as `given={"sex": "f"}`, those at these levels.
 
+        With `treated` the effect is that among those for whom each level of the exposures was observed, by the formula of `treated`,
+        which reads no `set`, `zero` or `short`: what is given has the observed level besides, under the name of the exposure with a
+        prime, as in `given={"T'": "B"}`. It is proved alike: the value covers the effect among these in each such model.
+
         A missing value in a used column, an empty field of a file too, is refused as `MissingValues`; with `missing="drop"` its
         record is left out, and the answer's `dropped` counts these (which estimates the effect among complete records: whether
         that is the effect wanted isn't decided here); with `missing="level"` it is a level.
 
-        `NotIdentifiable` is raised with a hedge where there is no formula, `EvaluationError` with a cell where a term has no
+        `NotIdentifiable` is raised with a hedge (with `treated` a `Confounded`) where there is no formula, `EvaluationError` with a cell where a term has no
         records, and with what would answer.
 
         >>> from causal import Diagram
@@ -170,11 +175,14 @@ class DataQuestions:
         >>> through = Diagram("dag { T -> S -> R <- T S <-> R }").effects(data, "T", "R", exact=True)
         >>> print(through.formula, through.at("good", "A"), sep="; ")
         P(R|do(T)) = P(R|T); = 3/4
+        >>> treated = Diagram("dag { S -> T -> R <- S }").effects(data, "T", "R", treated=True, exact=True)
+        >>> print(treated.formula, treated.at("good", "A", {"T'": "B"}), sep="; ")
+        P(R|do(T),T') = sum{S} P(S|T') * P(R|S,T); = 3/4
         """
         from causal.evaluation import Evaluation
         from causal.samples import Design
 
-        way: Dict[str, Any] = {"set": set, "back_door": back_door, "given": given, "zero": zero, "short": short}
+        way: Dict[str, Any] = {"set": set, "back_door": back_door, "given": given, "zero": zero, "short": short, "treated": treated}
         return Evaluation(self._diagram, x, y, count, missing, **way, design=Design(weights)).effects(data, exact, at)
 
     def bounds(
@@ -279,6 +287,7 @@ class DataQuestions:
         given: Optional[Mapping[str, Level]] = None,
         zero: bool = True,
         short: bool = True,
+        observed: Any = None,
         resamples: int = 1000,
         level: float = 0.95,
         seed: Optional[int] = 0,
@@ -308,6 +317,7 @@ class DataQuestions:
         given: Names,
         zero: bool = True,
         short: bool = True,
+        observed: Any = None,
         resamples: int = 1000,
         level: float = 0.95,
         seed: Optional[int] = 0,
@@ -337,6 +347,7 @@ class DataQuestions:
         given: Optional[Given] = None,
         zero: bool = True,
         short: bool = True,
+        observed: Any = None,
         resamples: int = 1000,
         level: float = 0.95,
         seed: Optional[int] = 0,
@@ -351,6 +362,8 @@ class DataQuestions:
         The levels are given as they stand in the data. Where x or y has several variables, they are given by name, or in a list in the
         order in which x (or y) lists them; where x isn't given, by name alone. `given` as a mapping of variables to levels, as in
         `given={"sex": "f"}`, gives the contrast there; names give one for each level. Other options are as in `effects` and `bootstrap`.
+        With `observed` both risks are those among the ones for whom this level of the exposures was observed, by the formula of `treated`:
+        with `treated=1, control=0, observed=1` the difference is the effect of treatment on the treated.
         Of both effects is proved what `effects` says; the difference and the ratios are computed from them, outward where they are bounds.
         The intervals are computed too, as `bootstrap` says; with `resamples=0` there are none.
 
@@ -366,6 +379,11 @@ class DataQuestions:
         risk difference: -0.5
         risk ratio: 0.5
         odds ratio: none
+        >>> stones = {"S": ["small", "large"] * 4, "T": ["A", "A", "B", "B"] * 2, "R": [1] * 4 + [0] * 4, "n": [81, 192, 234, 55, 6, 71, 36, 25]}
+        >>> arms = {"treated": "A", "control": "B", "observed": "B", "outcome": 1}
+        >>> among = Diagram("dag { S -> T -> R <- S }").contrast(stones, "T", "R", **arms, count="n", exact=True, resamples=0)
+        >>> print(among.head[0], among.treated, among.control, sep="; ")
+        treated: T=A; control: T=B; outcome: R=1; among: T'=B; = 33753/38135; = 289/350
         """
         from causal.contrasts import Contrasts
         from causal.evaluation import Evaluation
@@ -373,7 +391,7 @@ class DataQuestions:
         from causal.samples import Design
 
         check_asked(resamples, level, interval, least=0)
-        words: Dict[str, Any] = {"set": set, "back_door": back_door, "given": given, "zero": zero, "short": short}
+        words: Dict[str, Any] = {"set": set, "back_door": back_door, "given": given, "zero": zero, "short": short, "observed": observed}
         design = Design(weights, clusters, strata)
         way = Evaluation(self._diagram, x, y, count, missing, **words, design=design)
         drawn = way.bootstrap(data, resamples, level, seed, at, interval, progress, exact) if resamples else None
@@ -389,7 +407,7 @@ class DataQuestions:
                     warn(doubt, DataWarning)
             return plain.with_interval(interval)
 
-        if not found.formula.target.given or isinstance(given, Mapping):
+        if isinstance(given, Mapping) or way.primes.keys() >= {*found.formula.target.given}:
             return contrast_at(None)
         groups = {tuple(effect.given.items()): effect.given for effect in found}
         return Contrasts(tuple(map(contrast_at, groups.values())))
@@ -414,6 +432,7 @@ class DataQuestions:
         given: Optional[Given] = None,
         zero: bool = True,
         short: bool = True,
+        treated: bool = False,
         weights: Optional[str] = None,
         clusters: Optional[str] = None,
         strata: Optional[str] = None,
@@ -427,7 +446,7 @@ class DataQuestions:
         that gives on the data what the program gives, and else by the program). A draw has the levels of x, of y, of what is given and
         of pinned variables that the data has; a level of another variable that isn't drawn is left out of that draw. A draw with a cell
         that has no value is left out and counted (`without_value`): where these are many, the interval says little, and a `DataWarning`
-        says so. `set`, `back_door`, `given`, `zero` and `short` are as in `effects`.
+        says so. `set`, `back_door`, `given`, `zero`, `short` and `treated` are as in `effects`.
 
         Rows that `count` counts are drawn as that many records. A survey's records have `weights`, and may have been drawn as `clusters`,
         within `strata`, each the name of a column: then clusters (or single records) are drawn within the strata, one fewer than there
@@ -447,7 +466,7 @@ class DataQuestions:
         from causal.evaluation import Evaluation
         from causal.samples import Design
 
-        way: Dict[str, Any] = {"set": set, "back_door": back_door, "given": given, "zero": zero, "short": short}
+        way: Dict[str, Any] = {"set": set, "back_door": back_door, "given": given, "zero": zero, "short": short, "treated": treated}
         asked = Evaluation(self._diagram, x, y, count, missing, **way, design=Design(weights, clusters, strata))
         return asked.bootstrap(data, resamples, level, seed, at, interval, progress)
 
@@ -488,6 +507,7 @@ class DataQuestions:
         control: Any,
         outcome: Any = None,
         count: Optional[str] = None,
+        exact: bool = False,
         missing: str = "error",
         resamples: int = 1000,
         level: float = 0.95,
@@ -504,8 +524,9 @@ class DataQuestions:
         `outcome` is the level of y whose risk is compared; without it means are, of a numeric y. The arms, `count` and `missing` are as in
         `contrast`, and intervals are percentiles of `resamples` bootstrap draws.
 
-        The formula of `natural` is proved; its values over the counts are computed, and a term without records leaves none. With `model`
-        they are by models of its terms, as in `estimate`, which says what `model`, `smoothing`, `factors` and `interval` are: then
+        The formula of `natural` is proved, and the risks are proved to be its values over the counts: `values` has them as bounds of 18
+        digits, or with `exact` as fractions; differences are computed. A term without records leaves none, but where a product with a
+        factor 0 hides it. With `model` values are by models of its terms, as in `estimate`, which says what `model`, `smoothing`, `factors` and `interval` are: then
         mediators and what lies before them may be numbers, and intervals are by influence functions where these are known.
 
         The proportion mediated means little where the two effects have opposite signs or the total may be near 0, and says so. A natural
@@ -524,9 +545,13 @@ class DataQuestions:
         asked: Dict[str, Any] = {"treated": treated, "control": control, "outcome": outcome, "count": count, "missing": missing}
         asked.update(resamples=resamples, level=level, seed=seed, progress=progress)
         if model is not None:
+            if exact:
+                raise RequestError("values by models aren't exact")
             asked.update(words=ModelWords(model, smoothing, factors, interval))
         elif interval not in (None, "percentile"):
             raise RequestError("a mediation by counts has percentile intervals; model='logistic' has those by influence functions")
+        else:
+            asked.update(exact=exact)
         return mediated(self._diagram, data, x, y, through, **asked)
 
     def estimate(

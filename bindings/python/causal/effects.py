@@ -171,7 +171,8 @@ class Mean(Printed):
 
 @dataclass(frozen=True)
 class Effect(Printed):
-    """One probability `P(y | do(x), given)`: the levels of y, of x and of what is given, and its value."""
+    """One probability `P(y | do(x), given)`: the levels of y, of x and of what is given, and its value. Among the treated `given` has
+    the levels of x that were observed as well, under the names with a prime."""
 
     y: Dict[str, Level]
     x: Dict[str, Level]
@@ -379,8 +380,8 @@ class Effects(Sequence[Effect]):
         return self.effects[self.place(y, x, given)].value
 
     def only(self, given: Mapping[str, Level]) -> Tuple[int, ...]:
-        """The numbers of the effects under these levels of what is given."""
-        found = tuple(k for k, effect in enumerate(self.effects) if effect.given == dict(given))
+        """The numbers of the effects under these levels of what is given, or of some of it."""
+        found = tuple(k for k, effect in enumerate(self.effects) if given.items() <= effect.given.items())
         if not found:
             raise RequestError(f"no effect is given {levels_text(given)}; {self._levels_there(given)}")
         return found
@@ -569,7 +570,7 @@ class Spread(Sequence[Effects]):
         return html_table([*free, *names, "estimate"], rows, [*notes, f"at most {self.widest:.6g} apart"])
 
 
-def _value(told: Told) -> Value:
+def value_of(told: Told) -> Value:
     """The value of a cell: an exact fraction, or two bounds."""
     lower, upper = (told["value"],) * 2 if "value" in told else (told["from"], told["to"])
     return Value(Fraction(lower), Fraction(upper))
@@ -595,5 +596,7 @@ def read_effects(
     def levels(pairs: Sequence[Tuple[str, Any]]) -> Dict[str, Level]:
         return {name: level_of(name, name_in(level)) for name, level in pairs}
 
-    effects = [Effect(levels(cell["y"]), levels(cell["x"]), _value(cell), levels(cell["given"])) for cell in told["cells"]]
-    return Effects(formula, tuple(effects), levels(told["pinned"]), told["exact"], dropped, typed=typed, orders=orders or {})
+    effects = [
+        Effect(levels(cell["y"]), levels(cell["x"]), value_of(cell), levels([*cell["given"], *cell.get("observed", ())])) for cell in told["cells"]
+    ]
+    return Effects(formula, tuple(effects), levels(told.get("pinned", ())), told["exact"], dropped, typed=typed, orders=orders or {})

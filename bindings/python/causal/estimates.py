@@ -27,6 +27,7 @@ from causal.objects import Told
 from causal.rows import Rows, alias, is_number, rows_of, unified
 from causal.samples import Design
 from causal.sensitivity import EValue, e_value
+from causal.treated import among_treated, primed
 from causal.trees import ByTree, Joined
 from causal.vocabulary import check_progress, check_whole, meant, needed, warn
 from causal.weighting import Weighting, weighting_of
@@ -280,19 +281,6 @@ def check_words(method: str, interval: Optional[str], level: float, smoothing: f
         raise RequestError(f"smoothing is a number of records from 0 on, and not {smoothing!r}")
 
 
-def primed(diagram: "Diagram", formula: Formula) -> Dict[str, str]:
-    """The names of observed values, as `X'`, of an effect among the treated, each with its exposure.
-
-    >>> from causal import Diagram
-    >>> from causal.estimates import primed
-    >>> diagram = Diagram("dag { S -> T -> R <- S }")
-    >>> primed(diagram, diagram.treated("T", "R")), primed(diagram, diagram.identify("T", "R"))
-    ({"T'": 'T'}, {})
-    """
-    names = [name for name in formula.target.given if name not in diagram.vertices]
-    return {name: name.rstrip("'") if name.rstrip("'") in formula.target.x else exposure for name, exposure in zip(names, formula.target.x)}
-
-
 class Reading:
     """How the rows of a formula are read: from the data that were observed, and from trials."""
 
@@ -408,10 +396,7 @@ def special(
 ) -> Formula:
     """The formula of an effect among the treated, or from trials."""
     if trials is None:
-        among = diagram.treated(x, y, list(given) if given else None)
-        if not isinstance(among, Formula):
-            raise NotIdentifiable(str(among).partition("\n")[0], place=among)
-        return among
+        return among_treated(diagram, x, y, list(given) if given else None)
     if not isinstance(trials, Mapping):
         raise RequestError("trials has the records of each trial by what was set in it, as in trials={'Z': frame, ('A', 'B'): other}")
     answer = diagram.surrogate(x, y, experiments=[names_of(names) for names in trials])

@@ -5,14 +5,14 @@ import random
 from collections import Counter
 from dataclasses import replace
 from itertools import chain, islice, product
-from typing import TYPE_CHECKING, Any, Dict, Iterable, Iterator, List, Mapping, Optional, Sequence, Tuple, Union
+from typing import TYPE_CHECKING, Any, Container, Dict, Iterable, Iterator, List, Mapping, Optional, Sequence, Tuple, Union
 
 from causal._library import Text
 from causal.bootstrap import Bootstrap, Progress
 from causal.columnwise import ColumnEvaluator
 from causal.columns import Data, in_order, may_have_blanks, path_of
 from causal.draws import drawn_numbers, seed_of
-from causal.effects import Effect, Effects, Level, LevelOf, Spread, read_effects, typed_order
+from causal.effects import Effect, Effects, Level, LevelOf, Spread, levels_at, read_effects, typed_order
 from causal.errors import CausalError, DataWarning, EvaluationError, NotIdentifiable, RequestError, WrongType
 from causal.estimators import pattern_of
 from causal.events import Support
@@ -25,6 +25,7 @@ from causal.objects import Told
 from causal.occurring import Occurring, occurring_in
 from causal.samples import Design, Sample, sample_of
 from causal.tables import Cell, Table, check_request, table_of, table_of_file
+from causal.treated import among_treated, primed
 from causal.values import Evaluator, evaluator_of
 from causal.vocabulary import check_progress, warn
 
@@ -44,8 +45,8 @@ OTHERWISE = (
 
 
 class Evaluation:
-    """The effect of x on y in a diagram, which has a formula: that of `identify`, also under a condition or a short one, or that of a
-    set to adjust for; and how data is read for it.
+    """The effect of x on y in a diagram, which has a formula: that of `identify`, also under a condition or a short one, that of a set
+    to adjust for, or that of `treated`; and how data is read for it.
 
     >>> from causal import Diagram
     >>> from causal.evaluation import Evaluation
@@ -55,6 +56,9 @@ class Evaluation:
     ['--x', '"X"', '--y', '"Y"', '--given', '"Z"', '--zero']
     >>> Evaluation(Diagram("dag { X -> Z -> Y <- X Z <-> Y }"), "X", "Y").used
     ('X', 'Y')
+    >>> among = Evaluation(Diagram("dag { Z -> X Z -> Y X -> Y }"), "X", "Y", treated=True)
+    >>> among.primes, among.used
+    ({"X'": 'X'}, ('Z', 'X', 'Y'))
     """
 
     def __init__(
@@ -70,15 +74,23 @@ class Evaluation:
         given: Optional[Given] = None,
         zero: bool = True,
         short: bool = True,
+        treated: bool = False,
+        observed: Any = None,
         design: Design = Design(),
     ) -> None:
         self.diagram, self.design, self.zero, self.short = diagram, design, zero, short
         # Whether the strata that occur had to be taken.
         self.is_narrowed = False
-        self.levels_given = dict(given) if isinstance(given, Mapping) else None
+        self.levels_given = dict(given) if isinstance(given, Mapping) else {}
         names = list(given) if isinstance(given, Mapping) else given
         self.members: Optional[Tuple[str, ...]] = None
-        if set is None:
+        self.is_treated = treated or observed is not None
+        if self.is_treated:
+            if set is not None or back_door:
+                raise RequestError("an effect among the treated has a formula of its own: it is asked for without set and back_door")
+            self.zero = self.short = False
+            self.formula = among_treated(diagram, x, y, names)
+        elif set is None:
             if back_door:
                 raise RequestError("the back-door criterion is asked of a set: set names it")
             self.formula = identified(diagram, x, y, names, short)
@@ -89,13 +101,20 @@ class Evaluation:
             self.formula, self.members = adjusted(diagram, x, y, set, back_door)
         target = self.formula.target
         self.typed = typed_order(x), typed_order(y)
+        # The names of observed values of the exposures, each with its exposure, of an effect among the treated.
+        self.primes = primed(diagram, self.formula)
+        if observed is not None:
+            had = levels_at(target.x, observed, self.typed[0])
+            self.levels_given.update((prime, had[name]) for prime, name in self.primes.items())
+        under = tuple(name for name in target.given if name not in self.primes)
         self.words: List[Text] = []
-        for name, held in {"x": target.x, "y": target.y, "set": self.members, "given": target.given or None}.items():
+        for name, held in {"x": target.x, "y": target.y, "set": self.members, "given": under or None}.items():
             self.words += [] if held is None else [f"--{name}", list_word(held)]
-        asked = ("back-door", back_door), ("zero", zero), ("short", self.short)
+        asked = ("back-door", back_door), ("zero", self.zero), ("short", self.short), ("treated", self.is_treated)
         self.words += [f"--{name}" for name, is_asked in asked if is_asked]
         # The variables that the formula reads, in the order of the vertices, as answers list them.
-        self.used = tuple(name for name in self.diagram.vertices if name in self.formula.variables)
+        read = self.formula.variables.union(self.primes.values())
+        self.used = tuple(name for name in self.diagram.vertices if name in read)
         self.count = count
         self.missing = missing
         check_request(self.used, count, missing)
@@ -183,7 +202,7 @@ class Evaluation:
         estimate = self.wanted(whole)
         if sample is not None:
             draws = self.over_sample(sample, table, estimate, resamples, seed, progress)
-            support = support_of(estimate, table, sample.records_in(table))
+            support = support_of(estimate, table, sample.records_in(table), self.primes)
             return Bootstrap(estimate, draws, level, seed, kind, (), support, f"; {self.design}")
         counted = "" if self.count is None else f"{self.count} holds frequencies: {sum(table.counts.values())} records"
         cells = [place for place, count in enumerate(table.counts.values()) if count] if kind == "bca" else []
@@ -191,7 +210,7 @@ class Evaluation:
         numbers = chain((drawn_numbers(source, counts) for _ in range(resamples)), without_one(counts, cells))
         values = tuple(self.over_numbers(table, whole, estimate, numbers, resamples + len(cells), progress))
         left_out = tuple((counts[place], value) for place, value in zip(cells, values[resamples:]))
-        support = support_of(estimate, table, table.counts)
+        support = support_of(estimate, table, table.counts, self.primes)
         return Bootstrap(estimate, values[:resamples], level, seed, kind, left_out, support, counted=counted)
 
     # How data is read.
@@ -204,14 +223,13 @@ class Evaluation:
             doubt_frequencies(data, self.count)
         path = path_of(data)
         if path is None:
-            return table_of(data, self.used, self.count, self.missing, self.formula.target.y)
-        return table_of_file(
-            read_bytes(path), self.used, self.count, self.missing, self.outcome_over_file, self.outcome_over_table
-        )
+            return table_of(data, self.used, self.count, self.missing, self.formula.target.y).with_names(self.primes)
+        found = table_of_file(read_bytes(path), self.used, self.count, self.missing, self.outcome_over_file, self.outcome_over_table)
+        return found.with_names(self.primes)
 
     def sample(self, data: Data) -> Sample:
         """The records of the data, with their weights, clusters and strata."""
-        return sample_of(data, self.used, self.design, self.missing, self.formula.target.y)
+        return sample_of(data, self.used, self.design, self.missing, self.formula.target.y).with_names(self.primes)
 
     def outcome_over_file(self, text: bytes) -> object:
         """What the library makes of a text of counts: its values, or the place where there is none."""
@@ -275,7 +293,7 @@ class Evaluation:
     def narrowed(self, table: Table) -> Optional[Tuple["Evaluation", Occurring]]:
         """The same question over the strata that occur, where the table has more combinations of levels than a formula reads; None where it
         hasn't, or the formula is no sum over a set."""
-        found = occurring_in(self.formula, table, self.zero) if table.is_wide else None
+        found = occurring_in(self.formula, table, self.zero) if table.is_wide and not self.is_treated else None
         if found is None:
             return None
         self.is_narrowed = True
@@ -289,10 +307,15 @@ class Evaluation:
     ) -> Effects:
         """The effects over a text of counts."""
 
-        def read(told: Told) -> Effects:
-            return read_effects(told, self.formula, level_of, dropped, orders, self.typed)
+        def own_level(name: str, level: str) -> Level:
+            return level_of(self.primes.get(name, name), level)
 
-        return self.diagram._ask(read, "evaluate", *self.words, *words, second=text, level_of=level_of, formula=self.formula)
+        def read(told: Told) -> Effects:
+            return read_effects(told, self.formula, own_level, dropped, orders, self.typed)
+
+        # (the cell of a fault among the treated has the exposures' own names, which the divisor needn't have)
+        formula = None if self.is_treated else self.formula
+        return self.diagram._ask(read, "evaluate", *self.words, *words, second=text, level_of=own_level, formula=formula)
 
     def over_counts(self, table: Table, numbers: Sequence[int]) -> Optional[Effects]:
         """The effects over other counts of a table, or None where some cell has no value."""
@@ -359,6 +382,9 @@ class Evaluation:
         """The error with what would answer, in the user's words."""
         if error.number != 1:
             return error
+        if self.is_treated:
+            sentence = f"{error.sentence}; estimate(data, .., observed=..) gives a value by models"
+            return EvaluationError(sentence, error.number, error.place, error.excerpt, error.printed)
         hint = next((words for words, way in self.other_ways() if self.answers(way, data)), None)
         # (bounds over a set read all combinations of its levels, which are too many here)
         members = None if self.is_narrowed else self.set_of_formula()
@@ -428,12 +454,13 @@ def place_in(cell: Cell, table: Table) -> int:
     return place
 
 
-def support_of(effects: Effects, table: Table, records: Mapping[Cell, int]) -> Tuple[Support, ...]:
+def support_of(effects: Effects, table: Table, records: Mapping[Cell, int], primes: Container[str] = ()) -> Tuple[Support, ...]:
     """How many records there are with the exposures and the condition of each effect, and with its outcome."""
     under: Counter[Tuple[Level, ...]] = Counter()
     events: Counter[Tuple[Level, ...]] = Counter()
     target = effects.formula.target
-    names, outcomes = [*target.x, *target.given], list(target.y)
+    # (among the treated: with the exposures as they are done, from which the risk is read)
+    names, outcomes = [*target.x, *(name for name in target.given if name not in primes)], list(target.y)
     for cell, number in records.items():
         at = {name: held[code] for name, held, code in zip(table.names, table.levels, cell)}
         key = tuple(at[name] for name in names)

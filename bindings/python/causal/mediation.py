@@ -1,11 +1,13 @@
 """How much of an effect goes through mediators, and how much past them, in data: natural effects, with intervals by the bootstrap.
 
-The formula is proved; its values are computed of the counts, or by models, and so are the intervals: nothing about them is proved.
+The formula is proved, and its values over the counts are, in the three worlds that are compared. Differences and intervals are computed,
+and so are values by models: nothing about them is proved.
 """
 from __future__ import annotations
 
 import random
 from dataclasses import dataclass, field, replace
+from fractions import Fraction
 from itertools import islice
 from typing import TYPE_CHECKING, Any, Dict, Iterator, List, Mapping, Optional, Sequence, Tuple
 
@@ -15,18 +17,19 @@ from causal.columns import Data
 from causal.contrasts import arm_level
 from causal.display import Printed, html_table
 from causal.draws import drawn_numbers, seed_of
-from causal.effects import Level, check_arms, levels_at, levels_text, typed_order
-from causal.errors import DataWarning, EvaluationError, NotIdentifiable, RequestError, WrongType
+from causal.effects import Level, Value, check_arms, levels_at, levels_text, typed_order, value_of
+from causal.errors import CausalError, DataWarning, EvaluationError, NotIdentifiable, RequestError, WrongType
 from causal.events import lost_text, many_lost
 from causal.framed import Framed
 from causal.frequencies import doubt_frequencies
 from causal.intervals import Interval, check_asked, interval_of
-from causal.names import Names, printed_set
+from causal.names import Names, list_word, printed_set
 from causal.models import Fit
 from causal.natural import NaturalFormula
 from causal.natural_estimates import Modelled, ModelWords, modelled
-from causal.objects import Told
+from causal.objects import Told, name_in
 from causal.tables import Table, check_request, table_of
+from causal.values import NEAR
 from causal.vocabulary import check_progress, warn
 
 if TYPE_CHECKING:
@@ -71,8 +74,10 @@ class Mediation(Framed):
     """Two arms compared, through mediators and past them: the risks (or means), the total effect, and its natural parts.
 
     `between` is the risk were x as treated, and the mediators as they would be under control. The direct effect is that less the risk under
-    control, the indirect one the risk under treated less that; they add up to the total. **Computed**: the values of `formula`, which is
-    proved to be the effect, over the counts, or by models of its terms, of which `fits` has each. A natural effect speaks of two values of x in one person, which no experiment shows.
+    control, the indirect one the risk under treated less that; they add up to the total. The risks are the values of `formula`, which is
+    proved to be the effect, over the counts: `values` has them as the program proved them. All else is computed, and the risks too where
+    they are by models of its terms, of which `fits` has each. A natural effect speaks of two values of x in one person, which no
+    experiment shows.
     """
 
     formula: NaturalFormula
@@ -90,6 +95,9 @@ class Mediation(Framed):
     as_numbers: Tuple[str, ...] = ()
     records: int = 0
     interval_kind: str = "percentile"
+    # The values in the three worlds over the counts, as the program gives them: exactly, or within bounds. None by models, and where the
+    # formula has a value by the rule alone that a product with a factor 0 is 0.
+    values: Optional[Tuple[Value, ...]] = field(default=None, repr=False, compare=False)
 
     def __hash__(self) -> int:
         return hash(self.rows)
@@ -206,6 +214,47 @@ class Worlds:
         return total if total is not None else [0.0] * len(next(iter(factor.cells.values())))
 
 
+def values_in_worlds(
+    diagram: "Diagram", formula: NaturalFormula, table: Table, arms: Sequence[Mapping[str, Level]], weights: Sequence[Fraction], exact: bool
+) -> Optional[Tuple[Value, ...]]:
+    """The values in the three worlds as the program gives them over the counts; None where it gives none. What each level of the outcome
+    weighs is told.
+
+    >>> from fractions import Fraction
+    >>> from causal import Diagram
+    >>> from causal.mediation import values_in_worlds
+    >>> from causal.tables import table_of
+    >>> diagram, arms = Diagram("dag { X -> M -> Y X -> Y }"), ({"X": 1}, {"X": 0})
+    >>> data = {"X": [0, 0, 0, 0, 1, 1, 1, 1], "M": [0, 0, 0, 1] * 2, "Y": [0, 1, 1, 1, 0, 0, 1, 1]}
+    >>> table = table_of(data, ["X", "M", "Y"])
+    >>> print(*values_in_worlds(diagram, diagram.natural("X", "Y", "M"), table, arms, [Fraction(0), Fraction(1)], exact=True))
+    = 1/2 = 3/4 = 1/2
+    """
+    sets = formula.sets
+    first = dict(zip(sets.second, sets.x))
+    words = [word for name, held in (("x", sets.x), ("y", sets.y), ("through", sets.through)) for word in (f"--{name}", list_word(held))]
+    words += ["--natural", f"--count={table.count_column}", *(["--exact"] if exact else [])]
+    weight_of = dict(zip(table.levels_of(sets.y[0]), weights))
+
+    def level_of(name: str, number: str) -> Level:
+        return table.level(first.get(name, name), number)
+
+    def read(told: Told) -> Tuple[Value, ...]:
+        found = [Value(Fraction(0), Fraction(0))] * len(WORLDS)
+        for cell in told["cells"]:
+            at, under = ({first.get(name, name): level_of(name, name_in(level)) for name, level in cell[key]} for key in ("x", "second"))
+            weight = weight_of[level_of(*cell["y"][0])]
+            for place, (arm, through) in enumerate(WORLDS):
+                if at == arms[arm] and under == arms[through]:
+                    found[place] = found[place].plus(value_of(cell).times(weight))
+        return tuple(found)
+
+    try:
+        return diagram._ask(read, "evaluate", *words, second=table.text(), level_of=level_of)
+    except EvaluationError:
+        return None
+
+
 def in_first(tree: Told, first: Mapping[str, str]) -> Told:
     """A tree with the first names of x in place of the second ones.
 
@@ -249,8 +298,9 @@ def numbers_of(treated: Any, control: Any, between: Any) -> List[Optional[float]
     >>> numbers_of(0.75, 0.25, 0.5)
     [0.75, 0.25, 0.5, 0.5, 0.25, 0.25, 0.5]
     """
+    treated, control, between = map(float, (treated, control, between))
     total, direct, indirect = treated - control, between - control, treated - between
-    return [*map(float, (treated, control, between, total, direct, indirect)), float(indirect / total) if total else None]
+    return [treated, control, between, total, direct, indirect, indirect / total if total else None]
 
 
 def mediated(
@@ -270,6 +320,7 @@ def mediated(
     seed: Optional[int],
     progress: Optional[Progress],
     words: Optional[ModelWords] = None,
+    exact: bool = False,
 ) -> Mediation:
     """The effect of two arms in its natural parts: see `Diagram.mediate`."""
     check_asked(resamples, level, "percentile", least=0)
@@ -292,12 +343,28 @@ def mediated(
     (own,) = worlds.over(dense(table, worlds.size, [list(table.counts.values())]))
     if own is None:
         raise EvaluationError("no record has some condition of the formula, so that the natural effects have no value over these data", 1)
+    values = values_in_worlds(diagram, formula, table, arms, [Fraction(weight) for weight in weights], exact)
+    if values is not None:
+        check_near(own, values)
+        own = values
     seed = seed_of(seed)
     draws = resampled(worlds, table, resamples, random.Random(seed), progress)
     rows = told_numbers(own, draws, level)
     pinned = {name: table.levels_of(name)[0] for name in formula.free}
     without = sum(it is None for it in draws)
-    return warned(Mediation(formula, arms, told, rows, level, resamples, without, seed, table.dropped, pinned))
+    return warned(Mediation(formula, arms, told, rows, level, resamples, without, seed, table.dropped, pinned, values=values))
+
+
+def check_near(computed: Sequence[Any], proved: Sequence[Value]) -> None:
+    """Refuses intervals by an arithmetic that gives over the counts another value than the program does.
+
+    >>> from fractions import Fraction
+    >>> from causal.effects import Value
+    >>> from causal.mediation import check_near
+    >>> check_near([0.5], [Value(Fraction(1, 2), Fraction(1, 2))])
+    """
+    if any(abs(a - float(b)) > NEAR * (1 + abs(float(b))) for a, b in zip(computed, proved)):
+        raise CausalError("the package computes another value of the formula than the program gives")
 
 
 def of_models(formula: NaturalFormula, arms: Tuple[Dict[str, Level], Dict[str, Level]], level: float, by: Modelled) -> Mediation:

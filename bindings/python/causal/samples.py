@@ -7,8 +7,8 @@ from __future__ import annotations
 
 import math
 from collections import Counter
-from dataclasses import dataclass
-from typing import Any, Dict, Hashable, Iterable, Iterator, List, Optional, Sequence, Tuple
+from dataclasses import dataclass, replace
+from typing import Any, Dict, Hashable, Iterable, Iterator, List, Mapping, Optional, Sequence, Tuple
 
 from causal.columns import Column, Data, columns_of
 from causal.databases import database_of
@@ -71,6 +71,12 @@ class Sample:
     units: Sequence[int]
     # The stratum of each unit.
     strata: Sequence[int]
+
+    def with_names(self, names: Mapping[str, str]) -> "Sample":
+        """The records where some variables have a second name: see `Table.with_names`."""
+        places = [self.table.names.index(name) for name in names.values()]
+        codes, levels = ((*held, *(held[place] for place in places)) for held in (self.codes, self.levels))
+        return replace(self, table=self.table.with_names(names), codes=codes, levels=levels)
 
     def places_in(self, table: Table) -> List[Cell]:
         """The cell of each record in a table with the same levels in another order."""

@@ -109,6 +109,20 @@ class Table:
         ranked = tuple(tuple(range(len(order))) for order in self.ranked)
         return replace(self, levels=levels, counts=dict(sorted(counts.items())), ranked=ranked)
 
+    def with_names(self, names: Mapping[str, str]) -> "Table":
+        """The table in which some variables have a second name, as a column of its own.
+
+        >>> from causal.tables import table_of
+        >>> table = table_of({"X": ["a", "b", "a"], "Y": [1, 1, 1]}, ["X", "Y"]).with_names({"X'": "X"})
+        >>> table.names, table.counts
+        (('X', 'Y', "X'"), {(0, 0, 0): 2, (1, 0, 1): 1})
+        """
+        places = [self.names.index(name) for name in names.values()]
+        levels, ranked = ((*held, *(held[place] for place in places)) for held in (self.levels, self.ranked))
+        counts = {(*cell, *(cell[place] for place in places)): count for cell, count in self.counts.items()}
+        orders = {**self.orders, **{other: self.orders[name] for other, name in names.items() if name in self.orders}}
+        return replace(self, names=(*self.names, *names), levels=levels, counts=counts, ranked=ranked, orders=orders)
+
     def text(self, counts: Optional[Mapping[Cell, int]] = None, kept: Optional[Iterable[str]] = None) -> bytes:
         """The counts as CSV: this table's, or those given in its place.
 

@@ -2,14 +2,18 @@
 from __future__ import annotations
 
 from dataclasses import dataclass
-from typing import Optional, Union
+from typing import TYPE_CHECKING, Dict, Optional, Union
 
 from causal import reading
 from causal.answers import Path
+from causal.errors import NotIdentifiable
 from causal.formula import Formula, Hedge, Term
 from causal.framed import Shown
-from causal.names import printed_name
+from causal.names import Names, printed_name
 from causal.objects import Told
+
+if TYPE_CHECKING:
+    from causal.diagram import Diagram
 
 
 @dataclass(frozen=True)
@@ -45,6 +49,32 @@ class Confounded(Shown):
 
 
 Treated = Union[Formula, Confounded]
+
+
+def among_treated(diagram: "Diagram", x: Optional[Names], y: Optional[Names], given: Optional[Names]) -> Formula:
+    """The formula of `treated`, or raised why there is none.
+
+    >>> from causal import Diagram
+    >>> from causal.treated import among_treated
+    >>> print(among_treated(Diagram("dag { S -> T -> R <- S }"), "T", "R", None))
+    P(R|do(T),T') = sum{S} P(S|T') * P(R|S,T)
+    """
+    answer = diagram.treated(x, y, given)
+    if not isinstance(answer, Formula):
+        raise NotIdentifiable(str(answer).partition("\n")[0], place=answer)
+    return answer
+
+
+def primed(diagram: "Diagram", formula: Formula) -> Dict[str, str]:
+    """The names of observed values, as `X'`, of an effect among the treated, each with its exposure.
+
+    >>> from causal import Diagram
+    >>> from causal.treated import primed
+    >>> diagram = Diagram("dag { S -> T -> R <- S }")
+    >>> primed(diagram, diagram.treated("T", "R")), primed(diagram, diagram.identify("T", "R"))
+    ({"T'": 'T'}, {})
+    """
+    return dict(zip((name for name in formula.target.given if name not in diagram.vertices), formula.target.x))
 
 
 def read_treated(told: Told) -> Treated:

@@ -2,7 +2,7 @@
 import json
 import unittest
 
-from worked import cases_in_text, is_of_another_world
+from worked import cases_in_text, asks_nested
 
 import causal
 from causal import Diagram, effects, errors, faults, formula, reading
@@ -91,10 +91,10 @@ class PrintedAgain(unittest.TestCase):
 
     def test_effects(self):
         for case in cases_in_text():
-            if case.status == 0 and case.words[0] == "evaluate" and not is_of_another_world(case):
+            if case.status == 0 and case.words[0] == "evaluate" and not asks_nested(case):
                 with self.subTest(case.name):
                     told = asked(case.words, case.inputs)
-                    sets = (tuple(told[key]) for key in ("y", "x", "given"))
+                    sets = tuple(told["y"]), tuple(told["x"]), (*told["given"], *told.get("observed", ()))
                     found = effects.read_effects(told, Formula(Term(*sets), ""))
                     printed = case.printed.replace("from 0.000000000000000000 to 0.000000000000000000", "= 0/1")
                     self.assertEqual((found.text + "\n" + broken_line(told), found.exact), (printed, "--exact" in case.words))

@@ -5,7 +5,7 @@ import tempfile
 import threading
 import unittest
 
-from worked import all_cases, cases_in_text, is_of_another_world
+from worked import all_cases, cases_in_text, asks_nested
 
 import causal
 from causal.bounds import BoundsQuestion
@@ -35,7 +35,7 @@ def options_of(words):
         word = rest.pop(0)
         if not word.startswith("--"):
             places.append(word)
-        elif word in ("--project", "--certificate", "--latex", "--short", "--exact", "--back-door", "--models", "--zero"):
+        elif word in ("--project", "--certificate", "--latex", "--short", "--exact", "--back-door", "--models", "--zero", "--treated"):
             options[word[2:]] = True
         else:
             name, _, value = word[2:].partition("=")
@@ -175,7 +175,7 @@ class Questions(unittest.TestCase):
             for case in cases_in_text():
                 if case.words[:1] == ["survey"] or "--matched" in case.words or case.status in (2, 6) or self.is_refused_before(case):
                     continue
-                if is_of_another_world(case):
+                if asks_nested(case):
                     continue
                 number += 1
                 with self.subTest(case.name):

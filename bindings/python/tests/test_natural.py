@@ -148,13 +148,12 @@ class Answers(unittest.TestCase):
 class Values(unittest.TestCase):
     ARMS = {"through": "M", "treated": 1, "control": 0, "outcome": 1}
 
-    def asked(self, told, diagram, data, **more):
-        with answering(told):
-            return diagram.mediate(data, "X", "Y", **{**self.ARMS, **more})
+    def asked(self, diagram, data, **more):
+        return diagram.mediate(data, "X", "Y", **{**self.ARMS, **more})
 
     def test_against_hand(self):
         data = drawn(400)
-        found = self.asked(FORMULA, MEDIATED, data, resamples=200, seed=1)
+        found = self.asked(MEDIATED, data, resamples=200, seed=1)
         self.assertIsInstance(found, Mediation)
 
         def world(arm, through):
@@ -163,12 +162,15 @@ class Values(unittest.TestCase):
                 for m in (0, 1):
                     weight = share(data, {"C": c}, {}) * share(data, {"M": m}, {"C": c, "X": through})
                     total += weight * share(data, {"Y": 1}, {"C": c, "X": arm, "M": m})
-            return float(total)
+            return total
 
         for measure, value in (("treated", world(1, 1)), ("control", world(0, 0)), ("between", world(1, 0))):
-            self.assertAlmostEqual(float(found.number(measure)), value, places=12)
-        self.assertAlmostEqual(float(found.direct), world(1, 0) - world(0, 0), places=12)
-        self.assertAlmostEqual(float(found.indirect), world(1, 1) - world(1, 0), places=12)
+            self.assertAlmostEqual(float(found.number(measure)), float(value), places=12)
+        self.assertTrue(all(value.lower <= at <= value.upper for value, at in zip(found.values, (world(1, 1), world(0, 0), world(1, 0)))))
+        exact = self.asked(MEDIATED, data, resamples=0, exact=True)
+        self.assertEqual([value.exact for value in exact.values], [world(1, 1), world(0, 0), world(1, 0)])
+        self.assertAlmostEqual(float(found.direct), float(world(1, 0) - world(0, 0)), places=12)
+        self.assertAlmostEqual(float(found.indirect), float(world(1, 1) - world(1, 0)), places=12)
         self.assertAlmostEqual(float(found.proportion), float(found.indirect) / float(found.total), places=12)
         for row in found.rows[:6]:
             self.assertTrue(row.interval.lower < float(row) < row.interval.upper)
@@ -177,14 +179,14 @@ class Values(unittest.TestCase):
         self.assertEqual([row[2] for row in found._table()[1]], ["treated", "control", "between", "total", "direct", "indirect", "proportion"])
 
     def test_the_truth(self):
-        found = self.asked(FORMULA, MEDIATED, drawn(20_000), resamples=0)
+        found = self.asked(MEDIATED, drawn(20_000), resamples=0)
         # P(M=1) is 0.3 without x and 0.7 with it; x adds 0.1 where M is 0 and 0.2 where it is 1
         self.assertAlmostEqual(float(found.direct), 0.1 + 0.1 * 0.3, delta=0.02)
         self.assertAlmostEqual(float(found.indirect), 0.4 * 0.4, delta=0.02)
         self.assertIsNone(found.direct.interval)
 
     def test_what_is_nil(self):
-        found = self.asked(DOOR, Diagram("dag { X -> M -> Y X <-> Y }"), drawn(400), resamples=20)
+        found = self.asked(Diagram("dag { X -> M -> Y X <-> Y }"), drawn(400), resamples=20)
         self.assertEqual(float(found.direct), 0)
         self.assertIn("the direct effect is nil", str(found))
         self.assertEqual((found.direct.interval.lower, found.direct.interval.upper), (0, 0))
@@ -193,7 +195,7 @@ class Values(unittest.TestCase):
         source, data = random.Random(2), drawn(300)
         data.update(W=[source.randrange(2) for _ in range(300)], Z=[source.randrange(2) for _ in range(300)])
         diagram = Diagram("dag { W -> Z -> X -> M -> Y X -> Y W <-> X W <-> M }")
-        found = self.asked(NAPKIN, diagram, data, resamples=0)
+        found = self.asked(diagram, data, resamples=0)
         self.assertEqual(found.pinned, {"Z": 0})
 
         def part(m, x):
@@ -205,7 +207,7 @@ class Values(unittest.TestCase):
     def test_a_mean_and_its_caution(self):
         data = drawn(400)
         data["Y"] = [y + 2 * m - 3 * x for x, m, y in zip(data["X"], data["M"], data["Y"])]
-        found = self.asked(FORMULA, MEDIATED, data, outcome=None, resamples=20)
+        found = self.asked(MEDIATED, data, outcome=None, resamples=20)
         self.assertLess(float(found.direct), 0)
         self.assertGreater(float(found.indirect), 0)
         self.assertIn("opposite signs", str(found.proportion))
@@ -214,13 +216,13 @@ class Values(unittest.TestCase):
     def test_refusals(self):
         data = drawn(60)
         with self.assertRaisesRegex(causal.RequestError, "X has no level 3"):
-            self.asked(FORMULA, MEDIATED, data, treated=3)
+            self.asked(MEDIATED, data, treated=3)
         with self.assertRaisesRegex(causal.RequestError, "one arm"):
-            self.asked(FORMULA, MEDIATED, data, treated=0)
+            self.asked(MEDIATED, data, treated=0)
         with self.assertRaisesRegex(causal.EvaluationError, "no record has some condition"):
-            self.asked(FORMULA, MEDIATED, {name: held[:6] for name, held in data.items()})
+            self.asked(MEDIATED, {name: held[:6] for name, held in data.items()})
         with self.assertRaisesRegex(causal.WrongType, "no numbers"):
-            self.asked(FORMULA, MEDIATED, {**data, "Y": ["no" if y else "yes" for y in data["Y"]]}, outcome=None)
+            self.asked(MEDIATED, {**data, "Y": ["no" if y else "yes" for y in data["Y"]]}, outcome=None)
 
 
 @unittest.skipIf(numpy is None, "no pandas or statsmodels")

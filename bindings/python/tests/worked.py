@@ -72,7 +72,6 @@ def cases_in_text() -> List[Case]:
     return [case for case in all_cases() if "--json" not in case.words and not case.fails]
 
 
-def is_of_another_world(case: Case) -> bool:
-    """Whether values over counts are asked for among the treated, or of a natural effect: `causal.run` asks these, and no call of the
-    package."""
-    return case.words[:1] == ["evaluate"] and bool({"--treated", "--natural"} & {*case.words})
+def asks_nested(case: Case) -> bool:
+    """Whether values of a natural effect are asked for over counts: `causal.run` asks this, and `mediate` asks for three worlds of it."""
+    return case.words[:1] == ["evaluate"] and "--natural" in case.words
