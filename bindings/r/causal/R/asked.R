@@ -1,8 +1,9 @@
-# How an effect in data is asked for: by the formula of the diagram, also under a condition or a short one, or by that of a set to
-# adjust for. `words` are those of `evaluate`, and `formula` the one whose values it gives, with its `trees`.
+# How an effect in data is asked for: by the formula of the diagram, also under a condition or a short one, by that of a set to adjust
+# for, or by that of `treated`. `words` are those of `evaluate`, and `formula` the one whose values it gives, with its `trees`.
 
-asked_of <- function(diagram, x, y, set = NULL, given = NULL, back_door = FALSE, zero = FALSE, short = FALSE) {
+asked_of <- function(diagram, x, y, set = NULL, given = NULL, back_door = FALSE, zero = FALSE, short = FALSE, treated = FALSE, among = NULL) {
   diagram <- as_causal_diagram(diagram)
+  if (isTRUE(treated) || !is.null(among)) return(asked_over_treated(diagram, x, y, set, given, back_door, among))
   check_exposures(diagram, x)
   condition <- condition_of(given)
   if (!is.null(set) && length(given)) refuse("an effect is asked for by a set to adjust for, or under a condition, and not both")
@@ -19,6 +20,26 @@ asked_of <- function(diagram, x, y, set = NULL, given = NULL, back_door = FALSE,
        x = if (is.null(x)) has_role(diagram, "exposure") else as.character(x), typed = !is.null(x),
        y = if (is.null(y)) has_role(diagram, "outcome") else as.character(y), given = condition$names, levels = condition$levels,
        set = set, zero = isTRUE(zero), short = isTRUE(short))
+}
+
+# The effect among those for whom each level of the exposures was observed, or the levels `among`. What is given has the observed levels too,
+# under their second names (`observed`, by exposure).
+asked_over_treated <- function(diagram, x, y, set, given, back_door, among) {
+  if (!is.null(set) || isTRUE(back_door)) refuse("an effect among the treated goes by its own formula: it is asked for without `set` and `back_door`")
+  asked <- asked_among(diagram, x, y, given, among)
+  condition <- option("given", asked$given)
+  if (!is.null(among)) asked$levels <- c(asked$levels, observed_levels(asked, among))
+  asked$given <- c(asked$given, unname(asked$observed))
+  asked$zero <- FALSE
+  c(asked, list(words = c(option("x", x), option("y", y), condition, "--treated")))
+}
+
+# The levels that were observed, by second name: named by their exposures, or in the order of these as they were typed.
+observed_levels <- function(asked, among) {
+  among <- as.list(among)
+  if (is.null(names(among))) names(among) <- order_of_arm(among, asked, asked$x)
+  if (!setequal(names(among), asked$x)) refuse("`observed` has one level of each of ", paste(asked$x, collapse = ", "))
+  stats::setNames(among[asked$x], unname(asked$observed[asked$x]))
 }
 
 # Without an exposure the answer would be the outcome's distribution as it is, which nobody asks for by an oversight.

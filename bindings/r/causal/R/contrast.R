@@ -4,8 +4,8 @@
 contrast <- function(diagram, data, x = NULL, y = NULL, treated = NULL, control = NULL, count = NULL, level = 0.95, resamples = 1000,
                      seed = 0, missing = c("error", "drop", "level"), at = NULL, interval = c("percentile", "bca"), set = NULL, given = NULL,
                      progress = NULL, back_door = FALSE, zero = TRUE, short = is.null(set), outcome = NULL, weights = NULL, clusters = NULL,
-                     strata = NULL) {
-  asked <- asked_of(diagram, x, y, set, given, back_door, zero, short)
+                     strata = NULL, observed = NULL) {
+  asked <- asked_of(diagram, x, y, set, given, back_door, zero, short, among = observed)
   drawn <- bootstrapped(asked, data, count, one_of(missing), at, level, resamples, seed, one_of(interval), progress,
                         design_of(weights, clusters, strata))
   contrast_frame(drawn, arms_of(drawn, treated, control, outcome))
@@ -156,7 +156,9 @@ few_events <- function(drawn, places) {
     Reduce(`&`, lapply(names(cell), function(name) if (name %in% table$names) table$codes[, name] == as.integer(cell[[name]]) else TRUE))
   }
   lapply(places, function(k) {
-    arm <- has(c(drawn$effects$x[[k]], drawn$effects$given[[k]]))
+    # (among the treated: those with the exposures as they are done, from which the risk is read)
+    given <- drawn$effects$given[[k]]
+    arm <- has(c(drawn$effects$x[[k]], given[!names(given) %in% drawn$asked$observed]))
     c(events = sum(table$records[arm & has(drawn$effects$y[[k]])]), records = sum(table$records[arm]))
   })
 }

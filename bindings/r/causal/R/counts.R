@@ -187,6 +187,17 @@ place_of_level <- function(levels, wanted) {
 # The places of levels in order: those of a factor in its own, text by its characters, all else by size.
 level_order <- function(levels) if (is.character(levels)) order(levels, method = "radix") else seq_along(levels)
 
+# The table in which some variables have a second name, by their first one, as a column of its own.
+with_second_names <- function(table, seconds) {
+  for (name in names(seconds)) {
+    second <- seconds[[name]]
+    table$levels[[second]] <- table$levels[[name]]
+    table$codes <- cbind(table$codes, matrix(table$codes[, name], dimnames = list(NULL, second)))
+    table$names <- c(table$names, second)
+  }
+  table
+}
+
 # The table with other first levels of some variables: those at these places.
 pin <- function(table, places) {
   for (name in names(places)) {

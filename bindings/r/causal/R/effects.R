@@ -1,8 +1,8 @@
 # Effects over a table of counts. Each value is the library's; what is made of it as a number of R is rounded.
 
 evaluate <- function(diagram, data, x = NULL, y = NULL, count = NULL, exact = FALSE, missing = c("error", "drop", "level"), at = NULL, set = NULL,
-                     given = NULL, back_door = FALSE, zero = TRUE, short = is.null(set), weights = NULL) {
-  asked <- asked_of(diagram, x, y, set, given, back_door, zero, short)
+                     given = NULL, back_door = FALSE, zero = TRUE, short = is.null(set), weights = NULL, treated = FALSE) {
+  asked <- asked_of(diagram, x, y, set, given, back_door, zero, short, treated)
   table <- table_for(asked, data, count, one_of(missing), at, design_of(weights, NULL, NULL))
   if (isTRUE(exact) && !is.null(table$survey)) refuse("a weighted value is no exact fraction of counts: exact = FALSE")
   narrow <- narrowed(asked, table)
@@ -13,6 +13,7 @@ evaluate <- function(diagram, data, x = NULL, y = NULL, count = NULL, exact = FA
 # The table of counts that an effect is computed over, with the free variables at their level.
 table_for <- function(asked, data, count, missing, at = NULL, design = NULL) {
   table <- count_table(asked$diagram, asked$words, data, count, missing, keeps = asked$y, design = design)
+  table <- with_second_names(table, asked$observed)
   table <- pin(table, first_places(table, asked$formula$free, at))
   if (is.data.frame(data) || inherits(data, "table")) table$source <- list(data = data, count = count, missing = missing, design = design)
   table
@@ -100,7 +101,8 @@ with_levels <- function(fault, table, asked) {
     asked <- asked$outer
     fault <- fault_of_set(fault, table, asked)
   }
-  divisor <- if (!is.null(fault$cell)) divisor_at(asked$trees, fault)
+  # (the cell of a fault among the treated has the exposures' own names, which the divisor needn't have)
+  divisor <- if (!is.null(fault$cell) && !length(asked$observed)) divisor_at(asked$trees, fault)
   if (!is.null(divisor)) {
     fault$condition <- fault$cell[names(fault$cell) %in% divisor$names]
     at <- paste0(names(fault$condition), "=", fault$condition, collapse = ", ")
@@ -127,6 +129,7 @@ set_with_value <- function(asked, table) {
 # What may have a value where this has none, in the words of the caller.
 remedies <- function(asked, set = NULL) {
   if (!is.null(asked$outer)) asked <- asked$outer
+  if (length(asked$observed)) return("What may help: fewer classes; estimate() with `observed` fills in by models")
   tried <- c(if (!asked$zero) "zero = TRUE", if (is.null(asked$set) && !asked$short) "short = TRUE")
   other <- if (is.null(set)) "another `set` of adjustment_sets()" else paste0("set = ", paste(deparse(set, width.cutoff = 500), collapse = " "), " (it has a value)")
   paste0("What may help: ", if (length(tried)) paste0(paste(tried, collapse = ", "), ", "), other, ", fewer classes; ",

@@ -89,13 +89,7 @@ model_table <- function(asked, data, count, missing, design, trials, at) {
           else if (length(second_names(asked))) setdiff(unique(c(asked$x, asked$y, asked$given, unlist(lapply(asked$trees, names_in)))), second_names(asked))
     table <- count_table(asked$diagram, asked$words, data, count, missing, keeps = asked$y, design = design, of = of)
   }
-  for (name in names(second_names(asked))) {
-    second <- second_names(asked)[[name]]
-    table$levels[[second]] <- table$levels[[name]]
-    table$codes <- cbind(table$codes, matrix(table$codes[, name], dimnames = list(NULL, second)))
-    table$names <- c(table$names, second)
-  }
-  table <- pin(table, first_places(table, asked$formula$free, at))
+  table <- pin(with_second_names(table, second_names(asked)), first_places(table, asked$formula$free, at))
   table$frame <- model_rows(table, table$codes)
   table
 }

@@ -1,6 +1,6 @@
 # Natural effects: an effect were the mediators as they would be under another value of the exposures, and with it how much of an effect
-# goes through mediators. The formula is the library's, and proved; its values over counts are computed, and so are those by models (see
-# natural_models.R).
+# goes through mediators. The formula is the library's, and proved, and so are its values over counts; what is made of these is computed, and
+# so are values by models (see natural_models.R).
 
 natural_effect <- function(diagram, x = NULL, y = NULL, through, given = NULL) {
   diagram <- as_causal_diagram(diagram)
@@ -35,8 +35,9 @@ nil_notes <- function(sets) {
 
 mediate <- function(diagram, data, x = NULL, y = NULL, through, treated = NULL, control = NULL, outcome = NULL, count = NULL, level = 0.95,
                     resamples = NULL, seed = 0, missing = c("error", "drop", "level"), progress = NULL, model = NULL, smoothing = 1,
-                    factors = character(), interval = NULL, draws = 1000) {
+                    factors = character(), interval = NULL, draws = 1000, exact = FALSE) {
   missing <- one_of(missing)
+  if (!is.null(model) && isTRUE(exact)) refuse("values by models aren't exact")
   if (is.null(model) && !is.null(interval) && !identical(interval, "percentile")) refuse("a mediation by counts has percentile intervals; with a `model` there are those by influence functions")
   if (is.null(model) && is.null(resamples)) resamples <- 1000
   check_numbers(level, if (is.null(resamples)) 0 else resamples)
@@ -58,9 +59,46 @@ mediate <- function(diagram, data, x = NULL, y = NULL, through, treated = NULL, 
   values <- natural_values(formula, table, arms, weights)
   own <- values(matrix(table$counts))
   if (anyNA(own)) refuse("no record has some condition of the formula, so that the natural effects have no value over these data", kind = "no_value")
+  told <- worlds_told(diagram, formula, table, arms, exact)
+  if (!is.null(told)) {
+    proved <- vapply(told, function(cells) sum(values_of(cells) * weights[cells$level]), 0)
+    if (any(abs(proved - own[1, names(proved)]) > 1e-9 * (1 + abs(proved)))) refuse("the package computes another value of the formula than the library gives", kind = "internal")
+    own[1, ] <- proved[colnames(own)]
+  }
   seed <- seed_or_drawn(seed)
   drawn <- with_seed(seed, drawn_worlds(told_by(values, progress, resamples), table, resamples))
-  mediation_frame(formula, table, arms, targets, own, ends_of_worlds(drawn, level), level, "percentile", nrow(drawn), sum(is.na(drawn[, 1])), seed)
+  found <- mediation_frame(formula, table, arms, targets, own, ends_of_worlds(drawn, level), level, "percentile", nrow(drawn), sum(is.na(drawn[, 1])), seed)
+  structure(found, values = if (!is.null(told)) values_frame(told, table, sets$y))
+}
+
+# What the library gives over the counts in the three worlds, at each level of the outcome; NULL where it gives none.
+worlds_told <- function(diagram, formula, table, arms, exact) {
+  sets <- formula$sets
+  words <- c(option("x", sets$x), option("y", sets$y), option("through", sets$through), "--natural", "--count", count_name(table), flag("exact", exact))
+  told <- ask_table(diagram, words, table, hand_back = 5L)
+  if (told$status != 0) return(NULL)
+  object <- object_of(told)
+  effects <- read_effects(object)
+  second <- lapply(object$cells, function(cell) read_levels(cell$second))
+  codes <- function(cells) matrix(as.integer(unlist(cells)), length(cells), byrow = TRUE)
+  x <- codes(effects$x)
+  under <- codes(second)
+  level <- as.integer(vapply(effects$y, `[[`, "", 1))
+  lapply(list(treated = arms[c(1, 1)], control = arms[c(2, 2)], between = arms[c(1, 2)]), function(world) {
+    at <- colSums(t(x) != world[[1]][sets$x]) == 0 & colSums(t(under) != world[[2]][sets$x]) == 0
+    c(list(level = level[at]), lapply(effects[intersect(c("fraction", "from", "to"), names(effects))], `[`, at))
+  })
+}
+
+# The same as rows.
+values_frame <- function(told, table, outcome) {
+  rows <- lapply(names(told), function(world) {
+    cells <- told[[world]]
+    columns <- list(world = rep(world, length(cells$level)), level = table$levels[[outcome]][cells$level], estimate = values_of(cells))
+    names(columns)[2] <- outcome
+    frame_of(c(columns, cells[names(cells) != "level"]))
+  })
+  do.call(rbind, rows)
 }
 
 # What is asked of the outcome: the chance of one level, or its mean.

@@ -288,7 +288,8 @@ read_effects <- function(object) {
   levels <- function(key) lapply(cells, function(cell) read_levels(cell[[key]]))
   numbers <- function(key) vapply(cells, `[[`, "", key)
   pinned <- if (length(object$pinned)) read_levels(object$pinned)
-  c(list(pinned = pinned, y = levels("y"), x = levels("x"), given = levels("given")),
+  given <- lapply(cells, function(cell) read_levels(c(cell$given, cell$observed)))
+  c(list(pinned = pinned, y = levels("y"), x = levels("x"), given = given),
     if (object$exact) list(fraction = numbers("value")) else list(from = numbers("from"), to = numbers("to")))
 }
 

@@ -14,7 +14,7 @@ contrast(diagram, data, x = NULL, y = NULL, treated = NULL, control = NULL,
          interval = c("percentile", "bca"), set = NULL,
          given = NULL, progress = NULL, back_door = FALSE, zero = TRUE,
          short = is.null(set), outcome = NULL, weights = NULL,
-         clusters = NULL, strata = NULL)
+         clusters = NULL, strata = NULL, observed = NULL)
 \method{print}{causal_contrast}(x, digits = 4, ...)
 \method{plot}{causal_contrast}(x, measure = "difference", ...)
 }
@@ -33,6 +33,9 @@ contrast(diagram, data, x = NULL, y = NULL, treated = NULL, control = NULL,
   \item{outcome}{the level of the outcome, where one is wanted; for several outcomes a list named by them.}
   \item{clusters, strata}{names of columns of the design of a survey: resamples draw clusters within strata, one fewer than there are, and
     raise their weights by as much. They go with \code{"percentile"} alone.}
+  \item{observed}{the level of \code{x} that was observed, given as an arm is: then both risks are those among the ones for whom it was,
+    by the formula of \code{\link{treated_effect}}. With \code{observed} the level of \code{treated} the difference is the effect of
+    treatment on the treated.}
   \item{digits}{how many digits are shown.}
   \item{measure}{which measure the forest plot is of.}
   \item{...}{passed on to \code{\link{print.data.frame}}, or to \code{\link[graphics]{title}}.}
@@ -68,4 +71,6 @@ contrast(diagram, data, x = NULL, y = NULL, treated = NULL, control = NULL,
 diagram <- causal_diagram("dag { T [exposure] R [outcome] S -> T S -> R T -> R }")
 contrast(diagram, kidney_stones, treated = "A", control = "B",
          count = "count", resamples = 200, seed = 1)
+contrast(diagram, kidney_stones, treated = "A", control = "B",
+         observed = "A", count = "count", resamples = 200, seed = 1)
 }

@@ -12,7 +12,7 @@
 evaluate(diagram, data, x = NULL, y = NULL, count = NULL, exact = FALSE,
          missing = c("error", "drop", "level"), at = NULL, set = NULL,
          given = NULL, back_door = FALSE, zero = TRUE,
-         short = is.null(set), weights = NULL)
+         short = is.null(set), weights = NULL, treated = FALSE)
 
 \method{as.data.frame}{causal_effects}(x, ...)
 }
@@ -44,6 +44,8 @@ evaluate(diagram, data, x = NULL, y = NULL, count = NULL, exact = FALSE,
   \item{short}{whether the formula is the one that \code{\link{identify_effect}} gives with \code{short}, also with \code{given};
     it goes with no \code{set}. It is the default, since it is the formula that analysts expect and that asks for the fewest
     combinations of levels.}
+  \item{treated}{whether the effect is that among those for whom each level of \code{x} was observed, by the formula of
+    \code{\link{treated_effect}}. It goes with no \code{set}, and \code{zero} and \code{short} don't matter.}
   \item{at}{the levels at which the formula's free variables are pinned, as \code{list(Z = 1)}; the first in order by default.}
 }
 \details{
@@ -68,6 +70,9 @@ evaluate(diagram, data, x = NULL, y = NULL, count = NULL, exact = FALSE,
   positive model that fits the diagram and that the counts match. \strong{What is only computed} or tested: that the data frame
   became these counts, and \code{estimate}, the nearest number of R.
 
+  With \code{treated} the answer has a further column for each vertex of \code{x}, under its name with a prime: the level that was
+  observed. It is proved alike that the value is that of the formula, and that it covers the effect among these.
+
   A value is a plug-in value: it says nothing about its sampling error. See \code{\link{contrast}} for intervals.
 
   A cell that no record supports is an error of the class \code{causal_evaluation_fault} with its \code{cell}, and with the
@@ -86,6 +91,9 @@ diagram <- causal_diagram("dag { T [exposure] R [outcome] S -> T S -> R T -> R }
 evaluate(diagram, kidney_stones, count = "count")
 evaluate(diagram, kidney_stones, count = "count", exact = TRUE)
 evaluate(diagram, kidney_stones, count = "count", given = "S")
+
+# Those who got B would have succeeded with A in 33753 of 38135
+evaluate(diagram, kidney_stones, count = "count", treated = TRUE, exact = TRUE)
 
 # The short formula reads no column of the weight
 births <- causal_diagram("dag { smoking [exposure] death [outcome]

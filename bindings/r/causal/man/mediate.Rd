@@ -16,7 +16,7 @@ mediate(diagram, data, x = NULL, y = NULL, through, treated = NULL,
         resamples = NULL, seed = 0,
         missing = c("error", "drop", "level"), progress = NULL,
         model = NULL, smoothing = 1, factors = character(),
-        interval = NULL, draws = 1000)
+        interval = NULL, draws = 1000, exact = FALSE)
 
 \method{print}{causal_mediation}(x, digits = 4, ...)
 \method{as.data.frame}{causal_mediation}(x, ...)
@@ -33,6 +33,7 @@ mediate(diagram, data, x = NULL, y = NULL, through, treated = NULL,
   \item{outcome}{the level of the outcome whose chance is compared; without it the second of two, or the mean of one with more numbers.}
   \item{model, smoothing, factors, interval, draws}{as in \code{\link{estimate}}: the terms of the formula by models. \code{NULL}
     is for none: the values over the counts.}
+  \item{exact}{whether the attribute \code{values} has exact fractions, and no bounds; by counts alone.}
   \item{digits, ...}{passed on to \code{\link{print.data.frame}}.}
 }
 \details{
@@ -41,8 +42,9 @@ mediate(diagram, data, x = NULL, y = NULL, through, treated = NULL,
   effect is the probability under treated less that. They add up to the total effect.
 
   \strong{Proved} is that a formula equals this at any two values of \code{x} in every positive finite model of the diagram's observed
-  graph, and else that two models exclude one. \strong{The values are computed} over the counts,
-  and intervals are percentiles of resamples. With a \code{model} they are computed by models of the formula's terms, where tables are thin,
+  graph, and else that two models exclude one; and that the values over the counts in the three worlds, which the attribute \code{values}
+  has, are the formula's. \strong{Computed} are the differences, the proportion, and the intervals, percentiles of resamples; and where a
+  product with a factor 0 hides a condition that no record has, the values too: there is no attribute then. With a \code{model} values are computed by models of the formula's terms, where tables are thin,
   or where mediators or what lies before them are numbers; intervals are by influence functions where these are known. In a formula of
   \code{model} an exposure has its own name, also where the printed term has its second one.
 
@@ -58,7 +60,8 @@ mediate(diagram, data, x = NULL, y = NULL, through, treated = NULL,
 
   From \code{mediate} a data frame of the class \code{causal_mediation} with a row for each measure: \code{"treated"}, \code{"control"},
   \code{"between"} (as treated, the mediators as under control), \code{"total"}, \code{"direct"}, \code{"indirect"} and
-  \code{"proportion"}; with the attributes \code{pinned} (levels of what the formula reads beside its sets) and \code{models} (how each fits),
+  \code{"proportion"}; with the attributes \code{pinned} (levels of what the formula reads beside its sets), \code{models} (how each fits) and
+  \code{values} (a row for each of the three worlds and each level of the outcome, with \code{estimate} and its bounds or \code{fraction}),
   and the columns \code{treated}, \code{control}, \code{estimate}, \code{conf_low}, \code{conf_high} and \code{note}. Where there
   is no formula an error of the class \code{causal_not_identifiable} has the \code{answer}.
 }

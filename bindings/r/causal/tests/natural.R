@@ -1,43 +1,7 @@
-# Natural effects, and how much of an effect goes through mediators: against the same by hand. What the library answers is told here, as its
-# worked cases have it.
+# Natural effects, and how much of an effect goes through mediators: against the same by hand.
 library(causal)
 same <- function(a, b) stopifnot(identical(a, b))
 near <- function(a, b, by = 1e-12) stopifnot(length(a) == length(b), all(abs(a - b) < by))
-run <- getFromNamespace("run_on", "causal")
-asked <- list()
-told <- list()
-stand_in <- function(words, inputs, kept) {
-  if (words[1] == "graph") return(run(words, inputs, kept))
-  asked[[length(asked) + 1]] <<- words
-  answer <- told[[1]]
-  told <<- told[-1]
-  answer
-}
-utils::assignInNamespace("run_on", stand_in, "causal")
-answering <- function(...) {
-  asked <<- list()
-  told <<- lapply(list(...), function(it) if (is.list(it)) it else list(status = 0L, out = paste0(it, "\n"), err = ""))
-}
-no <- function(...) list(status = 1L, out = paste0(..., "\n"), err = "")
-
-sets <- function(direct = "true") paste0('"y":["Y"],"x":["X"],"through":["M"],"given":[],"second":["X\'"],"indirect":true,"direct":', direct, ',"effect":"P(Y[X,M[X\']])"')
-term <- function(of, ...) paste0('{"term":["', of, '"],"do":[],"given":[', paste0('"', c(...), '"', collapse = ",", recycle0 = TRUE), ']}')
-factor_told <- function(district, reads, formula, tree, definitions = "[]", trees = "[]", free = "[]") {
-  paste0('{"district":["', district, '"],"reads":["', reads, '"],"effect":"..","formula":"', formula, '","definitions":', definitions, ',"free":', free,
-         ',"latex":"..","tree":', tree, ',"definition_trees":', trees, "}")
-}
-formula <- paste0('{"answer":"formula",', sets(), ',"formula":"sum{C,M} P(C) * P(M|C,X\') * P(Y|C,X,M)","summed":["C","M"],"factors":[',
-                  factor_told("C", "X", "P(C)", term("C")), ",", factor_told("M", "X'", "P(M|C,X')", term("M", "C", "X'")), ",",
-                  factor_told("Y", "X", "P(Y|C,X,M)", term("Y", "C", "X", "M")), '],"latex":".."}')
-door <- paste0('{"answer":"formula",', sets("false"), ',"formula":"sum{M} P(M|X\') * (sum{X} P(X) * P(Y|X,M))","summed":["M"],"factors":[',
-               factor_told("M", "X'", "P(M|X')", term("M", "X'")), ",",
-               factor_told("Y", "X", "sum{X} P(X) * P(Y|X,M)", paste0('{"sum":["X"],"of":{"product":[', term("X"), ",", term("Y", "X", "M"), "]}}")), '],"latex":".."}')
-napkin <- paste0('{"answer":"formula",', sets(), ',"formula":"sum{M} P(M|do(W,Z,X\',Y)) * P(Y|X,M)","summed":["M"],"factors":[',
-                 factor_told("M", "X'", "q0 / (sum{M} q0)", '{"quotient":[{"definition":0},{"sum":["M"],"of":{"definition":0}}]}',
-                             '["sum{W} P(W) * P(X\'|W,Z) * P(M|W,Z,X\')"]',
-                             paste0('[{"sum":["W"],"of":{"product":[', term("W"), ",", term("X'", "W", "Z"), ",", term("M", "W", "Z", "X'"), "]}}]")),
-                 ",", factor_told("Y", "X", "P(Y|X,M)", term("Y", "X", "M")), '],"latex":".."}')
-
 set.seed(4)
 n <- 400
 C <- rbinom(n, 1, 0.5)
@@ -48,15 +12,19 @@ mediated <- causal_diagram("dag { C -> X C -> M C -> Y X -> M -> Y X -> Y }")
 at <- function(found, measure) found$estimate[found$measure == measure]
 
 # against the same by hand
-answering(formula)
 found <- mediate(mediated, seen, "X", "Y", through = "M", treated = 1, control = 0, outcome = 1, resamples = 200, seed = 1)
-same(asked[[1]], c("natural", "diagram", "--through", "\"M\"", "--x", "\"X\"", "--y", "\"Y\"", "--json"))
 world <- function(arm, through) {
   sum(vapply(0:1, function(c) sum(vapply(0:1, function(m) {
     mean(C == c) * mean(M[C == c & X == through] == m) * mean(seen$Y[C == c & X == arm & M == m])
   }, 0)), 0))
 }
 near(found$estimate[1:3], c(world(1, 1), world(0, 0), world(1, 0)))
+proved <- attr(found, "values")
+same(names(proved), c("world", "Y", "estimate", "from", "to"))
+stopifnot(all(as.numeric(proved$from) <= proved$estimate & proved$estimate <= as.numeric(proved$to)))
+near(proved$estimate[proved$world == "between" & proved$Y == 1], world(1, 0))
+exact <- attr(mediate(mediated, seen, "X", "Y", through = "M", treated = 1, control = 0, outcome = 1, resamples = 0, exact = TRUE), "values")
+near(vapply(strsplit(exact$fraction, "/"), function(side) as.numeric(side[1]) / as.numeric(side[2]), 0), exact$estimate)
 near(at(found, "total"), world(1, 1) - world(0, 0))
 near(at(found, "direct"), world(1, 0) - world(0, 0))
 near(at(found, "indirect"), world(1, 1) - world(1, 0))
@@ -67,13 +35,11 @@ stopifnot(any(grepl("computed: P(Y[X,M[X']]) = sum{C,M} P(C)", printed, fixed = 
 same(names(as.data.frame(found)), c("treated", "control", "measure", "estimate", "conf_low", "conf_high", "note"))
 
 # what is nil
-answering(door)
 found <- mediate("dag { X -> M -> Y X <-> Y }", seen, "X", "Y", through = "M", outcome = 1, resamples = 20)
 near(at(found, "direct"), 0)
 stopifnot(any(grepl("past {M} to {Y}: the direct effect is nil", capture.output(print(found)), fixed = TRUE)))
 
 # what is pinned
-answering(napkin)
 found <- mediate("dag { W -> Z -> X -> M -> Y X -> Y W <-> X W <-> M }", seen, "X", "Y", through = "M", outcome = 1, resamples = 0)
 part <- function(m, x) sum(vapply(0:1, function(w) mean(seen$W == w) * with(seen, mean(X[W == w & Z == 0] == x) * mean(M[W == w & Z == 0 & X == x] == m)), 0))
 near(at(found, "between"), sum(vapply(0:1, function(m) part(m, 0) / (part(0, 0) + part(1, 0)) * with(seen, mean(Y[X == 1 & M == m])), 0)))
@@ -81,24 +47,18 @@ same(attr(found, "pinned"), list(Z = 0L))
 stopifnot(all(is.na(found$conf_low)))
 
 # a mean, whose parts have opposite signs
-answering(formula)
 found <- mediate(mediated, transform(seen, Y = Y + 2 * M - 3 * X), "X", "Y", through = "M", resamples = 20)
 stopifnot(at(found, "direct") < 0, at(found, "indirect") > 0, grepl("opposite signs", found$note[found$measure == "proportion"]), found$note[1] == "")
 
 # none, and refusals
-none <- paste0('{"answer":"witness",', sets(), ',"joint":{"y":["Y"],"x":["X"]},"treatment":"X","witness":"L"}')
-answering(no(none))
 found <- natural_effect("dag { X -> L -> M -> Y X -> Y L -> Y }", "X", "Y", through = "M")
 stopifnot(inherits(found, "causal_no_natural"), !as.logical(found))
 same(c(found$treatment, found$witness, found$joint), c("X", "L", "P(Y|do(X))"))
-answering(no(none))
 caught <- tryCatch(mediate("dag { X -> L -> M -> Y X -> Y L -> Y }", seen, "X", "Y", through = "M"), error = identity)
 stopifnot(inherits(caught, "causal_not_identifiable"), startsWith(conditionMessage(caught), "P(Y[X,M[X']]) is not identifiable; "))
-answering(formula)
 stopifnot(inherits(tryCatch(mediate(mediated, seen[!(C == 1 & X == 0), ], "X", "Y", through = "M", treated = 1, control = 0, outcome = 1), error = identity), "causal_no_value"))
 
 # By models: a table without smoothing has the values of the counts, in each kind of formula, and logistic ones those by hand
-utils::assignInNamespace("run_on", run, "causal")
 arms <- function(diagram, data, ...) mediate(diagram, data, "X", "Y", through = "M", treated = 1, control = 0, outcome = 1, ...)
 door_diagram <- "dag { X -> M -> Y X <-> Y }"
 napkin_diagram <- "dag { W -> Z -> X -> M -> Y X -> Y W <-> X W <-> M }"
@@ -142,3 +102,4 @@ refused(arms(mediated, seen, model = list(M = ~ C + W, "logistic")), "the model 
 refused(arms(mediated, seen, model = list(Q = "table", "logistic")), "`model` has a model of Q")
 refused(arms(mediated, seen, interval = "influence"), "by counts has percentile intervals")
 refused(arms(mediated, seen, model = "logistic", smoothing = -1), "`smoothing`")
+refused(arms(mediated, seen, model = "logistic", exact = TRUE), "aren't exact")
