@@ -56,6 +56,7 @@ if TYPE_CHECKING:
     from causal.mediation import Mediation
     from causal.models import Fit
     from causal.natural import NaturalFormula, NoNaturalFormula
+    from causal.parts import PartsCheck, PartsRefusal
     from causal.queries import counts_query
     from causal.report import Report
     from causal.sensitivity import EValue, e_value
@@ -103,6 +104,8 @@ _LATER = {
     "NoInstrument": "causal.bounds",
     "NoModel": "causal.bounds",
     "NoNaturalFormula": "causal.natural",
+    "PartsCheck": "causal.parts",
+    "PartsRefusal": "causal.parts",
     "Paths": "causal.walks",
     "Report": "causal.report",
     "Spread": "causal.effects",
@@ -172,6 +175,8 @@ __all__ = [
     "NoNaturalFormula",
     "NotIdentifiable",
     "PackageMissing",
+    "PartsCheck",
+    "PartsRefusal",
     "Path",
     "Paths",
     "Refusal",

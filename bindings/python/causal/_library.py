@@ -6,7 +6,7 @@ import os
 import sys
 from array import array
 from itertools import accumulate
-from typing import Any, Callable, Dict, Iterable, List, Mapping, NamedTuple, Optional, Tuple, Union
+from typing import Any, Callable, Dict, Iterable, List, Mapping, NamedTuple, Optional, Sequence, Tuple, Union
 
 from causal.errors import LibraryMissing, WrongType
 from causal.objects import Answer, Told, read_line
@@ -329,8 +329,9 @@ class KeptDiagram:
         return _run(self._asked, words, inputs or {})
 
 
-def reply_to(words: List[Text], text: bytes, second: Optional[bytes], kept: Optional[KeptDiagram]) -> Reply:
-    """Runs words whose inputs are called `diagram` and `second`, with an object as answer. Where the text is kept, it isn't read again.
+def reply_to(words: List[Text], text: bytes, second: Optional[bytes], kept: Optional[KeptDiagram], form: Sequence[Text] = ("--json",)) -> Reply:
+    """Runs words whose inputs are called `diagram` and `second`, with an object as answer, or in another form. Where the text is kept, it isn't read
+    again.
 
     >>> from causal._library import reply_to
     >>> reply_to(["equivalent", "diagram", "second"], b"dag{A->B}", b"dag{A<-B}", None).out
@@ -339,7 +340,7 @@ def reply_to(words: List[Text], text: bytes, second: Optional[bytes], kept: Opti
     inputs: Dict[Text, Text] = {} if kept else {"diagram": text}
     if second is not None:
         inputs["second"] = second
-    asked = [*words, "--json"]
+    asked = [*words, *form]
     return kept.run(asked, inputs) if kept else run(asked, inputs)
 
 

@@ -29,7 +29,7 @@ if TYPE_CHECKING:
     from causal.derivation import Derivation
     from causal.effects import Level
     from causal.instruments import Instruments
-    from causal.natural import Natural
+    from causal.natural import Natural, NaturalFormula
     from causal.treated import Treated
 
 
@@ -409,6 +409,13 @@ class Diagram(DataQuestions, GraphQuestions):
         """Asks the diagram that is kept: see `ask`."""
         return ask(read, command, self.source, *words, second=second, level_of=level_of, formula=formula, kept=self._keep())
 
+    def _line(self, command: str, *words: Text) -> str:
+        """The line that the library prints for a question which it answers by one."""
+        reply = reply_to([command, "diagram", *words], self.source, None, self._keep(), ())
+        if reply.status != 0:
+            raise RequestError(f"the answer of {command} is none: {reply.out.decode('utf-8', 'replace').strip()}")
+        return reply.out.decode("utf-8").rstrip("\n")
+
     def _reply(self, command: str, *words: Text, second: bytes) -> Reply:
         """What the library answers on the diagram that is kept and a second input, unread."""
         return reply_to([command, "diagram", "second", *words], self.source, second, self._keep())
@@ -492,7 +499,7 @@ class Diagram(DataQuestions, GraphQuestions):
         from causal.treated import read_treated
 
         self._need_exposure(x)
-        return self._ask(read_treated, "treated", *options(x=x, y=y, given=given))
+        return self._ask_effect(read_treated, "treated", options(x=x, y=y, given=given))
 
     def natural(
         self, x: Optional[Names] = None, y: Optional[Names] = None, through: Names = (), given: Optional[Names] = None
@@ -511,7 +518,7 @@ class Diagram(DataQuestions, GraphQuestions):
         from causal.natural import read_natural
 
         self._need_exposure(x)
-        return self._ask(read_natural, "natural", *options(through=through, x=x, y=y, given=given))
+        return self._ask_effect(read_natural, "natural", options(through=through, x=x, y=y, given=given))
 
     def surrogate(
         self,
@@ -546,11 +553,12 @@ class Diagram(DataQuestions, GraphQuestions):
         return self._ask_effect(reading.read_surrogate, "surrogate", words, *form)
 
     def check_certificate(
-        self, certificate: Union[Text, Formula, Hedge], experiments: Union[str, Iterable[Names]] = ()
+        self, certificate: Union[Text, Formula, Hedge, NaturalFormula], experiments: Union[str, Iterable[Names]] = ()
     ) -> answers.Check:
         """Whether a certificate is accepted, whoever wrote it: the answer counts as true where it is.
 
-        With `experiments` the terms of a formula may stand under one of them, and the two models of a hedge agree under each.
+        With `experiments` the terms of a formula may stand under one of them, and the two models of a hedge agree under each. A certificate of
+        `treated` or `natural` is in parts: see `PartsCheck`.
 
         >>> from causal import Diagram
         >>> diagram = Diagram("dag { X -> Y X <-> Y }")
@@ -564,7 +572,7 @@ class Diagram(DataQuestions, GraphQuestions):
     check = Renamed("check_certificate")
 
     def steps(
-        self, certificate: Union[Text, Formula, Hedge], experiments: Union[str, Iterable[Names]] = ()
+        self, certificate: Union[Text, Formula, Hedge, NaturalFormula], experiments: Union[str, Iterable[Names]] = ()
     ) -> Union[Derivation, answers.Check]:
         """The steps of an accepted certificate of a formula, whoever wrote it: what stands there after each, and the rule for which it
         asks, with its graph. Of another certificate the answer is that of `check_certificate`, which counts as true for a hedge's.
@@ -584,13 +592,13 @@ class Diagram(DataQuestions, GraphQuestions):
         self,
         read: Callable[[Told, bool], Answer],
         command: str,
-        certificate: Union[Text, Formula, Hedge],
+        certificate: Union[Text, Formula, Hedge, NaturalFormula],
         experiments: Union[str, Iterable[Names]],
     ) -> Answer:
         """Asks about a certificate. The reader is told whether it is one over experiments."""
-        text = certificate.certificate if isinstance(certificate, (Formula, Hedge)) else certificate
+        text = certificate if isinstance(certificate, (str, bytes)) else getattr(certificate, "certificate", None)
         if text is None:
-            raise RequestError("this answer has no certificate: only those of identify and surrogate have one")
+            raise RequestError("this answer has no certificate: formulas have one, and hedges of identify and surrogate")
         word = experiments_word(experiments)
         words = ["--experiments", word] if word else []
         return self._ask(lambda told: read(told, bool(word)), command, *words, second=as_bytes(text))

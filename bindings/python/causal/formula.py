@@ -208,8 +208,8 @@ class Formula(Framed):
 
     @property
     def certificate(self) -> Optional[str]:
-        """The certificate (JSON) with the derivation, where `identify` or `surrogate` gave the formula, and else None. Where it
-        didn't come with the answer, it is asked for when it is wanted first.
+        """The certificate (JSON) with the derivation, where `identify` or `surrogate` gave the formula, or in parts, where `treated` did; else
+        None. Where it didn't come with the answer, it is asked for when it is wanted first.
 
         >>> from causal import Diagram
         >>> diagram = Diagram("dag{ Z -> X Z -> Y X -> Y }")

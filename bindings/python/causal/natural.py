@@ -2,13 +2,16 @@
 from __future__ import annotations
 
 from dataclasses import dataclass, field
-from typing import Any, Dict, FrozenSet, List, Optional, Sequence, Tuple, Union
+from typing import TYPE_CHECKING, Any, Dict, FrozenSet, List, Optional, Sequence, Tuple, Union
 
 from causal import reading
 from causal.formula import Hedge, Term, names_read
 from causal.framed import Shown
 from causal.names import printed_name, printed_set
 from causal.objects import Told
+
+if TYPE_CHECKING:
+    from causal.question import Question
 
 
 @dataclass(frozen=True)
@@ -98,6 +101,7 @@ class NaturalFormula(Shown):
     summed: Tuple[str, ...]
     factors: Tuple[District, ...]
     _latex: str = field(default="", repr=False, compare=False)
+    _question: Optional["Question"] = field(default=None, repr=False, compare=False)
 
     identifiable = True
 
@@ -135,6 +139,21 @@ class NaturalFormula(Shown):
         for tree in self.trees:
             read.append(names_read(tree, read))
         return tuple(sorted(read[-1].difference(self.sets.x, self.sets.second, self.sets.y, self.sets.given)))
+
+    @property
+    def certificate(self) -> Optional[str]:
+        """The certificate (JSON) in parts, a formula with its derivation for each district, where a diagram gave the formula. It is asked for
+        when it is wanted first.
+
+        >>> from causal import Diagram
+        >>> diagram = Diagram("dag { X -> M -> Y X -> Y }")
+        >>> print(diagram.check_certificate(diagram.natural("X", "Y", through="M")))
+        accepted
+        P(Y[X,M[X']]) in parts:
+        P(M|do(X,Y)) = P(M|X)
+        P(Y|do(X,M)) = P(Y|X,M)
+        """
+        return self._question.certificate if self._question else None
 
     def _table(self) -> Tuple[Sequence[str], List[List[Any]]]:
         return ("term", "expression"), [[self.sets.effect, self.expression], *([it.effect, it.expression] for it in self.factors)]
@@ -195,7 +214,7 @@ class NoNaturalFormula(Shown):
 Natural = Union[NaturalFormula, NoNaturalFormula]
 
 
-def read_natural(told: Told) -> Natural:
+def read_natural(told: Told, question: Optional["Question"] = None) -> Natural:
     """Reads the answer of `natural`.
 
     >>> from causal.natural import read_natural
@@ -210,7 +229,7 @@ def read_natural(told: Told) -> Natural:
     y, x, through, given, second = (tuple(told[name]) for name in ("y", "x", "through", "given", "second"))
     sets = NaturalSets(y, x, through, given, second, told["indirect"], told["direct"], told["effect"])
     if told["answer"] == "formula":
-        return NaturalFormula(sets, told["formula"], tuple(told["summed"]), tuple(map(_district, told["factors"])), told["latex"])
+        return NaturalFormula(sets, told["formula"], tuple(told["summed"]), tuple(map(_district, told["factors"])), told["latex"], question)
     joint = told["joint"]
     term = Term(tuple(joint["y"]), tuple(joint["x"]))
     if told["answer"] == "hedge":

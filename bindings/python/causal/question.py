@@ -15,6 +15,10 @@ if TYPE_CHECKING:
     from causal.diagram import Diagram
 
 
+# Of these the certificate is in parts, and stands on a line of its own.
+IN_PARTS = ("treated", "natural")
+
+
 @dataclass(frozen=True)
 class Question:
     """A question to a diagram: a command with its words, and the certificate of its answer where that came with it. What the answer
@@ -38,14 +42,18 @@ class Question:
         """The certificate of the answer, as text."""
         if self.told is not None:
             return self.told
+        if self.command in IN_PARTS:
+            return self.diagram._line(self.command, *self.words, "--certificate")
         return self.diagram._ask(lambda told: text_in(told["certificate"]), self.command, *self.words, "--certificate")
 
     @cached_property
     def steps(self) -> Optional[Union[Derivation, Check]]:
-        """The steps of the certificate, under the experiments that were asked about; None where the library is of a version that doesn't
-        tell them."""
+        """The steps of the certificate, under the experiments that were asked about; None where it is in parts, and where the library is of
+        a version that doesn't tell them."""
         from causal.derivation import read_steps
 
+        if self.command in IN_PARTS:
+            return None
         start = self.words.index("--experiments") if "--experiments" in self.words else len(self.words)
         words, certificate = self.words[start : start + 2], self.certificate.encode("utf-8")
         try:

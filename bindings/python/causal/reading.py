@@ -128,6 +128,10 @@ def read_surrogate(told: Told, question: Optional[Question] = None) -> Union[For
 
 def read_check(told: Told, over_experiments: bool) -> Check:
     """The answer of `check`, for a certificate over experiments or without any."""
+    if told["of"] == "parts":
+        from causal.parts import read_parts
+
+        return read_parts(told)
     is_hedge = told["of"] == "hedge"
     if told["answer"] != "accepted":
         at = told.get("at") or {}

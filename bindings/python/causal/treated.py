@@ -14,6 +14,7 @@ from causal.objects import Told
 
 if TYPE_CHECKING:
     from causal.diagram import Diagram
+    from causal.question import Question
 
 
 @dataclass(frozen=True)
@@ -77,11 +78,11 @@ def primed(diagram: "Diagram", formula: Formula) -> Dict[str, str]:
     return dict(zip((name for name in formula.target.given if name not in diagram.vertices), formula.target.x))
 
 
-def read_treated(told: Told) -> Treated:
+def read_treated(told: Told, question: Optional["Question"] = None) -> Treated:
     """Reads the answer of `treated`. Its target has what is given, and then the names of the values that were observed, as `X'`."""
     target = Term(tuple(told["y"]), tuple(told["x"]), (*told["given"], *told["observed"]))
     if told["answer"] == "formula":
-        return reading.read_formula({**told, "given": target.given})
+        return reading.read_formula({**told, "given": target.given}, question)
     path, joint = told["path"], told["joint"]
     return Confounded(
         target,

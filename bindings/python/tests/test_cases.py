@@ -137,13 +137,17 @@ class Questions(unittest.TestCase):
         return getattr(answer, "certificate", None) or diagram.surrogate(**options)
 
     def ask_treated(self, diagram, second, options, folder):
-        is_latex = options.pop("latex", False)
+        is_latex, is_certified = options.pop("latex", False), options.pop("certificate", False)
         answer = diagram.treated(**self.with_exposures(diagram, options))
+        if is_certified and answer:
+            return answer.certificate
         return answer.printed_latex if is_latex and answer else answer
 
     def ask_natural(self, diagram, second, options, folder):
-        is_latex = options.pop("latex", False)
+        is_latex, is_certified = options.pop("latex", False), options.pop("certificate", False)
         answer = diagram.natural(**self.with_exposures(diagram, options))
+        if is_certified and answer:
+            return answer.certificate
         return answer.printed_latex if is_latex and answer else answer
 
     def ask_instruments(self, diagram, second, options, folder):

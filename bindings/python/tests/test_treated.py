@@ -1,4 +1,5 @@
 """Effects among the treated, in data: their values over counts, and contrasts with intervals."""
+import json
 import random
 import unittest
 from fractions import Fraction
@@ -132,6 +133,43 @@ class Contrasts(unittest.TestCase):
         arms = {"treated": [1, 0], "control": [0, 0], "observed": [1, 0], "outcome": 1}
         found = diagram.contrast(two_treatments(6000), ["A", "B"], "Y", **arms, resamples=200)
         self.assertTrue(found.interval.difference.lower < 0.2 < found.interval.difference.upper)
+
+
+class Certificates(unittest.TestCase):
+    """Certificates in parts, which `check` accepts whoever wrote them."""
+
+    def test_accepted(self):
+        found = STONES.treated("T", "R")
+        judged = STONES.check_certificate(found)
+        self.assertTrue(judged)
+        self.assertIsInstance(judged, causal.PartsCheck)
+        self.assertEqual((judged.effect, [part.target.y for part in judged.parts]), ("P(R|do(T),T')", [("S",), ("T",), ("R",)]))
+        self.assertEqual(json.loads(found.certificate)["version"], 3)
+        self.assertIsNone(found.steps)
+
+    def test_refused(self):
+        plain = json.loads(STONES.treated("T", "R").certificate)
+        wrong = {**plain["parts"][1], "main": ["rule2see", ["S"]]}
+        for change, told in (
+            ({"parts": plain["parts"][:2]}, "refused: parts fault 4 at part 2: {R}"),
+            ({"parts": [*plain["parts"], plain["parts"][0]]}, "refused: parts fault 5 at part 3"),
+            ({"parts": plain["parts"][::-1]}, "refused: parts fault 6 at part 0: {S}"),
+            ({"parts": [plain["parts"][0], wrong, plain["parts"][2]]}, "refused: parts fault 7 at part 1"),
+        ):
+            judged = STONES.check_certificate(json.dumps({**plain, **change}))
+            self.assertFalse(judged)
+            self.assertEqual(str(judged).splitlines()[0], told)
+            self.assertEqual(judged.refused_parts.derivation is not None, "fault 7" in told)
+        joined = BOW.check_certificate(Diagram("dag { X -> Y }").treated("X", "Y"))
+        self.assertEqual((str(joined), joined.refused_parts.vertices), ("refused: parts fault 1: X Y", ("X", "Y")))
+        natural = Diagram("dag { X -> M -> Y X -> Y }").natural("X", "Y", through="M")
+        for edges, told in (("M <-> Y", "refused: parts fault 3: {M,Y}"), ("L -> Y X -> L -> M", "refused: parts fault 2: L")):
+            judged = Diagram(f"dag {{ X -> M -> Y X -> Y {edges} }}").check_certificate(natural)
+            self.assertEqual(str(judged), told)
+
+    def test_no_certificate(self):
+        with self.assertRaisesRegex(causal.RequestError, "has no certificate"):
+            BOW.check_certificate(BOW.treated("X", "Y"))
 
 
 if __name__ == "__main__":

@@ -117,14 +117,15 @@ print.causal_no_model <- function(x, ...) {
 }
 
 # An effect among those for whom other values of the exposures were observed.
-treated_effect <- function(diagram, x = NULL, y = NULL, given = NULL) {
+treated_effect <- function(diagram, x = NULL, y = NULL, given = NULL, certificate = FALSE) {
   diagram <- as_causal_diagram(diagram)
   check_exposures(diagram, x)
-  told <- ask("treated", diagram, c(option("x", x), option("y", y), option("given", condition_of(given)$names)))
+  words <- c(option("x", x), option("y", y), option("given", condition_of(given)$names))
+  told <- ask("treated", diagram, words)
   object <- object_of(told)
   if (told$yes) {
     parts <- c(sets_in(object, c("y", "x")), list(given = c(texts(object$given), texts(object$observed))))
-    read <- c(list(identifiable = TRUE), read_formula(object), list(trees = read_trees(object), parts = parts))
+    read <- c(list(identifiable = TRUE), read_formula(object), list(trees = read_trees(object), parts = parts), certificate_in_parts("treated", diagram, words, certificate))
     return(new_answer("causal_formula", read, told, diagram))
   }
   new_answer("causal_confounded", c(list(identifiable = FALSE), read_confounded(object)), told, diagram)

@@ -2,12 +2,14 @@
 # goes through mediators. The formula is the library's, and proved, and so are its values over counts; what is made of these is computed, and
 # so are values by models (see natural_models.R).
 
-natural_effect <- function(diagram, x = NULL, y = NULL, through, given = NULL) {
+natural_effect <- function(diagram, x = NULL, y = NULL, through, given = NULL, certificate = FALSE) {
   diagram <- as_causal_diagram(diagram)
   check_exposures(diagram, x)
-  told <- ask("natural", diagram, c(option("through", through), option("x", x), option("y", y), option("given", condition_of(given)$names)))
-  object <- object_of(told)
-  new_answer(if (told$yes) "causal_natural" else "causal_no_natural", read_natural(object), told, diagram)
+  words <- c(option("through", through), option("x", x), option("y", y), option("given", condition_of(given)$names))
+  told <- ask("natural", diagram, words)
+  read <- read_natural(object_of(told))
+  if (!told$yes) return(new_answer("causal_no_natural", read, told, diagram))
+  new_answer("causal_natural", c(read, certificate_in_parts("natural", diagram, words, certificate)), told, diagram)
 }
 
 # What natural effects need of an answer: the sets, the factors with their trees, and what is nil.

@@ -117,10 +117,16 @@ steps <- function(diagram, certificate, experiments = NULL) {
   new_answer(class, c(list(holds = told$yes), read_steps(object)), told, diagram)
 }
 
+# The certificate in parts of a formula that a command gives, where it is wanted.
+certificate_in_parts <- function(command, diagram, words, wanted) {
+  check_flag("certificate", wanted)
+  if (wanted) list(certificate = sub("\n$", "", answer_to(command, diagram, c(words, "--certificate"), list())$out))
+}
+
 # What a command answers on a certificate, or on that of an answer.
 ask_certificate <- function(command, diagram, certificate, experiments) {
-  if (inherits(certificate, c("causal_formula", "causal_hedge"))) certificate <- certificate$certificate
-  if (is.null(certificate)) refuse("this answer has no certificate: only those of `identify_effect` and `surrogate` have one")
+  if (inherits(certificate, c("causal_formula", "causal_hedge", "causal_natural"))) certificate <- certificate$certificate
+  if (is.null(certificate)) refuse("this answer has no certificate: those of `identify_effect` and `surrogate` have one, and with certificate = TRUE formulas of `treated_effect` and `natural_effect`")
   words <- c("certificate", if (length(experiments)) c("--experiments", experiments_word(experiments)))
   ask(command, diagram, words, list(certificate = as_bytes(certificate)))
 }

@@ -207,6 +207,7 @@ read_stopped <- function(object) append(read_hedge_sets(object), sets_in(object,
 
 # The judgement of a certificate: accepted with what it shows, or the first fault.
 read_judgement <- function(object) {
+  if (object$of == "parts") return(read_parts(object))
   is_hedge <- object$of == "hedge"
   if (object$answer == "accepted") {
     shown <- if (is_hedge) list(hedge = read_hedge_sets(object)) else list(formula = read_formula(object))
@@ -217,6 +218,15 @@ read_judgement <- function(object) {
   at <- object$at
   list(accepted = FALSE, fault = number, at = if (!is.null(at)) if (is.null(at$lemma)) "main" else paste("lemma", at$lemma),
        step = if (!is.null(at$step)) as.integer(at$step), path = read_path(object$open))
+}
+
+# The same of a certificate in parts: the effect with the formula of each part, or the first fault, whose part is numbered from 0.
+read_parts <- function(object) {
+  if (object$answer == "accepted") return(list(accepted = TRUE, effect = object$effect, parts = lapply(object$parts, read_formula)))
+  fault <- object$fault
+  names <- unlist(lapply(fault[intersect(c("treatment", "child", "vertex"), names(fault))], text_in))
+  list(accepted = FALSE, parts_fault = as.integer(fault$number), part = if (!is.null(fault$part)) as.integer(fault$part), at = c(unname(names), texts(fault$district)),
+       derivation = if (!is.null(fault$derivation)) read_judgement(fault$derivation))
 }
 
 # The steps of a certificate: a row for each expression, with the lemma, which is NA in main, and the move that makes it, and beside each

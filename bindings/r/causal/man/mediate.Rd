@@ -9,7 +9,8 @@
   \code{x}, or why none was found. \code{mediate} computes from data how much of an effect goes through mediators, and how much past them.
 }
 \usage{
-natural_effect(diagram, x = NULL, y = NULL, through, given = NULL)
+natural_effect(diagram, x = NULL, y = NULL, through, given = NULL,
+               certificate = FALSE)
 
 mediate(diagram, data, x = NULL, y = NULL, through, treated = NULL,
         control = NULL, outcome = NULL, count = NULL, level = 0.95,
@@ -28,6 +29,7 @@ mediate(diagram, data, x = NULL, y = NULL, through, treated = NULL,
     answer.}
   \item{through}{names of the mediators.}
   \item{given}{names of variables before \code{x} with whose values the effect is asked for; \code{NULL} for none.}
+  \item{certificate}{whether a formula comes with its \code{certificate}, as that of \code{\link{treated_effect}}.}
   \item{treated, control, level, resamples, seed, progress}{as in \code{\link{contrast}}; without \code{resamples} 1000 are drawn of counts,
     and 200 where models have no influence functions.}
   \item{outcome}{the level of the outcome whose chance is compared; without it the second of two, or the mean of one with more numbers.}

@@ -5,12 +5,13 @@
   Gives a formula for the effect of \code{x} on \code{y} among those for whom other values of \code{x} were observed, as the treated.
 }
 \usage{
-treated_effect(diagram, x = NULL, y = NULL, given = NULL)
+treated_effect(diagram, x = NULL, y = NULL, given = NULL, certificate = FALSE)
 }
 \arguments{
   \item{diagram}{a diagram, or what \code{\link{as_causal_diagram}} takes.}
   \item{x, y}{names of the exposures and of the outcomes; \code{NULL} for the vertices with these marks.}
   \item{given}{names of variables with whose observed values the effect is asked for, on which \code{x} doesn't act; \code{NULL} for none.}
+  \item{certificate}{whether a formula comes with its \code{certificate}, for \code{\link{check_certificate}}: a formula with its derivation for each district.}
 }
 \details{
   In the formula a name of \code{x} stands for the value that is done, and the same name with a prime, as \verb{X'}, for the value that was

@@ -51,3 +51,15 @@ refused(contrast(diagram, stones, treated = "A", control = "B", observed = list(
 refused(evaluate("dag { X -> Y X <-> Y }", data.frame(X = 0:1, Y = 1:0), "X", "Y", treated = TRUE), "the effect among the treated has no formula")
 thin <- data.frame(S = c(0, 0, 1), T = c(0, 1, 0), R = c(1, 0, 1))
 refused(evaluate(diagram, thin, treated = TRUE), "`observed` fills in by models")
+
+# Certificates in parts
+formula <- treated_effect(diagram, certificate = TRUE)
+judged <- check_certificate(diagram, formula)
+stopifnot(judged$accepted, identical(judged$effect, "P(R|do(T),T')"), length(judged$parts) == 3)
+refused(check_certificate(diagram, treated_effect(diagram)), "has no certificate")
+judged <- check_certificate("dag { X -> Y X <-> Y }", treated_effect("dag { X -> Y }", "X", "Y", certificate = TRUE))
+same(list(judged$accepted, judged$parts_fault, judged$at), list(FALSE, 1L, c("X", "Y")))
+natural <- natural_effect("dag { X -> M -> Y X -> Y }", "X", "Y", through = "M", certificate = TRUE)
+stopifnot(check_certificate("dag { X -> M -> Y X -> Y }", natural)$accepted)
+judged <- check_certificate("dag { X -> M -> Y X -> Y M <-> Y }", natural)
+same(list(judged$parts_fault, judged$at), list(3L, c("M", "Y")))
