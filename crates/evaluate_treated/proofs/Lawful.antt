@@ -14,7 +14,7 @@ use Rattle.told.specs.Vocabulary.{Tells}
 use Rattle.told.proofs.ToldOnce.{told_answered}
 use Rattle.treated_command.specs.Vocabulary.{treated_refusal, treated_telling}
 use Rattle.treated_command.specs.declared.answer.Answer.{Answer as Lost}
-use Rattle.treated_command.specs.declared.answer.Answer.TheVariants.{Formula, Excluded, Unfixed}
+use Rattle.treated_command.specs.declared.answer.Answer.TheVariants.{Formula, Certified, Excluded, Unfixed}
 use Rattle.treated_command.proofs.Lawful.{treated_alike}
 use Rattle.evaluate_command.specs.Vocabulary.{values_refusal}
 use Rattle.evaluate_command.specs.declared.faults.ValuesFault.{ValuesFault}
@@ -45,6 +45,7 @@ one_request uses q r a b = λ i. record {
 
 lost_answered : (a : Lost) → IsAnswered (treated_telling.outcome a)
 lost_answered (Formula a f) = tt
+lost_answered (Certified a c) = tt
 lost_answered (Excluded a c h pair) = tt
 lost_answered (Unfixed a c) = tt
 
