@@ -70,7 +70,6 @@ one_request uses q r a b = λ i. record {
 
 found_answered : (a : Found) → IsAnswered (natural_telling.outcome a)
 found_answered (natural.Formula a f) = tt
-found_answered (natural.Certified a c) = tt
 found_answered (natural.Excluded a h pair) = tt
 found_answered (natural.Witness a w other) = tt
 found_answered (natural.Split a s other) = tt
@@ -78,7 +77,6 @@ found_answered (natural.Split a s other) = tt
 -- what is answered without counts ends otherwise than a formula does
 no_yes : (r : Result Found NaturalFault) → HasNoFormula r → outcome_in natural_telling natural_refusal r ≡ Yes → ⊥
 no_yes (Ok (natural.Formula a f)) none e = none
-no_yes (Ok (natural.Certified a c)) none e = none
 no_yes (Ok (natural.Excluded a h pair)) none e = absurd (cc e)
 no_yes (Ok (natural.Witness a w other)) none e = absurd (cc e)
 no_yes (Ok (natural.Split a s other)) none e = absurd (cc e)

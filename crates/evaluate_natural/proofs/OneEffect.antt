@@ -34,11 +34,11 @@ use Rattle.evaluate_natural.specs.Cells.{printed_cells, second_levels, value_in}
 use Rattle.evaluate_natural.specs.Effects.{PlainNested, Identifies, IsFound, read_in}
 
 -- an answer on a diagram is one on each that is the same
-pub same_answer : (q : Request) (d e : Diagram) → AreSameDiagrams d e → (r : Result Answer NaturalFault) → IsNaturalAnswer false e q.x q.y q.through q.given r
-    → IsNaturalAnswer false d q.x q.y q.through q.given r
+pub same_answer : (q : Request) (d e : Diagram) → AreSameDiagrams d e → (r : Result Answer NaturalFault) → IsNaturalAnswer e q.x q.y q.through q.given r
+    → IsNaturalAnswer d q.x q.y q.through q.given r
 same_answer q d e s r h =
-    subst (λ (l : NaturalLists). IsForNames false (graph_of d.observed.graph) l r) same_lists
-    (subst (λ (g : MixedGraph). IsForNames false g (natural_lists e q.x q.y q.through q.given) r) (sym (same_drawing d e s)) h)
+    subst (λ (l : NaturalLists). IsForNames (graph_of d.observed.graph) l r) same_lists
+    (subst (λ (g : MixedGraph). IsForNames g (natural_lists e q.x q.y q.through q.given) r) (sym (same_drawing d e s)) h)
   where
     same_lists : natural_lists e q.x q.y q.through q.given ≡ natural_lists d q.x q.y q.through q.given
     same_lists = λ i. record { query = same_query_lists q.x q.y (Some q.given) d e s i; through = q.through }
