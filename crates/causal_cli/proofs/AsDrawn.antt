@@ -59,7 +59,7 @@ use Rattle.surrogate_command.specs.declared.answer.Answer.{Answer as SurrogateAn
 use Rattle.surrogate_command.specs.declared.sets.SurrogateSets.{SurrogateSets}
 use Rattle.surrogate_command.specs.Vocabulary.{IsStop, IsSurrogateAnswer, stop_shown}
 use Rattle.surrogate_command.specs.declared.answer.Answer.TheVariants as surrogated
-use Rattle.treated_id.specs.Vocabulary.{AreBefore}
+use Rattle.treated_id.specs.Vocabulary.{AreBefore, IsTreatedTarget}
 use Rattle.treated_drawn.specs.Vocabulary.{EqualsAmongAsDrawn, IsLostAmongAsDrawn, IsUnfixedAmongAsDrawn, IsAsked}
 use Rattle.treated_drawn.proofs.Among.{right_among_is_drawn, joint_lost_is_drawn}
 use Rattle.treated_drawn.proofs.Differing.{differing_is_drawn}
@@ -67,7 +67,7 @@ use Rattle.treated_command.specs.Right as treated_right
 use Rattle.treated_command.specs.declared.answer.Answer.{Answer as TreatedAnswer}
 use Rattle.treated_command.specs.Vocabulary.{IsTreatedAnswer}
 use Rattle.treated_command.specs.declared.answer.Answer.TheVariants as treated
-use Rattle.treated_command.proofs.Sets.{three_sets, turned}
+use Rattle.treated_command.proofs.Sets.{three_sets, target_of, turned}
 use Rattle.separation_commands.specs.SeparateRight as separate_right
 use Rattle.separation_commands.specs.Vocabulary.{IsSeparateAnswer, IsRuleAnswer}
 use Rattle.separation_commands.specs.declared.separate.answer.Answer.{Answer as SeparateAnswer}
@@ -79,7 +79,11 @@ use Rattle.implications_command.specs.declared.differences.Measured.{Measured}
 use Rattle.implications_command.specs.declared.answer.Answer.{Answer as ImplicationsAnswer}
 use Rattle.implications_command.specs.Vocabulary.{ArePairs, pairs_in, first_broken, IsForGraph, IsForCounts}
 use Rattle.implications_command.specs.declared.answer.Answer.TheVariants as implied
-use Rattle.certificate.specs.Vocabulary.{formula}
+use Rattle.certificate.specs.declared.values.PartCertificate.{PartCertificate}
+use Rattle.certificate.specs.Vocabulary.{formula, PlainPartCertificate, part_certificate_view}
+use Rattle.certificate_json.specs.PartCertificates.{parts_of}
+use Rattle.parts_drawn.specs.Vocabulary.{MakeUpAmongAsDrawn}
+use Rattle.parts_drawn.proofs.Accepted.{accepted_among_make_up}
 use Rattle.do_derivation.specs.declared.steps.Derivation.{Derivation}
 use Rattle.do_derivation.specs.Vocabulary.{PlainDerivation, derivation_view}
 use Rattle.evaluate_command.specs.declared.answer.Answer.{Answer as EvaluateAnswer}
@@ -320,30 +324,49 @@ asked_of_sets q x y z sets before = record {
       before end (has_join x z end ∙ member) (record { start = p; next = v; path = path; inside = inside; leads = leads });
 }
 
-treats_sets : (d : Diagram) (s : Sets) (a : TreatedAnswer) → IsAsked (graph_of d.observed.graph) s.x.bits s.y.bits s.given.bits
-    → treated_right.Decides (graph_of d.observed.graph) s a → IsTreatedAsDrawn d a
-treats_sets d s (treated.Formula a f) asked h =
+-- the parts of a certificate
+certified_drawn : (d : Diagram) (s : Sets) (c : PartCertificate) → IsTreatedTarget (graph_of d.observed.graph) s.x.bits s.y.bits s.given.bits
+    → treated_right.IsCertifiedFor (graph_of d.observed.graph) s c
+    → MakeUpAmongAsDrawn (graph_of d.read.graph) (has d.read.latent.bits) (graph_of d.observed.graph) s.x.bits s.y.bits s.given.bits
+    (parts_of (part_certificate_view c))
+certified_drawn d s c target h =
+    subst (λ (k : PlainPartCertificate). MakeUpAmongAsDrawn (graph_of d.read.graph) (has d.read.latent.bits) (graph_of d.observed.graph) s.x.bits s.y.bits
+    s.given.bits (parts_of k)) (sym h.certificate.is)
+    (accepted_among_make_up (graph_of d.read.graph) d.read.graph.valid (has d.read.latent.bits) (graph_of d.observed.graph) (observed d)
+    s.x.bits s.y.bits s.given.bits target h.clear h.certificate.parts h.certificate.accepted)
+
+treats_sets : (certified : Bool) (d : Diagram) (s : Sets) (a : TreatedAnswer) → IsAsked (graph_of d.observed.graph) s.x.bits s.y.bits s.given.bits
+    → IsTreatedTarget (graph_of d.observed.graph) s.x.bits s.y.bits s.given.bits → treated_right.Decides certified (graph_of d.observed.graph) s a
+    → IsTreatedAsDrawn d a
+treats_sets true d s (treated.Formula a f) asked target h = absurd h
+treats_sets false d s (treated.Certified a c) asked target h = absurd h
+treats_sets true d s (treated.Certified a c) asked target h =
+    subst (λ (t : Sets). MakeUpAmongAsDrawn (graph_of d.read.graph) (has d.read.latent.bits) (graph_of d.observed.graph) t.x.bits t.y.bits t.given.bits
+    (parts_of (part_certificate_view c))) (sym h.0.sets) (certified_drawn d s c target h.1)
+treats_sets false d s (treated.Formula a f) asked target h =
     subst (λ (t : Sets). EqualsAmongAsDrawn (graph_of d.read.graph) (has d.read.latent.bits) t.x.bits t.y.bits t.given.bits (formula_view f)) (sym h.0.sets)
     (right_among_is_drawn (graph_of d.read.graph) d.read.graph.valid (has d.read.latent.bits) (graph_of d.observed.graph) (observed d)
     s.x.bits s.y.bits s.given.bits (formula_view f) h.1.observed h.1.equals)
-treats_sets d s (treated.Excluded a c k pair) asked h =
+treats_sets certified d s (treated.Excluded a c k pair) asked target h =
     subst (λ (t : Sets). IsLostAmongAsDrawn (graph_of d.read.graph) (has d.read.latent.bits) d.observed.graph.n t.x.bits t.y.bits t.given.bits)
     (sym h.0.sets)
     (joint_lost_is_drawn (graph_of d.read.graph) d.read.graph.valid (has d.read.latent.bits) (graph_of d.observed.graph) (observed d)
     s.x.bits s.y.bits s.given.bits asked
     (effect_lost d.read (graph_of d.observed.graph) (observed d) s.x.bits (union s.y.bits s.given.bits) pair h.1.found.right.counter))
-treats_sets d s (treated.Unfixed a c) asked h =
+treats_sets certified d s (treated.Unfixed a c) asked target h =
     subst (λ (t : Sets). IsUnfixedAmongAsDrawn (graph_of d.read.graph) (has d.read.latent.bits) d.observed.graph.n t.x.bits t.y.bits t.given.bits)
     (sym h.0.sets)
     (differing_is_drawn (graph_of d.read.graph) d.read.graph.valid (has d.read.latent.bits) (graph_of d.observed.graph) (observed d)
     s.x.bits s.y.bits s.given.bits asked.x_low h.1.differ)
 
 -- a right answer of `treated`
-pub treats : (x y : Names) (given : List (List ℕ)) (d : Diagram) (a : TreatedAnswer) → IsTreatedAnswer d x y given (Ok a) → IsTreatedAsDrawn d a
-treats x y given d a h = treats_sets d h.sets a
-    (asked_of_sets (graph_of d.observed.graph) h.sets.x.bits h.sets.y.bits h.sets.given.bits
-    (three_sets (query_lists d.read d.observed.names x y (Some given)) d.observed.graph.n h.sets.x.bits h.sets.y.bits h.sets.given.bits d.observed.sized h.named)
-    h.is.before) h.is.decided
+pub treats : (certified : Bool) (x y : Names) (given : List (List ℕ)) (d : Diagram) (a : TreatedAnswer) → IsTreatedAnswer certified d x y given (Ok a)
+    → IsTreatedAsDrawn d a
+treats certified x y given d a h =
+    let sets = three_sets (query_lists d.read d.observed.names x y (Some given)) d.observed.graph.n h.sets.x.bits h.sets.y.bits h.sets.given.bits
+               d.observed.sized h.named in
+    treats_sets certified d h.sets a (asked_of_sets (graph_of d.observed.graph) h.sets.x.bits h.sets.y.bits h.sets.given.bits sets h.is.before)
+    (target_of (graph_of d.observed.graph) h.sets.x.bits h.sets.y.bits h.sets.given.bits sets h.is.before) h.is.decided
 
 -- ---- separate and rule
 

@@ -109,7 +109,8 @@ module _ (r : Call) (uses : List Use) (code : ℕ) (o : Outcome) (text : Told) (
   treated = written_for r Treated uses o text (λ q. q.file) (λ q bytes. IsTreated q bytes code) (λ q h. h) (λ q. refl) (λ q. refl)
       (λ q is bytes a. let h = held (of Treated q) bytes a in
       answered treated_telling treated_refusal treated_refused q.form bytes code o text status small
-      (λ d. IsTreatedAnswer d q.x q.y q.given) IsTreatedAsDrawn (treats q.x q.y q.given) h.diagram h.holds h.answer) whole
+      (λ d. IsTreatedAnswer (is_certified q.form.writing) d q.x q.y q.given) IsTreatedAsDrawn (treats (is_certified q.form.writing) q.x q.y q.given) h.diagram
+      h.holds h.answer) whole
 
   separated : CallAnswer r Separate uses o text → WrittenFor separate_requests.IsRequest (λ q. q.file) (λ q bytes. IsSeparated q bytes code) r uses
   separated = written_for r Separate uses o text (λ q. q.file) (λ q bytes. IsSeparated q bytes code) (λ q h. h) (λ q. refl) (λ q. refl)

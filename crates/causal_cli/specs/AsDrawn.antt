@@ -32,6 +32,9 @@ use Rattle.surrogate_command.specs.declared.answer.Answer.{Answer as SurrogateAn
 use Rattle.surrogate_command.specs.declared.answer.Answer.TheVariants as surrogated
 use Rattle.treated_drawn.specs.Vocabulary.{EqualsAmongAsDrawn, IsLostAmongAsDrawn, IsUnfixedAmongAsDrawn, drawn_with_primes}
 use Rattle.treated_drawn.specs.Drawn.{drawn_among}
+use Rattle.parts_drawn.specs.Vocabulary.{MakeUpAmongAsDrawn}
+use Rattle.certificate.specs.Vocabulary.{part_certificate_view}
+use Rattle.certificate_json.specs.PartCertificates.{parts_of}
 use Rattle.treated_command.specs.declared.answer.Answer.{Answer as TreatedAnswer}
 use Rattle.treated_command.specs.declared.answer.Answer.TheVariants as treated
 use Rattle.separation_commands.specs.declared.separate.answer.Answer.{Answer as SeparateAnswer}
@@ -149,11 +152,13 @@ IsSurrogateAsDrawn d (surrogated.Blocked s district h) = IsNotIdentifiable d.rea
 
 -- ---- treated
 
--- A formula equals the effect among those whose x, and what is given, were observed. Without one two models show that the effect isn't identifiable: those
--- of a hedge for the joint effect, which isn't either, or those of the path from a child of a treatment to the treatment.
+-- A formula equals the effect among those whose x, and what is given, were observed, and so do the parts of a certificate. Without one two models show that
+-- the effect isn't identifiable: those of a hedge for the joint effect, which isn't either, or those of the path from a child of a treatment to the treatment.
 abbrev pub IsTreatedAsDrawn : Diagram → TreatedAnswer → Type 0
 IsTreatedAsDrawn d (treated.Formula a f) = EqualsAmongAsDrawn (graph_of d.read.graph) (has d.read.latent.bits) a.sets.x.bits a.sets.y.bits a.sets.given.bits
     (formula_view f)
+IsTreatedAsDrawn d (treated.Certified a c) = MakeUpAmongAsDrawn (graph_of d.read.graph) (has d.read.latent.bits) (graph_of d.observed.graph) a.sets.x.bits
+    a.sets.y.bits a.sets.given.bits (parts_of (part_certificate_view c))
 IsTreatedAsDrawn d (treated.Excluded a c h pair) = IsLostAmongAsDrawn (graph_of d.read.graph) (has d.read.latent.bits) d.observed.graph.n a.sets.x.bits
     a.sets.y.bits a.sets.given.bits
 IsTreatedAsDrawn d (treated.Unfixed a c) = IsUnfixedAmongAsDrawn (graph_of d.read.graph) (has d.read.latent.bits) d.observed.graph.n a.sets.x.bits

@@ -65,7 +65,7 @@ IsSurrogated q = IsAnswered surrogate_telling (λ d. IsSurrogateAnswer (wants_co
 
 -- and to one of `treated`
 abbrev pub IsTreated : treated_requests.Request → (bytes : List ℕ) (code : ℕ) (told : Told) → Type 0
-IsTreated q = IsAnswered treated_telling (λ d. IsTreatedAnswer d q.x q.y q.given) IsTreatedAsDrawn q.form
+IsTreated q = IsAnswered treated_telling (λ d. IsTreatedAnswer (is_certified q.form.writing) d q.x q.y q.given) IsTreatedAsDrawn q.form
 
 -- and to one of `separate`
 abbrev pub IsSeparated : separate_requests.Request → (bytes : List ℕ) (code : ℕ) (told : Told) → Type 0
