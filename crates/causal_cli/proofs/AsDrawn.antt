@@ -81,7 +81,7 @@ use Rattle.implications_command.specs.Vocabulary.{ArePairs, pairs_in, first_brok
 use Rattle.implications_command.specs.declared.answer.Answer.TheVariants as implied
 use Rattle.certificate.specs.declared.values.PartCertificate.{PartCertificate}
 use Rattle.certificate.specs.Vocabulary.{formula, PlainPartCertificate, part_certificate_view}
-use Rattle.certificate_json.specs.PartCertificates.{parts_of}
+use Rattle.certificate_json.specs.Vocabulary.{parts_of}
 use Rattle.parts_drawn.specs.Vocabulary.{MakeUpAmongAsDrawn}
 use Rattle.parts_drawn.proofs.Accepted.{accepted_among_make_up}
 use Rattle.do_derivation.specs.declared.steps.Derivation.{Derivation}

@@ -17,7 +17,7 @@ use Rattle.natural_drawn.proofs.Differing.{nested_difference_is_drawn}
 use Rattle.natural_drawn.proofs.Formulas.{right_parts_are_drawn}
 use Rattle.natural_drawn.proofs.Lost.{nested_lost_is_drawn}
 use Rattle.certificate.specs.Vocabulary.{PlainPartCertificate, part_certificate_view}
-use Rattle.certificate_json.specs.PartCertificates.{parts_of}
+use Rattle.certificate_json.specs.Vocabulary.{parts_of}
 use Rattle.parts_drawn.specs.Vocabulary.{MakeUpNestedAsDrawn}
 use Rattle.parts_drawn.proofs.Accepted.{accepted_nested_make_up}
 use Rattle.natural_drawn.proofs.Nil.{no_indirect_path_is_drawn, no_direct_path_is_drawn}

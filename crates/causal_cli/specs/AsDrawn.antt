@@ -34,7 +34,7 @@ use Rattle.treated_drawn.specs.Vocabulary.{EqualsAmongAsDrawn, IsLostAmongAsDraw
 use Rattle.treated_drawn.specs.Drawn.{drawn_among}
 use Rattle.parts_drawn.specs.Vocabulary.{MakeUpAmongAsDrawn}
 use Rattle.certificate.specs.Vocabulary.{part_certificate_view}
-use Rattle.certificate_json.specs.PartCertificates.{parts_of}
+use Rattle.certificate_json.specs.Vocabulary.{parts_of}
 use Rattle.treated_command.specs.declared.answer.Answer.{Answer as TreatedAnswer}
 use Rattle.treated_command.specs.declared.answer.Answer.TheVariants as treated
 use Rattle.separation_commands.specs.declared.separate.answer.Answer.{Answer as SeparateAnswer}

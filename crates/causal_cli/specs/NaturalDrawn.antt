@@ -7,7 +7,7 @@ use Rattle.told.specs.Vocabulary.{is_certified}
 use Rattle.diagram.specs.declared.diagram.Diagram.{Diagram}
 use Rattle.natural_id.specs.Vocabulary.{parts_view}
 use Rattle.certificate.specs.Vocabulary.{part_certificate_view}
-use Rattle.certificate_json.specs.PartCertificates.{parts_of}
+use Rattle.certificate_json.specs.Vocabulary.{parts_of}
 use Rattle.parts_drawn.specs.Vocabulary.{MakeUpNestedAsDrawn}
 use Rattle.natural_drawn.specs.Vocabulary.{EqualsNaturalAsDrawn, IsLostNestedAsDrawn, DifferOnNestedAsDrawn, IsIndirectNilAsDrawn, IsDirectNilAsDrawn}
 use Rattle.interventional_id.specs.declared.answer.Interventional.{Interventional}
