@@ -59,19 +59,19 @@ pub record IsUnfixed (q : MixedGraph) (s : Sets) (c : Confounding) : Type 0 wher
   pub no_formula : HasNoFormulaAmong q s.x.bits s.y.bits s.given.bits
 
 -- the answer by a formula, where no certificate is asked for
-abbrev pub DecidesFormula : (certified : Bool) → MixedGraph → Sets → Asked → PlainFormula → Type 0
-DecidesFormula false q s a f = IsAskedFor q s a × IsFormulaFor q s f
-DecidesFormula true q s a f = ⊥
+abbrev pub DecidesPlain : (certified : Bool) → MixedGraph → Sets → Asked → PlainFormula → Type 0
+DecidesPlain false q s a f = IsAskedFor q s a × IsFormulaFor q s f
+DecidesPlain true q s a f = ⊥
 
 -- the answer by a certificate, where one is asked for
-abbrev pub DecidesCertificate : (certified : Bool) → MixedGraph → Sets → Asked → PartCertificate → Type 0
-DecidesCertificate false q s a c = ⊥
-DecidesCertificate true q s a c = IsAskedFor q s a × IsCertifiedFor q s c
+abbrev pub DecidesCertified : (certified : Bool) → MixedGraph → Sets → Asked → PartCertificate → Type 0
+DecidesCertified false q s a c = ⊥
+DecidesCertified true q s a c = IsAskedFor q s a × IsCertifiedFor q s c
 
 -- the answer for these sets of the observed graph q
 abbrev pub Decides : (certified : Bool) → MixedGraph → Sets → Answer → Type 0
-Decides certified q s (Formula a f) = DecidesFormula certified q s a (formula_view f)
-Decides certified q s (Certified a c) = DecidesCertificate certified q s a c
+Decides certified q s (Formula a f) = DecidesPlain certified q s a (formula_view f)
+Decides certified q s (Certified a c) = DecidesCertified certified q s a c
 Decides certified q s (Excluded a c h pair) = IsAskedFor q s a × IsExcluded q s c h pair
 Decides certified q s (Unfixed a c) = IsAskedFor q s a × IsUnfixed q s c
 
