@@ -4,11 +4,11 @@ use Rattle.identify.specs.Vocabulary.{AreShallowSteps, IfFormula, IsShallowFormu
 use Rattle.part_checks.proofs.Lists.{set_within}
 use Rattle.part_checks.proofs.making.derive_part.Goals as goal
 
-pub returns-in-Formula-clause-written : goal.returns-in-Formula-clause-written
-returns-in-Formula-clause-written c = record {
+pub returns-clause-written : goal.returns-clause-written
+returns-clause-written c = record {
   district = set_within c.args.g.now.n c.args.c.bits c.requires.within c.requires.some;
-  formed = subst (λ a. IfFormula a (λ f d. fault_in c.args.g.now.n f ≡ None)) c.in-Formula.is c.in_ok-identify.ensures.formed;
-  few = subst (λ a. IfFormula a (λ f d. length f.defs ≤ 4096)) c.in-Formula.is c.in_ok-identify.ensures.few;
-  nodes = subst (λ a. IfFormula a (λ f d. IsShallowFormula f)) c.in-Formula.is c.in_ok-identify.ensures.shallow_formula;
-  steps = subst (λ a. IfFormula a (λ f d. AreShallowSteps d)) c.in-Formula.is c.in_ok-identify.ensures.shallow_steps;
+  formed = subst (λ a. IfFormula a (λ f d. fault_in c.args.g.now.n f ≡ None)) c.in-Formula.is c.in_ok-formula.ensures.formed;
+  few = subst (λ a. IfFormula a (λ f d. length f.defs ≤ 4096)) c.in-Formula.is c.in_ok-formula.ensures.few;
+  nodes = subst (λ a. IfFormula a (λ f d. IsShallowFormula f)) c.in-Formula.is c.in_ok-formula.ensures.shallow_formula;
+  steps = subst (λ a. IfFormula a (λ f d. AreShallowSteps d)) c.in-Formula.is c.in_ok-formula.ensures.shallow_steps;
 }
