@@ -43,7 +43,7 @@ not_yes (Err fault) none e = cc e
 pub first_alone : (q : Request) (d e : Diagram) → AreSameDiagrams d e → (r : Result Answer TreatedFault) (f : PlainAmong) → IsForDiagram d q r → Identifies e q f
     → ⊥
 first_alone q d e s r f is i =
-    not_yes r is.1 (treated_alike d e s q.x q.y q.given r (Ok (Formula f.asked i.found.formula)) is.0 i.found.answered)
+    not_yes r is.1 (treated_alike false false d e s q.x q.y q.given r (Ok (Formula f.asked i.found.formula)) is.0 i.found.answered)
 
 -- ---- over the bytes of counts
 

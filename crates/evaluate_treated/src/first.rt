@@ -51,7 +51,7 @@ fn with_factors(alloc: Global, diagram: &Diagram, answer: Answer) -> First
                 Err(_) => First::Answered(Err(TreatedFault::NoMemory)),
             }
         }
-        Answer::Certified(asked, c) => First::Answered(Ok(Answer::Certified(asked, c))),
+        Answer::Certified(_, _) => unreachable!(),
         Answer::Excluded(asked, c, h, pair) => {
             First::Answered(Ok(Answer::Excluded(asked, c, h, pair)))
         }

@@ -33,6 +33,7 @@ returns-in-Ok c = λ q is.
     }
 
 -- no certificate is asked for
-pub returns-in-Certified : goal.returns-in-Certified
-returns-in-Certified c = λ q is. absurd
-    (subst (λ (a : Answer). IsTreatedAnswer false c.args.diagram.now q.x q.y q.given (Ok a)) c.in-Certified.is is).is.decided
+pub unreachable-requires : goal.unreachable-requires
+unreachable-requires c =
+    let q = c.requires.0 in
+    (subst (λ (a : Answer). IsTreatedAnswer false c.args.diagram.now q.x q.y q.given (Ok a)) c.in-Certified.is c.requires.1).is.decided
