@@ -27,16 +27,16 @@ found c a is = let q = c.args.question in
 no_hedge : (c : In_ok-formula) → is_hedge c.in_ok-formula.field-0 ≡ false → HasNoHedge (graph_of c.args.g.now) c.args.question
 no_hedge c e h is = not_both (is_hedge c.in_ok-formula.field-0) (c.in_ok-formula.ensures.exact.1 (h, is)) e
 
-pub returns-then-not-certified-in-Formula : goal.returns-then-not-certified-in-Formula
-returns-then-not-certified-in-Formula c =
-    let at = (goal.at.returns-then-not-certified-in-Formula c).In_ok-formula in
+pub returns-then-not-certified : goal.returns-then-not-certified
+returns-then-not-certified c =
+    let at = (goal.at.returns-then-not-certified c).In_ok-formula in
     let r = right at _ c.in-Formula.is in
     subst (λ (b : Bool). DecidesPlain b (graph_of c.args.g.now) c.args.question c.asked_of-asked.result c.in-Formula.formula) (sym c.if-not-certified.true)
     (c.asked_of-asked.ensures, record { equals = r.0; found = found at _ c.in-Formula.is; clear = r.1; no_hedge = no_hedge at (ap is_hedge c.in-Formula.is) })
 
-pub natural_certificate-certificate-requires-clause-no_hedge : goal.natural_certificate-certificate-requires-clause-no_hedge
-natural_certificate-certificate-requires-clause-no_hedge c =
-    no_hedge (goal.at.natural_certificate-certificate-requires-clause-no_hedge c).In_ok-formula (ap is_hedge c.in-Formula.is)
+pub natural_certificate-requires-clause-no_hedge : goal.natural_certificate-requires-clause-no_hedge
+natural_certificate-requires-clause-no_hedge c =
+    no_hedge (goal.at.natural_certificate-requires-clause-no_hedge c).In_ok-formula (ap is_hedge c.in-Formula.is)
 
 pub returns-in_ok-certificate-in-Formula : goal.returns-in_ok-certificate-in-Formula
 returns-in_ok-certificate-in-Formula c =
