@@ -11,6 +11,7 @@ mod reply;
 mod request;
 mod second;
 mod texts;
+mod theory;
 
 pub use answer::{Answer, Asked};
 pub use asking::Question;
@@ -20,3 +21,4 @@ pub use objects::push_asked;
 pub use reply::{natural_answer, natural_reply};
 pub use request::{ROW, Request};
 pub use second::names_read;
+pub use theory::laws;
