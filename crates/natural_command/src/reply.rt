@@ -96,7 +96,7 @@ fn decide(
 }
 
 /// The question with the primed names of x, and with the ways that lead from x to y.
-fn asked_of(g: &Graph, question: Question) -> Asked
+pub fn asked_of(g: &Graph, question: Question) -> Asked
     requires sets { let q = question in AreFourSets g.now.n (has q.x.bits) (has q.y.bits) (has q.through.bits) (has q.given.bits) }
     requires before { AreBefore (graph_of g.now) question }
     requires few { name_count g.now.n question.x.bits ≤ 64 }
