@@ -1,5 +1,5 @@
 -- Accepted parts make up the effect, in the observed graph and in the diagram as drawn.
-use Rattle.std.proofs.Common.{ℕ, suc, ◌≡◌, ◌<◌, Bool, true, false, refl, sym, ap, subst, arith, List, [], ◌∷◌, inr}
+use Rattle.std.proofs.Common.{ℕ, suc, ◌≡◌, Bool, true, false, refl, ap, arith, List, [], ◌∷◌, inr}
 use Rattle.std.specs.Prelude.{All}
 use Rattle.mixed_graph.specs.Vocabulary.{has, MixedGraph, IsMixedGraph, union, minus, all}
 use Rattle.finite_models.proofs.Bools.{not_both}

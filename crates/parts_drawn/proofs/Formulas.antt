@@ -83,17 +83,18 @@ module _ (g : MixedGraph) (ok : IsMixedGraph g) (l : ℕ → Bool) (q : MixedGra
       let is_none = weight_of-none w' (λ v. false) o seen (λ v. refl) in
       omega (arith, e, is_none)
 
+  -- what was observed
+  abbrev known : ℕ → ℕ → Bool
+  known z v = has x v || has z v
+
   -- the effect has one value in both
   one_among : (y z : ℕ) → IsEqual (among_at w' x y z s t) (drawn_among_at l w x y z s t)
   one_among y z =
-      one_fraction (weight_of_both w' (has x) (has y) given s seen) (event_weight w' given seen) (drawn_both l w (has x) (has y) given s seen)
-      (event_weight w (set_before l given) (values_before l seen)) (total w') (total w) (total_positive q w' fit') (total_positive g w fit) (some_event given)
-      (left_positive (event_weight w (set_before l given) (values_before l seen)) (total w') (event_weight w' given seen * total w)
-      (mul-pos (some_event given) (total_positive g w fit)) (sym (observed_once given)))
-      (sym (folds.both.both (has x) (has y) given s seen first_inside seen_inside)) (sym (observed_once given))
-    where
-      abbrev given : ℕ → Bool
-      given v = has x v || has z v
+      one_fraction (weight_of_both w' (has x) (has y) (known z) s seen) (event_weight w' (known z) seen) (drawn_both l w (has x) (has y) (known z) s seen)
+      (event_weight w (set_before l (known z)) (values_before l seen)) (total w') (total w) (total_positive q w' fit') (total_positive g w fit) (some_event (known z))
+      (left_positive (event_weight w (set_before l (known z)) (values_before l seen)) (total w') (event_weight w' (known z) seen * total w)
+      (mul-pos (some_event (known z)) (total_positive g w fit)) (sym (observed_once (known z))))
+      (sym (folds.both.both (has x) (has y) (known z) s seen first_inside seen_inside)) (sym (observed_once (known z)))
 
 pub treated_parts_are_drawn : TreatedPartsAreDrawn
 treated_parts_are_drawn = λ g ok l q is x y z summed ps right w fit observed s t hs ht.
