@@ -1,5 +1,5 @@
 pub mod ReadParts
-mod Counting
+mod LemmaCounts
 mod Deciding
 mod Asking
 mod Replied
