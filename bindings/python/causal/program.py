@@ -35,9 +35,9 @@ Answers questions about causal diagrams with hidden confounders, by a proved pro
     implications FILE [COUNTS] [--count NAME] [--json]
     surrogate FILE [--x L] [--y L] --experiments E [--models] [--certificate] [--json]
     bounds FILE COUNTS [--x L] [--y L] [[--given L] [--instrument L [--strata L]] | --set L] [--count NAME] [--exact] [--json]
-    treated FILE [--x L] [--y L] [--given L] [--latex] [--json]
+    treated FILE [--x L] [--y L] [--given L] [--certificate] [--latex] [--json]
     instruments FILE [--x L] [--y L] [--most N] [--json]
-    natural FILE --through L [--x L] [--y L] [--given L] [--latex] [--json]
+    natural FILE --through L [--x L] [--y L] [--given L] [--certificate] [--latex] [--json]
     steps FILE CERTIFICATE [--experiments E] [--json]
 
 FILE is a graph text, in the form of DAGitty; - is standard input. A list L is names joined by

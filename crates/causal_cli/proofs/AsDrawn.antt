@@ -59,7 +59,7 @@ use Rattle.surrogate_command.specs.declared.answer.Answer.{Answer as SurrogateAn
 use Rattle.surrogate_command.specs.declared.sets.SurrogateSets.{SurrogateSets}
 use Rattle.surrogate_command.specs.Vocabulary.{IsStop, IsSurrogateAnswer, stop_shown}
 use Rattle.surrogate_command.specs.declared.answer.Answer.TheVariants as surrogated
-use Rattle.treated_id.specs.Vocabulary.{AreBefore}
+use Rattle.treated_id.specs.Vocabulary.{AreBefore, IsTreatedTarget}
 use Rattle.treated_drawn.specs.Vocabulary.{EqualsAmongAsDrawn, IsLostAmongAsDrawn, IsUnfixedAmongAsDrawn, IsAsked}
 use Rattle.treated_drawn.proofs.Among.{right_among_is_drawn, joint_lost_is_drawn}
 use Rattle.treated_drawn.proofs.Differing.{differing_is_drawn}
@@ -67,7 +67,7 @@ use Rattle.treated_command.specs.Right as treated_right
 use Rattle.treated_command.specs.declared.answer.Answer.{Answer as TreatedAnswer}
 use Rattle.treated_command.specs.Vocabulary.{IsTreatedAnswer}
 use Rattle.treated_command.specs.declared.answer.Answer.TheVariants as treated
-use Rattle.treated_command.proofs.Sets.{three_sets, turned}
+use Rattle.treated_command.proofs.Sets.{three_sets, target_of, turned}
 use Rattle.separation_commands.specs.SeparateRight as separate_right
 use Rattle.separation_commands.specs.Vocabulary.{IsSeparateAnswer, IsRuleAnswer}
 use Rattle.separation_commands.specs.declared.separate.answer.Answer.{Answer as SeparateAnswer}
@@ -79,17 +79,35 @@ use Rattle.implications_command.specs.declared.differences.Measured.{Measured}
 use Rattle.implications_command.specs.declared.answer.Answer.{Answer as ImplicationsAnswer}
 use Rattle.implications_command.specs.Vocabulary.{ArePairs, pairs_in, first_broken, IsForGraph, IsForCounts}
 use Rattle.implications_command.specs.declared.answer.Answer.TheVariants as implied
-use Rattle.certificate.specs.Vocabulary.{formula}
+use Rattle.certificate.specs.declared.values.PartCertificate.{PartCertificate}
+use Rattle.certificate.specs.Vocabulary.{formula, PlainPartCertificate, part_certificate_view}
+use Rattle.certificate_json.specs.Vocabulary.{parts_of}
+use Rattle.parts_drawn.specs.Vocabulary.{EqualsAmongPartsAsDrawn, MakeUpAmongAsDrawn}
+use Rattle.parts_drawn.proofs.Accepted.{accepted_among_make_up}
+use Rattle.parts_drawn.proofs.Formulas.{treated_parts_are_drawn}
+use Rattle.derived_parts.specs.Vocabulary.{PlainDerivedPart}
+use Rattle.part_checks.specs.declared.answers.TreatedFormula.{TreatedFormula}
+use Rattle.treated_command.specs.declared.answer.Asked.{Asked as AskedAmong}
+use Rattle.natural_command.specs.declared.answer.Asked.{Asked as AskedNested}
+use Rattle.natural_command.specs.declared.asking.Question.{Question}
+use Rattle.natural_id.specs.declared.answers.NaturalFormula.{NaturalFormula}
+use Rattle.natural_id.specs.Vocabulary.{parts_view}
+use Rattle.natural_drawn.specs.Vocabulary.{EqualsNaturalAsDrawn}
+use Rattle.natural_drawn.proofs.Formulas.{right_parts_are_drawn}
 use Rattle.do_derivation.specs.declared.steps.Derivation.{Derivation}
 use Rattle.do_derivation.specs.Vocabulary.{PlainDerivation, derivation_view}
 use Rattle.evaluate_command.specs.declared.answer.Answer.{Answer as EvaluateAnswer}
 use Rattle.evaluate_command.specs.Vocabulary.{IsForDiagram, by_procedure, by_adjusting, by_condition}
 use Rattle.evaluate_command.specs.Ways.{Way}
 use Rattle.evaluate_command.specs.declared.answer.Answer.TheVariants as evaluated
-use Rattle.check_command.specs.declared.answer.Answer.{Answer as CheckAnswer}
-use Rattle.check_command.specs.Vocabulary.{IsForText, of_formula, of_hedge, IsForCertificate}
-use Rattle.check_command.specs.declared.answer.Answer.TheVariants as checked
-use Rattle.causal_cli.specs.AsDrawn.{IsTreatedAsDrawn, IsUnevaluatedAsDrawn, IsCheckedAsDrawn}
+use Rattle.check_command.specs.declared.answer.Answer.{Answer as WholeAnswer}
+use Rattle.check_command.specs.Vocabulary.{IsForText, of_formula, of_hedge}
+use Rattle.check_command.specs.declared.answer.Answer.TheVariants as whole
+use Rattle.part_check_command.specs.Right.{IsAcceptedAmong, IsAcceptedNested}
+use Rattle.part_check_command.specs.declared.answer.Answer.{Answer as CheckAnswer}
+use Rattle.part_check_command.specs.declared.answer.Answer.TheVariants as checked
+use Rattle.part_check_command.specs.Vocabulary.{IsForCertificate}
+use Rattle.causal_cli.specs.AsDrawn.{IsTreatedAsDrawn, IsUnevaluatedAsDrawn, IsCheckedAsDrawn, IsWholeAsDrawn}
 use Rattle.causal_cli.specs.AsDrawn.{IsRightAsDrawn, IsNotIdentifiable, IsNotIdentifiableOver, IsJointLost, IdentifiesAsDrawn, AdjustsAsDrawn}
 use Rattle.causal_cli.specs.AsDrawn.{IsAdjustedAsDrawn, IsSurrogateAsDrawn, IsSeparatedAsDrawn, IsRuledAsDrawn, IsIndependentAsDrawn, IsZeroAsDrawn}
 use Rattle.causal_cli.specs.AsDrawn.{ArePairsAsDrawn, AreZeroAsDrawn, IsRefutedAsDrawn, AreDifferencesAsDrawn}
@@ -320,30 +338,49 @@ asked_of_sets q x y z sets before = record {
       before end (has_join x z end ∙ member) (record { start = p; next = v; path = path; inside = inside; leads = leads });
 }
 
-treats_sets : (d : Diagram) (s : Sets) (a : TreatedAnswer) → IsAsked (graph_of d.observed.graph) s.x.bits s.y.bits s.given.bits
-    → treated_right.Decides (graph_of d.observed.graph) s a → IsTreatedAsDrawn d a
-treats_sets d s (treated.Formula a f) asked h =
+-- the parts of a certificate
+certified_drawn : (d : Diagram) (s : Sets) (c : PartCertificate) → IsTreatedTarget (graph_of d.observed.graph) s.x.bits s.y.bits s.given.bits
+    → treated_right.IsCertifiedFor (graph_of d.observed.graph) s c
+    → MakeUpAmongAsDrawn (graph_of d.read.graph) (has d.read.latent.bits) (graph_of d.observed.graph) s.x.bits s.y.bits s.given.bits
+    (parts_of (part_certificate_view c))
+certified_drawn d s c target h =
+    subst (λ (k : PlainPartCertificate). MakeUpAmongAsDrawn (graph_of d.read.graph) (has d.read.latent.bits) (graph_of d.observed.graph) s.x.bits s.y.bits
+    s.given.bits (parts_of k)) (sym h.certificate.is)
+    (accepted_among_make_up (graph_of d.read.graph) d.read.graph.valid (has d.read.latent.bits) (graph_of d.observed.graph) (observed d)
+    s.x.bits s.y.bits s.given.bits target h.clear h.certificate.parts h.certificate.accepted)
+
+treats_sets : (certified : Bool) (d : Diagram) (s : Sets) (a : TreatedAnswer) → IsAsked (graph_of d.observed.graph) s.x.bits s.y.bits s.given.bits
+    → IsTreatedTarget (graph_of d.observed.graph) s.x.bits s.y.bits s.given.bits → treated_right.Decides certified (graph_of d.observed.graph) s a
+    → IsTreatedAsDrawn d a
+treats_sets true d s (treated.Formula a f) asked target h = absurd h
+treats_sets false d s (treated.Certified a c) asked target h = absurd h
+treats_sets true d s (treated.Certified a c) asked target h =
+    subst (λ (t : Sets). MakeUpAmongAsDrawn (graph_of d.read.graph) (has d.read.latent.bits) (graph_of d.observed.graph) t.x.bits t.y.bits t.given.bits
+    (parts_of (part_certificate_view c))) (sym h.0.sets) (certified_drawn d s c target h.1)
+treats_sets false d s (treated.Formula a f) asked target h =
     subst (λ (t : Sets). EqualsAmongAsDrawn (graph_of d.read.graph) (has d.read.latent.bits) t.x.bits t.y.bits t.given.bits (formula_view f)) (sym h.0.sets)
     (right_among_is_drawn (graph_of d.read.graph) d.read.graph.valid (has d.read.latent.bits) (graph_of d.observed.graph) (observed d)
     s.x.bits s.y.bits s.given.bits (formula_view f) h.1.observed h.1.equals)
-treats_sets d s (treated.Excluded a c k pair) asked h =
+treats_sets certified d s (treated.Excluded a c k pair) asked target h =
     subst (λ (t : Sets). IsLostAmongAsDrawn (graph_of d.read.graph) (has d.read.latent.bits) d.observed.graph.n t.x.bits t.y.bits t.given.bits)
     (sym h.0.sets)
     (joint_lost_is_drawn (graph_of d.read.graph) d.read.graph.valid (has d.read.latent.bits) (graph_of d.observed.graph) (observed d)
     s.x.bits s.y.bits s.given.bits asked
     (effect_lost d.read (graph_of d.observed.graph) (observed d) s.x.bits (union s.y.bits s.given.bits) pair h.1.found.right.counter))
-treats_sets d s (treated.Unfixed a c) asked h =
+treats_sets certified d s (treated.Unfixed a c) asked target h =
     subst (λ (t : Sets). IsUnfixedAmongAsDrawn (graph_of d.read.graph) (has d.read.latent.bits) d.observed.graph.n t.x.bits t.y.bits t.given.bits)
     (sym h.0.sets)
     (differing_is_drawn (graph_of d.read.graph) d.read.graph.valid (has d.read.latent.bits) (graph_of d.observed.graph) (observed d)
     s.x.bits s.y.bits s.given.bits asked.x_low h.1.differ)
 
 -- a right answer of `treated`
-pub treats : (x y : Names) (given : List (List ℕ)) (d : Diagram) (a : TreatedAnswer) → IsTreatedAnswer d x y given (Ok a) → IsTreatedAsDrawn d a
-treats x y given d a h = treats_sets d h.sets a
-    (asked_of_sets (graph_of d.observed.graph) h.sets.x.bits h.sets.y.bits h.sets.given.bits
-    (three_sets (query_lists d.read d.observed.names x y (Some given)) d.observed.graph.n h.sets.x.bits h.sets.y.bits h.sets.given.bits d.observed.sized h.named)
-    h.is.before) h.is.decided
+pub treats : (certified : Bool) (x y : Names) (given : List (List ℕ)) (d : Diagram) (a : TreatedAnswer) → IsTreatedAnswer certified d x y given (Ok a)
+    → IsTreatedAsDrawn d a
+treats certified x y given d a h =
+    let sets = three_sets (query_lists d.read d.observed.names x y (Some given)) d.observed.graph.n h.sets.x.bits h.sets.y.bits h.sets.given.bits
+               d.observed.sized h.named in
+    treats_sets certified d h.sets a (asked_of_sets (graph_of d.observed.graph) h.sets.x.bits h.sets.y.bits h.sets.given.bits sets h.is.before)
+    (target_of (graph_of d.observed.graph) h.sets.x.bits h.sets.y.bits h.sets.given.bits sets h.is.before) h.is.decided
 
 -- ---- separate and rule
 
@@ -465,15 +502,15 @@ same_formula t f e u g None is = absurd (none-some (formula t f e) is)
 same_formula t f e u g (Some d) is =
     let one : formula u g (derivation_view d) ≡ formula t f e = same_Some (formula u g (derivation_view d)) (formula t f e) is in (cc one, cc one)
 
-checks_text : (q : MixedGraph) (d : Diagram) → IsObservedGraph d.read q → (names : List (List ℕ)) (zs other : List ℕ) (a : CheckAnswer)
-    → IsForText q names zs other a → IsCheckedAsDrawn d zs a
-checks_text q d observed names zs other (checked.AcceptedFormula a) (of_formula t f e holds is) =
+checks_text : (q : MixedGraph) (d : Diagram) → IsObservedGraph d.read q → (names : List (List ℕ)) (zs other : List ℕ) (a : WholeAnswer)
+    → IsForText q names zs other a → IsWholeAsDrawn d zs a
+checks_text q d observed names zs other (whole.AcceptedFormula a) (of_formula t f e holds is) =
     let same = same_formula t f e (target_view a.target) (formula_view a.formula) a.derivation is.0 in
     subst (λ (u : PlainTarget). IsRightAsDrawn d.read u (formula_view a.formula)) (sym same.0)
     (subst (λ (g : PlainFormula). IsRightAsDrawn d.read t g) (sym same.1) (drawn d.read q observed t f is.1.effect))
-checks_text q d observed names zs other (checked.AcceptedFormula a) (of_hedge t h entries holds is) = absurd is
-checks_text q d observed names zs other (checked.AcceptedHedge s k over) (of_formula t f e holds is) = absurd is
-checks_text q d observed names zs other (checked.AcceptedHedge s k over) (of_hedge t h entries holds is) =
+checks_text q d observed names zs other (whole.AcceptedFormula a) (of_hedge t h entries holds is) = absurd is
+checks_text q d observed names zs other (whole.AcceptedHedge s k over) (of_formula t f e holds is) = absurd is
+checks_text q d observed names zs other (whole.AcceptedHedge s k over) (of_hedge t h entries holds is) =
     let lost = effect_lost d.read q observed t.x t.y is.4.pair is.4.models in
     let lost_over = effect_lost_over d.read q observed t.x t.y is.4.pair is.4.models zs is.4.under in (
       subst (λ (x : ℕ). IsNotIdentifiable d.read (effect_on x s.y.bits)) (sym is.0)
@@ -481,11 +518,38 @@ checks_text q d observed names zs other (checked.AcceptedHedge s k over) (of_hed
       subst (λ (x : ℕ). IsNotIdentifiableOver d.read zs (effect_on x s.y.bits)) (sym is.0)
           (subst (λ (y : ℕ). IsNotIdentifiableOver d.read zs (effect_on t.x y)) (sym is.1) lost_over),
     )
-checks_text q d observed names zs other (checked.RefusedDerivation lemmas fault) is = tt
-checks_text q d observed names zs other (checked.RefusedHedge fault) is = tt
-checks_text q d observed names zs other checked.MetHedge is = tt
+checks_text q d observed names zs other (whole.RefusedDerivation lemmas fault) is = tt
+checks_text q d observed names zs other (whole.RefusedHedge fault) is = tt
+checks_text q d observed names zs other whole.MetHedge is = tt
+
+-- a right answer on a certificate of a formula or of a hedge
+pub checks_whole : (other : List ℕ) (d : Diagram) (zs : List ℕ) (a : WholeAnswer) → IsForText (graph_of d.observed.graph) d.observed.names zs other a
+    → IsWholeAsDrawn d zs a
+checks_whole other d zs a h = checks_text (graph_of d.observed.graph) d (observed d) d.observed.names zs other a h
+
+-- accepted parts of an effect among the treated
+among_drawn : (d : Diagram) (t : PlainTarget) (ps : List PlainDerivedPart) (a : AskedAmong) (f : TreatedFormula)
+    → IsAcceptedAmong (graph_of d.observed.graph) t ps a f → (zs : List ℕ) → IsCheckedAsDrawn d zs (checked.Treated a f)
+among_drawn d t ps a f h zs =
+    subst (λ (s : Sets). EqualsAmongPartsAsDrawn (graph_of d.read.graph) (has d.read.latent.bits) s.x.bits s.y.bits s.given.bits f.summed.bits
+    (parts_view f.parts.items)) (sym h.asked.sets)
+    (treated_parts_are_drawn (graph_of d.read.graph) d.read.graph.valid (has d.read.latent.bits) (graph_of d.observed.graph) (observed d) t.x t.y t.given
+    f.summed.bits (parts_view f.parts.items) h.equals)
+
+-- those of a nested effect
+nested_drawn : (d : Diagram) (t : PlainTarget) (m : ℕ) (ps : List PlainDerivedPart) (a : AskedNested) (f : NaturalFormula)
+    → IsAcceptedNested (graph_of d.observed.graph) t m ps a f → (zs : List ℕ) → IsCheckedAsDrawn d zs (checked.Natural a f)
+nested_drawn d t m ps a f h zs =
+    subst (λ (q : Question). EqualsNaturalAsDrawn (graph_of d.read.graph) (has d.read.latent.bits) q.x.bits q.through.bits q.y.bits q.given.bits f.summed.bits
+    (parts_view f.parts.items)) (sym h.asked.question)
+    (right_parts_are_drawn (graph_of d.read.graph) d.read.graph.valid (has d.read.latent.bits) (graph_of d.observed.graph) (observed d) t.x m t.y t.given
+    f.summed.bits (parts_view f.parts.items) h.equals)
 
 -- a right answer of `check`
 pub checks : (other : List ℕ) (d : Diagram) (zs : List ℕ) (a : CheckAnswer) → IsForCertificate (graph_of d.observed.graph) d.observed.names zs other (Ok a)
     → IsCheckedAsDrawn d zs a
-checks other d zs a h = checks_text (graph_of d.observed.graph) d (observed d) d.observed.names zs other a h
+checks other d zs (checked.Whole a) h = checks_whole other d zs a h
+checks other d zs (checked.Treated a f) h = among_drawn d h.target h.parts a f h.is zs
+checks other d zs (checked.Natural a f) h = nested_drawn d h.target h.through h.parts a f h.is zs
+checks other d zs (checked.RefusedTreated why lemmas) h = tt
+checks other d zs (checked.RefusedNatural why lemmas) h = tt

@@ -89,6 +89,7 @@ module _ (r : Call) (uses : List Use) (code : ℕ) (text : Told) (is_treated : h
     (whole : Appends r.before r.after text.text) where
   no_values_alone : (k : Result TreatedAnswer TreatedFault) → HasNoFormula k → Yes ≡ outcome_in treated_telling treated_refusal k → ⊥
   no_values_alone (Ok (treated.Formula a f)) h e = h
+  no_values_alone (Ok (treated.Certified a c)) h e = h
   no_values_alone (Ok (treated.Excluded a c h pair)) none e = let c : 0 ≡ 1 = ap code_of e in omega (arith, c)
   no_values_alone (Ok (treated.Unfixed a c)) none e = let c : 0 ≡ 1 = ap code_of e in omega (arith, c)
   no_values_alone (Err fault) none e = let c : 0 ≡ 3 = ap code_of e in omega (arith, c)
@@ -147,7 +148,7 @@ module _ (r : Call) (uses : List Use) (code : ℕ) (text : Told) (is_treated : h
     right = under_name r.held q.effect.file file (λ bytes. HoldsAnswer commands (of Evaluate (choice.second (choice.first q))) bytes No text)
         (λ bytes. IsUnevaluatedAmong q bytes code text)
         (λ bytes b. answered treated_telling treated_refusal treated_refused q.effect.form bytes code No text status (omega (arith, status))
-        (λ d. IsForDiagram d q.effect) IsTreatedAsDrawn (λ d a h. treats q.effect.x q.effect.y q.effect.given d a h.0) b.diagram b.holds b.answer) names h;
+        (λ d. IsForDiagram d q.effect) IsTreatedAsDrawn (λ d a h. treats false q.effect.x q.effect.y q.effect.given d a h.0) b.diagram b.holds b.answer) names h;
     whole = whole;
   }
   unevaluated_among (on_both (choice.second (choice.second q)) is file second names names_second other all h) = absurd (false≢true (sym is.alone.flags.treated ∙ is_treated))

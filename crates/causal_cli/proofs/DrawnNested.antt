@@ -88,6 +88,7 @@ module _ (r : Call) (uses : List Use) (code : ℕ) (text : Told) (is_natural : h
     (whole : Appends r.before r.after text.text) where
   no_values_alone : (k : Result NaturalAnswer NaturalFault) → HasNoFormula k → Yes ≡ outcome_in natural_telling natural_refusal k → ⊥
   no_values_alone (Ok (natural.Formula a f)) h e = h
+  no_values_alone (Ok (natural.Certified a c)) h e = h
   no_values_alone (Ok (natural.Excluded a h pair)) none e = let c : 0 ≡ 1 = ap code_of e in omega (arith, c)
   no_values_alone (Ok (natural.Witness a w other)) none e = let c : 0 ≡ 1 = ap code_of e in omega (arith, c)
   no_values_alone (Ok (natural.Split a s other)) none e = let c : 0 ≡ 1 = ap code_of e in omega (arith, c)
@@ -147,7 +148,7 @@ module _ (r : Call) (uses : List Use) (code : ℕ) (text : Told) (is_natural : h
     right = under_name r.held q.effect.file file (λ bytes. HoldsAnswer commands (of Evaluate (choice.second (choice.second q))) bytes No text)
         (λ bytes. IsUnevaluatedNested q bytes code text)
         (λ bytes b. answered natural_telling natural_refusal natural_refused q.effect.form bytes code No text status (omega (arith, status))
-        (λ d. IsForDiagram d q.effect) IsNaturalAsDrawn (λ d a h. naturals q.effect.x q.effect.y q.effect.through q.effect.given d a h.0) b.diagram b.holds b.answer) names h;
+        (λ d. IsForDiagram d q.effect) IsNaturalAsDrawn (λ d a h. naturals false q.effect.x q.effect.y q.effect.through q.effect.given d a h.0) b.diagram b.holds b.answer) names h;
     whole = whole;
   }
   unevaluated_nested (on_both (choice.second (choice.first q)) is file second names names_second other all h) = absurd (false≢true (sym is.alone.flags.natural ∙ is_natural))

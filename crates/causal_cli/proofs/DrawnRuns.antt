@@ -32,9 +32,12 @@ use Rattle.implications_command.specs.Vocabulary.{counts_refusal, ArePairs, pair
 use Rattle.implications_command.specs.Requests.{Request as ImplicationsRequest}
 use Rattle.implications_command.specs.declared.answer.Answer.TheVariants.{Pairs, Differences}
 use Rattle.experiment_lists.specs.Vocabulary.{Lists as Experiments}
-use Rattle.check_command.specs.declared.answer.Answer.{Answer as CheckAnswer}
+use Rattle.part_check_command.specs.declared.answer.Answer.{Answer as CheckAnswer}
+use Rattle.part_check_command.specs.declared.fault.Fault.{Fault}
+use Rattle.part_check_command.specs.declared.fault.Fault.TheVariants as faults
+use Rattle.part_check_command.specs.Vocabulary.{IsForCertificate, IsForFirst, part_check_refusal, part_check_telling}
 use Rattle.check_command.specs.declared.fault.CertificateFault.{CertificateFault}
-use Rattle.check_command.specs.Vocabulary.{certificate_refusal, AreExperimentsOn, IsForFirst, IsForCertificate, check_telling}
+use Rattle.check_command.specs.Vocabulary.{certificate_refusal, AreExperimentsOn}
 use Rattle.check_command.specs.Requests as check_requests
 use Rattle.steps_command.specs.declared.answer.Answer.{Answer as StepsAnswer}
 use Rattle.steps_command.specs.Vocabulary.{IsForFirst as IsStepsFirst, IsForCertificate as IsForSteps, checked_of, steps_telling}
@@ -63,12 +66,12 @@ use Rattle.causal_cli.specs.declared.commands.Command.TheVariants.{Identify, Adj
 use Rattle.causal_cli.specs.declared.commands.Command.TheVariants.{Bounds, Natural, Steps}
 use Rattle.causal_cli.specs.Drawn.{IsIdentifiedAsDrawn, IsAdjusted, IsSurrogated, IsSeparated, IsRuled, IsImplied, IsImpliedOverCounts, IsImpliedIn}
 use Rattle.causal_cli.specs.Drawn.{Implied, RightAsDrawn, IsTreated, IsChecked, IsStepped, IsEvaluated, IsUnevaluated, IsBounded}
-use Rattle.causal_cli.proofs.AsDrawn.{identifies, adjusts, surrogates, treats, separates, rules, implies, implies_over_counts, unevaluated, checks}
+use Rattle.causal_cli.proofs.AsDrawn.{identifies, adjusts, surrogates, treats, separates, rules, implies, implies_over_counts, unevaluated, checks, checks_whole}
 use Rattle.causal_cli.proofs.DrawnAmong.{evaluated_among, unevaluated_among}
 use Rattle.causal_cli.proofs.DrawnNested.{evaluated_nested, unevaluated_nested}
 use Rattle.causal_cli.proofs.DrawnBounds.{bounds_drawn}
 use Rattle.causal_cli.proofs.DrawnCounts.{evaluates}
-use Rattle.causal_cli.proofs.NaturalDrawn.{natural}
+use Rattle.causal_cli.proofs.NaturalDrawn.{natural, natural_refused}
 use Rattle.causal_cli.proofs.Refused.{treated_refused, values_refused}
 use Rattle.causal_cli.proofs.CallAnswers.{CallAnswer, on_words, on_file, on_both, on_held, Gave, under_name, under_names, written_for}
 use Rattle.causal_cli.proofs.ToldAnswers.{answered, answered_on_both}
@@ -109,7 +112,8 @@ module _ (r : Call) (uses : List Use) (code : ℕ) (o : Outcome) (text : Told) (
   treated = written_for r Treated uses o text (λ q. q.file) (λ q bytes. IsTreated q bytes code) (λ q h. h) (λ q. refl) (λ q. refl)
       (λ q is bytes a. let h = held (of Treated q) bytes a in
       answered treated_telling treated_refusal treated_refused q.form bytes code o text status small
-      (λ d. IsTreatedAnswer d q.x q.y q.given) IsTreatedAsDrawn (treats q.x q.y q.given) h.diagram h.holds h.answer) whole
+      (λ d. IsTreatedAnswer (is_certified q.form.writing) d q.x q.y q.given) IsTreatedAsDrawn (treats (is_certified q.form.writing) q.x q.y q.given) h.diagram
+      h.holds h.answer) whole
 
   separated : CallAnswer r Separate uses o text → WrittenFor separate_requests.IsRequest (λ q. q.file) (λ q bytes. IsSeparated q bytes code) r uses
   separated = written_for r Separate uses o text (λ q. q.file) (λ q bytes. IsSeparated q bytes code) (λ q h. h) (λ q. refl) (λ q. refl)
@@ -185,9 +189,15 @@ certificate_refused certificates.TooLong = omega arith
 certificate_refused (certificates.Faulty fault) = omega arith
 certificate_refused certificates.NoMemory = omega arith
 
+-- and so have effects that can't be asked for
+part_check_refused : (e : Fault) → 1 < code_of (part_check_refusal.outcome e)
+part_check_refused (faults.Certificate fault) = certificate_refused fault
+part_check_refused (faults.Treated fault) = treated_refused fault
+part_check_refused (faults.Natural fault) = natural_refused fault
+
 -- the diagram alone has no answer of `check`
 not_first : (d : Diagram) (experiments : Experiments) (code : ℕ) (o : Outcome) (r : Result CheckAnswer TargetFault) → IsForFirst d experiments r
-    → code ≡ code_of o → code ≤ 1 → o ≡ outcome_in check_telling target_refusal r → ⊥
+    → code ≡ code_of o → code ≤ 1 → o ≡ outcome_in part_check_telling target_refusal r → ⊥
 not_first d experiments code o (Ok a) right status small ends = right
 not_first d experiments code o (Err fault) right status small ends = let c = status ∙ ap code_of ends in omega (arith, c, small)
 
@@ -219,7 +229,7 @@ module _ (r : Call) (uses : List Use) (code : ℕ) (o : Outcome) (text : Told) (
     asks = is;
     right = under_names r.held r.held_second q.file file q.certificate second (λ bytes other. DefinedWith commands (of Check q) bytes other o text)
         (λ bytes other. IsChecked q bytes other code text)
-        (λ bytes other d. answered_on_both check_telling certificate_refusal certificate_refused (plain_form q.format) bytes code o text status small other
+        (λ bytes other d. answered_on_both part_check_telling part_check_refusal part_check_refused (plain_form q.format) bytes code o text status small other
         (λ d. AreExperimentsOn d.read.names d.observed.names q.experiments) (λ d. IsForCertificate (graph_of d.observed.graph) d.observed.names)
         IsCheckedAsDrawn (λ d zs a are h. checks other d zs a h) d.0 d.1 d.3.0 d.3.1 d.3.2) names names_second
         (on_held r (of Check q) o text file second other all h);
@@ -247,7 +257,7 @@ module _ (r : Call) (uses : List Use) (code : ℕ) (o : Outcome) (text : Told) (
         (λ bytes other. IsStepped q bytes other code text)
         (λ bytes other d. answered_on_both steps_telling certificate_refusal certificate_refused (plain_form q.format) bytes code o text status small other
         (λ d. AreExperimentsOn d.read.names d.observed.names q.experiments) (λ d. IsForSteps (graph_of d.observed.graph) d.observed.names)
-        IsSteppedAsDrawn (λ d zs a are h. checks other d zs (checked_of a) h.checked) d.0 d.1 d.3.0 d.3.1 d.3.2) names names_second
+        IsSteppedAsDrawn (λ d zs a are h. checks_whole other d zs (checked_of a) h.checked) d.0 d.1 d.3.0 d.3.1 d.3.2) names names_second
         (on_held r (of Steps q) o text file second other all h);
     whole = whole;
   }

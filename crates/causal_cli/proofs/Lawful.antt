@@ -10,7 +10,7 @@ use Rattle.separation_commands.proofs.GraphLawful.{graph_lawful}
 use Rattle.separation_commands.proofs.SeparateLawful.{separate_lawful}
 use Rattle.separation_commands.proofs.RuleLawful.{rule_lawful}
 use Rattle.identify_command.proofs.Lawful.{identify_lawful}
-use Rattle.check_command.proofs.Lawful.{check_lawful}
+use Rattle.part_check_command.proofs.Lawful.{part_check_lawful}
 use Rattle.adjust_command.proofs.Lawful.{adjust_lawful}
 use Rattle.evaluate_command.proofs.Lawful.{evaluate_lawful}
 use Rattle.evaluate_command.specs.Vocabulary.{evaluate_command}
@@ -56,7 +56,7 @@ each command.Graph = graph_lawful
 each command.Separate = separate_lawful
 each command.Rule = rule_lawful
 each command.Identify = identify_lawful
-each command.Check = check_lawful
+each command.Check = part_check_lawful
 each command.Adjust = adjust_lawful
 each command.Evaluate = one_of_lawful evaluate_command (one_of evaluate_treated_command evaluate_natural_command) evaluate_lawful
     (one_of_lawful evaluate_treated_command evaluate_natural_command evaluate_treated_lawful evaluate_natural_lawful

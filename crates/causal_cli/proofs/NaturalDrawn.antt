@@ -1,5 +1,5 @@
 -- What right answers of `natural` say of the diagram as drawn, and from the end of a run to those that were told.
-use Rattle.std.proofs.Common.{ℕ, ◌≡◌, ◌<◌, ◌≤◌, List, Option, Some, None, Ok, refl, sym, subst, arith}
+use Rattle.std.proofs.Common.{ℕ, ◌≡◌, ◌<◌, ◌≤◌, Bool, true, false, List, Option, Some, None, Ok, refl, sym, subst, arith}
 use Rattle.std.specs.Io.KnownBytes.{Appends}
 use Rattle.mixed_graph.specs.Vocabulary.{has, MixedGraph, union, graph_of}
 use Rattle.prob_expr.specs.Vocabulary.{formula_view}
@@ -7,6 +7,7 @@ use Rattle.command_words.specs.Vocabulary.{Use}
 use Rattle.replies.specs.declared.outcome.Outcome.{Outcome}
 use Rattle.replies.specs.Vocabulary.{code_of}
 use Rattle.replies.specs.Told.{Told}
+use Rattle.told.specs.Vocabulary.{is_certified}
 use Rattle.diagram.specs.declared.diagram.Diagram.{Diagram}
 use Rattle.diagram.specs.Vocabulary.{IsObservedGraph, Names}
 use Rattle.diagram.proofs.ObservedParts.{part_of}
@@ -15,6 +16,10 @@ use Rattle.natural_drawn.specs.Vocabulary.{EqualsNaturalAsDrawn, IsLostNestedAsD
 use Rattle.natural_drawn.proofs.Differing.{nested_difference_is_drawn}
 use Rattle.natural_drawn.proofs.Formulas.{right_parts_are_drawn}
 use Rattle.natural_drawn.proofs.Lost.{nested_lost_is_drawn}
+use Rattle.certificate.specs.Vocabulary.{PlainPartCertificate, part_certificate_view}
+use Rattle.certificate_json.specs.Vocabulary.{parts_of}
+use Rattle.parts_drawn.specs.Vocabulary.{MakeUpNestedAsDrawn}
+use Rattle.parts_drawn.proofs.Accepted.{accepted_nested_make_up}
 use Rattle.natural_drawn.proofs.Nil.{no_indirect_path_is_drawn, no_direct_path_is_drawn}
 use Rattle.interventional_id.specs.declared.answer.Interventional.{Interventional}
 use Rattle.interventional_id.specs.Vocabulary.{IsRight as IsInterventional}
@@ -22,7 +27,7 @@ use Rattle.interventional_id.proofs.Drawing.{interventional_is_drawn}
 use Rattle.natural_command.specs.declared.asking.Question.{Question}
 use Rattle.natural_command.specs.declared.answer.Asked.{Asked}
 use Rattle.natural_command.specs.declared.answer.Answer.{Answer}
-use Rattle.natural_command.specs.declared.answer.Answer.TheVariants.{Formula, Excluded, Witness, Split}
+use Rattle.natural_command.specs.declared.answer.Answer.TheVariants.{Formula, Certified, Excluded, Witness, Split}
 use Rattle.natural_command.specs.declared.fault.NaturalFault.{NaturalFault}
 use Rattle.natural_command.specs.Vocabulary.{natural_lists, natural_refusal, IsAskedFor, Decides, IsNaturalAnswer, natural_telling}
 use Rattle.natural_command.specs.Requests as natural_requests
@@ -72,29 +77,41 @@ module _ (d : Diagram) (q : Question) (target : IsNaturalTarget (graph_of d.obse
       (interventional_is_drawn g d.read.graph.valid (has d.read.latent.bits) seen observed q.x.bits q.through.bits q.y.bits q.given.bits
       (formula_view i.mediators) (formula_view i.outcome) r.mediators.effect r.outcome.effect)
 
-  of_question : (a : Answer) → Decides seen q a → IsNaturalAsDrawn d a
-  of_question (Formula a f) h = (
+  of_question : (certified : Bool) (a : Answer) → Decides certified seen q a → IsNaturalAsDrawn d a
+  of_question true (Formula a f) h = absurd h
+  of_question false (Formula a f) h = (
     nil a h.0,
     subst (λ (k : Question). EqualsNaturalAsDrawn g (has d.read.latent.bits) k.x.bits k.through.bits k.y.bits k.given.bits f.summed.bits
         (parts_view f.parts.items)) (sym h.0.question)
         (right_parts_are_drawn g d.read.graph.valid (has d.read.latent.bits) seen observed q.x.bits q.through.bits q.y.bits q.given.bits f.summed.bits
         (parts_view f.parts.items) h.1.equals),
   )
-  of_question (Excluded a hedge pair) h = (
+  of_question false (Certified a c) h = absurd h
+  of_question true (Certified a c) h = (
+    nil a h.0,
+    subst (λ (k : Question). MakeUpNestedAsDrawn g (has d.read.latent.bits) seen k.x.bits k.through.bits k.y.bits k.given.bits
+        (parts_of (part_certificate_view c))) (sym h.0.question)
+        (subst (λ (k : PlainPartCertificate). MakeUpNestedAsDrawn g (has d.read.latent.bits) seen q.x.bits q.through.bits q.y.bits q.given.bits (parts_of k))
+        (sym h.1.certificate.is)
+        (accepted_nested_make_up g d.read.graph.valid (has d.read.latent.bits) seen observed q.x.bits q.through.bits q.y.bits q.given.bits target h.1.clear
+        h.1.certificate.parts h.1.certificate.accepted)),
+  )
+  of_question certified (Excluded a hedge pair) h = (
     nil a h.0,
     subst (λ (k : Question). IsLostNestedAsDrawn g (has d.read.latent.bits) d.observed.graph.n k.x.bits k.through.bits k.y.bits k.given.bits)
         (sym h.0.question)
         (nested_lost_is_drawn g d.read.graph.valid (has d.read.latent.bits) seen observed q.x.bits q.through.bits q.y.bits q.given.bits target.asked
         (effect_lost d.read seen observed q.x.bits (union q.y.bits q.given.bits) pair h.1.right.counter)),
   )
-  of_question (Witness a w other) h = (nil a h.0, differ a h.0 h.1.lost, another a h.0 other h.1.another)
-  of_question (Split a s other) h = (nil a h.0, differ a h.0 h.1.lost, another a h.0 other h.1.another)
+  of_question certified (Witness a w other) h = (nil a h.0, differ a h.0 h.1.lost, another a h.0 other h.1.another)
+  of_question certified (Split a s other) h = (nil a h.0, differ a h.0 h.1.lost, another a h.0 other h.1.another)
 
 -- a right answer of `natural`
-pub naturals : (x y : Names) (through given : List (List ℕ)) (d : Diagram) (a : Answer) → IsNaturalAnswer d x y through given (Ok a) → IsNaturalAsDrawn d a
-naturals x y through given d a h =
+pub naturals : (certified : Bool) (x y : Names) (through given : List (List ℕ)) (d : Diagram) (a : Answer)
+    → IsNaturalAnswer certified d x y through given (Ok a) → IsNaturalAsDrawn d a
+naturals certified x y through given d a h =
     let sets = four_sets (natural_lists d x y through given) h.question h.named d.observed.graph.n d.observed.sized in
-    of_question d h.question (target_of (graph_of d.observed.graph) h.question sets h.is.before) a h.is.decided
+    of_question d h.question (target_of (graph_of d.observed.graph) h.question sets h.is.before) certified a h.is.decided
 
 -- ---- a run
 
@@ -109,4 +126,5 @@ natural r uses code o text status small whole held = written_for r Natural uses 
     (λ q. refl)
     (λ q is bytes a. let h = held (of Natural q) bytes a in
     answered natural_telling natural_refusal natural_refused q.form bytes code o text status small
-    (λ d. IsNaturalAnswer d q.x q.y q.through q.given) IsNaturalAsDrawn (naturals q.x q.y q.through q.given) h.diagram h.holds h.answer) whole
+    (λ d. IsNaturalAnswer (is_certified q.form.writing) d q.x q.y q.through q.given) IsNaturalAsDrawn
+    (naturals (is_certified q.form.writing) q.x q.y q.through q.given) h.diagram h.holds h.answer) whole

@@ -32,6 +32,9 @@ use Rattle.surrogate_command.specs.declared.answer.Answer.{Answer as SurrogateAn
 use Rattle.surrogate_command.specs.declared.answer.Answer.TheVariants as surrogated
 use Rattle.treated_drawn.specs.Vocabulary.{EqualsAmongAsDrawn, IsLostAmongAsDrawn, IsUnfixedAmongAsDrawn, drawn_with_primes}
 use Rattle.treated_drawn.specs.Drawn.{drawn_among}
+use Rattle.parts_drawn.specs.Vocabulary.{EqualsAmongPartsAsDrawn, MakeUpAmongAsDrawn}
+use Rattle.certificate.specs.Vocabulary.{part_certificate_view}
+use Rattle.certificate_json.specs.Vocabulary.{parts_of}
 use Rattle.treated_command.specs.declared.answer.Answer.{Answer as TreatedAnswer}
 use Rattle.treated_command.specs.declared.answer.Answer.TheVariants as treated
 use Rattle.separation_commands.specs.declared.separate.answer.Answer.{Answer as SeparateAnswer}
@@ -47,7 +50,7 @@ use Rattle.evaluate_command.specs.Vocabulary.{CellValue, plain_in, exact_numbers
 use Rattle.evaluate_command.specs.Ways.{Way}
 use Rattle.evaluate_treated.specs.Vocabulary.{PlainAmong}
 use Rattle.evaluate_treated.specs.declared.answer.Answer.{Answer as AmongAnswer}
-use Rattle.natural_drawn.specs.Vocabulary.{drawn_nested_effect}
+use Rattle.natural_drawn.specs.Vocabulary.{EqualsNaturalAsDrawn, drawn_nested_effect}
 use Rattle.hidden_models.specs.Vocabulary.{drawn_weights}
 use Rattle.evaluate_natural.specs.Cells.{second_levels}
 use Rattle.evaluate_natural.specs.Vocabulary.{PlainNested}
@@ -55,8 +58,11 @@ use Rattle.evaluate_natural.specs.declared.answer.Answer.{Answer as NestedAnswer
 use Rattle.evaluate_command.specs.declared.answer.Values.{Values}
 use Rattle.evaluate_command.specs.declared.answer.Values.TheVariants as values
 use Rattle.evaluate_command.specs.declared.answer.Answer.TheVariants as evaluated
-use Rattle.check_command.specs.declared.answer.Answer.{Answer as CheckAnswer}
-use Rattle.check_command.specs.declared.answer.Answer.TheVariants as checked
+use Rattle.check_command.specs.declared.answer.Answer.{Answer as WholeAnswer}
+use Rattle.check_command.specs.declared.answer.Answer.TheVariants as whole
+use Rattle.part_check_command.specs.declared.answer.Answer.{Answer as CheckAnswer}
+use Rattle.part_check_command.specs.declared.answer.Answer.TheVariants as checked
+use Rattle.natural_id.specs.Vocabulary.{parts_view}
 use Rattle.steps_command.specs.declared.answer.Answer.{Answer as StepsAnswer}
 use Rattle.steps_command.specs.Vocabulary.{checked_of}
 use Rattle.natural_bounds.specs.declared.ends.End.{End}
@@ -149,11 +155,13 @@ IsSurrogateAsDrawn d (surrogated.Blocked s district h) = IsNotIdentifiable d.rea
 
 -- ---- treated
 
--- A formula equals the effect among those whose x, and what is given, were observed. Without one two models show that the effect isn't identifiable: those
--- of a hedge for the joint effect, which isn't either, or those of the path from a child of a treatment to the treatment.
+-- A formula equals the effect among those whose x, and what is given, were observed, and so do the parts of a certificate. Without one two models show that
+-- the effect isn't identifiable: those of a hedge for the joint effect, which isn't either, or those of the path from a child of a treatment to the treatment.
 abbrev pub IsTreatedAsDrawn : Diagram → TreatedAnswer → Type 0
 IsTreatedAsDrawn d (treated.Formula a f) = EqualsAmongAsDrawn (graph_of d.read.graph) (has d.read.latent.bits) a.sets.x.bits a.sets.y.bits a.sets.given.bits
     (formula_view f)
+IsTreatedAsDrawn d (treated.Certified a c) = MakeUpAmongAsDrawn (graph_of d.read.graph) (has d.read.latent.bits) (graph_of d.observed.graph) a.sets.x.bits
+    a.sets.y.bits a.sets.given.bits (parts_of (part_certificate_view c))
 IsTreatedAsDrawn d (treated.Excluded a c h pair) = IsLostAmongAsDrawn (graph_of d.read.graph) (has d.read.latent.bits) d.observed.graph.n a.sets.x.bits
     a.sets.y.bits a.sets.given.bits
 IsTreatedAsDrawn d (treated.Unfixed a c) = IsUnfixedAmongAsDrawn (graph_of d.read.graph) (has d.read.latent.bits) d.observed.graph.n a.sets.x.bits
@@ -305,17 +313,26 @@ AreNestedAsDrawn d e a = EachCoversNestedAsDrawn d.read e a.counts a.values
 -- ---- check
 
 -- the formula of an accepted certificate is right, and the effect of an accepted hedge isn't identifiable, nor is it by the experiments on the sets zs
-abbrev pub IsCheckedAsDrawn : Diagram → (zs : List ℕ) → CheckAnswer → Type 0
-IsCheckedAsDrawn d zs (checked.AcceptedFormula a) = IsRightAsDrawn d.read (target_view a.target) (formula_view a.formula)
-IsCheckedAsDrawn d zs (checked.AcceptedHedge s h over) =
+abbrev pub IsWholeAsDrawn : Diagram → (zs : List ℕ) → WholeAnswer → Type 0
+IsWholeAsDrawn d zs (whole.AcceptedFormula a) = IsRightAsDrawn d.read (target_view a.target) (formula_view a.formula)
+IsWholeAsDrawn d zs (whole.AcceptedHedge s h over) =
     IsNotIdentifiable d.read (effect_on s.x.bits s.y.bits) × IsNotIdentifiableOver d.read zs (effect_on s.x.bits s.y.bits)
+IsWholeAsDrawn d zs a = Unit {0}
+
+-- the same of any certificate: the formula of accepted parts equals the effect among the treated, or the nested effect
+abbrev pub IsCheckedAsDrawn : Diagram → (zs : List ℕ) → CheckAnswer → Type 0
+IsCheckedAsDrawn d zs (checked.Whole a) = IsWholeAsDrawn d zs a
+IsCheckedAsDrawn d zs (checked.Treated a f) = EqualsAmongPartsAsDrawn (graph_of d.read.graph) (has d.read.latent.bits) a.sets.x.bits a.sets.y.bits
+    a.sets.given.bits f.summed.bits (parts_view f.parts.items)
+IsCheckedAsDrawn d zs (checked.Natural a f) = EqualsNaturalAsDrawn (graph_of d.read.graph) (has d.read.latent.bits) a.question.x.bits
+    a.question.through.bits a.question.y.bits a.question.given.bits f.summed.bits (parts_view f.parts.items)
 IsCheckedAsDrawn d zs a = Unit {0}
 
 -- ---- steps
 
--- what is so of the answer of `check` of which this one tells
+-- what is so of the answer on a certificate of which this one tells
 abbrev pub IsSteppedAsDrawn : Diagram → (zs : List ℕ) → StepsAnswer → Type 0
-IsSteppedAsDrawn d zs a = IsCheckedAsDrawn d zs (checked_of a)
+IsSteppedAsDrawn d zs a = IsWholeAsDrawn d zs (checked_of a)
 
 -- ---- bounds
 

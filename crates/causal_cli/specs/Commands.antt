@@ -10,7 +10,7 @@ use Rattle.separation_commands.specs.SeparateRequests as of_separate
 use Rattle.separation_commands.specs.RuleRequests as of_rule
 use Rattle.identify_command.specs.Vocabulary.{identify_command}
 use Rattle.identify_command.specs.Requests as of_identify
-use Rattle.check_command.specs.Vocabulary.{check_command, check_left}
+use Rattle.part_check_command.specs.Vocabulary.{part_check_command, part_check_left}
 use Rattle.check_command.specs.Requests as of_check
 use Rattle.adjust_command.specs.Vocabulary.{adjust_command}
 use Rattle.adjust_command.specs.Requests as of_adjust
@@ -84,7 +84,7 @@ form_of command.Graph = graph_command
 form_of command.Separate = separate_command
 form_of command.Rule = rule_command
 form_of command.Identify = identify_command
-form_of command.Check = check_command
+form_of command.Check = part_check_command
 form_of command.Adjust = adjust_command
 form_of command.Evaluate = choice.one_of evaluate_command (choice.one_of evaluate_treated_command evaluate_natural_command)
 form_of command.Equivalent = equivalent_command
@@ -126,7 +126,7 @@ request_of (request.Steps q) = of command.Steps (of_check.request_of q)
 
 -- what is left to answer on a diagram
 abbrev pub left_of : Diagram → SecondInput → Remainder
-left_of d (input.Check experiments certificate format) = check_left format d (masks_of experiments.items) certificate.now
+left_of d (input.Check experiments certificate format) = part_check_left format d (masks_of experiments.items) certificate.now
 left_of d (input.Evaluate found counts count exact zero matched format) =
     evaluate_left format (effect_in d.observed found) counts.now (option_map (λ s. s.now) count) exact zero matched
 left_of d (input.EvaluateTreated found counts count exact form) =

@@ -20,8 +20,9 @@ use Rattle.separation_commands.specs.SeparateRequests as separate_requests
 use Rattle.separation_commands.specs.RuleRequests as rule_requests
 use Rattle.implications_command.specs.Vocabulary.{ArePairs, pairs_in, implications_row, IsForGraph, IsForCounts, implications_telling}
 use Rattle.implications_command.specs.Requests as implications_requests
-use Rattle.check_command.specs.Vocabulary.{check_row, AreExperimentsOn, IsForCertificate, check_telling}
+use Rattle.check_command.specs.Vocabulary.{check_row, AreExperimentsOn}
 use Rattle.check_command.specs.Requests as check_requests
+use Rattle.part_check_command.specs.Vocabulary.{IsForCertificate, part_check_telling}
 use Rattle.steps_command.specs.Vocabulary.{steps_row, IsForCertificate as IsForSteps, steps_telling}
 use Rattle.evaluate_command.specs.Vocabulary.{Identifies, IsForDiagram, evaluate_row, evaluate_telling}
 use Rattle.evaluate_command.specs.Requests as evaluate_requests
@@ -65,7 +66,7 @@ IsSurrogated q = IsAnswered surrogate_telling (λ d. IsSurrogateAnswer (wants_co
 
 -- and to one of `treated`
 abbrev pub IsTreated : treated_requests.Request → (bytes : List ℕ) (code : ℕ) (told : Told) → Type 0
-IsTreated q = IsAnswered treated_telling (λ d. IsTreatedAnswer d q.x q.y q.given) IsTreatedAsDrawn q.form
+IsTreated q = IsAnswered treated_telling (λ d. IsTreatedAnswer (is_certified q.form.writing) d q.x q.y q.given) IsTreatedAsDrawn q.form
 
 -- and to one of `separate`
 abbrev pub IsSeparated : separate_requests.Request → (bytes : List ℕ) (code : ℕ) (told : Told) → Type 0
@@ -103,7 +104,7 @@ pub record Implied (r : Call) (code : ℕ) (uses : List Use) : Type 0 where
 
 -- the answer to a request of `check` on a certificate
 abbrev pub IsChecked : check_requests.Request → (bytes other : List ℕ) (code : ℕ) (told : Told) → Type 0
-IsChecked q = IsAnsweredOnBoth check_telling (λ d. AreExperimentsOn d.read.names d.observed.names q.experiments)
+IsChecked q = IsAnsweredOnBoth part_check_telling (λ d. AreExperimentsOn d.read.names d.observed.names q.experiments)
     (λ d. IsForCertificate (graph_of d.observed.graph) d.observed.names) IsCheckedAsDrawn (plain_form q.format)
 
 -- the answer to a request of `steps` on a certificate

@@ -12,7 +12,6 @@ use crate::commands::{Command, command_named, rows};
 use crate::second::SecondInput;
 use adjust_command::adjust_reply;
 use bounds_command::ask_first;
-use check_command::accept_experiments;
 use command_run::{AfterFile, AfterWords};
 use command_words::forms::Entry;
 use command_words::typed::RequestFault;
@@ -26,6 +25,7 @@ use identify_command::identify_reply;
 use implications_command::{counted_pairs, pairs_reply};
 use instruments_command::instruments_reply;
 use natural_command::natural_reply;
+use part_check_command::accept_experiments;
 use replies::{Format, Reply};
 use separation_commands::graph::graph_reply;
 use separation_commands::rule::rule_reply;
@@ -166,7 +166,7 @@ fn read_values<'a>(
             alloc, values,
         )?)),
         Command::Identify => Ok(Request::Identify(identify_command::Request::read(alloc, values)?)),
-        Command::Check => Ok(Request::Check(check_command::Request::read(alloc, values)?)),
+        Command::Check => Ok(Request::Check(part_check_command::read_request(alloc, values)?)),
         Command::Adjust => Ok(Request::Adjust(adjust_command::Request::read(alloc, values)?)),
         Command::Evaluate => read_evaluate(alloc, values),
         Command::Equivalent => Ok(Request::Equivalent(equivalent_command::Request::read(

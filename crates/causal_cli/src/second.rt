@@ -5,7 +5,6 @@ ghost use Rattle.causal_cli.specs.Commands.{left_of};
 
 use bound_values::Question;
 use bounds_command::bounds_reply;
-use check_command::{check_reply, long_certificate};
 use diagram::Diagram;
 use equivalent_command::{equivalent_reply, long_second_graph};
 use evaluate_command::{Identified, evaluate_reply, long_counts};
@@ -14,6 +13,7 @@ use evaluate_treated::among_reply;
 use implications::Implication;
 use implications_command::differences_reply;
 use mixed_graph::VSet;
+use part_check_command::{check_reply, long_certificate};
 use replies::{Format, Reply};
 use std::alloc::{AllocError, Global};
 use steps_command::steps_reply;

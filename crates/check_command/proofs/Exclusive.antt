@@ -106,7 +106,7 @@ module _ (q : MixedGraph) (names : List (List ℕ)) (zs bytes : List ℕ) where
   answered_or_faulty a fault (of_formula t f d r h) is = read_or_faulty (plain.formula t f d) fault r is
   answered_or_faulty a fault (of_hedge t h n r k) is = read_or_faulty (plain.hedge t (hedge_view h)) fault r is
 
-  certificate_alike : (a b : Result Answer CertificateFault) → IsForCertificate q names zs bytes a → IsForCertificate q names zs bytes b
+  pub certificate_alike : (a b : Result Answer CertificateFault) → IsForCertificate q names zs bytes a → IsForCertificate q names zs bytes b
       → outcome_in check_telling certificate_refusal a ≡ outcome_in check_telling certificate_refusal b
   certificate_alike (Ok a) (Ok b) x y = same_kind a b x y
   certificate_alike (Ok a) (Err fault) x y = absurd (answered_or_faulty a fault x y)

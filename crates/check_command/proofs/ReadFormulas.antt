@@ -126,7 +126,7 @@ lemmas_in_sound : (names : List (List ℕ)) (d : Data) (all : List PlainLemma) �
 unfolding lemmas_in
 lemmas_in_sound names d all h = let b = list_ok (each (lemma_in names) []) d all h in lemmas_sound names [] b.0 all refl b.1
 
-derivation_sound : (names : List (List ℕ)) (d : Data) (p : PlainDerivation) → derivation_in names d ≡ Ok p → IsSoundDerivation (length names) p
+pub derivation_sound : (names : List (List ℕ)) (d : Data) (p : PlainDerivation) → derivation_in names d ≡ Ok p → IsSoundDerivation (length names) p
 unfolding derivation_in
 derivation_sound names d p h =
     let made : List PlainLemma → Plan → PlainDerivation = λ lemmas main. record { lemmas = lemmas; main = main } in

@@ -63,7 +63,7 @@ effect_of names g a e = record { names = names; graph = g; asked = a; factors = 
 -- the effect is identified
 module _ (d : Diagram) (q : Request) (asked : Asked) (formula : NaturalFormula) (i : Identified) (same : i.asked ≡ asked)
     (made : factors_view i.factors ≡ natural_factors formula.summed.bits asked.question.given.bits (parts_view formula.parts.items))
-    (h : IsNaturalAnswer d q.x q.y q.through q.given (Ok (natural.Formula asked formula))) where
+    (h : IsNaturalAnswer false d q.x q.y q.through q.given (Ok (natural.Formula asked formula))) where
   abbrev g : MixedGraph
   g = graph_of d.observed.graph
 
@@ -118,7 +118,7 @@ module _ (d : Diagram) (q : Request) (asked : Asked) (formula : NaturalFormula) 
     identified = identified;
     found = record {
       formula = formula;
-      answered = subst (λ (a : Asked). IsNaturalAnswer d q.x q.y q.through q.given (Ok (natural.Formula a formula))) (sym same) h;
+      answered = subst (λ (a : Asked). IsNaturalAnswer false d q.x q.y q.through q.given (Ok (natural.Formula a formula))) (sym same) h;
       factors = factors_are;
     };
   }

@@ -30,7 +30,7 @@ use Rattle.natural_command.specs.Vocabulary.{IsNaturalAnswer, natural_lists, nat
 use Rattle.natural_command.specs.declared.answer.Answer.{Answer as Found}
 use Rattle.natural_command.specs.declared.answer.Answer.TheVariants as natural
 use Rattle.natural_command.specs.declared.fault.NaturalFault.{NaturalFault}
-use Rattle.natural_command.proofs.Lawful.{alike}
+use Rattle.natural_command.proofs.Lawful.{alike, same_answer}
 use Rattle.evaluate_command.specs.Vocabulary.{CellValue, values_at, values_refusal}
 use Rattle.evaluate_command.specs.declared.answer.Values.{Values}
 use Rattle.evaluate_command.specs.declared.answer.Values.TheVariants.{Exact, Bounds}
@@ -44,7 +44,7 @@ use Rattle.evaluate_natural.specs.Requests.{Request, IsRequest}
 use Rattle.evaluate_natural.specs.Command.{evaluate_natural_command, evaluate_natural_left}
 use Rattle.evaluate_natural.specs.Telling.{nested_telling}
 use Rattle.evaluate_natural.specs.declared.answer.Answer.{Answer}
-use Rattle.evaluate_natural.proofs.OneEffect.{same_answer, same_effect, same_values}
+use Rattle.evaluate_natural.proofs.OneEffect.{same_effect, same_values}
 
 -- the uses ask for one effect
 one_effect : (uses : List Use) (q r : Request) → IsRequest uses q → IsRequest uses r → r.effect ≡ q.effect
@@ -70,6 +70,7 @@ one_request uses q r a b = λ i. record {
 
 found_answered : (a : Found) → IsAnswered (natural_telling.outcome a)
 found_answered (natural.Formula a f) = tt
+found_answered (natural.Certified a c) = tt
 found_answered (natural.Excluded a h pair) = tt
 found_answered (natural.Witness a w other) = tt
 found_answered (natural.Split a s other) = tt
@@ -77,6 +78,7 @@ found_answered (natural.Split a s other) = tt
 -- what is answered without counts ends otherwise than a formula does
 no_yes : (r : Result Found NaturalFault) → HasNoFormula r → outcome_in natural_telling natural_refusal r ≡ Yes → ⊥
 no_yes (Ok (natural.Formula a f)) none e = none
+no_yes (Ok (natural.Certified a c)) none e = none
 no_yes (Ok (natural.Excluded a h pair)) none e = absurd (cc e)
 no_yes (Ok (natural.Witness a w other)) none e = absurd (cc e)
 no_yes (Ok (natural.Split a s other)) none e = absurd (cc e)
@@ -85,12 +87,13 @@ no_yes (Err fault) none e = absurd (cc e)
 module _ (q : asking.Request) (d e : Diagram) (s : AreSameDiagrams d e) where
   first_alike : (a b : Result Found NaturalFault) → IsForDiagram d q a → IsForDiagram e q b
       → outcome_in natural_telling natural_refusal a ≡ outcome_in natural_telling natural_refusal b
-  first_alike a b f h = alike (graph_of d.observed.graph) (natural_lists d q.x q.y q.through q.given) a b f.0 (same_answer q d e s b h.0)
+  first_alike a b f h = alike false false (graph_of d.observed.graph) (natural_lists d q.x q.y q.through q.given) a b f.0
+      (same_answer false q.x q.y q.through q.given d e s b h.0)
 
   first_alone : (a : Result Found NaturalFault) (f : PlainNested) → IsForDiagram d q a → Identifies e q f → ⊥
   first_alone a f h i = no_yes a h.1
-      (alike (graph_of d.observed.graph) (natural_lists d q.x q.y q.through q.given) a (Ok (natural.Formula f.asked i.found.formula)) h.0
-      (same_answer q d e s (Ok (natural.Formula f.asked i.found.formula)) i.found.answered))
+      (alike false false (graph_of d.observed.graph) (natural_lists d q.x q.y q.through q.given) a (Ok (natural.Formula f.asked i.found.formula)) h.0
+      (same_answer false q.x q.y q.through q.given d e s (Ok (natural.Formula f.asked i.found.formula)) i.found.answered))
 
 -- ---- over the bytes of counts
 

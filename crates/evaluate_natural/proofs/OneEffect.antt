@@ -12,36 +12,23 @@ use Rattle.count_eval.specs.Stops.{Stop}
 use Rattle.quantity.specs.Vocabulary.{Kind}
 use Rattle.table_cells.specs.Vocabulary.{first_cell, with_levels}
 use Rattle.diagram.specs.declared.diagram.Diagram.{Diagram}
-use Rattle.diagram.proofs.OneDiagram.{AreSameDiagrams, same_drawing, same_query_lists}
+use Rattle.diagram.proofs.OneDiagram.{AreSameDiagrams, same_drawing}
 use Rattle.factor_values.specs.Vocabulary.{PlainFactors, factors_outcome}
 use Rattle.natural_id.specs.Vocabulary.{IsFormulaByParts, parts_view}
 use Rattle.natural_id.proofs.One.{one_formula_by_parts}
 use Rattle.natural_command.specs.Requests.{Request}
-use Rattle.natural_command.specs.Right.{IsForNames}
 use Rattle.natural_command.specs.declared.asking.Question.{Question}
 use Rattle.natural_command.specs.declared.answer.Asked.{Asked}
-use Rattle.natural_command.specs.declared.answer.Answer.{Answer}
 use Rattle.natural_command.specs.declared.answer.Answer.TheVariants as natural
-use Rattle.natural_command.specs.declared.fault.NaturalFault.{NaturalFault}
-use Rattle.natural_command.specs.Asking.{NaturalLists, natural_lists}
-use Rattle.natural_command.specs.Vocabulary.{IsAskedFor, IsNaturalAnswer}
-use Rattle.natural_command.proofs.Lawful.{one_question}
+use Rattle.natural_command.specs.Asking.{natural_lists}
+use Rattle.natural_command.specs.Vocabulary.{IsAskedFor}
+use Rattle.natural_command.proofs.Lawful.{one_question, same_answer}
 use Rattle.natural_values.specs.Vocabulary.{natural_factors}
 use Rattle.evaluate_command.specs.Vocabulary.{CellValue, values_at}
 use Rattle.evaluate_treated.specs.Cells.{varied}
 use Rattle.evaluate_treated.specs.declared.axes.Axis.{Axis}
 use Rattle.evaluate_natural.specs.Cells.{printed_cells, second_levels, value_in}
 use Rattle.evaluate_natural.specs.Effects.{PlainNested, Identifies, IsFound, read_in}
-
--- an answer on a diagram is one on each that is the same
-pub same_answer : (q : Request) (d e : Diagram) → AreSameDiagrams d e → (r : Result Answer NaturalFault) → IsNaturalAnswer e q.x q.y q.through q.given r
-    → IsNaturalAnswer d q.x q.y q.through q.given r
-same_answer q d e s r h =
-    subst (λ (l : NaturalLists). IsForNames (graph_of d.observed.graph) l r) same_lists
-    (subst (λ (g : MixedGraph). IsForNames g (natural_lists e q.x q.y q.through q.given) r) (sym (same_drawing d e s)) h)
-  where
-    same_lists : natural_lists e q.x q.y q.through q.given ≡ natural_lists d q.x q.y q.through q.given
-    same_lists = λ i. record { query = same_query_lists q.x q.y (Some q.given) d e s i; through = q.through }
 
 vertex_set : (a b : VSet) → b.bits ≡ a.bits → b ≡ a
 vertex_set a b e = λ i. record { bits = e i }
@@ -103,7 +90,7 @@ same_effect q d d' s e f a i =
     let gs : f.graph ≡ e.graph = i.graph ∙ sym (same_drawing d d' s) ∙ sym a.graph in
     let found : IsFound d q f = record {
       formula = i.found.formula;
-      answered = same_answer q d d' s (Ok (natural.Formula f.asked i.found.formula)) i.found.answered;
+      answered = same_answer false q.x q.y q.through q.given d d' s (Ok (natural.Formula f.asked i.found.formula)) i.found.answered;
       factors = i.found.factors;
     } in
     let asked_same = same_asked q d e f a.found found in

@@ -1,5 +1,5 @@
 -- A nested effect that has a formula.
-use Rattle.std.specs.Prelude.{ℕ, ◌≡◌, ◌≤◌, ◌<◌, List, Ok, length}
+use Rattle.std.specs.Prelude.{ℕ, ◌≡◌, ◌≤◌, ◌<◌, false, List, Ok, length}
 use Rattle.mixed_graph.specs.Vocabulary.{has, MixedGraph, IsMixedGraph, Within, graph_of, union, minus}
 use Rattle.dag_reader.specs.declared.graph.ReadGraph.{ReadGraph}
 use Rattle.do_rules.specs.Vocabulary.{AreFourSets}
@@ -57,7 +57,7 @@ pub record IsIdentified (e : PlainNested) : Type 0 where
 -- `natural` answers with this formula, and these are its factors
 pub record IsFound (d : Diagram) (q : Request) (e : PlainNested) : Type 0 where
   pub formula : NaturalFormula
-  pub answered : IsNaturalAnswer d q.x q.y q.through q.given (Ok (natural.Formula e.asked formula))
+  pub answered : IsNaturalAnswer false d q.x q.y q.through q.given (Ok (natural.Formula e.asked formula))
   pub factors : e.factors ≡ natural_factors formula.summed.bits e.asked.question.given.bits (parts_view formula.parts.items)
 
 -- it is the effect that is asked for in the observed graph of the diagram, and it is identified

@@ -1,6 +1,6 @@
 //! What is known before counts are read: a formula, or the answer.
 
-ghost use Rattle.std.specs.Prelude.{Ok, Err, IfOk};
+ghost use Rattle.std.specs.Prelude.{Ok, Err, IfOk, false};
 ghost use Rattle.natural_command.specs.Requests.{Request as AskedEffect};
 ghost use Rattle.natural_command.specs.Vocabulary.{IsNaturalAnswer, natural_refusal, natural_telling};
 ghost use Rattle.replies.specs.Vocabulary.{told_of};
@@ -32,7 +32,7 @@ pub enum First {
 pub fn identify_nested(alloc: Global, diagram: &Diagram, asked: &Request<'_>) -> First
     ensures { IsFirst diagram.now (request_of asked.now).effect result }
 {
-    match natural_answer(alloc, diagram, &asked.effect) {
+    match natural_answer(alloc, diagram, &asked.effect, false) {
         Ok(answer) => with_factors(alloc, diagram, answer),
         Err(fault) => First::Answered(Err(fault)),
     }
@@ -40,7 +40,7 @@ pub fn identify_nested(alloc: Global, diagram: &Diagram, asked: &Request<'_>) ->
 
 /// The answer, with the factors of its formula where it has one.
 fn with_factors(alloc: Global, diagram: &Diagram, answer: Answer) -> First
-    ensures { (q : AskedEffect) → IsNaturalAnswer diagram.now q.x q.y q.through q.given (Ok answer) → IsFirst diagram.now q result }
+    ensures { (q : AskedEffect) → IsNaturalAnswer false diagram.now q.x q.y q.through q.given (Ok answer) → IsFirst diagram.now q result }
 {
     match answer {
         Answer::Formula(asked, formula) => {
@@ -49,6 +49,7 @@ fn with_factors(alloc: Global, diagram: &Diagram, answer: Answer) -> First
                 Err(_) => First::Answered(Err(NaturalFault::NoMemory)),
             }
         }
+        Answer::Certified(asked, c) => First::Answered(Ok(Answer::Certified(asked, c))),
         Answer::Excluded(asked, h, pair) => {
             First::Answered(Ok(Answer::Excluded(asked, h, pair)))
         }

@@ -1,7 +1,7 @@
-mod Counting
+pub mod Counting
 pub mod Naming
 mod Pieces
 mod Places
-mod Replying
+pub mod Replying
 pub mod Ways
 pub mod Lawful

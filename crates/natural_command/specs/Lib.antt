@@ -8,4 +8,5 @@ pub mod Another
 pub mod Telling
 pub mod Right
 pub mod Command
+pub mod Laws
 pub mod Vocabulary

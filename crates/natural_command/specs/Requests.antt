@@ -4,10 +4,10 @@ use Rattle.command_words.specs.Vocabulary.{Text, Row, Use, value_of, has_flag, n
 use Rattle.command_words.specs.Values as values
 use Rattle.diagram.specs.Vocabulary.{Names}
 use Rattle.told.specs.declared.form.Form.{Form}
-use Rattle.told.specs.Vocabulary.{form_for}
+use Rattle.derived_certificates.specs.Vocabulary.{certified_form}
 use Rattle.natural_command.specs.declared.request.Request.{Request as CodeRequest}
 
--- `natural FILE --through L [--x L] [--y L] [--given L] [--latex] [--json]`
+-- `natural FILE --through L [--x L] [--y L] [--given L] [--certificate] [--latex] [--json]`
 abbrev pub natural_row : Row
 natural_row = record {
   name = codes "natural";
@@ -15,7 +15,7 @@ natural_row = record {
   optional = [];
   required = codes "through" ∷ [];
   options = codes "x" ∷ codes "y" ∷ codes "given" ∷ [];
-  flags = codes "latex" ∷ codes "json" ∷ [];
+  flags = codes "certificate" ∷ codes "latex" ∷ codes "json" ∷ [];
 }
 
 -- a request
@@ -43,4 +43,4 @@ pub record IsRequest (uses : List Use) (r : Request) : Type 0 where
   pub subject : values.IsSubject natural_row uses r.file r.x r.y
   pub through : values.IsRequiredList (value_of uses (codes "through")) r.through
   pub given : values.IsListedOrEmpty (value_of uses (codes "given")) r.given
-  pub form : form_for (has_flag uses (codes "latex")) (has_flag uses (codes "json")) ≡ Some r.form
+  pub form : certified_form (has_flag uses (codes "certificate")) (has_flag uses (codes "latex")) (has_flag uses (codes "json")) ≡ Some r.form

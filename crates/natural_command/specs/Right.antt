@@ -1,10 +1,13 @@
 -- Which answers of `natural` are right: what y would be under do(x), were the mediators as under another value of x; in the observed graph.
-use Rattle.std.specs.Prelude.{ℕ, ◌≡◌, ◌<◌, ◌≤◌, ◌||◌, true, false, List, Option, Result, Ok, Err, IsTrue}
+use Rattle.std.specs.Prelude.{ℕ, ◌≡◌, ◌<◌, ◌≤◌, ◌||◌, Bool, true, false, List, Option, Result, Ok, Err, IsTrue}
 use Rattle.mixed_graph.specs.Vocabulary.{has, MixedGraph, IsDescendant, union, name_of, graph_of}
 use Rattle.finite_models.specs.Vocabulary.{FiniteModel, Fits, IsAssignment, weight_of}
 use Rattle.hedge.specs.declared.hedge.Hedge.{Hedge}
 use Rattle.hedge.specs.Vocabulary.{IsHedge}
 use Rattle.counter_models.specs.declared.counter_pair.CounterPair.{CounterPair}
+use Rattle.certificate.specs.declared.values.PartCertificate.{PartCertificate}
+use Rattle.certificate.specs.Vocabulary.{part_certificate_view}
+use Rattle.derived_certificates.specs.Vocabulary.{IsNaturalCertificate}
 use Rattle.diagram.specs.declared.diagram.Diagram.{Diagram}
 use Rattle.diagram.specs.Vocabulary.{Names}
 use Rattle.identify.specs.Vocabulary.{IsRightHedge}
@@ -22,7 +25,7 @@ use Rattle.natural_command.specs.Asking.{NaturalLists, natural_lists, AreNamed, 
 use Rattle.natural_command.specs.declared.asking.Question.{Question}
 use Rattle.natural_command.specs.declared.answer.Asked.{Asked}
 use Rattle.natural_command.specs.declared.answer.Answer.{Answer}
-use Rattle.natural_command.specs.declared.answer.Answer.TheVariants.{Formula, Excluded, Witness, Split}
+use Rattle.natural_command.specs.declared.answer.Answer.TheVariants.{Formula, Certified, Excluded, Witness, Split}
 use Rattle.natural_command.specs.declared.fault.NaturalFault.{NaturalFault}
 use Rattle.natural_command.specs.declared.fault.NaturalFault.TheVariants.{Listed, NoMediator, After, TooMany, NoMemory}
 
@@ -60,6 +63,13 @@ pub record IsFormulaFor (g : MixedGraph) (q : Question) (f : NaturalFormula) : T
   pub clear : ReadsBoth g q.x.bits q.through.bits q.y.bits q.given.bits → ⊥
   pub no_hedge : HasNoHedge g q
 
+-- nothing reads both values of a treatment, the joint effect has no hedge, and the certificate is that of P(y[x, m[x']] | z): its parts are accepted, and it
+-- is read back
+pub record IsCertifiedFor (g : MixedGraph) (q : Question) (c : PartCertificate) : Type 0 where
+  pub clear : ReadsBoth g q.x.bits q.through.bits q.y.bits q.given.bits → ⊥
+  pub no_hedge : HasNoHedge g q
+  pub certificate : IsNaturalCertificate g q.x.bits q.through.bits q.y.bits q.given.bits (part_certificate_view c)
+
 -- this is a hedge for the joint effect of x on y and what is given, whose two models show that no formula equals the nested effect
 pub record IsExcluded (g : MixedGraph) (q : Question) (h : Hedge) (pair : CounterPair) : Type 0 where
   pub right : IsRightHedge g q.x.bits (union q.y.bits q.given.bits) h pair
@@ -84,22 +94,33 @@ pub record IsParted (g : MixedGraph) (q : Question) (s : Parted) (other : Option
   pub no_hedge : HasNoHedge g q
   pub another : IsAnother g q other
 
+-- the formula, where no certificate is asked for
+abbrev pub DecidesPlain : (certified : Bool) → MixedGraph → Question → Asked → NaturalFormula → Type 0
+DecidesPlain true g q a f = ⊥
+DecidesPlain false g q a f = IsAskedFor g q a × IsFormulaFor g q f
+
+-- the certificate in its place, where that is asked for
+abbrev pub DecidesCertified : (certified : Bool) → MixedGraph → Question → Asked → PartCertificate → Type 0
+DecidesCertified true g q a c = IsAskedFor g q a × IsCertifiedFor g q c
+DecidesCertified false g q a c = ⊥
+
 -- the answer to this question in the observed graph g
-abbrev pub Decides : MixedGraph → Question → Answer → Type 0
-Decides g q (Formula a f) = IsAskedFor g q a × IsFormulaFor g q f
-Decides g q (Excluded a h pair) = IsAskedFor g q a × IsExcluded g q h pair
-Decides g q (Witness a w other) = IsAskedFor g q a × IsWitnessed g q w other
-Decides g q (Split a s other) = IsAskedFor g q a × IsParted g q s other
+abbrev pub Decides : (certified : Bool) → MixedGraph → Question → Answer → Type 0
+Decides certified g q (Formula a f) = DecidesPlain certified g q a f
+Decides certified g q (Certified a c) = DecidesCertified certified g q a c
+Decides certified g q (Excluded a h pair) = IsAskedFor g q a × IsExcluded g q h pair
+Decides certified g q (Witness a w other) = IsAskedFor g q a × IsWitnessed g q w other
+Decides certified g q (Split a s other) = IsAskedFor g q a × IsParted g q s other
 
 -- x acts on none of what is given
 abbrev pub AreBefore : MixedGraph → Question → Type 0
 AreBefore g q = (v : ℕ) → IsTrue (has q.given.bits v) → IsDescendant g (has q.x.bits) v → ⊥
 
 -- the answer where x acts on none of what is given, and there are at most 64 names with the second names of x
-pub record IsForQuestion (g : MixedGraph) (q : Question) (a : Answer) : Type 0 where
+pub record IsForQuestion (certified : Bool) (g : MixedGraph) (q : Question) (a : Answer) : Type 0 where
   pub before : AreBefore g q
   pub few : name_count g.vertices q.x.bits ≤ 64
-  pub decided : Decides g q a
+  pub decided : Decides certified g q a
 
 -- v is the lowest member of what is given that comes after a member of x
 pub record IsLowestAfter (g : MixedGraph) (q : Question) (v : ℕ) : Type 0 where
@@ -139,13 +160,13 @@ IsFault g l NoMediator = IsListsFault l NoMediator
 IsFault g l fault = IsOfQuestion l (λ q. IsFaultOfQuestion g l.query.observed q fault)
 
 -- the answer for lists of names, or the fault of these
-abbrev pub IsForNames : MixedGraph → NaturalLists → Result Answer NaturalFault → Type 0
-IsForNames g l (Ok a) = IsOfQuestion l (λ q. IsForQuestion g q a)
-IsForNames g l (Err fault) = IsFault g l fault
+abbrev pub IsForNames : (certified : Bool) → MixedGraph → NaturalLists → Result Answer NaturalFault → Type 0
+IsForNames certified g l (Ok a) = IsOfQuestion l (λ q. IsForQuestion certified g q a)
+IsForNames certified g l (Err fault) = IsFault g l fault
 
 -- the answer on a diagram, in its observed graph: x and y are those that are listed, or else the exposures and the outcomes
-abbrev pub IsNaturalAnswer : Diagram → (x y : Names) → (through given : List (List ℕ)) → Result Answer NaturalFault → Type 0
-IsNaturalAnswer d x y through given = IsForNames (graph_of d.observed.graph) (natural_lists d x y through given)
+abbrev pub IsNaturalAnswer : (certified : Bool) → Diagram → (x y : Names) → (through given : List (List ℕ)) → Result Answer NaturalFault → Type 0
+IsNaturalAnswer certified d x y through given = IsForNames certified (graph_of d.observed.graph) (natural_lists d x y through given)
 
 -- ---- with want of memory
 

@@ -11,12 +11,15 @@ mod reply;
 mod request;
 mod second;
 mod texts;
+mod theory;
 
 pub use answer::{Answer, Asked};
 pub use asking::Question;
-pub use effects::push_group;
-pub use fault::NaturalFault;
+pub use effects::{effect_text, push_group};
+pub use fault::{NaturalFault, after};
 pub use objects::push_asked;
-pub use reply::{natural_answer, natural_reply};
+pub use reply::{asked_of, natural_answer, natural_reply};
 pub use request::{ROW, Request};
 pub use second::names_read;
+pub use texts::district_effect;
+pub use theory::laws;

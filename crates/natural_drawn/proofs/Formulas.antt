@@ -29,10 +29,10 @@ Any b a = Unit {0}
 
 module _ (g : MixedGraph) (ok : IsMixedGraph g) (l : ℕ → Bool) (q : MixedGraph) (is : IsObserved g l q) (w w' : FiniteModel) (fit : Fits g w)
     (fit' : Fits q w') (folds : FoldsNested l w w') (observed : IsObservedPositive l w) where
-  abbrev IsValued : (ℕ → ℕ) → Type 0
+  abbrev pub IsValued : (ℕ → ℕ) → Type 0
   IsValued s = IsAssignment (drawn_weights l w).vertices (drawn_weights l w).size s
 
-  sizes : (k : ℕ) → k < (drawn_weights l w).vertices → (drawn_weights l w).size k ≡ w'.size k
+  pub sizes : (k : ℕ) → k < (drawn_weights l w).vertices → (drawn_weights l w).size k ≡ w'.size k
   sizes k kl = sym (folds.both.folds.sizes k (subst (λ n. k < n) (sym folds.both.folds.vertices) kl))
 
   -- a formula over the observed vertices has one value in both
@@ -59,7 +59,7 @@ module _ (g : MixedGraph) (ok : IsMixedGraph g) (l : ℕ → Bool) (q : MixedGra
         go false b = hc k kl
 
     -- so has each product of parts
-    parts_same : (ps : List PlainPart) (c : ℕ → ℕ) → IsValued c → IsEqual (drawn_parts_value l w x ps s t c) (parts_value w' x ps s t c)
+    pub parts_same : (ps : List PlainPart) (c : ℕ → ℕ) → IsValued c → IsEqual (drawn_parts_value l w x ps s t c) (parts_value w' x ps s t c)
     parts_same [] c hc = equal_refl (over 1 1) (omega arith)
     parts_same (p ∷ ps) c hc =
         mul_equal (value_of (drawn_weights l w) p.formula (read p.second c)) (value_of (weights_of w') p.formula (read p.second c))

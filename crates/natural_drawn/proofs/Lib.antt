@@ -1,9 +1,9 @@
 mod Worlds
 mod Filled
 mod Kept
-mod Folding
+pub mod Folding
 mod Shared
-mod Carried
+pub mod Carried
 pub mod Matched
 pub mod Formulas
 pub mod Lost

@@ -1,4 +1,4 @@
 mod Pieces
-mod Replying
+pub mod Replying
 pub mod Sets
 pub mod Lawful

@@ -7,8 +7,11 @@ mod objects;
 mod reply;
 mod request;
 mod texts;
+mod theory;
 
 pub use answer::{Answer, Asked};
-pub use fault::TreatedFault;
+pub use fault::{TreatedFault, after};
 pub use reply::{treated_answer, treated_reply};
 pub use request::{ROW, Request};
+pub use texts::effect_text;
+pub use theory::laws;

@@ -40,7 +40,7 @@ pub fn joint_of(asked: Asked) -> VSet
 }
 
 /// The effect that is asked for, as text.
-fn effect_text(alloc: Global, names: &Names, asked: Asked) -> Result<Vec<u8>, AllocError>
+pub fn effect_text(alloc: Global, names: &Names, asked: Asked) -> Result<Vec<u8>, AllocError>
     ensures { IfOk result (λ v. v.items ≡ effect_text names.now asked) }
 {
     let all = primed_names(alloc, names, asked.sets.x)?;

@@ -1,9 +1,9 @@
-use Rattle.std.proofs.Common.{◌≡◌, false, ap, subst}
+use Rattle.std.proofs.Common.{◌≡◌, Bool, false, ap, sym, subst}
 use Rattle.mixed_graph.specs.Vocabulary.{graph_of}
 use Rattle.finite_models.proofs.Bools.{not_both}
 use Rattle.natural_id.specs.declared.answers.Natural.{Natural}
 use Rattle.natural_id.specs.Vocabulary.{IfFormula, IsFormulaByParts, IsRight, is_hedge}
-use Rattle.natural_command.specs.Right.{HasNoHedge}
+use Rattle.natural_command.specs.Right.{HasNoHedge, DecidesPlain, DecidesCertified}
 use Rattle.natural_command.proofs.Ways.{target_of}
 use Rattle.natural_command.proofs.reply.identified.Goals as goal
 use Rattle.natural_command.proofs.reply.identified.Goals.{In_ok-formula}
@@ -27,11 +27,29 @@ found c a is = let q = c.args.question in
 no_hedge : (c : In_ok-formula) → is_hedge c.in_ok-formula.field-0 ≡ false → HasNoHedge (graph_of c.args.g.now) c.args.question
 no_hedge c e h is = not_both (is_hedge c.in_ok-formula.field-0) (c.in_ok-formula.ensures.exact.1 (h, is)) e
 
-pub returns-in-Formula : goal.returns-in-Formula
-returns-in-Formula c =
-    let at = (goal.at.returns-in-Formula c).In_ok-formula in
+pub returns-then-not-certified : goal.returns-then-not-certified
+returns-then-not-certified c =
+    let at = (goal.at.returns-then-not-certified c).In_ok-formula in
     let r = right at _ c.in-Formula.is in
+    subst (λ (b : Bool). DecidesPlain b (graph_of c.args.g.now) c.args.question c.asked_of-asked.result c.in-Formula.formula) (sym c.if-not-certified.true)
     (c.asked_of-asked.ensures, record { equals = r.0; found = found at _ c.in-Formula.is; clear = r.1; no_hedge = no_hedge at (ap is_hedge c.in-Formula.is) })
+
+pub natural_certificate-requires-clause-no_hedge : goal.natural_certificate-requires-clause-no_hedge
+natural_certificate-requires-clause-no_hedge c =
+    no_hedge (goal.at.natural_certificate-requires-clause-no_hedge c).In_ok-formula (ap is_hedge c.in-Formula.is)
+
+pub returns-in_ok-certificate-in-Formula : goal.returns-in_ok-certificate-in-Formula
+returns-in_ok-certificate-in-Formula c =
+    let at = (goal.at.returns-in_ok-certificate-in-Formula c).In_ok-formula in
+    subst (λ (b : Bool). DecidesCertified b (graph_of c.args.g.now) c.args.question c.asked_of-asked.result c.in_ok-certificate-in-Formula.certificate)
+    (sym c.if-not-certified.false) (
+      c.asked_of-asked.ensures,
+      record {
+        clear = (right at _ c.in-Formula.is).1;
+        no_hedge = no_hedge at (ap is_hedge c.in-Formula.is);
+        certificate = c.in_ok-certificate-in-Formula.ensures;
+      },
+    )
 
 pub returns-in-Hedge : goal.returns-in-Hedge
 returns-in-Hedge c =

@@ -48,8 +48,8 @@ pub returns-in-Ok-clause-answer : goal.returns-in-Ok-clause-answer
 returns-in-Ok-clause-answer c =
     let at = (goal.at.returns-in-Ok-clause-answer c).After-question_of in
     let g = graph_of c.args.diagram.now.observed.graph in
-    subst (λ (l : NaturalLists). IfOk c.decide.result (λ a. IsOfQuestion l (λ q. IsForQuestion g q a))) (same at)
-    (answer_of_lists g (lists at) c.in-Ok.question c.in-Ok.ensures.question c.decide.result c.decide.ensures.answer)
+    subst (λ (l : NaturalLists). IfOk c.decide.result (λ a. IsOfQuestion l (λ q. IsForQuestion c.args.certified g q a))) (same at)
+    (answer_of_lists c.args.certified g (lists at) c.in-Ok.question c.in-Ok.ensures.question c.decide.result c.decide.ensures.answer)
 
 pub returns-in-Ok-clause-fault : goal.returns-in-Ok-clause-fault
 returns-in-Ok-clause-fault c =

@@ -7,7 +7,8 @@ use Rattle.mixed_graph.specs.Vocabulary.{MixedGraph, graph_of}
 use Rattle.replies.specs.declared.format.Format.{Format}
 use Rattle.replies.specs.Vocabulary.{told_of}
 use Rattle.prob_expr.specs.Vocabulary.{masks_of}
-use Rattle.check_command.specs.Vocabulary.{certificate_refusal, IsForCertificate, check_telling}
+use Rattle.check_command.specs.Vocabulary.{certificate_refusal}
+use Rattle.part_check_command.specs.Vocabulary.{IsForCertificate, part_check_refusal, part_check_telling}
 use Rattle.steps_command.specs.Vocabulary.{IsForCertificate as IsForSteps, steps_telling}
 use Rattle.bound_values.specs.declared.questions.Question.{Question}
 use Rattle.bounds_command.specs.Vocabulary.{CountsAnswer}
@@ -34,8 +35,8 @@ returns-in-Check c =
     → (left_of d it).answer other r.outcome (told_of r))) (sym c.in-Check.is)
     (IfOk-weaker c.long_certificate.result
     (λ r. (form : Form) (q : MixedGraph) (names : List (List ℕ)) (zs bytes : List ℕ) → 67108864 < length bytes
-    → Tells check_telling certificate_refusal (IsForCertificate q names zs bytes) form names r.outcome (told_of r))
-    (λ r. (other : List ℕ) → 67108864 < length other → Tells check_telling certificate_refusal (IsForCertificate g d.observed.names zs other)
+    → Tells part_check_telling part_check_refusal (IsForCertificate q names zs bytes) form names r.outcome (told_of r))
+    (λ r. (other : List ℕ) → 67108864 < length other → Tells part_check_telling part_check_refusal (IsForCertificate g d.observed.names zs other)
     (plain_form c.in-Check.format) d.observed.names r.outcome (told_of r))
     (λ r h other long. h (plain_form c.in-Check.format) g d.observed.names zs other long) c.long_certificate.ensures)
 

@@ -1,16 +1,18 @@
-use Rattle.std.proofs.Common.{◌≡◌, Bool, sym, refl, ap₂, ◌∙◌, rules}
+use Rattle.std.proofs.Common.{◌≡◌, Bool, sym, refl, ◌∙◌, rules}
 use Rattle.std.proofs.lemmas.Option.{none-some}
-use Rattle.told.specs.Vocabulary.{form_for}
+use Rattle.derived_certificates.specs.Vocabulary.{certified_form}
 use Rattle.natural_command.specs.Requests.{natural_row}
 use Rattle.natural_command.proofs.request.Request.read.Goals as goal
 
 -- the form by the flags as they are read is that by the uses
-flags : {a b latex json : Bool} → a ≡ latex → b ≡ json → form_for a b ≡ form_for latex json
-flags one other = ap₂ form_for one other
+flags : {a b d certificate latex json : Bool} → a ≡ certificate → b ≡ latex → d ≡ json → certified_form a b d ≡ certified_form certificate latex json
+flags one two three = λ i. certified_form (one i) (two i) (three i)
 
 pub returns-in_default-clause-none : goal.returns-in_default-clause-none
 returns-in_default-clause-none c = λ uses g e. record {
-  nothing = λ r is. none-some r.form (c.in_default.ensures ∙ flags (c.flag-latex.ensures natural_row uses g refl) (c.flag-json.ensures natural_row uses g refl) ∙ is.form);
+  nothing = λ r is. none-some r.form (c.in_default.ensures
+      ∙ flags (c.flag-certificate.ensures natural_row uses g refl) (c.flag-latex.ensures natural_row uses g refl)
+      (c.flag-json.ensures natural_row uses g refl) ∙ is.form);
 }
 
 pub returns-in_err-file-clause-none : goal.returns-in_err-file-clause-none
@@ -30,5 +32,6 @@ returns-clause-ok c = λ uses g. record {
   subject = c.in_ok-file.ensures.ok natural_row uses g (refl, refl, refl);
   through = c.in_ok-through.ensures.ok natural_row uses g refl;
   given = c.in_ok-given.ensures.ok natural_row uses g refl;
-  form = sym (flags (c.flag-latex.ensures natural_row uses g refl) (c.flag-json.ensures natural_row uses g refl)) ∙ sym c.in-Some.ensures;
+  form = sym (flags (c.flag-certificate.ensures natural_row uses g refl) (c.flag-latex.ensures natural_row uses g refl)
+      (c.flag-json.ensures natural_row uses g refl)) ∙ sym c.in-Some.ensures;
 }

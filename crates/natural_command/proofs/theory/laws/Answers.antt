@@ -1,0 +1,5 @@
+use Rattle.natural_command.proofs.Lawful.{forms_agree}
+use Rattle.natural_command.proofs.theory.laws.Goals as goal
+
+pub returns : goal.returns
+returns c = forms_agree

@@ -1,0 +1,12 @@
+use Rattle.std.proofs.Common.{◌≡◌, ℕ, List, IfOk, subst, ◌∙◌}
+use Rattle.natural_id.specs.declared.answers.Part.{Part}
+use Rattle.natural_command.specs.Vocabulary.{effect_text as nested_effect_text}
+use Rattle.part_check_command.specs.Lines.{accepted_text}
+use Rattle.part_check_command.proofs.texts.natural_text.Goals as goal
+
+pub returns : goal.returns
+returns c =
+    let names = c.args.names.now in
+    subst (λ (l : List Part). IfOk c.accepted_text.result (λ v. v.items ≡ accepted_text names (nested_effect_text names c.args.asked) l)) c.as_slice-2.ensures.value
+    (subst (λ (e : List ℕ). IfOk c.accepted_text.result (λ v. v.items ≡ accepted_text names e c.as_slice-2.result.now))
+    (c.as_slice.ensures.value ∙ c.in_ok-effect.ensures) c.accepted_text.ensures)

@@ -1,0 +1,33 @@
+use Rattle.mixed_graph.specs.Vocabulary.{graph_of}
+use Rattle.prob_expr.specs.Vocabulary.{target_view}
+use Rattle.derived_parts.specs.Vocabulary.{derived_views}
+use Rattle.std.proofs.Common.{◌∙◌}
+use Rattle.part_check_command.specs.Decisions.{IsFaultAmong}
+use Rattle.part_check_command.proofs.Asking.{among_question, known_of_sets}
+use Rattle.part_check_command.proofs.Deciding.{refused_among, wanting_alone}
+use Rattle.part_check_command.proofs.treated.decide_treated.Goals as goal
+
+pub returns-in-Err-clause-fault : goal.returns-in-Err-clause-fault
+returns-in-Err-clause-fault c =
+    known_of_sets (graph_of c.args.seen.now.graph) c.args.seen.now.names (target_view c.args.target) c.in-Err.fault c.in-Err.ensures.fault
+
+pub check_treated_parts-requires-clause-target : goal.check_treated_parts-requires-clause-target
+check_treated_parts-requires-clause-target c =
+    (among_question (graph_of c.args.seen.now.graph) (target_view c.args.target) c.in-Ok.asked c.requires.sets c.in-Ok.ensures.asked).target
+
+pub returns-in-Ok-2-clause-answer : goal.returns-in-Ok-2-clause-answer
+returns-in-Ok-2-clause-answer c = record {
+  question = among_question (graph_of c.args.seen.now.graph) (target_view c.args.target) c.in-Ok.asked c.requires.sets c.in-Ok.ensures.asked;
+  asked = c.in-Ok.ensures.asked.asked;
+  accepted = c.in-Ok-2.ensures.accepted;
+  equals = c.in-Ok-2.ensures.effect;
+}
+
+pub returns-in-Err-2 : goal.returns-in-Err-2
+returns-in-Err-2 c =
+    let q = graph_of c.args.seen.now.graph in let t = target_view c.args.target in let ps = derived_views c.args.parts.items in record {
+      answer = refused_among q t ps c.as_slice.result.now c.in-Err-2.fault
+          (among_question q t c.in-Ok.asked c.requires.sets c.in-Ok.ensures.asked) (c.as_slice.ensures.value ∙ c.in_ok-counts.ensures) c.in-Err-2.ensures.fault
+          c.refused.result c.refused.ensures.answer;
+      fault = wanting_alone (IsFaultAmong q c.args.seen.now.names t) c.refused.result c.refused.ensures.fault;
+    }

@@ -1,0 +1,9 @@
+pub mod Lines
+pub mod Objects
+pub mod Telling
+pub mod Faults
+pub mod Right
+pub mod Decisions
+pub mod Firsts
+pub mod Command
+pub mod Vocabulary
