@@ -1,3 +1,0 @@
-pub mod Forms
-pub mod Certificates
-pub mod Vocabulary
