@@ -11,7 +11,7 @@ use Rattle.certificate.specs.declared.fault.CertFault.{CertFault}
 use Rattle.certificate.specs.Vocabulary.{Fails, certificate_in}
 use Rattle.certificate.specs.declared.fault.CertFault.TheVariants as certificates
 use Rattle.check_command.specs.CertificateFaults.{is_memory}
-use Rattle.check_command.specs.Right.{are_some, DecidesFormula, IsFaulty}
+use Rattle.check_command.specs.Right.{are_some, DecidesPlain, IsFaulty}
 use Rattle.check_command.specs.declared.answer.Answer.{Answer}
 use Rattle.check_command.specs.declared.answer.Answer.TheVariants.{RefusedDerivation}
 use Rattle.check_command.specs.declared.fault.CertificateFault.TheVariants.{Faulty}
@@ -20,8 +20,8 @@ use Rattle.check_command.proofs.Using.{told, unread}
 -- the first fault of a derivation is its answer
 pub refused_decided : (q : MixedGraph) (zs : List ℕ) (t : PlainTarget) (f : PlainFormula) (d : PlainDerivation) (lemmas : ℕ) (fault : CheckFault)
     → lemmas ≡ length d.lemmas → UnlessNoMemory fault (AcceptsNot q zs t f d fault) → {E : Type 0} (r : Result Answer E)
-    → IfOk r (λ (a : Answer). a ≡ RefusedDerivation lemmas fault) → OnOk r (fault ≡ NoMemory → ⊥) → IfOk r (DecidesFormula q zs t f d)
-refused_decided q zs t f d lemmas fault len unless (Ok a) is memory = subst (DecidesFormula q zs t f d) (sym is)
+    → IfOk r (λ (a : Answer). a ≡ RefusedDerivation lemmas fault) → OnOk r (fault ≡ NoMemory → ⊥) → IfOk r (DecidesPlain q zs t f d)
+refused_decided q zs t f d lemmas fault len unless (Ok a) is memory = subst (DecidesPlain q zs t f d) (sym is)
     (len, told fault (AcceptsNot q zs t f d fault) unless memory)
 refused_decided q zs t f d lemmas fault len unless (Err e) is memory = tt
 

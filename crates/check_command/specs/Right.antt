@@ -64,10 +64,10 @@ pub record IsMetHedge (q : MixedGraph) (zs : List ℕ) (x y : ℕ) (h : Hedge) :
   pub meets : IsHarmlessTo h experiment → ⊥
 
 -- the answer for a formula with its derivation: the certificate is accepted, or its derivation has this first fault
-abbrev pub DecidesFormula : MixedGraph → List ℕ → PlainTarget → PlainFormula → PlainDerivation → Answer → Type 0
-DecidesFormula q zs t f d (AcceptedFormula a) = (formula_certificate a ≡ Some (formula t f d)) × IsAcceptedFormula q zs t f d
-DecidesFormula q zs t f d (RefusedDerivation lemmas fault) = (lemmas ≡ length d.lemmas) × AcceptsNot q zs t f d fault
-DecidesFormula q zs t f d a = ⊥
+abbrev pub DecidesPlain : MixedGraph → List ℕ → PlainTarget → PlainFormula → PlainDerivation → Answer → Type 0
+DecidesPlain q zs t f d (AcceptedFormula a) = (formula_certificate a ≡ Some (formula t f d)) × IsAcceptedFormula q zs t f d
+DecidesPlain q zs t f d (RefusedDerivation lemmas fault) = (lemmas ≡ length d.lemmas) × AcceptsNot q zs t f d fault
+DecidesPlain q zs t f d a = ⊥
 
 -- whether there are experiments
 abbrev pub are_some : List ℕ → Bool
@@ -91,7 +91,7 @@ pub record HoldsCertificate (names : List (List ℕ)) (bytes : List ℕ) (c : Pl
 
 -- the bytes are a certificate of a formula or of a hedge, and this is its answer
 pub data IsForText (q : MixedGraph) (names : List (List ℕ)) (zs bytes : List ℕ) (a : Answer) : Type 0 where
-  of_formula : (t : PlainTarget) (f : PlainFormula) (d : PlainDerivation) → HoldsCertificate names bytes (formula t f d) → DecidesFormula q zs t f d a
+  of_formula : (t : PlainTarget) (f : PlainFormula) (d : PlainDerivation) → HoldsCertificate names bytes (formula t f d) → DecidesPlain q zs t f d a
       → IsForText q names zs bytes a
   of_hedge : (t : PlainTarget) (h : Hedge) → HasEntries h → HoldsCertificate names bytes (hedge t (hedge_view h)) → DecidesHedge q zs t h a
       → IsForText q names zs bytes a

@@ -5,7 +5,7 @@ ghost use Rattle.mixed_graph.specs.Vocabulary.{graph_of};
 ghost use Rattle.prob_expr.specs.Vocabulary.{masks_of, formula_view, target_view};
 ghost use Rattle.do_derivation.specs.Vocabulary.{derivation_view};
 ghost use Rattle.check_command.specs.Replies.{IsSoundTarget, IsSoundFormula, IsSoundDerivation};
-ghost use Rattle.check_command.specs.Right.{DecidesFormula};
+ghost use Rattle.check_command.specs.Right.{DecidesPlain};
 
 use crate::answer::Answer;
 use dag_reader::ReadGraph;
@@ -27,7 +27,7 @@ pub fn decide_formula(
     requires target { IsSoundTarget (length seen.now.names) (target_view target) }
     requires formula { IsSoundFormula (length seen.now.names) (formula_view formula) }
     requires derivation { IsSoundDerivation (length seen.now.names) (derivation_view derivation) }
-    ensures { IfOk result (DecidesFormula (graph_of seen.now.graph) (masks_of experiments.now) (target_view target) (formula_view formula) (derivation_view derivation)) }
+    ensures { IfOk result (DecidesPlain (graph_of seen.now.graph) (masks_of experiments.now) (target_view target) (formula_view formula) (derivation_view derivation)) }
 {
     match check_with(
         alloc,

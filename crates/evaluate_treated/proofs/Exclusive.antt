@@ -17,7 +17,7 @@ use Rattle.told.specs.Vocabulary.{outcome_in}
 use Rattle.treated_command.specs.Requests.{Request}
 use Rattle.treated_command.specs.Vocabulary.{treated_refusal, treated_telling}
 use Rattle.treated_command.specs.declared.answer.Answer.{Answer}
-use Rattle.treated_command.specs.declared.answer.Answer.TheVariants.{Formula, Excluded, Unfixed}
+use Rattle.treated_command.specs.declared.answer.Answer.TheVariants.{Formula, Certified, Excluded, Unfixed}
 use Rattle.treated_command.specs.declared.fault.TreatedFault.{TreatedFault}
 use Rattle.treated_command.proofs.Lawful.{treated_alike}
 use Rattle.evaluate_command.specs.Vocabulary.{CellValue, bounds_numbers, exact_numbers, plain_in, values_at, values_refusal}
@@ -35,6 +35,7 @@ use Rattle.evaluate_treated.proofs.OneEffect.{same_values}
 
 not_yes : (r : Result Answer TreatedFault) → HasNoFormula r → outcome_in treated_telling treated_refusal r ≡ Yes → ⊥
 not_yes (Ok (Formula a f)) h e = h
+not_yes (Ok (Certified a c)) h e = h
 not_yes (Ok (Excluded a c h pair)) none e = cc e
 not_yes (Ok (Unfixed a c)) none e = cc e
 not_yes (Err fault) none e = cc e
@@ -42,7 +43,7 @@ not_yes (Err fault) none e = cc e
 pub first_alone : (q : Request) (d e : Diagram) → AreSameDiagrams d e → (r : Result Answer TreatedFault) (f : PlainAmong) → IsForDiagram d q r → Identifies e q f
     → ⊥
 first_alone q d e s r f is i =
-    not_yes r is.1 (treated_alike d e s q.x q.y q.given r (Ok (Formula f.asked i.found.formula)) is.0 i.found.answered)
+    not_yes r is.1 (treated_alike false false d e s q.x q.y q.given r (Ok (Formula f.asked i.found.formula)) is.0 i.found.answered)
 
 -- ---- over the bytes of counts
 

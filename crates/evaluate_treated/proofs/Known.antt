@@ -1,5 +1,5 @@
 -- What is known of an effect for which `treated` has a formula.
-use Rattle.std.proofs.Common.{ℕ, ◌≡◌, ◌<◌, ◌≤◌, true, refl, sym, ap, ◌∙◌, subst, List, [], ◌∷◌, All, Ok, arith}
+use Rattle.std.proofs.Common.{ℕ, ◌≡◌, ◌<◌, ◌≤◌, true, false, refl, sym, ap, ◌∙◌, subst, List, [], ◌∷◌, All, Ok, arith}
 use Rattle.std.proofs.lemmas.List.Elements.{All-head, All-tail}
 use Rattle.mixed_graph.specs.Vocabulary.{has, MixedGraph, graph_of, union}
 use Rattle.mixed_graph.proofs.MaskLaws.{below_has}
@@ -39,7 +39,7 @@ pub record IsKnown (g : MixedGraph) (f : PlainFormula) (s : Sets) : Type 0 where
   pub right : IsFormulaFor g s f
 
 -- it is known of those that are asked for
-pub known : (d : Diagram) (q : Request) (a : Asked) (f : Formula) → IsTreatedAnswer d q.x q.y q.given (Ok (treated.Formula a f))
+pub known : (d : Diagram) (q : Request) (a : Asked) (f : Formula) → IsTreatedAnswer false d q.x q.y q.given (Ok (treated.Formula a f))
     → IsKnown (graph_of d.observed.graph) (formula_view f) a.sets
 known d q a f h =
     let s = h.sets in
@@ -81,7 +81,7 @@ module _ (g : MixedGraph) (a : Asked) (e : PlainFactors) (sets : AreThreeSets g.
       (in_either P x (union y z) v (sets.x_within v) (in_either P y z v (sets.y_within v) (sets.w_within v)))) h
 
 -- ---- the effect is identified
-pub identified : (d : Diagram) (q : Request) (a : Asked) (f : Formula) → IsTreatedAnswer d q.x q.y q.given (Ok (treated.Formula a f)) → (e : PlainFactors)
+pub identified : (d : Diagram) (q : Request) (a : Asked) (f : Formula) → IsTreatedAnswer false d q.x q.y q.given (Ok (treated.Formula a f)) → (e : PlainFactors)
     → AreNamedFactors d.observed.graph.n a.sets.x.bits (view f.main) e
     → IsIdentified (record { names = d.observed.names; graph = graph_of d.observed.graph; asked = a; factors = e })
 identified d q a f h e named = record {

@@ -1,5 +1,5 @@
 -- The command's words ask for one request, and its right answers end alike.
-use Rattle.std.proofs.Common.{◌≡◌, ℕ, List, refl, sym, subst, ◌∙◌}
+use Rattle.std.proofs.Common.{◌≡◌, ℕ, false, List, refl, sym, subst, ◌∙◌}
 use Rattle.std.specs.Prelude.{codes}
 use Rattle.std.proofs.lemmas.Option.{same_Some}
 use Rattle.command_words.specs.Vocabulary.{Use, value_of}
@@ -14,7 +14,7 @@ use Rattle.told.specs.Vocabulary.{Tells}
 use Rattle.told.proofs.ToldOnce.{told_answered}
 use Rattle.treated_command.specs.Vocabulary.{treated_refusal, treated_telling}
 use Rattle.treated_command.specs.declared.answer.Answer.{Answer as Lost}
-use Rattle.treated_command.specs.declared.answer.Answer.TheVariants.{Formula, Excluded, Unfixed}
+use Rattle.treated_command.specs.declared.answer.Answer.TheVariants.{Formula, Certified, Excluded, Unfixed}
 use Rattle.treated_command.proofs.Lawful.{treated_alike}
 use Rattle.evaluate_command.specs.Vocabulary.{values_refusal}
 use Rattle.evaluate_command.specs.declared.faults.ValuesFault.{ValuesFault}
@@ -45,6 +45,7 @@ one_request uses q r a b = λ i. record {
 
 lost_answered : (a : Lost) → IsAnswered (treated_telling.outcome a)
 lost_answered (Formula a f) = tt
+lost_answered (Certified a c) = tt
 lost_answered (Excluded a c h pair) = tt
 lost_answered (Unfixed a c) = tt
 
@@ -66,7 +67,7 @@ evaluate_treated_lawful = lawful_on_two_inputs one_request
     (λ q d other o told h. told_answered among_telling values_refusal (λ a. tt) refused (IsForCounts q.exact h.0 q.count other) q.effect.form h.0.names o told
     h.2)
     (λ q bytes. one_on_diagram bytes (λ d. Tells treated_telling treated_refusal (IsForDiagram d q.effect) q.effect.form d.observed.names)
-    (λ d e s o p told other a b. a.ends ∙ treated_alike d e s q.effect.x q.effect.y q.effect.given a.answer b.answer a.right.0 b.right.0 ∙ sym b.ends))
+    (λ d e s o p told other a b. a.ends ∙ treated_alike false false d e s q.effect.x q.effect.y q.effect.given a.answer b.answer a.right.0 b.right.0 ∙ sym b.ends))
     (λ q bytes other. one_on_diagram bytes (λ d. IsForBoth q d other) (λ d e s o p told line a b.
     a.2.ends ∙ counts_alike q.exact a.0 q.count other a.2.answer b.2.answer a.2.right
     (subst (λ (f : PlainAmong). IsForCounts q.exact f q.count other b.2.answer) (same_effect d e s q.effect a.0 b.0 a.1 b.1) b.2.right)

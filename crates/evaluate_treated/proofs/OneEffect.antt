@@ -1,5 +1,5 @@
 -- Lists name one effect with one list of factors, and bytes are the text of one table.
-use Rattle.std.proofs.Common.{◌≡◌, ℕ, Bool, List, Option, Some, Result, Ok, length, map, refl, sym, ap, ◌∙◌, subst}
+use Rattle.std.proofs.Common.{◌≡◌, ℕ, Bool, false, List, Option, Some, Result, Ok, length, map, refl, sym, ap, ◌∙◌, subst}
 use mathlib.Core.Path.{fun_ext}
 use Rattle.mixed_graph.specs.Vocabulary.{MixedGraph, graph_of}
 use Rattle.prob_expr.specs.declared.expr.Formula.{Formula}
@@ -82,12 +82,12 @@ module _ (g : MixedGraph) (l : Lists) where
     primes = record { bits = one_names g.vertices s.x.bits s.x.bits s.x.bits b.primes.bits a.primes.bits k.primes h.primes i };
   }
 
-  one_answer : (a b : Asked) (f h : Formula) → IsOfSets l (λ s. IsForSets g s (treated.Formula a f)) → IsOfSets l (λ s. IsForSets g s (treated.Formula b h))
+  one_answer : (a b : Asked) (f h : Formula) → IsOfSets l (λ s. IsForSets false g s (treated.Formula a f)) → IsOfSets l (λ s. IsForSets false g s (treated.Formula b h))
       → IsOne g a b (formula_view f) (formula_view h)
   one_answer a b f h p r =
       let s = p.sets in
-      let moved : IsForSets g s (treated.Formula b h) =
-      subst (λ (t : Sets). IsForSets g t (treated.Formula b h)) (same_sets s r.sets p.named r.named) r.is in
+      let moved : IsForSets false g s (treated.Formula b h) =
+      subst (λ (t : Sets). IsForSets false g t (treated.Formula b h)) (same_sets s r.sets p.named r.named) r.is in
       record {
         asked = same_asked s a b p.is.decided.0 moved.decided.0;
         formula = one_formula g s.x.bits s.y.bits s.given.bits (formula_view h) (formula_view f) moved.decided.1.formula p.is.decided.1.formula;
@@ -106,9 +106,9 @@ same_effect d e s q a b i j = λ k. record { names = names k; graph = graphs k; 
     both : IsOne (graph_of d.observed.graph) a.asked b.asked (formula_view i.found.formula) (formula_view j.found.formula)
     both = one_answer (graph_of d.observed.graph) (query_lists d.read d.observed.names q.x q.y (Some q.given)) a.asked b.asked i.found.formula j.found.formula
         i.found.answered
-        (subst (λ (l : Lists). IsForNames (graph_of d.observed.graph) l (Ok (treated.Formula b.asked j.found.formula)))
+        (subst (λ (l : Lists). IsForNames false (graph_of d.observed.graph) l (Ok (treated.Formula b.asked j.found.formula)))
         (same_query_lists q.x q.y (Some q.given) d e s)
-        (subst (λ (g : MixedGraph). IsForNames g (query_lists e.read e.observed.names q.x q.y (Some q.given)) (Ok (treated.Formula b.asked j.found.formula)))
+        (subst (λ (g : MixedGraph). IsForNames false g (query_lists e.read e.observed.names q.x q.y (Some q.given)) (Ok (treated.Formula b.asked j.found.formula)))
         (sym (same_drawing d e s)) j.found.answered))
 
     factors : b.factors ≡ a.factors

@@ -1,5 +1,5 @@
 -- An effect among the treated that has a formula.
-use Rattle.std.specs.Prelude.{ℕ, ◌≡◌, ◌≤◌, ◌<◌, true, List, [], ◌∷◌, All, Ok, length}
+use Rattle.std.specs.Prelude.{ℕ, ◌≡◌, ◌≤◌, ◌<◌, true, false, List, [], ◌∷◌, All, Ok, length}
 use Rattle.mixed_graph.specs.Vocabulary.{has, MixedGraph, IsMixedGraph, Within, graph_of, union}
 use Rattle.dag_reader.specs.declared.graph.ReadGraph.{ReadGraph}
 use Rattle.do_rules.specs.Vocabulary.{AreThreeSets}
@@ -63,7 +63,7 @@ pub record IsIdentified (e : PlainAmong) : Type 0 where
 -- `treated` answers with this formula, and these are its factors
 pub record IsFound (d : Diagram) (q : Request) (e : PlainAmong) : Type 0 where
   pub formula : Formula
-  pub answered : IsTreatedAnswer d q.x q.y q.given (Ok (treated.Formula e.asked formula))
+  pub answered : IsTreatedAnswer false d q.x q.y q.given (Ok (treated.Formula e.asked formula))
   pub factors : AreNamedFactors e.graph.vertices e.asked.sets.x.bits (formula_view formula).main e.factors
 
 -- it is the effect that is asked for in the observed graph of the diagram, and it is identified

@@ -1,5 +1,5 @@
 -- What is answered before counts are read.
-use Rattle.std.specs.Prelude.{Some, Result, Ok, Err}
+use Rattle.std.specs.Prelude.{false, Some, Result, Ok, Err}
 use Rattle.mixed_graph.specs.Vocabulary.{graph_of}
 use Rattle.diagram.specs.declared.diagram.Diagram.{Diagram}
 use Rattle.diagram.specs.Vocabulary.{query_lists}
@@ -7,7 +7,7 @@ use Rattle.treated_command.specs.Requests.{Request}
 use Rattle.treated_command.specs.Right.{IsFaultOrMemory}
 use Rattle.treated_command.specs.Vocabulary.{IsTreatedAnswer}
 use Rattle.treated_command.specs.declared.answer.Answer.{Answer}
-use Rattle.treated_command.specs.declared.answer.Answer.TheVariants.{Formula, Excluded, Unfixed}
+use Rattle.treated_command.specs.declared.answer.Answer.TheVariants.{Formula, Certified, Excluded, Unfixed}
 use Rattle.treated_command.specs.declared.fault.TreatedFault.{TreatedFault}
 use Rattle.evaluate_treated.specs.Effects.{among_in, Identifies}
 use Rattle.evaluate_treated.specs.declared.first.First.{First}
@@ -16,13 +16,14 @@ use Rattle.evaluate_treated.specs.declared.first.First.TheVariants.{Found, Answe
 -- the answer has no formula
 abbrev pub HasNoFormula : Result Answer TreatedFault → Type 0
 HasNoFormula (Ok (Formula a f)) = ⊥
+HasNoFormula (Ok (Certified a c)) = ⊥
 HasNoFormula (Ok (Excluded a c h pair)) = Unit {0}
 HasNoFormula (Ok (Unfixed a c)) = Unit {0}
 HasNoFormula (Err fault) = Unit {0}
 
 -- the answer of `treated`, which has no formula
 abbrev pub IsForDiagram : Diagram → Request → Result Answer TreatedFault → Type 0
-IsForDiagram d q r = IsTreatedAnswer d q.x q.y q.given r × HasNoFormula r
+IsForDiagram d q r = IsTreatedAnswer false d q.x q.y q.given r × HasNoFormula r
 
 -- the same; want of memory may stand in its place
 abbrev pub IsAnswered : Diagram → Request → Result Answer TreatedFault → Type 0

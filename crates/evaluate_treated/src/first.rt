@@ -1,6 +1,6 @@
 //! What is known before counts are read: a formula, or the answer.
 
-ghost use Rattle.std.specs.Prelude.{Ok, Err, IfOk};
+ghost use Rattle.std.specs.Prelude.{false, Ok, Err, IfOk};
 ghost use Rattle.treated_command.specs.Requests.{Request as AskedEffect};
 ghost use Rattle.treated_command.specs.Vocabulary.{IsTreatedAnswer, treated_refusal, treated_telling};
 ghost use Rattle.replies.specs.Vocabulary.{told_of};
@@ -32,7 +32,7 @@ pub enum First {
 pub fn identify_among(alloc: Global, diagram: &Diagram, asked: &Request<'_>) -> First
     ensures { IsFirst diagram.now (request_of asked.now).effect result }
 {
-    match treated_answer(alloc, diagram, &asked.effect) {
+    match treated_answer(alloc, diagram, &asked.effect, false) {
         Ok(answer) => with_factors(alloc, diagram, answer),
         Err(fault) => First::Answered(Err(fault)),
     }
@@ -40,8 +40,8 @@ pub fn identify_among(alloc: Global, diagram: &Diagram, asked: &Request<'_>) -> 
 
 /// The answer, with the factors of its formula where it has one.
 fn with_factors(alloc: Global, diagram: &Diagram, answer: Answer) -> First
-    requires { (q : AskedEffect) × IsTreatedAnswer diagram.now q.x q.y q.given (Ok answer) }
-    ensures { (q : AskedEffect) → IsTreatedAnswer diagram.now q.x q.y q.given (Ok answer) → IsFirst diagram.now q result }
+    requires { (q : AskedEffect) × IsTreatedAnswer false diagram.now q.x q.y q.given (Ok answer) }
+    ensures { (q : AskedEffect) → IsTreatedAnswer false diagram.now q.x q.y q.given (Ok answer) → IsFirst diagram.now q result }
 {
     match answer {
         Answer::Formula(asked, formula) => {
@@ -51,6 +51,7 @@ fn with_factors(alloc: Global, diagram: &Diagram, answer: Answer) -> First
                 Err(_) => First::Answered(Err(TreatedFault::NoMemory)),
             }
         }
+        Answer::Certified(_, _) => unreachable!(),
         Answer::Excluded(asked, c, h, pair) => {
             First::Answered(Ok(Answer::Excluded(asked, c, h, pair)))
         }

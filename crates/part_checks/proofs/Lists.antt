@@ -4,7 +4,8 @@ use Rattle.std.specs.Prelude.{All}
 use Rattle.std.proofs.lemmas.Bool.{and_from, not_from_false}
 use Rattle.std.proofs.lemmas.List.{map_more, get_or-map, length-map, take_all, map-append}
 use Rattle.mixed_graph.specs.declared.sets.VSet.{VSet}
-use Rattle.mixed_graph.specs.Vocabulary.{has, MixedGraph, is_below, is_empty}
+use Rattle.mixed_graph.specs.Vocabulary.{has, MixedGraph, Within, is_below, is_empty}
+use Rattle.mixed_graph.proofs.MaskLaws.{not_empty as filled}
 use Rattle.finite_models.proofs.Bools.{and_first, and_second}
 use Rattle.hedge.specs.Vocabulary.{IsMaximalJoined, IsSetOf, first_masks}
 use Rattle.prob_expr.specs.Vocabulary.{masks_of}
@@ -17,6 +18,7 @@ use Rattle.derived_parts.specs.declared.part.DerivedPart.{DerivedPart}
 use Rattle.natural_id.specs.declared.answers.Part.{Part}
 use Rattle.natural_id.specs.Answers.{part_view, parts_view}
 use Rattle.natural_id.specs.Vocabulary.{AreAlike, PlainPart}
+use Rattle.part_checks.specs.Making.{AreWellMade, IsWellMade}
 use Rattle.part_checks.specs.Natural.{AreEachAlike}
 use Rattle.part_checks.specs.Reading.{AreReadAs, IsPartOf, IsReadAs, ReadsOwn, ReadsThrough}
 
@@ -71,6 +73,10 @@ accepted_push g [] (q ∷ ps) c p h k = absurd h
 accepted_push g (b ∷ cs) [] c p h k = absurd h
 accepted_push g (b ∷ cs) (q ∷ ps) c p h k = (h.0, accepted_push g cs ps c p h.1 k)
 
+pub made_push : (n : ℕ) (ps : List PlainDerivedPart) (p : PlainDerivedPart) → AreWellMade n ps → IsWellMade n p → AreWellMade n (ps ++ p ∷ [])
+made_push n [] p h k = (k, tt)
+made_push n (q ∷ ps) p h k = (h.0, made_push n ps p h.1 k)
+
 -- the sets up to number i, and the set there
 module _ (cs : List VSet) (i : ℕ) (lt : i < length cs) where
   abbrev pub here : VSet
@@ -102,6 +108,10 @@ masks_all cs i le = ap masks_of (take_all i cs le)
 -- the first sets of an array
 pub first_are : (sets : List VSet) (n : ℕ) → masks_of (take n sets) ≡ first_masks sets n
 first_are sets n = sym (masks_taken sets n)
+
+-- a set within the vertices that isn't empty
+pub set_within : (n c : ℕ) → Within n (has c) → 0 < c → is_set n c ≡ true
+set_within n c within some = and_from (is_below n c) (not (is_empty c)) (below n c within) (filled c (λ none. absurd (omega (arith, some, none))))
 
 -- joined sets are sets of which effects may be asked
 pub sets_of_maximal : (g : MixedGraph) (d : ℕ) → ((v : ℕ) → has d v ≡ true → v < g.vertices) → (ts : List ℕ) → All (IsMaximalJoined g d) ts

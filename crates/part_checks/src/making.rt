@@ -8,6 +8,7 @@ ghost use Rattle.prob_expr.specs.Vocabulary.{PlainFormula, masks_of};
 ghost use Rattle.identification_theory.specs.Vocabulary.{IsIdentified, IsUnidentified};
 ghost use Rattle.derived_parts.specs.Vocabulary.{AreAccepted, IsAcceptedPart, derived_view, derived_views};
 ghost use Rattle.treated_id.specs.Vocabulary.{IsTreatedTarget};
+ghost use Rattle.part_checks.specs.Making.{AreWellMade, IsWellMade};
 ghost use Rattle.part_checks.specs.Natural.{AreNaturallyAccepted};
 ghost use Rattle.part_checks.specs.Treated.{AreAcceptedAmong};
 
@@ -23,7 +24,8 @@ fn derive_part(alloc: Global, g: &Graph, c: VSet) -> Result<DerivedPart, AllocEr
     requires within { Within g.now.n (has c.bits) }
     requires some { 0 < c.bits }
     requires found { (small big : ℕ) → IsUnidentified (graph_of g.now) (minus (all g.now.n) c.bits) c.bits small big → ⊥ }
-    ensures { IfOk result (λ p. IsAcceptedPart (graph_of g.now) c.bits (derived_view p)) }
+    ensures accepted { IfOk result (λ p. IsAcceptedPart (graph_of g.now) c.bits (derived_view p)) }
+    ensures written { IfOk result (λ p. IsWellMade g.now.n (derived_view p)) }
 {
     let others = VSet::below(g.n).difference(c);
     match identify(alloc, g, others, c)? {
@@ -46,7 +48,8 @@ fn derive_parts(
     requires within { Within g.now.n (has d.bits) }
     requires districts { All (IsMaximalJoined (graph_of g.now) d.bits) (masks_of districts.now) }
     requires found { All (λ c. (small big : ℕ) → IsUnidentified (graph_of g.now) (minus (all g.now.n) c) c small big → ⊥) (masks_of districts.now) }
-    ensures { IfOk result (λ v. AreAccepted (graph_of g.now) (masks_of districts.now) (derived_views v.items)) }
+    ensures accepted { IfOk result (λ v. AreAccepted (graph_of g.now) (masks_of districts.now) (derived_views v.items)) }
+    ensures written { IfOk result (λ v. AreWellMade g.now.n (derived_views v.items)) }
 {
     let mut parts = Vec::new(alloc);
     for c in districts {
@@ -68,7 +71,8 @@ fn derive_natural(
     requires z_within { Within g.now.n (has z.bits) }
     requires x_some { 0 < x.bits }
     requires found { (f : PlainFormula) × IsIdentified (graph_of g.now) x.bits (union y.bits z.bits) f }
-    ensures { IfOk result (λ v. AreNaturallyAccepted (graph_of g.now) x.bits y.bits z.bits (derived_views v.items)) }
+    ensures accepted { IfOk result (λ v. AreNaturallyAccepted (graph_of g.now) x.bits y.bits z.bits (derived_views v.items)) }
+    ensures written { IfOk result (λ v. AreWellMade g.now.n (derived_views v.items)) }
 {
     let d = ancestors_outside(g, x, y.union(z));
     let found = districts(g, d);
@@ -76,7 +80,7 @@ fn derive_natural(
 }
 
 /// Parts of P(y[x, m[x']] | z) that `check_natural_parts` accepts, whatever m is, where no vertex and no district reads both values of a
-/// treatment; none exactly where there is a hedge for P(y, z | do(x)).
+/// treatment; none exactly where there is a hedge for P(y, z | do(x)). Their formulas have no fault, and nest little, as their steps do.
 ///
 /// The only error is want of memory.
 pub fn derive_natural_parts(
@@ -93,6 +97,7 @@ pub fn derive_natural_parts(
     requires x_some { 0 < x.bits }
     requires y_some { 0 < y.bits }
     ensures parts { IfOk result (λ r. IfSome r (λ v. AreNaturallyAccepted (graph_of g.now) x.bits y.bits z.bits (derived_views v.items))) }
+    ensures written { IfOk result (λ r. IfSome r (λ v. AreWellMade g.now.n (derived_views v.items))) }
     ensures hedge { IfOk result (λ r. IfNone r ((h : HedgeData) × IsHedge (graph_of g.now) x.bits (union y.bits z.bits) h)) }
 {
     let joint = y.union(z);
@@ -106,6 +111,7 @@ pub fn derive_natural_parts(
 }
 
 /// Parts of P(y under do(x) | x and z as observed) that `check_treated_parts` accepts, where no treatment is joined to a child of its own.
+/// Their formulas have no fault, and nest little, as their steps do.
 ///
 /// The only error is want of memory.
 pub fn derive_treated_parts(
@@ -116,7 +122,8 @@ pub fn derive_treated_parts(
     z: VSet,
 ) -> Result<Vec<DerivedPart>, AllocError>
     requires target { IsTreatedTarget (graph_of g.now) x.bits y.bits z.bits }
-    ensures { IfOk result (λ v. AreAcceptedAmong (graph_of g.now) x.bits y.bits z.bits (derived_views v.items)) }
+    ensures accepted { IfOk result (λ v. AreAcceptedAmong (graph_of g.now) x.bits y.bits z.bits (derived_views v.items)) }
+    ensures written { IfOk result (λ v. AreWellMade g.now.n (derived_views v.items)) }
 {
     let ancestors = ancestors_of(g, x, y, z);
     let found = districts(g, ancestors);

@@ -5,4 +5,5 @@ pub mod Objects
 pub mod Telling
 pub mod Right
 pub mod Command
+pub mod Laws
 pub mod Vocabulary

@@ -25,6 +25,10 @@ asked_members word names a =
 abbrev pub formula_object : List (List ℕ) → Asked → PlainFormula → List (List ℕ × Json)
 formula_object names a f = asked_members (codes "formula") names a ++ formula_members (primed_names names a.sets.x.bits) (target_of a) f
 
+-- a certificate, which stands on a line of its own
+abbrev pub certified_members : List (List ℕ) → Asked → List (List ℕ × Json)
+certified_members names a = asked_members (codes "certificate") names a
+
 -- the bidirected path from a child to its treatment
 abbrev pub path_object : List (List ℕ) → Confounding → Json
 path_object names c = object_of (

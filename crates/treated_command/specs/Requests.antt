@@ -4,10 +4,10 @@ use Rattle.command_words.specs.Vocabulary.{Text, Row, Use, value_of, has_flag, n
 use Rattle.command_words.specs.Values as values
 use Rattle.diagram.specs.Vocabulary.{Names}
 use Rattle.told.specs.declared.form.Form.{Form}
-use Rattle.told.specs.Vocabulary.{form_for}
+use Rattle.derived_certificates.specs.Vocabulary.{certified_form}
 use Rattle.treated_command.specs.declared.request.Request.{Request as CodeRequest}
 
--- `treated FILE [--x L] [--y L] [--given L] [--latex] [--json]`
+-- `treated FILE [--x L] [--y L] [--given L] [--certificate] [--latex] [--json]`
 abbrev pub treated_row : Row
 treated_row = record {
   name = codes "treated";
@@ -15,7 +15,7 @@ treated_row = record {
   optional = [];
   required = [];
   options = codes "x" ∷ codes "y" ∷ codes "given" ∷ [];
-  flags = codes "latex" ∷ codes "json" ∷ [];
+  flags = codes "certificate" ∷ codes "latex" ∷ codes "json" ∷ [];
 }
 
 -- a request
@@ -34,4 +34,4 @@ request_of r = record { file = r.file.now; x = option_map names_in r.x; y = opti
 pub record IsRequest (uses : List Use) (r : Request) : Type 0 where
   pub subject : values.IsSubject treated_row uses r.file r.x r.y
   pub given : values.IsListedOrEmpty (value_of uses (codes "given")) r.given
-  pub form : form_for (has_flag uses (codes "latex")) (has_flag uses (codes "json")) ≡ Some r.form
+  pub form : certified_form (has_flag uses (codes "certificate")) (has_flag uses (codes "latex")) (has_flag uses (codes "json")) ≡ Some r.form

@@ -7,8 +7,10 @@ mod objects;
 mod reply;
 mod request;
 mod texts;
+mod theory;
 
 pub use answer::{Answer, Asked};
 pub use fault::TreatedFault;
 pub use reply::{treated_answer, treated_reply};
 pub use request::{ROW, Request};
+pub use theory::laws;

@@ -7,7 +7,7 @@ ghost use Rattle.answer_json.specs.Vocabulary.{with_member, with_members, with_v
 ghost use Rattle.effect_answers.specs.Vocabulary.{effect_json, joint_json};
 ghost use Rattle.primed_names.specs.Vocabulary.{primed_names};
 ghost use Rattle.treated_command.specs.Sentences.{target_of, joint_of};
-ghost use Rattle.treated_command.specs.Objects.{asked_members, path_object, formula_object, confounding_members, reason_members, excluded_members, two_values_json, unfixed_members};
+ghost use Rattle.treated_command.specs.Objects.{asked_members, certified_members, path_object, formula_object, confounding_members, reason_members, excluded_members, two_values_json, unfixed_members};
 
 use crate::answer::Asked;
 use crate::texts::{is_single, joint_of, split_text, target_of};
@@ -57,6 +57,13 @@ pub fn push_formula_of(
     push_asked(object, "formula", names, asked)?;
     let all = primed_names(object.alloc(), names, asked.sets.x)?;
     push_formula(object, &all, &target_of(asked), f)
+}
+
+/// The members of a certificate, which stands on a line of its own.
+pub fn push_certified(object: &mut Object, names: &Names, asked: Asked) -> Result<(), AllocError>
+    ensures { OnOk result (object.new ≡ with_members (certified_members names.now asked) object.old) }
+{
+    push_asked(object, "certificate", names, asked)
 }
 
 /// The member of the effect that is asked for.

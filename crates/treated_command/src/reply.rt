@@ -1,16 +1,17 @@
 //! The answer of `treated`.
 
-ghost use Rattle.std.specs.Prelude.{◌<◌, ◌≤◌, Some, IfOk, IfErr};
+ghost use Rattle.std.specs.Prelude.{◌<◌, ◌≤◌, Bool, Some, IfOk, IfErr};
 ghost use Rattle.mixed_graph.specs.Vocabulary.{has, graph_of};
 ghost use Rattle.do_rules.specs.Vocabulary.{AreThreeSets};
+ghost use Rattle.prob_expr.specs.Vocabulary.{formula_view};
 ghost use Rattle.diagram.specs.Vocabulary.{query_lists};
 ghost use Rattle.replies.specs.Vocabulary.{told_of};
-ghost use Rattle.told.specs.Vocabulary.{Tells};
+ghost use Rattle.told.specs.Vocabulary.{Tells, is_certified};
 ghost use Rattle.treated_models.specs.Vocabulary.{name_count};
 ghost use Rattle.treated_id.specs.Vocabulary.{AreBefore};
 ghost use Rattle.treated_command.specs.Faults.{treated_refusal};
 ghost use Rattle.treated_command.specs.Requests.{request_of};
-ghost use Rattle.treated_command.specs.Right.{Decides, IsAskedFor, IsConfoundedBy, IsForSets, IsOfSets, IsSetsFaultOrMemory, IsFaultOrMemory, IsTreatedAnswer};
+ghost use Rattle.treated_command.specs.Right.{Decides, IsAskedFor, IsConfoundedBy, IsFormulaFor, IsForSets, IsOfSets, IsSetsFaultOrMemory, IsFaultOrMemory, IsTreatedAnswer};
 ghost use Rattle.treated_command.specs.Telling.{treated_telling};
 
 use crate::answer::{Answer, Asked};
@@ -18,9 +19,11 @@ use crate::fault::{TreatedFault, after};
 use crate::request::Request;
 use crate::texts::joint_of;
 use dag_reader::ReadGraph;
+use derived_certificates::treated_certificate;
 use diagram::{Diagram, asked_condition};
 use identify::{FormulaAnswer, identify_formula};
 use mixed_graph::Graph;
+use prob_expr::Formula;
 use replies::Reply;
 use std::alloc::{AllocError, Global};
 use targets::Sets;
@@ -33,38 +36,45 @@ pub fn treated_reply(
     diagram: &Diagram,
     asked: &Request<'_>,
 ) -> Result<Reply, AllocError>
-    ensures { let q = request_of asked.now in IfOk result (λ r. Tells treated_telling treated_refusal (IsTreatedAnswer diagram.now q.x q.y q.given)
+    ensures { let q = request_of asked.now in IfOk result (λ r. Tells treated_telling treated_refusal (IsTreatedAnswer (is_certified q.form.writing) diagram.now q.x q.y q.given)
         q.form diagram.now.observed.names r.outcome (told_of r)) }
 {
-    let answer = treated_answer(alloc, diagram, asked);
+    let answer = treated_answer(alloc, diagram, asked, asked.form.writing.is_certified());
     reply(alloc, asked.form, &diagram.observed.names, &answer)
 }
 
 /// What y would be under do(x) among those for whom x, and what is given, were observed; in the observed graph (Shpitser and Pearl 2009).
+/// Where that is asked for, the certificate takes the formula's place.
 ///
 /// A list that is missing is that of the exposures or of the outcomes, or empty for what is given.
 pub fn treated_answer(
     alloc: Global,
     diagram: &Diagram,
     asked: &Request<'_>,
+    certified: bool,
 ) -> Result<Answer, TreatedFault>
     ensures answer { let q = request_of asked.now in let g = graph_of diagram.now.observed.graph in
-        IfOk result (λ a. IsOfSets (query_lists diagram.now.read diagram.now.observed.names q.x q.y (Some q.given)) (λ s. IsForSets g s a)) }
+        IfOk result (λ a. IsOfSets (query_lists diagram.now.read diagram.now.observed.names q.x q.y (Some q.given)) (λ s. IsForSets certified g s a)) }
     ensures fault { let q = request_of asked.now in let g = graph_of diagram.now.observed.graph in
         IfErr result (IsFaultOrMemory g (query_lists diagram.now.read diagram.now.observed.names q.x q.y (Some q.given))) }
 {
     let (x, y) = (asked.x.as_deref(), asked.y.as_deref());
     match asked_condition(alloc, diagram, x, y, Some(asked.given.as_slice())) {
-        Ok(sets) => decide(alloc, &diagram.observed, sets),
+        Ok(sets) => decide(alloc, &diagram.observed, sets, certified),
         Err(fault) => Err(TreatedFault::Listed(fault)),
     }
 }
 
 /// The answer for sets of a graph.
-fn decide(alloc: Global, seen: &ReadGraph, sets: Sets) -> Result<Answer, TreatedFault>
+fn decide(
+    alloc: Global,
+    seen: &ReadGraph,
+    sets: Sets,
+    certified: bool,
+) -> Result<Answer, TreatedFault>
     requires sets { AreThreeSets seen.now.graph.n (has sets.x.bits) (has sets.y.bits) (has sets.given.bits) }
     requires some { 0 < sets.y.bits }
-    ensures answer { IfOk result (IsForSets (graph_of seen.now.graph) sets) }
+    ensures answer { IfOk result (IsForSets certified (graph_of seen.now.graph) sets) }
     ensures fault { IfErr result (IsSetsFaultOrMemory (graph_of seen.now.graph) seen.now.names sets) }
 {
     let acted = acted_on(&seen.graph, sets.x, sets.given);
@@ -74,26 +84,49 @@ fn decide(alloc: Global, seen: &ReadGraph, sets: Sets) -> Result<Answer, Treated
     if seen.graph.n + sets.x.count() > 64 {
         return Err(TreatedFault::TooMany);
     }
-    match identified(alloc, &seen.graph, sets) {
+    match identified(alloc, &seen.graph, sets, certified) {
         Ok(answer) => Ok(answer),
         Err(_) => Err(TreatedFault::NoMemory),
     }
 }
 
 /// The answer where x acts on none of x and what is given.
-fn identified(alloc: Global, g: &Graph, sets: Sets) -> Result<Answer, AllocError>
+fn identified(alloc: Global, g: &Graph, sets: Sets, certified: bool) -> Result<Answer, AllocError>
     requires sets { AreThreeSets g.now.n (has sets.x.bits) (has sets.y.bits) (has sets.given.bits) }
     requires some { 0 < sets.y.bits }
     requires before { AreBefore (graph_of g.now) sets.x.bits sets.given.bits }
     requires few { name_count g.now.n sets.x.bits ≤ 64 }
-    ensures { IfOk result (Decides (graph_of g.now) sets) }
+    ensures { IfOk result (Decides certified (graph_of g.now) sets) }
 {
     let primes = names_of(g.n, sets.x, sets.x, sets.x);
     let asked = Asked { sets, primes };
     match treated(alloc, g, sets.x, sets.y, sets.given)? {
-        Treated::Formula(formula) => Ok(Answer::Formula(asked, formula)),
+        Treated::Formula(formula) => found(alloc, g, asked, formula, certified),
         Treated::Confounded(confounding) => unidentified(alloc, g, asked, confounding),
     }
+}
+
+/// The answer where no treatment is confounded with a child of its own: the formula, or its certificate, where that is asked for.
+fn found(
+    alloc: Global,
+    g: &Graph,
+    asked: Asked,
+    formula: Formula,
+    certified: bool,
+) -> Result<Answer, AllocError>
+    requires asked { IsAskedFor (graph_of g.now) asked.sets asked }
+    requires sets { AreThreeSets g.now.n (has asked.sets.x.bits) (has asked.sets.y.bits) (has asked.sets.given.bits) }
+    requires some { 0 < asked.sets.y.bits }
+    requires before { AreBefore (graph_of g.now) asked.sets.x.bits asked.sets.given.bits }
+    requires formula { IsFormulaFor (graph_of g.now) asked.sets (formula_view formula) }
+    ensures { IfOk result (Decides certified (graph_of g.now) asked.sets) }
+{
+    if !certified {
+        return Ok(Answer::Formula(asked, formula));
+    }
+    let Sets { x, y, given } = asked.sets;
+    let certificate = treated_certificate(alloc, g, x, y, given)?;
+    Ok(Answer::Certified(asked, certificate))
 }
 
 /// The answer where a treatment is confounded with a child of its own: by a hedge for the joint effect, where there is one.
@@ -108,7 +141,7 @@ fn unidentified(
     requires some { 0 < asked.sets.y.bits }
     requires before { AreBefore (graph_of g.now) asked.sets.x.bits asked.sets.given.bits }
     requires by { IsConfoundedBy (graph_of g.now) asked.sets confounding }
-    ensures { IfOk result (Decides (graph_of g.now) asked.sets) }
+    ensures { (certified : Bool) → IfOk result (Decides certified (graph_of g.now) asked.sets) }
 {
     // Its clause says which set has the ancestors of what is observed.
     let _past = g.ancestors(asked.sets.x.union(asked.sets.given));

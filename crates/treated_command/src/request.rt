@@ -6,17 +6,18 @@ ghost use Rattle.command_words.specs.Vocabulary.{Use, HoldsCall};
 use command_words::forms::Entry;
 use command_words::typed::{RequestFault, Subject, names_or_empty};
 use command_words::values::Values;
+use derived_certificates::certified_form;
 use std::alloc::Global;
 use told::Form;
 
-/// `treated FILE [--x L] [--y L] [--given L] [--latex] [--json]`
+/// `treated FILE [--x L] [--y L] [--given L] [--certificate] [--latex] [--json]`
 pub const ROW: Entry = Entry {
     name: "treated",
     positionals: &["file"],
     optional: &[],
     required: &[],
     options: &["x", "y", "given"],
-    flags: &["latex", "json"],
+    flags: &["certificate", "latex", "json"],
 };
 
 /// What is asked for.
@@ -39,9 +40,10 @@ impl<'a> Request<'a> {
         ensures ok { (uses : List Use) → HoldsCall treated_row uses values.now → IfOk result (λ r. IsRequest uses (request_of r)) }
         ensures none { (uses : List Use) → HoldsCall treated_row uses values.now → IsErrOf result RequestFault.NotUnderstood → AsksNothing treated_command uses }
     {
+        let certificate = values.flag("certificate");
         let latex = values.flag("latex");
         let json = values.flag("json");
-        let Some(form) = Form::read(latex, json) else {
+        let Some(form) = certified_form(certificate, latex, json) else {
             return Err(RequestFault::NotUnderstood);
         };
         let Subject { file, x, y } = Subject::read(alloc, values)?;

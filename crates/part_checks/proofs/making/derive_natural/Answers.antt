@@ -24,8 +24,8 @@ derive_parts-requires-clause-found c =
     c.ancestors_outside-d.result.bits c.ancestors_outside-d.ensures (first_masks c.districts-found.result.sets c.districts-found.result.count)
     c.districts-found.ensures.districts c.districts-found.ensures.maximal c.requires.found.0 c.requires.found.1)
 
-pub returns : goal.returns
-returns c =
+pub returns-clause-accepted : goal.returns-clause-accepted
+returns-clause-accepted c =
     let g = graph_of c.args.g.now in
     let sets = first_masks c.districts-found.result.sets c.districts-found.result.count in
     if_ok c.derive_parts.result (λ v. AreAccepted g (masks_of (taken c.districts-found.result.sets c.districts-found.result.count)) (derived_views v.items))
@@ -39,4 +39,4 @@ returns c =
         districts = c.districts-found.ensures.districts;
       };
       accepted = subst (λ l. AreAccepted g l (derived_views v.items)) (first_are c.districts-found.result.sets c.districts-found.result.count) h;
-    }) c.derive_parts.ensures
+    }) c.derive_parts.ensures.accepted

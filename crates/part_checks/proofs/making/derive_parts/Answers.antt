@@ -6,7 +6,8 @@ use Rattle.hedge.specs.Vocabulary.{IsMaximalJoined}
 use Rattle.prob_expr.specs.Vocabulary.{masks_of}
 use Rattle.identification_theory.specs.Vocabulary.{IsUnidentified}
 use Rattle.derived_parts.specs.Vocabulary.{AreAccepted, derived_view, derived_views}
-use Rattle.part_checks.proofs.Lists.{all_here, accepted_more, here}
+use Rattle.part_checks.specs.Making.{AreWellMade}
+use Rattle.part_checks.proofs.Lists.{all_here, accepted_more, here, made_push}
 use Rattle.part_checks.proofs.making.derive_parts.Goals as goal
 use Rattle.part_checks.proofs.making.derive_parts.Goals.{In-loop-c}
 
@@ -27,7 +28,10 @@ derive_part-requires-clause-found c = all_here c.args.districts.now c.loop-c.c-i
 
 pub loop-c-preserved : goal.loop-c-preserved
 loop-c-preserved c =
-    subst (AreAccepted (graph_of c.args.g.now) (masks_of (take (c.loop-c.c-index + 1) c.args.districts.now)))
-    (sym (ap derived_views c.in_ok-push.ensures.items ∙ map-append derived_view c.loop-c.parts.items (c.in_ok-part.part ∷ [])))
-    (accepted_more c.args.districts.now c.loop-c.c-index c.loop-c-test.true (graph_of c.args.g.now) (derived_views c.loop-c.parts.items)
-    (derived_view c.in_ok-part.part) c.loop-c.invariant c.in_ok-part.ensures)
+    let views = sym (ap derived_views c.in_ok-push.ensures.items ∙ map-append derived_view c.loop-c.parts.items (c.in_ok-part.part ∷ [])) in (
+      subst (AreAccepted (graph_of c.args.g.now) (masks_of (take (c.loop-c.c-index + 1) c.args.districts.now))) views
+          (accepted_more c.args.districts.now c.loop-c.c-index c.loop-c-test.true (graph_of c.args.g.now) (derived_views c.loop-c.parts.items)
+          (derived_view c.in_ok-part.part) c.loop-c.invariant.0 c.in_ok-part.ensures.accepted),
+      subst (AreWellMade c.args.g.now.n) views
+          (made_push c.args.g.now.n (derived_views c.loop-c.parts.items) (derived_view c.in_ok-part.part) c.loop-c.invariant.1 c.in_ok-part.ensures.written),
+    )

@@ -27,8 +27,8 @@ derive_parts-requires-clause-found c =
     (ancestors_parents g c.args.g.now.valid a asked c.ancestors_of-ancestors.ensures)
     (first_masks c.districts-found.result.sets c.districts-found.result.count) c.districts-found.ensures.districts c.districts-found.ensures.maximal)
 
-pub returns : goal.returns
-returns c =
+pub returns-clause-accepted : goal.returns-clause-accepted
+returns-clause-accepted c =
     let g = graph_of c.args.g.now in
     if_ok c.derive_parts.result (λ v. AreAccepted g (masks_of (taken c.districts-found.result.sets c.districts-found.result.count)) (derived_views v.items))
     (λ v. AreAcceptedAmong g c.args.x.bits c.args.y.bits c.args.z.bits (derived_views v.items))
@@ -37,4 +37,4 @@ returns c =
       sets = first_masks c.districts-found.result.sets c.districts-found.result.count;
       are = record { ancestors = c.ancestors_of-ancestors.ensures; districts = c.districts-found.ensures.districts };
       accepted = subst (λ l. AreAccepted g l (derived_views v.items)) (first_are c.districts-found.result.sets c.districts-found.result.count) h;
-    }) c.derive_parts.ensures
+    }) c.derive_parts.ensures.accepted

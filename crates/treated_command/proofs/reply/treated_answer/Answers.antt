@@ -37,8 +37,8 @@ pub returns-in-Ok-clause-answer : goal.returns-in-Ok-clause-answer
 returns-in-Ok-clause-answer c =
     let at = (goal.at.returns-in-Ok-clause-answer c).After-asked_condition in
     let g = graph_of c.args.diagram.now.observed.graph in
-    subst (λ (l : Lists). IfOk c.decide.result (λ a. IsOfSets l (λ s. IsForSets g s a))) (same at)
-    (answer_of_lists g (lists at) c.in-Ok.sets c.in-Ok.ensures.sets c.decide.result c.decide.ensures.answer)
+    subst (λ (l : Lists). IfOk c.decide.result (λ a. IsOfSets l (λ s. IsForSets c.args.certified g s a))) (same at)
+    (answer_of_lists c.args.certified g (lists at) c.in-Ok.sets c.in-Ok.ensures.sets c.decide.result c.decide.ensures.answer)
 
 pub returns-in-Ok-clause-fault : goal.returns-in-Ok-clause-fault
 returns-in-Ok-clause-fault c =

@@ -26,7 +26,7 @@ identify_formula-requires-clause-some c =
     subst (λ k. 0 < k) (sym c.joint_of.ensures) (joint_some c.args.g.now.n s.x.bits s.y.bits s.given.bits c.requires.sets c.requires.some)
 
 pub returns-in-Hedge : goal.returns-in-Hedge
-returns-in-Hedge c =
+returns-in-Hedge c certified =
     let q = graph_of c.args.g.now in let s = c.args.asked.sets in
     let x = s.x.bits in let y = s.y.bits in let z = s.given.bits in
     let h = c.in-Hedge.hedge in let pair = c.in-Hedge.pair in
@@ -48,7 +48,7 @@ returns-in-Hedge c =
     )
 
 pub returns : goal.returns
-returns c =
+returns c certified =
     let q = graph_of c.args.g.now in let s = c.args.asked.sets in
     let target = target_of q s.x.bits s.y.bits s.given.bits c.requires.sets c.requires.before in (
       c.requires.asked,

@@ -10,6 +10,11 @@ returns-in-Formula c =
     subst (λ (a : Answer). OnOk c.push_formula_of.result (c.push_formula_of.new.object ≡ with_members (treated_members c.args.names.now a) c.args.object.now))
     (sym c.in-Formula.is) c.push_formula_of.ensures
 
+pub returns-in-Certified : goal.returns-in-Certified
+returns-in-Certified c =
+    subst (λ (a : Answer). OnOk c.push_certified.result (c.push_certified.new.object ≡ with_members (treated_members c.args.names.now a) c.args.object.now))
+    (sym c.in-Certified.is) c.push_certified.ensures
+
 pub returns-in-Excluded : goal.returns-in-Excluded
 returns-in-Excluded c =
     subst (λ (a : Answer). OnOk c.push_excluded.result (c.push_excluded.new.object ≡ with_members (treated_members c.args.names.now a) c.args.object.now))
