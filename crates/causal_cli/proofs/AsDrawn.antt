@@ -378,7 +378,7 @@ pub treats : (certified : Bool) (x y : Names) (given : List (List ℕ)) (d : Dia
     → IsTreatedAsDrawn d a
 treats certified x y given d a h =
     let sets = three_sets (query_lists d.read d.observed.names x y (Some given)) d.observed.graph.n h.sets.x.bits h.sets.y.bits h.sets.given.bits
-               d.observed.sized h.named in
+    d.observed.sized h.named in
     treats_sets certified d h.sets a (asked_of_sets (graph_of d.observed.graph) h.sets.x.bits h.sets.y.bits h.sets.given.bits sets h.is.before)
     (target_of (graph_of d.observed.graph) h.sets.x.bits h.sets.y.bits h.sets.given.bits sets h.is.before) h.is.decided
 

@@ -79,7 +79,7 @@ module _ (g : MixedGraph) (ok : IsMixedGraph g) (l : ℕ → Bool) (q : MixedGra
   some_event : (o : ℕ → Bool) → 1 ≤ event_weight w' o seen
   some_event o =
       let e = positive_weight q w' (q_mixed g ok l q is) (follows_of q w' fit') (positive g ok l q is w w' fit fit' folds observed) (λ v. false) o seen
-              seen_inside in
+      seen_inside in
       let is_none = weight_of-none w' (λ v. false) o seen (λ v. refl) in
       omega (arith, e, is_none)
 
