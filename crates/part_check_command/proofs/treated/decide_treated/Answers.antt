@@ -15,19 +15,21 @@ pub check_treated_parts-requires-clause-target : goal.check_treated_parts-requir
 check_treated_parts-requires-clause-target c =
     (among_question (graph_of c.args.seen.now.graph) (target_view c.args.target) c.in-Ok.asked c.requires.sets c.in-Ok.ensures.asked).target
 
-pub returns-in-Ok-2-clause-answer : goal.returns-in-Ok-2-clause-answer
-returns-in-Ok-2-clause-answer c = record {
+pub returns-in-Ok-check_treated_parts-clause-answer : goal.returns-in-Ok-check_treated_parts-clause-answer
+returns-in-Ok-check_treated_parts-clause-answer c = record {
   question = among_question (graph_of c.args.seen.now.graph) (target_view c.args.target) c.in-Ok.asked c.requires.sets c.in-Ok.ensures.asked;
   asked = c.in-Ok.ensures.asked.asked;
-  accepted = c.in-Ok-2.ensures.accepted;
-  equals = c.in-Ok-2.ensures.effect;
+  accepted = c.in-Ok-check_treated_parts.ensures.accepted;
+  equals = c.in-Ok-check_treated_parts.ensures.effect;
 }
 
-pub returns-in-Err-2 : goal.returns-in-Err-2
-returns-in-Err-2 c =
-    let q = graph_of c.args.seen.now.graph in let t = target_view c.args.target in let ps = derived_views c.args.parts.items in record {
-      answer = refused_among q t ps c.as_slice.result.now c.in-Err-2.fault
-          (among_question q t c.in-Ok.asked c.requires.sets c.in-Ok.ensures.asked) (c.as_slice.ensures.value ∙ c.in_ok-counts.ensures) c.in-Err-2.ensures.fault
-          c.refused.result c.refused.ensures.answer;
-      fault = wanting_alone (IsFaultAmong q c.args.seen.now.names t) c.refused.result c.refused.ensures.fault;
-    }
+pub returns-clause-answer : goal.returns-clause-answer
+returns-clause-answer c =
+    let q = graph_of c.args.seen.now.graph in let t = target_view c.args.target in
+    refused_among q t (derived_views c.args.parts.items) c.as_slice.result.now c.in-Err-check_treated_parts.fault
+    (among_question q t c.in-Ok.asked c.requires.sets c.in-Ok.ensures.asked) (c.as_slice.ensures.value ∙ c.in_ok-counts.ensures)
+    c.in-Err-check_treated_parts.ensures.fault c.refused.result c.refused.ensures.answer
+
+pub returns-clause-fault : goal.returns-clause-fault
+returns-clause-fault c =
+    wanting_alone (IsFaultAmong (graph_of c.args.seen.now.graph) c.args.seen.now.names (target_view c.args.target)) c.refused.result c.refused.ensures.fault
