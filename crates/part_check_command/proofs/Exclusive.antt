@@ -246,8 +246,13 @@ module _ (q : MixedGraph) (names : List (List ℕ)) (zs bytes : List ℕ) where
   ends (Ok (RefusedTreated why lemmas)) h = moved (treated h.target h.parts) No (holds_parts names bytes _ h.holds)
       (inr (inl ((h.is.question, λ a. treated_either q h.target.x h.target.y h.target.given h.parts a.read _ lemmas why a.accepted h.is.counted h.is.fault), refl)))
   ends (Ok (RefusedNatural why lemmas)) h = moved (natural h.target h.through h.parts) No (holds_parts names bytes _ h.holds)
-      (inr (inl ((h.is.question,
-      λ a. natural_either q h.target.x h.through h.target.y h.target.given h.parts a.read _ lemmas why a.accepted h.is.counted h.is.fault), refl)))
+      (inr (inl (
+        (
+          h.is.question,
+          λ a. natural_either q h.target.x h.through h.target.y h.target.given h.parts a.read _ lemmas why a.accepted h.is.counted h.is.fault,
+        ),
+        refl,
+      )))
   ends (Err (faults.Certificate TooLong)) h = moved none Second (long_none names bytes h) refl
   ends (Err (faults.Certificate (Faulty fault))) h = moved none Second (not_long names bytes h.small ∙ unread_none _ _ fault h.unread) refl
   ends (Err (faults.Certificate NoMemory)) h = absurd h

@@ -49,11 +49,7 @@ fn push_part(object: &mut Object, names: &Names, part: &Part) -> Result<(), Allo
 }
 
 /// The objects of the parts.
-fn push_each_part(
-    object: &mut Object,
-    names: &Names,
-    parts: &Vec<Part>,
-) -> Result<(), AllocError>
+fn push_each_part(object: &mut Object, names: &Names, parts: &Vec<Part>) -> Result<(), AllocError>
     ensures { OnOk result (object.new ≡ with_values (map (part_json names.now) parts.now.items) object.old) }
 {
     for part in parts {

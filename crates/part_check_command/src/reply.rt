@@ -111,11 +111,7 @@ fn answer_by_version(
 }
 
 /// The answer for a certificate that is of neither version 1 nor version 2: one in parts, or none.
-fn answer_in_parts(
-    alloc: Global,
-    seen: &ReadGraph,
-    certificate: &[u8],
-) -> Result<Answer, Fault>
+fn answer_in_parts(alloc: Global, seen: &ReadGraph, certificate: &[u8]) -> Result<Answer, Fault>
     requires small { length certificate.now ≤ 67108864 }
     requires version { IsOfOtherVersion seen.now.names certificate.now }
     ensures answer { IfOk result (λ a. (zs : List ℕ) → IsForText (graph_of seen.now.graph) seen.now.names zs certificate.now a) }

@@ -19,12 +19,7 @@ use treated_id::Pair;
 // ---- what is accepted
 
 /// Appends the lines of a part.
-fn push_part(
-    alloc: Global,
-    out: &mut Vec<u8>,
-    names: &Names,
-    part: &Part,
-) -> Result<(), AllocError>
+fn push_part(alloc: Global, out: &mut Vec<u8>, names: &Names, part: &Part) -> Result<(), AllocError>
     ensures { OnOk result (out.new.items ≡ out.old.items ++ part_text names.now part.now) }
 {
     let effect = district_effect(names, part);
