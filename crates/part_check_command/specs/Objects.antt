@@ -68,25 +68,31 @@ natural_members names a f = said_members (codes "accepted") ++ (
 abbrev pub numbered_members : ℕ → (message : List ℕ) → List (List ℕ × Json)
 numbered_members n message = (codes "number", number (decimal n)) ∷ (codes "message", string message) ∷ []
 
--- the messages
+-- fault 1 in words
 unfoldable pub pair_message : List ℕ
 pair_message = codes "the treatment is joined to this child of its own"
 
+-- fault 2 in words
 unfoldable pub witness_message : List ℕ
 witness_message = codes "the vertex reads both values of a treatment"
 
+-- fault 3 in words
 unfoldable pub split_message : List ℕ
 split_message = codes "the district reads both values of a treatment"
 
+-- fault 4 in words
 unfoldable pub missing_message : List ℕ
 missing_message = codes "the part of this district is missing"
 
+-- fault 5 in words
 unfoldable pub further_message : List ℕ
 further_message = codes "there is a further part"
 
+-- fault 6 in words
 unfoldable pub district_message : List ℕ
 district_message = codes "the part is of another district than this one, which is due"
 
+-- fault 7 in words
 unfoldable pub derivation_message : List ℕ
 derivation_message = codes "the derivation of the part isn't accepted"
 
