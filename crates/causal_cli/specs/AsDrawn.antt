@@ -111,7 +111,7 @@ pub record HasTwoModels (g : ReadGraph) (t : PlainTarget) : Type 0 where
 -- ---- identify
 
 -- The joint effect into which the target turns isn't identifiable, and two models give the target itself two values, so it has no formula; where its
--- observations settle it, it isn't identifiable by the same two models as the joint effect.
+-- observations settle it, it isn't identifiable either.
 pub record IsJointLost (g : ReadGraph) (t : PlainTarget) (settled : Bool) (h : EffectHedge) : Type 0 where
   pub joint : IsNotIdentifiable g (effect_of h)
   pub models : HasTwoModels g t
