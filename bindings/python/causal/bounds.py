@@ -11,7 +11,7 @@ from causal.answers import Adjustment, Path
 from causal.columns import Data, path_of
 from causal.display import Printed, html_table
 from causal.draws import drawn_numbers, seed_of
-from causal.effects import Level, LevelOf, Value, cell_text, digits, levels_at, typed_order
+from causal.effects import Level, LevelOf, Value, cell_text, digits, levels_at, levels_there, typed_order
 from causal.errors import CausalError, DataWarning, RequestError
 from causal.events import many_lost
 from causal.files import read_bytes
@@ -246,7 +246,12 @@ class EffectBounds(Sequence[EffectBound]):
         for place, bound in enumerate(self.bounds):
             if (bound.y, bound.x, bound.given) == wanted:
                 return place
-        raise RequestError(f"there are no bounds of {cell_text(*wanted)}; there are those of {', '.join(it.cell for it in self.bounds)}")
+        levels: Dict[str, Dict[Level, None]] = {}
+        for bound in self.bounds:
+            for name, level in (*bound.y.items(), *bound.under.items()):
+                levels.setdefault(name, {})[level] = None
+        there = levels_there({name: list(held) for name, held in levels.items()}, {**wanted[0], **wanted[1], **wanted[2]})
+        raise RequestError(f"there are no bounds of {cell_text(*wanted)}; {there}")
 
     def difference(self, y: Any, treated: Any, control: Any, given: Optional[Mapping[str, Level]] = None) -> EffectDifference:
         """What the difference of two effects is at least and at most: of the lower end and the other's upper one. Its interval is of the

@@ -223,6 +223,20 @@ def typed_order(names: Optional[Names]) -> Optional[Tuple[str, ...]]:
     return None if names is None or isinstance(names, AbstractSet) else names_of(names)
 
 
+def levels_there(levels: Mapping[str, Sequence[Level]], asked: Mapping[str, Level]) -> str:
+    """What levels the variables have of which another one was asked for.
+
+    >>> from causal.effects import levels_there
+    >>> levels_there({"T": ["a", "b"], "Y": [0, 1]}, {"T": "a", "Y": "1"})
+    'Y has 0, 1 (did you mean 1?)'
+    """
+    told = []
+    for name in [name for name in levels if name in asked and asked[name] not in levels[name]] or list(levels):
+        alike = [level for level in levels[name] if name in asked and str(level) == str(asked[name])]
+        told.append(f"{name} has {', '.join(map(repr, levels[name]))}" + (f" (did you mean {alike[0]!r}?)" if alike else ""))
+    return "; ".join(told)
+
+
 def levels_at(names: Sequence[str], levels: Any, typed: Optional[Sequence[str]] = None) -> Dict[str, Level]:
     """Levels by name, from a mapping, from a single level, or from a list in the order in which the names were typed.
 
@@ -361,13 +375,7 @@ class Effects(Sequence[Effect]):
 
     def _levels_there(self, asked: Mapping[str, Level]) -> str:
         """What levels the variables have of which another one was asked for."""
-        levels = self.levels
-        wrong = [name for name in levels if name in asked and asked[name] not in levels[name]] or list(levels)
-        told = []
-        for name in wrong:
-            alike = [level for level in levels[name] if name in asked and str(level) == str(asked[name])]
-            told.append(f"{name} has {', '.join(map(repr, levels[name]))}" + (f" (did you mean {alike[0]!r}?)" if alike else ""))
-        return "; ".join(told)
+        return levels_there(self.levels, asked)
 
     def at(self, y: Any, x: Any, given: Optional[Mapping[str, Level]] = None) -> Value:
         """The value at these levels, which are given as in `Diagram.contrast`.

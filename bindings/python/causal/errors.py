@@ -181,7 +181,7 @@ class NotIdentifiable(CausalError):
     ...     Diagram("dag { X -> Y X <-> Y }").effects({"X": ["a"], "Y": ["b"]}, "X", "Y")
     ... except NotIdentifiable as error:
     ...     print(error, error.place.big)
-    P(Y|do(X)) is not identifiable ('X', 'Y')
+    P(Y|do(X)) is not identifiable: the error's place has the hedge, and bounds(data, ..) says what the effect is at least and at most ('X', 'Y')
     """
 
 

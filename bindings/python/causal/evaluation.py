@@ -38,6 +38,8 @@ Given = Union[Names, Mapping[str, Level]]
 Values = Optional[Tuple[float, ...]]
 # So many of the minimal sets are tried where a formula has no value.
 MOST_TRIED = 12
+# What a refusal says of an effect without a formula.
+WITHOUT = ": the error's place has the hedge, and bounds(data, ..) says what the effect is at least and at most"
 OTHERWISE = (
     "support(data) shows the combinations that lack records, estimate(data, ..) gives a value by models, and bounds(data{}) what it is at"
     " least and at most"
@@ -492,7 +494,7 @@ def identified(
     """
     answer = diagram.identify(x, y, given, short)
     if isinstance(answer, Hedge):
-        raise NotIdentifiable(f"{answer.conditional or answer.target} is not identifiable", place=answer)
+        raise NotIdentifiable(f"{answer.conditional or answer.target} is not identifiable{WITHOUT}", place=answer)
     return answer
 
 

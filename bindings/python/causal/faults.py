@@ -4,6 +4,7 @@ from __future__ import annotations
 import re
 from typing import Any, Callable, Dict, NamedTuple, NoReturn, Optional, Sequence, Type
 
+from causal.doubts import EDGES
 from causal.errors import (
     CausalError,
     CertificateError,
@@ -60,6 +61,8 @@ def hint_in(fault: Told, text: bytes) -> str:
         return ""
     if fault["number"] == 2 and text[fault["byte"] :].startswith((b"//", b"/*", b"#")):
         return COMMENT
+    if fault["number"] == 2 and text[fault["byte"] :].startswith(b"-"):
+        return EDGES
     word = _WORD.match(text.strip()) if fault["number"] == 4 else None
     return KINDS.get(word.group(1).decode().lower(), "") if word else ""
 

@@ -136,7 +136,8 @@ class Mediation(Framed):
     @property
     def notes(self) -> Tuple[str, ...]:
         """What the numbers rest on."""
-        found = [f"computed: {self.formula.sets.effect} = {self.formula.expression}", *self.formula.sets.nil]
+        told = "computed" if self.fits else "formula"
+        found = [f"{told}: {self.formula.sets.effect} = {self.formula.expression}", *self.formula.sets.nil]
         found += ["by these models of its terms", *map(str, self.fits)] if self.fits else []
         found += [f"as numbers: {', '.join(self.as_numbers)}"] if self.as_numbers else []
         found += [f"pinned {levels_text(self.pinned)}"] if self.pinned else []
@@ -342,7 +343,7 @@ def mediated(
     worlds = Worlds(formula, table, coded, weights)
     (own,) = worlds.over(dense(table, worlds.size, [list(table.counts.values())]))
     if own is None:
-        raise EvaluationError("no record has some condition of the formula, so that the natural effects have no value over these data", 1)
+        raise EvaluationError("no record has some condition of the formula, so that the natural effects have no value over these data; model='logistic' gives values by models", 1)
     values = values_in_worlds(diagram, formula, table, arms, [Fraction(weight) for weight in weights], exact)
     if values is not None:
         check_near(own, values)

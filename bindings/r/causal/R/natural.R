@@ -60,7 +60,7 @@ mediate <- function(diagram, data, x = NULL, y = NULL, through, treated = NULL, 
   weights <- if (targets$mean) numbers_of(table, sets$y) else as.numeric(seq_along(table$levels[[sets$y]]) == targets$codes)
   values <- natural_values(formula, table, arms, weights)
   own <- values(matrix(table$counts))
-  if (anyNA(own)) refuse("no record has some condition of the formula, so that the natural effects have no value over these data", kind = "no_value")
+  if (anyNA(own)) refuse("no record has some condition of the formula, so that the natural effects have no value over these data; model = \"logistic\" gives values by models", kind = "no_value")
   told <- worlds_told(diagram, formula, table, arms, exact)
   if (!is.null(told)) {
     proved <- vapply(told, function(cells) sum(values_of(cells) * weights[cells$level]), 0)
@@ -253,7 +253,7 @@ print.causal_mediation <- function(x, digits = 4, ...) {
   formula <- attr(x, "formula")
   writeLines(c(paste0("treated: ", named_arm(x, "treated")[1], "; control: ", named_arm(x, "control")[1], "; ", if (attr(x, "mean")) "mean of " else "outcome: ",
                       attr(x, "outcome"), "; through ", paste(attr(x, "through"), collapse = ", ")),
-               paste0("computed: ", formula$effect, " = ", formula$expression), nil_notes(formula$sets), model_notes(attr(x, "models"), attr(x, "drawn")), head_notes(x)))
+               paste0(if (is.null(attr(x, "models"))) "formula: " else "computed: ", formula$effect, " = ", formula$expression), nil_notes(formula$sets), model_notes(attr(x, "models"), attr(x, "drawn")), head_notes(x)))
   shown <- as.data.frame(x)[c("measure", "estimate", "conf_low", "conf_high")]
   is_influence <- attr(x, "interval") == "influence"
   if (attr(x, "resamples") == 0 && !is_influence) shown <- shown[c("measure", "estimate")]

@@ -31,7 +31,7 @@ near(at(found, "indirect"), world(1, 1) - world(1, 0))
 near(at(found, "proportion"), at(found, "indirect") / at(found, "total"))
 stopifnot(all(found$conf_low[1:6] < found$estimate[1:6]), all(found$conf_high[1:6] > found$estimate[1:6]))
 printed <- capture.output(print(found))
-stopifnot(any(grepl("computed: P(Y[X,M[X']]) = sum{C,M} P(C)", printed, fixed = TRUE)), any(grepl("200 resamples, of which 0 had no value; seed 1", printed)))
+stopifnot(any(grepl("formula: P(Y[X,M[X']]) = sum{C,M} P(C)", printed, fixed = TRUE)), any(grepl("200 resamples, of which 0 had no value; seed 1", printed)))
 same(names(as.data.frame(found)), c("treated", "control", "measure", "estimate", "conf_low", "conf_high", "note"))
 
 # what is nil
