@@ -38,7 +38,8 @@ class NaturalSets:
 
 @dataclass(frozen=True)
 class District:
-    """A factor of a natural effect's formula: that of a district, which reads x by the names `reads`."""
+    """A factor of a natural effect's formula: that of a district, which reads x by the names `reads`; or a part of a certificate, which
+    doesn't tell them."""
 
     members: Tuple[str, ...]
     reads: Tuple[str, ...]
@@ -241,15 +242,16 @@ def read_natural(told: Told, question: Optional["Question"] = None) -> Natural:
 def _interventional(sets: NaturalSets, told: Optional[Told]) -> Optional[Interventional]:
     if told is None:
         return None
-    mediators, outcome = _factor(sets.through, told["mediators"]), _factor(sets.y, told["outcome"])
+    mediators, outcome = read_factor(sets.through, told["mediators"]), read_factor(sets.y, told["outcome"])
     return Interventional(told["effect"], told["formula"], mediators, outcome)
 
 
 def _district(told: Told) -> District:
-    return _factor(tuple(told["district"]), told)
+    return read_factor(tuple(told["district"]), told)
 
 
-def _factor(members: Tuple[str, ...], told: Told) -> District:
+def read_factor(members: Tuple[str, ...], told: Told) -> District:
+    """Reads the formula of a district, or of another set."""
     lists = {name: tuple(told[name]) for name in ("definitions", "free")}
     trees = (*told["definition_trees"], told["tree"])
-    return District(members, tuple(told["reads"]), told["effect"], told["formula"], trees=trees, latex=told["latex"], **lists)
+    return District(members, tuple(told.get("reads", ())), told["effect"], told["formula"], trees=trees, latex=told["latex"], **lists)

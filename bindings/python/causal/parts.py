@@ -6,8 +6,8 @@ from typing import Optional, Tuple
 
 from causal.answers import CertificateRefusal, Check
 from causal.display import Printed
-from causal.formula import Formula
 from causal.names import printed_name, printed_set
+from causal.natural import District, read_factor
 from causal.objects import Told
 
 
@@ -42,7 +42,7 @@ class PartsCheck(Check):
     """
 
     effect: str = ""
-    parts: Tuple[Formula, ...] = ()
+    parts: Tuple[District, ...] = ()
     refused_parts: Optional[PartsRefusal] = None
 
     @property
@@ -53,7 +53,7 @@ class PartsCheck(Check):
     def __str__(self) -> str:
         if self.refused_parts is not None:
             return str(self.refused_parts)
-        return "\n".join(["accepted", f"{self.effect} in parts:", *map(str, self.parts)])
+        return "\n".join(["accepted", f"{self.effect} in parts:", *(line for part in self.parts for line in part.whole)])
 
 
 def read_parts(told: Told) -> PartsCheck:
@@ -64,10 +64,10 @@ def read_parts(told: Told) -> PartsCheck:
     >>> print(read_parts({"answer": "refused", "of": "parts", "fault": fault}))
     refused: parts fault 1: X Z
     """
-    from causal.reading import read_check, read_formula
+    from causal.reading import read_check
 
     if told["answer"] == "accepted":
-        return PartsCheck(effect=told["effect"], parts=tuple(map(read_formula, told["parts"])))
+        return PartsCheck(effect=told["effect"], parts=tuple(read_factor(tuple(part["district"]), part) for part in told["parts"]))
     fault = told["fault"]
     vertices = tuple(fault[key] for key in ("treatment", "child", "vertex") if key in fault)
     derivation = read_check(fault["derivation"], False).refusal if "derivation" in fault else None

@@ -81,7 +81,9 @@ class PrintedAgain(unittest.TestCase):
         for case in cases_in_text():
             if case.status in (3, 4, 5):
                 with self.subTest(case.name):
-                    reply = causal.run([word for word in [*case.words, "--json"] if word != "--latex"], case.inputs)
+                    # (neither goes with --json: a certificate in parts stands on a line of its own)
+                    left_out = {"--latex", *(["--certificate"] if case.words[0] in ("treated", "natural") else [])}
+                    reply = causal.run([word for word in [*case.words, "--json"] if word not in left_out], case.inputs)
                     self.assertEqual((reply.status, reply.err.decode()), (case.status, case.err))
                     with self.assertRaises(errors.CausalError) as caught:
                         faults.raise_refusal(*reply, case.words, faults.Sources(case.inputs[case.words[1]]))

@@ -143,7 +143,7 @@ class Certificates(unittest.TestCase):
         judged = STONES.check_certificate(found)
         self.assertTrue(judged)
         self.assertIsInstance(judged, causal.PartsCheck)
-        self.assertEqual((judged.effect, [part.target.y for part in judged.parts]), ("P(R|do(T),T')", [("S",), ("T",), ("R",)]))
+        self.assertEqual((judged.effect, [part.members for part in judged.parts]), ("P(R|do(T),T')", [("S",), ("T",), ("R",)]))
         self.assertEqual(json.loads(found.certificate)["version"], 3)
         self.assertIsNone(found.steps)
 
