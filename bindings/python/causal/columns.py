@@ -17,6 +17,8 @@ Data = Union[str, "os.PathLike[str]", Mapping[str, Any], Any]
 
 _NUMBER = re.compile(r"\s*[-+]?([0-9]+\.?[0-9]*|\.[0-9]+)([eE][-+]?[0-9]+)?\s*")
 # An empty field, quoted or not: one between two commas, or at an end of a line.
+# What stands in a file of R, or of pandas, where there is no value.
+NOT_THERE = "NA"
 _BLANK = re.compile(rb'(?:\A|[,\r\n])(?:"")?(?=[,\r\n]|\Z)')
 
 
@@ -214,21 +216,21 @@ def only_place(places: Sequence[int], name: str, names: Iterable[str]) -> int:
 
 
 def may_have_blanks(text: bytes) -> bool:
-    """Whether a CSV text may have an empty field, in whatever column; where not, it has none.
+    """Whether a CSV text may have an empty field, or the `NA` that R and pandas write, in whatever column; where not, it has none.
 
     >>> from causal.columns import may_have_blanks
-    >>> may_have_blanks(b'X,Y\\n1,2\\n'), may_have_blanks(b'X,Y\\n1,""\\n'), may_have_blanks(b'X,Y\\n1,\\n')
-    (False, True, True)
+    >>> may_have_blanks(b'X,Y\\n1,2\\n'), may_have_blanks(b'X,Y\\n1,""\\n'), may_have_blanks(b'X,Y\\n1,\\n'), may_have_blanks(b'X,Y\\n1,NA\\n')
+    (False, True, True, True)
     """
-    return _BLANK.search(text.replace(b"\r\n", b"\n").rstrip(b"\r\n")) is not None
+    return NOT_THERE.encode() in text or _BLANK.search(text.replace(b"\r\n", b"\n").rstrip(b"\r\n")) is not None
 
 
 def csv_columns(text: bytes, used: Sequence[str]) -> Dict[str, Column]:
-    """The columns of a CSV text. An empty field is a missing value.
+    """The columns of a CSV text. An empty field is a missing value, and so is `NA`.
 
     >>> from causal.columns import csv_columns
-    >>> csv_columns(b"X,Y\\na,1\\n,2\\n", ["X"])["X"].missing
-    [False, True]
+    >>> csv_columns(b"X,Y\\na,1\\n,2\\nNA,3\\n", ["X"])["X"].missing
+    [False, True, True]
     """
     content = text[3:] if text.startswith(b"\xef\xbb\xbf") else text
     reader = csv.reader(io.StringIO(content.decode("utf-8", "surrogateescape"), newline=""))
@@ -238,5 +240,5 @@ def csv_columns(text: bytes, used: Sequence[str]) -> Dict[str, Column]:
     for name in used:
         place = only_place([k for k, label in enumerate(head) if label == name], name, head)
         values = [row[place] for row in rows]
-        columns[name] = Column(name, values, [not value for value in values], is_text=True)
+        columns[name] = Column(name, values, [value in ("", NOT_THERE) for value in values], is_text=True)
     return columns

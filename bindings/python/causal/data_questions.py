@@ -155,7 +155,7 @@ class DataQuestions:
         which reads no `set`, `zero` or `short`: what is given has the observed level besides, under the name of the exposure with a
         prime, as in `given={"T'": "B"}`. It is proved alike: the value covers the effect among these in each such model.
 
-        A missing value in a used column, an empty field of a file too, is refused as `MissingValues`; with `missing="drop"` its
+        A missing value in a used column, an empty field or `NA` in a file too, is refused as `MissingValues`; with `missing="drop"` its
         record is left out, and the answer's `dropped` counts these (which estimates the effect among complete records: whether
         that is the effect wanted isn't decided here); with `missing="level"` it is a level.
 
