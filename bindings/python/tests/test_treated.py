@@ -7,6 +7,11 @@ from fractions import Fraction
 import causal
 from causal import Diagram
 
+try:
+    import numpy
+except ImportError:
+    numpy = None
+
 STONES = Diagram("dag { S -> T -> R <- S }")
 COUNTS = {
     "S": ["small", "large"] * 4,
@@ -96,11 +101,8 @@ class Contrasts(unittest.TestCase):
         # what an arm's risk is read from: the records with that treatment
         self.assertEqual([support.records for support in found.interval.support], [350, 350])
 
+    @unittest.skipIf(numpy is None, "no numpy")
     def test_as_by_models(self):
-        try:
-            import numpy  # noqa: F401
-        except ImportError:
-            self.skipTest("no numpy")
         table = STONES.estimate(COUNTS, "T", "R", **self.ARMS, observed="B", model="table", smoothing=0, resamples=2)
         found = STONES.contrast(COUNTS, "T", "R", **self.ARMS, observed="B", resamples=0)
         self.assertAlmostEqual(float(found.difference), float(table.difference), places=12)
@@ -115,15 +117,13 @@ class Contrasts(unittest.TestCase):
         with self.assertRaisesRegex(causal.RequestError, "T' has 'A', 'B'"):
             STONES.contrast(COUNTS, "T", "R", **self.ARMS, observed="C", resamples=0)
 
+    @unittest.skipIf(numpy is None, "no numpy")
     def test_weights(self):
         data = records(COUNTS)
         data["w"] = [2.0] * len(data["T"])
         arms = {name: level for name, level in self.ARMS.items() if name != "count"}
         plain = STONES.contrast(COUNTS, "T", "R", **self.ARMS, observed="B", resamples=0, exact=True)
-        try:
-            found = STONES.contrast(data, "T", "R", **arms, observed="B", weights="w", resamples=50, exact=True)
-        except causal.PackageMissing:
-            self.skipTest("no numpy")
+        found = STONES.contrast(data, "T", "R", **arms, observed="B", weights="w", resamples=50, exact=True)
         self.assertEqual(found.difference.exact, plain.difference.exact)
         self.assertIsNotNone(found.interval.difference)
 
