@@ -1,6 +1,6 @@
 -- Where the procedure stops, one thing is told of its hedge: its text, its certificate, and the members of its object.
 use Rattle.std.proofs.Common.{◌≡◌, ◌≤◌, ℕ, Bool, List, ◌∷◌, ◌++◌, Some, sym, ap, ap₂, ◌∙◌, subst}
-use Rattle.std.specs.Prelude.{codes}
+use Rattle.std.specs.Prelude.{codes, if◌then◌else◌}
 use Rattle.json.specs.Json.{Json, boolean}
 use Rattle.mixed_graph.specs.Vocabulary.{MixedGraph, IsMixedGraph}
 use Rattle.hedge.specs.declared.hedge.Hedge.{Hedge}
@@ -14,7 +14,7 @@ use Rattle.certificate.specs.Plain as plain
 use Rattle.certificate_json.specs.Vocabulary.{certificate_line}
 use Rattle.targets.specs.declared.query.EffectSets.{EffectSets}
 use Rattle.told.specs.declared.form.Writing.{Writing}
-use Rattle.told.specs.declared.form.Writing.TheVariants.{Plain, Latex, Certificate}
+use Rattle.told.specs.Vocabulary.{is_certified}
 use Rattle.effect_answers.specs.declared.hedges.EffectHedge.{EffectHedge}
 use Rattle.effect_answers.specs.Certificates.{member_in}
 use Rattle.effect_answers.specs.HedgeTelling.{hedge_certificate, hedge_text, joint_text, pair_object, hedge_object, joint_object}
@@ -61,18 +61,14 @@ module _ (q : MixedGraph) (valid : IsMixedGraph q) (few : q.vertices ≤ 64) (na
 
   -- one text
   pub one_hedge_text : (w : Writing) → hedge_text w names k ≡ hedge_text w names h
-  one_hedge_text Plain = shown
-  one_hedge_text Latex = shown
-  one_hedge_text Certificate = ap (certificate_line names) certificates
+  one_hedge_text w = ap₂ (λ (c l : List ℕ). if is_certified w then c else l) (ap (certificate_line names) certificates) shown
 
   joined : (t : PlainTarget) → joint_answer names t k.sets.x.bits k.sets.y.bits k.hedge k.pair ≡ joint_answer names t x y h.hedge h.pair
   joined t = ap (λ (l : List ℕ). text_of names (term_of t) ++ (codes " not identified; " ++ l)) shown
 
   -- also where a target turns into the effect
   pub one_joint_text : (w : Writing) (t : PlainTarget) → joint_text w names t k ≡ joint_text w names t h
-  one_joint_text Plain t = joined t
-  one_joint_text Latex t = joined t
-  one_joint_text Certificate t = ap (certificate_line names) certificates
+  one_joint_text w t = ap₂ (λ (c l : List ℕ). if is_certified w then c else l) (ap (certificate_line names) certificates) (joined t)
 
   models : (w : Writing) → pair_object w names k ≡ pair_object w names h
   models w = ap₂ (λ (l m : List (List ℕ × Json)). l ++ m) (objects_alike names h.hedge k.hedge h.pair k.pair alike pairs)

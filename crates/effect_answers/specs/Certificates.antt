@@ -1,11 +1,11 @@
 -- Certificates of answers: as text, as a member of an object, and that they are read back.
-use Rattle.std.specs.Prelude.{ℕ, ◌≡◌, List, [], ◌∷◌, Option, Some, None, length, Ok, codes}
+use Rattle.std.specs.Prelude.{ℕ, ◌≡◌, List, [], ◌∷◌, Option, Some, None, length, Ok, codes, if◌then◌else◌}
 use Rattle.json.specs.Json.{Json}
 use Rattle.mixed_graph.specs.Vocabulary.{AreNames}
 use Rattle.certificate.specs.Vocabulary.{PlainCertificate, certificate_in}
 use Rattle.certificate_json.specs.Vocabulary.{certificate_json, certificate_text, certificate_line}
 use Rattle.told.specs.declared.form.Writing.{Writing}
-use Rattle.told.specs.declared.form.Writing.TheVariants.{Plain, Latex, Certificate}
+use Rattle.told.specs.Vocabulary.{is_certified}
 
 -- the line of a certificate, where there is one; else this text
 abbrev pub line_or : List (List ℕ) → Option PlainCertificate → (text : List ℕ) → List ℕ
@@ -19,9 +19,7 @@ member_of names None = []
 
 -- the same, where a certificate is asked for
 abbrev pub member_in : Writing → List (List ℕ) → Option PlainCertificate → List (List ℕ × Json)
-member_in Plain names c = []
-member_in Latex names c = []
-member_in Certificate names c = member_of names c
+member_in w names c = if is_certified w then member_of names c else []
 
 -- the certificate is read back as it was written, by any names of that many vertices
 abbrev pub IsReadBack : (vertices : ℕ) → PlainCertificate → Type 0

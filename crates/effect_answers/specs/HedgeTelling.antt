@@ -1,5 +1,5 @@
 -- What is told of a hedge with its two models.
-use Rattle.std.specs.Prelude.{ℕ, Bool, List, ◌∷◌, ◌++◌, Some, codes}
+use Rattle.std.specs.Prelude.{ℕ, Bool, List, ◌∷◌, ◌++◌, Some, codes, if◌then◌else◌}
 use Rattle.json.specs.Json.{Json, boolean}
 use Rattle.prob_expr.specs.Vocabulary.{PlainTarget, effect_on}
 use Rattle.identify_text.specs.Vocabulary.{hedge_answer, joint_answer}
@@ -7,7 +7,7 @@ use Rattle.certificate.specs.Vocabulary.{PlainCertificate, hedge_view}
 use Rattle.certificate.specs.Plain as plain
 use Rattle.certificate_json.specs.Vocabulary.{certificate_line}
 use Rattle.told.specs.declared.form.Writing.{Writing}
-use Rattle.told.specs.declared.form.Writing.TheVariants.{Plain, Latex, Certificate}
+use Rattle.told.specs.Vocabulary.{is_certified}
 use Rattle.effect_answers.specs.declared.hedges.EffectHedge.{EffectHedge}
 use Rattle.effect_answers.specs.Certificates.{member_in}
 use Rattle.effect_answers.specs.Objects.{joint_members, hedge_members}
@@ -20,17 +20,15 @@ effect_of a = effect_on a.sets.x.bits a.sets.y.bits
 abbrev pub hedge_certificate : EffectHedge → PlainCertificate
 hedge_certificate a = plain.hedge (effect_of a) (hedge_view a.hedge)
 
--- its text, or its certificate
+-- its text, or its certificate, where that is asked for
 abbrev pub hedge_text : Writing → List (List ℕ) → EffectHedge → List ℕ
-hedge_text Plain names a = hedge_answer names a.sets.x.bits a.sets.y.bits a.hedge a.pair
-hedge_text Latex names a = hedge_answer names a.sets.x.bits a.sets.y.bits a.hedge a.pair
-hedge_text Certificate names a = certificate_line names (hedge_certificate a)
+hedge_text w names a =
+    if is_certified w then certificate_line names (hedge_certificate a) else hedge_answer names a.sets.x.bits a.sets.y.bits a.hedge a.pair
 
 -- the same where the target turns into the effect of x on y
 abbrev pub joint_text : Writing → List (List ℕ) → PlainTarget → EffectHedge → List ℕ
-joint_text Plain names t a = joint_answer names t a.sets.x.bits a.sets.y.bits a.hedge a.pair
-joint_text Latex names t a = joint_answer names t a.sets.x.bits a.sets.y.bits a.hedge a.pair
-joint_text Certificate names t a = certificate_line names (hedge_certificate a)
+joint_text w names t a =
+    if is_certified w then certificate_line names (hedge_certificate a) else joint_answer names t a.sets.x.bits a.sets.y.bits a.hedge a.pair
 
 -- what stands in its object behind the effect of x on y: the hedge with its two models, and the certificate, where that is asked for
 abbrev pub pair_object : Writing → List (List ℕ) → EffectHedge → List (List ℕ × Json)

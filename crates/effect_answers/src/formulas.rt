@@ -4,7 +4,6 @@ ghost use Rattle.std.specs.Prelude.{◌≡◌, Some, IfOk, OnOk};
 
 use crate::objects::{push_formula, push_target};
 use answer_json::Object;
-use answer_text::Notation;
 use certificate_json::{formula_certificate_line, push_formula_certificate};
 use do_derivation::Derivation;
 use identify_text::answer_in;
@@ -24,9 +23,8 @@ pub struct EffectFormula {
 
 impl EffectFormula {
     ghost use Rattle.answer_json.specs.Progress.{with_members};
-    ghost use Rattle.effect_answers.specs.Certificates.{member_of, member_in};
-    ghost use Rattle.effect_answers.specs.FormulaTelling.{formula_certificate, formula_text, formula_object};
-    ghost use Rattle.told.specs.declared.form.Writing.TheVariants as writings;
+    ghost use Rattle.effect_answers.specs.Certificates.{line_or, member_of, member_in};
+    ghost use Rattle.effect_answers.specs.FormulaTelling.{formula_certificate, formula_line, formula_text, formula_object};
 
     /// The target, an equals sign and the formula; or the certificate, where that is asked for and the derivation is there.
     pub fn text(
@@ -37,22 +35,39 @@ impl EffectFormula {
     ) -> Result<Vec<u8>, AllocError>
         ensures { IfOk result (λ v. v.items ≡ formula_text writing names.now self.now) }
     {
-        match writing {
-            Writing::Plain => answer_in(alloc, Notation::Plain, &self.formula, &self.target, names),
-            Writing::Latex => answer_in(alloc, Notation::Latex, &self.formula, &self.target, names),
-            Writing::Certificate => self.certificate_line(alloc, names),
+        if writing.is_certified() {
+            return self.certificate_or_line(alloc, names, writing);
         }
+        self.line(alloc, names, writing)
     }
 
-    /// The certificate, where the derivation is there.
-    fn certificate_line(&self, alloc: Global, names: &Names) -> Result<Vec<u8>, AllocError>
-        ensures { IfOk result (λ v. v.items ≡ formula_text writings.Certificate names.now self.now) }
+    /// The target, an equals sign and the formula.
+    fn line(&self, alloc: Global, names: &Names, writing: Writing) -> Result<Vec<u8>, AllocError>
+        ensures { IfOk result (λ v. v.items ≡ formula_line writing names.now self.now) }
+    {
+        answer_in(
+            alloc,
+            writing.notation(),
+            &self.formula,
+            &self.target,
+            names,
+        )
+    }
+
+    /// The certificate, where the derivation is there; else that line.
+    fn certificate_or_line(
+        &self,
+        alloc: Global,
+        names: &Names,
+        writing: Writing,
+    ) -> Result<Vec<u8>, AllocError>
+        ensures { IfOk result (λ v. v.items ≡ line_or names.now (formula_certificate self.now) (formula_line writing names.now self.now)) }
     {
         match &self.derivation {
             Some(derivation) => {
                 formula_certificate_line(alloc, names, &self.target, &self.formula, derivation)
             }
-            None => answer_in(alloc, Notation::Plain, &self.formula, &self.target, names),
+            None => self.line(alloc, names, writing),
         }
     }
 
@@ -80,10 +95,10 @@ impl EffectFormula {
     ) -> Result<(), AllocError>
         ensures { OnOk result (object.new ≡ with_members (member_in writing names.now (formula_certificate self.now)) object.old) }
     {
-        match writing {
-            Writing::Plain | Writing::Latex => Ok(()),
-            Writing::Certificate => self.push_derived(object, names),
+        if writing.is_certified() {
+            return self.push_derived(object, names);
         }
+        Ok(())
     }
 
     /// Adds the member of the certificate, where the derivation is there.

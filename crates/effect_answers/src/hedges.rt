@@ -40,17 +40,11 @@ impl EffectHedge {
     ) -> Result<Vec<u8>, AllocError>
         ensures { IfOk result (λ v. v.items ≡ hedge_text writing names.now self.now) }
     {
-        match writing {
-            Writing::Plain | Writing::Latex => hedge_answer(
-                alloc,
-                self.sets.x,
-                self.sets.y,
-                &self.hedge,
-                &self.pair,
-                names,
-            ),
-            Writing::Certificate => self.certificate_line(alloc, names),
+        if writing.is_certified() {
+            return self.certificate_line(alloc, names);
         }
+        let EffectSets { x, y } = self.sets;
+        hedge_answer(alloc, x, y, &self.hedge, &self.pair, names)
     }
 
     /// The same where a target turns into the effect of x on y.
@@ -63,18 +57,11 @@ impl EffectHedge {
     ) -> Result<Vec<u8>, AllocError>
         ensures { IfOk result (λ v. v.items ≡ joint_text writing names.now (target_view target.now) self.now) }
     {
-        match writing {
-            Writing::Plain | Writing::Latex => joint_answer(
-                alloc,
-                target,
-                self.sets.x,
-                self.sets.y,
-                &self.hedge,
-                &self.pair,
-                names,
-            ),
-            Writing::Certificate => self.certificate_line(alloc, names),
+        if writing.is_certified() {
+            return self.certificate_line(alloc, names);
         }
+        let EffectSets { x, y } = self.sets;
+        joint_answer(alloc, target, x, y, &self.hedge, &self.pair, names)
     }
 
     /// The certificate.
@@ -137,10 +124,10 @@ impl EffectHedge {
     ) -> Result<(), AllocError>
         ensures { OnOk result (object.new ≡ with_members (member_in writing names.now (Some (hedge_certificate self.now))) object.old) }
     {
-        match writing {
-            Writing::Plain | Writing::Latex => Ok(()),
-            Writing::Certificate => self.push_certified(object, names),
+        if writing.is_certified() {
+            return self.push_certified(object, names);
         }
+        Ok(())
     }
 
     /// Adds the member of the certificate.

@@ -1,5 +1,5 @@
 -- One thing is told of the formula of an effect, but for a short one, and so it is of a hedge.
-use Rattle.std.proofs.Common.{◌≡◌, ◌≤◌, ℕ, Bool, false, List, Ok, refl, sym, ap, ap₂, ◌∙◌, subst, arith}
+use Rattle.std.proofs.Common.{◌≡◌, ◌≤◌, ℕ, Bool, true, false, List, Ok, refl, sym, ap, ap₂, ◌∙◌, subst, arith}
 use Rattle.mixed_graph.specs.Vocabulary.{MixedGraph, IsMixedGraph, union}
 use Rattle.finite_models.proofs.Bools.{same_truth}
 use Rattle.prob_expr.specs.Vocabulary.{PlainFormula, PlainTarget, effect_on, target_view, formula_view}
@@ -16,7 +16,6 @@ use Rattle.replies.proofs.OneTarget.{one_set}
 use Rattle.replies.specs.declared.outcome.Outcome.TheVariants.{Yes}
 use Rattle.replies.specs.Vocabulary.{code_of, answer_of, text_in}
 use Rattle.told.specs.declared.form.Writing.{Writing}
-use Rattle.told.specs.declared.form.Writing.TheVariants.{Certificate}
 use Rattle.told.specs.Vocabulary.{is_certified, target_refusal, told_in}
 use Rattle.effect_answers.specs.declared.formulas.EffectFormula.{EffectFormula}
 use Rattle.effect_answers.specs.declared.hedges.EffectHedge.{EffectHedge}
@@ -74,8 +73,8 @@ module _ (w : Writing) (names : List (List ℕ)) where
       → AreOne w names (Formula f) (Formula g)
   formulas t f g d e at_t of_t fs ds kept other =
       let ts = of_t ∙ sym at_t in
-      let certified = λ (c : w ≡ Certificate). one_certificate f g d e ts fs ds
-      (subst (λ (v : Writing). IsKept (is_certified v) f.derivation d) c kept) (subst (λ (v : Writing). IsKept (is_certified v) g.derivation e) c other) in
+      let certified = λ (c : is_certified w ≡ true). one_certificate f g d e ts fs ds
+      (subst (λ (b : Bool). IsKept b f.derivation d) c kept) (subst (λ (b : Bool). IsKept b g.derivation e) c other) in
       record { text = one_formula_text names f g ts fs w certified; object = one_formula_object names f g ts fs w certified }
 
   -- effects and targets

@@ -1,6 +1,6 @@
 -- Of two answers over experiments that are right and end alike one thing is told.
-use Rattle.std.proofs.Common.{◌≡◌, ◌≤◌, ℕ, true, List, [], ◌∷◌, ◌++◌, Option, Some, None, Ok, refl, sym, ap, ◌∙◌, subst, arith}
-use Rattle.std.specs.Prelude.{◌↔◌, IsSome, IfSome, codes}
+use Rattle.std.proofs.Common.{◌≡◌, ◌≤◌, ℕ, true, List, [], ◌∷◌, ◌++◌, Option, Some, None, Ok, refl, sym, ap, ap₂, ◌∙◌, subst, arith}
+use Rattle.std.specs.Prelude.{◌↔◌, IsSome, IfSome, codes, if◌then◌else◌}
 use Rattle.std.proofs.lemmas.Bool.{false≢true}
 use Rattle.json.specs.Json.{Json, string}
 use Rattle.mixed_graph.specs.declared.sets.VSet.{VSet}
@@ -24,7 +24,7 @@ use Rattle.effect_answers.specs.Vocabulary.{effect_json, member_in, formula_cert
 use Rattle.replies.proofs.OneTarget as targets
 use Rattle.replies.specs.Vocabulary.{code_of, answer_of, text_in}
 use Rattle.told.specs.declared.form.Writing.{Writing as ToldWriting}
-use Rattle.told.specs.Vocabulary.{target_refusal, told_in}
+use Rattle.told.specs.Vocabulary.{is_certified, target_refusal, told_in}
 use Rattle.told.specs.declared.form.Writing.TheVariants as told
 use Rattle.effect_answers.proofs.OneHedge.{AreAlike, hedges_alike}
 use Rattle.effect_answers.proofs.AlikePairs.{ArePairsAlike, pairs_alike}
@@ -164,9 +164,7 @@ module _ (q : MixedGraph) (valid : IsMixedGraph q) (few : q.vertices ≤ 64) (na
         λ i. unidentifiable_with_line names (same.x i) (same.y i) ++ (district_line names (districts i) ++ (sets i ++ models i))
 
     block_text : (w : ToldWriting) → surrogate_text w names (stop_shown true t e c.hedge (Some c)) ≡ surrogate_text w names (stop_shown true s d b.hedge (Some b))
-    block_text told.Plain = lines
-    block_text told.Latex = lines
-    block_text told.Certificate = ap (certificate_line names) certificate
+    block_text w = ap₂ (λ (c l : List ℕ). if is_certified w then c else l) (ap (certificate_line names) certificate) lines
 
     blocked_one : (w : ToldWriting) (h k : Hedge) → AreOne w names (stop_shown true s d h (Some b)) (stop_shown true t e k (Some c))
     blocked_one w h k =

@@ -1,11 +1,11 @@
 -- The parts of what is told of an answer.
-use Rattle.std.specs.Prelude.{ℕ, List, ◌++◌, Some, codes}
+use Rattle.std.specs.Prelude.{ℕ, List, ◌++◌, Some, codes, if◌then◌else◌}
 use Rattle.json.specs.Json.{Json}
 use Rattle.prob_expr.specs.Vocabulary.{PlainTarget, target_view, formula_view}
 use Rattle.hedge.specs.declared.hedge.Hedge.{Hedge}
 use Rattle.certificate_json.specs.Vocabulary.{certificate_line}
 use Rattle.told.specs.declared.form.Writing.{Writing}
-use Rattle.told.specs.declared.form.Writing.TheVariants.{Plain, Latex, Certificate}
+use Rattle.told.specs.Vocabulary.{is_certified}
 use Rattle.effect_answers.specs.declared.formulas.EffectFormula.{EffectFormula}
 use Rattle.effect_answers.specs.declared.hedges.EffectHedge.{EffectHedge}
 use Rattle.effect_answers.specs.Vocabulary.{member_in, formula_certificate, hedge_certificate}
@@ -14,9 +14,8 @@ use Rattle.surrogate_command.specs.Objects.{formula_answer, stop_members, common
 
 -- a common hedge with its two models, or its certificate
 abbrev pub blocked_text : Writing → List (List ℕ) → (x y district : ℕ) → EffectHedge → List ℕ
-blocked_text Plain names x y district h = common_answer names x y district h.hedge h.pair
-blocked_text Latex names x y district h = common_answer names x y district h.hedge h.pair
-blocked_text Certificate names x y district h = certificate_line names (hedge_certificate h)
+blocked_text w names x y district h =
+    if is_certified w then certificate_line names (hedge_certificate h) else common_answer names x y district h.hedge h.pair
 
 -- the members of a formula over experiments on zs
 abbrev pub found_object : Writing → List (List ℕ) → List ℕ → EffectFormula → List (List ℕ × Json)

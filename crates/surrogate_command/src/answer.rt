@@ -81,17 +81,10 @@ fn blocked_text(
 ) -> Result<Vec<u8>, AllocError>
     ensures { IfOk result (λ v. v.items ≡ blocked_text writing names.now sets.now.x.bits sets.now.y.bits district.bits hedge.now) }
 {
-    match writing {
-        Writing::Plain | Writing::Latex => common_answer(
-            alloc,
-            sets,
-            district,
-            &hedge.hedge,
-            &hedge.pair,
-            names,
-        ),
-        Writing::Certificate => hedge.certificate_line(alloc, names),
+    if writing.is_certified() {
+        return hedge.certificate_line(alloc, names);
     }
+    common_answer(alloc, sets, district, &hedge.hedge, &hedge.pair, names)
 }
 
 /// Adds the members of a formula over experiments.
