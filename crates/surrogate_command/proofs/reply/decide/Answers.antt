@@ -1,4 +1,4 @@
-use Rattle.std.proofs.Common.{◌≤◌, ◌≡◌, ◌↔◌, ℕ, List, Some, None, true, length, refl, sym, ap, ◌∙◌, subst, IsTrue}
+use Rattle.std.proofs.Common.{◌≤◌, ◌≡◌, ◌↔◌, List, Some, None, true, length, refl, sym, ap, subst, IsTrue}
 use Rattle.mixed_graph.specs.declared.sets.VSet.{VSet}
 use Rattle.mixed_graph.specs.Vocabulary.{graph_of}
 use Rattle.prob_expr.specs.Vocabulary.{fault_in, masks_of, effect_on, formula_view}
@@ -8,7 +8,7 @@ use Rattle.effect_answers.proofs.ReadBack.{formula_back}
 use Rattle.effect_answers.proofs.Shallow.{formula_shallow}
 use Rattle.effect_answers.proofs.Writing.{bare_target}
 use Rattle.surrogates.specs.Vocabulary.{IsRightWith, IfFormula, IfStopped, IfCommon, IsStopShown, IsBlockShown, IsBlockedTogether, HasCommon, is_stopped, IsSurrogate, IsSurrogateBySteps, SomeBlocked}
-use Rattle.surrogate_command.specs.Right.{IsFormula, stop_shown, Decides}
+use Rattle.surrogate_command.specs.Right.{IsFormula}
 use Rattle.surrogate_command.proofs.Stops.{stop_decided}
 use Rattle.surrogate_command.proofs.reply.decide.Goals as goal
 
