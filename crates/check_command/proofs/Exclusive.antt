@@ -1,6 +1,6 @@
--- Right answers of a certificate end alike, and a text that has one isn't refused; lists with a name at fault name no experiments.
+-- Right answers of a certificate end alike, and a text that has one isn't refused.
 use Rattle.std.proofs.Common.{◌≡◌, ◌⊎◌, ℕ, true, List, Result, Ok, Err, inl, inr, refl, sym, ◌∙◌, subst, arith}
-use Rattle.mixed_graph.specs.Vocabulary.{MixedGraph, graph_of}
+use Rattle.mixed_graph.specs.Vocabulary.{MixedGraph}
 use Rattle.prob_expr.specs.Vocabulary.{is_listed, PlainFormula, PlainTarget}
 use Rattle.do_derivation.specs.Accepts.{Accepts}
 use Rattle.do_derivation.specs.declared.faults.CheckFault.{CheckFault}
@@ -12,16 +12,10 @@ use Rattle.counter_models.specs.Vocabulary.{IsHarmlessTo}
 use Rattle.certificate.specs.declared.fault.CertFault.{CertFault}
 use Rattle.certificate.specs.Vocabulary.{PlainCertificate, hedge_view}
 use Rattle.certificate.specs.Plain as plain
-use Rattle.targets.specs.declared.fault.TargetFault.{TargetFault}
-use Rattle.diagram.specs.declared.diagram.Diagram.{Diagram}
-use Rattle.diagram.proofs.OneDiagram.{AreSameDiagrams, same_drawing}
 use Rattle.replies.specs.declared.outcome.Outcome.TheVariants.{Yes, No}
-use Rattle.experiment_lists.specs.Vocabulary.{experiments_fault, AreExperimentSets, Lists}
-use Rattle.experiment_lists.proofs.NoFault.{no_experiments_fault}
-use Rattle.experiment_lists.proofs.OneSet.{one_by_one}
-use Rattle.told.specs.Vocabulary.{target_refusal, outcome_in}
+use Rattle.told.specs.Vocabulary.{outcome_in}
 use Rattle.check_command.specs.CertificateFaults.{certificate_refusal}
-use Rattle.check_command.specs.Right.{AreExperimentsOn, IsForFirst, HoldsCertificate, IsForText, of_formula, of_hedge, IsCertificateFault, IsForCertificate}
+use Rattle.check_command.specs.Right.{HoldsCertificate, IsForText, of_formula, of_hedge, IsCertificateFault, IsForCertificate}
 use Rattle.check_command.specs.Telling.{outcome_of, check_telling}
 use Rattle.check_command.specs.declared.answer.Answer.{Answer}
 use Rattle.check_command.specs.declared.answer.Answer.TheVariants.{AcceptedFormula, RefusedDerivation, AcceptedHedge, RefusedHedge, MetHedge}
@@ -112,32 +106,3 @@ module _ (q : MixedGraph) (names : List (List ℕ)) (zs bytes : List ℕ) where
   certificate_alike (Ok a) (Err fault) x y = absurd (answered_or_faulty a fault x y)
   certificate_alike (Err fault) (Ok b) x y = absurd (answered_or_faulty b fault y x)
   certificate_alike (Err fault) (Err other) x y = refl
-
--- ---- on diagrams that are the same
-
-pub second_alike : (d e : Diagram) → AreSameDiagrams d e → (experiments : Lists) (zs ws : List ℕ) → AreExperimentsOn d.read.names d.observed.names experiments zs
-    → AreExperimentsOn e.read.names e.observed.names experiments ws → (bytes : List ℕ) (a b : Result Answer CertificateFault)
-    → IsForCertificate (graph_of d.observed.graph) d.observed.names zs bytes a → IsForCertificate (graph_of e.observed.graph) e.observed.names ws bytes b
-    → outcome_in check_telling certificate_refusal a ≡ outcome_in check_telling certificate_refusal b
-second_alike d e same experiments zs ws n m bytes a b x y =
-    let seen = d.observed.names in
-    let others : AreExperimentSets seen experiments ws = subst (λ (ns : List (List ℕ)). AreExperimentSets ns experiments ws) same.observed.names m.sets in
-    certificate_alike (graph_of d.observed.graph) seen zs bytes a b x
-    (subst (λ (vs : List ℕ). IsForCertificate (graph_of d.observed.graph) seen vs bytes b) (one_by_one seen experiments zs ws n.sets others)
-    (subst (λ (ns : List (List ℕ)). IsForCertificate (graph_of d.observed.graph) ns ws bytes b) same.observed.names
-    (subst (λ (g : MixedGraph). IsForCertificate g e.observed.names ws bytes b) (sym (same_drawing d e same)) y)))
-
-pub first_alike : (d e : Diagram) (experiments : Lists) (a b : Result Answer TargetFault) → IsForFirst d experiments a → IsForFirst e experiments b
-    → outcome_in check_telling target_refusal a ≡ outcome_in check_telling target_refusal b
-first_alike d e experiments (Ok a) b f g = absurd f
-first_alike d e experiments (Err fault) (Ok b) f g = absurd g
-first_alike d e experiments (Err fault) (Err other) f g = refl
-
--- a diagram on which a name of the lists is at fault isn't accepted for them
-pub first_alone : (d e : Diagram) → AreSameDiagrams d e → (experiments : Lists) (a : Result Answer TargetFault) (zs : List ℕ) → IsForFirst d experiments a
-    → AreExperimentsOn e.read.names e.observed.names experiments zs → ⊥
-first_alone d e same experiments (Ok a) zs f are = f
-first_alone d e same experiments (Err fault) zs f are =
-    let moved : experiments_fault e.read.names e.observed.names experiments ≡ experiments_fault d.read.names d.observed.names experiments =
-    λ i. experiments_fault (same.read.names i) (same.observed.names i) experiments in
-    no_experiments_fault d.read.names d.observed.names experiments fault (sym moved ∙ are.no_fault) f

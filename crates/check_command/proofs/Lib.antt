@@ -3,7 +3,7 @@ pub mod ReadFormulas
 pub mod ReadTargets
 pub mod Using
 mod Deciding
-mod Replied
+pub mod Replied
 mod OneHedge
 pub mod Exclusive
 pub mod Lawful

@@ -3,7 +3,7 @@ use Rattle.std.specs.Prelude.{ℕ, List, [], ◌∷◌, ◌++◌, codes}
 use Rattle.json.specs.Json.{Json, string}
 use Rattle.prob_expr.specs.Vocabulary.{PlainFormula, PlainTarget, effect_on}
 use Rattle.hedge.specs.declared.hedge.Hedge.{Hedge}
-use Rattle.answer_json.specs.Vocabulary.{object_of, set_json}
+use Rattle.answer_json.specs.Vocabulary.{set_json}
 use Rattle.hedge_json.specs.Vocabulary.{hedge_json}
 use Rattle.effect_answers.specs.Vocabulary.{target_members, effect_json, formula_members}
 

@@ -29,7 +29,7 @@ pub record AreExperimentsOn (all observed : List (List ℕ)) (experiments : List
   pub sets : AreExperimentSets observed experiments zs
 
 -- the diagram alone has no answer, but a listed name of an experiment may be at fault
-abbrev pub IsForFirst : Diagram → Lists → Result Answer TargetFault → Type 0
+abbrev pub IsForFirst : {A : Type 0} → Diagram → Lists → Result A TargetFault → Type 0
 IsForFirst d experiments (Ok a) = ⊥
 IsForFirst d experiments (Err fault) = IsExperimentsFault d.read.names d.observed.names experiments fault
 

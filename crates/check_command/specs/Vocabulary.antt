@@ -1,6 +1,6 @@
 -- What other crates cite of this one, from one place.
 pub use Rattle.check_command.specs.CertificateFaults.{certificate_refusal, is_memory}
-pub use Rattle.check_command.specs.Command.{check_command, check_left}
+pub use Rattle.check_command.specs.Command.{on_certificate, left_on_certificate}
 pub use Rattle.check_command.specs.Firsts.{IsAcceptance}
 pub use Rattle.check_command.specs.Refusals.{cert_fault_told, cert_size_told}
 pub use Rattle.check_command.specs.Replies.{IsSoundDerivation, IsSoundTarget}

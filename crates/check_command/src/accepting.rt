@@ -9,6 +9,7 @@ use experiment_lists::experiment_sets;
 use mixed_graph::VSet;
 use replies::{Reply, refuse};
 use std::alloc::{AllocError, Global};
+use told::Told;
 
 /// What the lists of experiments give on a diagram.
 #[derive(Drop)]
@@ -19,13 +20,13 @@ pub enum Acceptance {
     Accepted(Vec<VSet>),
 }
 
-/// The sets of observed vertices that the lists of experiments name; else what is told of the first name at fault.
-pub fn accept_experiments(
+/// The sets of observed vertices that the lists of experiments name; else what is told of the first name at fault, by a command with such answers.
+pub fn accept_experiments<A: Told>(
     alloc: Global,
     diagram: &Diagram,
     experiments: &Vec<Vec<Vec<u8>>>,
 ) -> Result<Acceptance, AllocError>
-    ensures { IfOk result (IsAcceptance diagram.now (lists_in experiments.now)) }
+    ensures { IfOk result (IsAcceptance A.telling diagram.now (lists_in experiments.now)) }
 {
     match experiment_sets(
         alloc,

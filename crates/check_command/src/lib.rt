@@ -1,7 +1,7 @@
 //! The command `check`: whether the derivation or the hedge of a certificate shows what it says of an effect.
 //!
-//! `accept_experiments(alloc, &diagram, &experiments)` answers on the diagram alone, and `check_reply(alloc, &diagram, &experiments, certificate, format)`
-//! on the bytes of a certificate.
+//! `accept_experiments::<Answer>(alloc, &diagram, &experiments)` answers on the diagram alone, and `check_answer(alloc, &seen, &experiments, certificate)`
+//! on the bytes of a certificate. Commands above tell it, each with answers of its own beside these.
 #![tactic(auto)]
 
 mod accepting;
@@ -17,5 +17,5 @@ mod request;
 pub use accepting::{Acceptance, accept_experiments};
 pub use answer::Answer;
 pub use fault::{CertificateFault, refuse_certificate};
-pub use reply::{check_answer, check_reply, long_certificate};
+pub use reply::check_answer;
 pub use request::{ROW, Request, optional_experiments};

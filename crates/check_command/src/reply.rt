@@ -1,14 +1,10 @@
 //! The answer of `check`.
 
-ghost use Rattle.std.specs.Prelude.{◌≡◌, ◌≤◌, ◌<◌, ℕ, false, List, IfOk, IfErr, length};
-ghost use Rattle.mixed_graph.specs.Vocabulary.{MixedGraph, graph_of};
+ghost use Rattle.std.specs.Prelude.{◌≡◌, ◌≤◌, false, IfOk, IfErr, length};
+ghost use Rattle.mixed_graph.specs.Vocabulary.{graph_of};
 ghost use Rattle.prob_expr.specs.Vocabulary.{masks_of};
-ghost use Rattle.replies.specs.Vocabulary.{told_of};
-ghost use Rattle.told.specs.declared.form.Form.{Form as AskedForm};
-ghost use Rattle.told.specs.Vocabulary.{plain_form, Tells};
-ghost use Rattle.check_command.specs.CertificateFaults.{is_memory, certificate_refusal};
-ghost use Rattle.check_command.specs.Right.{IsForText, IsCertificateFault, IsForCertificate};
-ghost use Rattle.check_command.specs.Telling.{check_telling};
+ghost use Rattle.check_command.specs.CertificateFaults.{is_memory};
+ghost use Rattle.check_command.specs.Right.{IsForText, IsCertificateFault};
 
 use crate::answer::Answer;
 use crate::fault::CertificateFault;
@@ -16,35 +12,8 @@ use crate::formula::decide_formula;
 use crate::hedge_data::decide_hedge;
 use certificate::{Certificate, read_answer};
 use dag_reader::ReadGraph;
-use diagram::Diagram;
 use mixed_graph::VSet;
-use replies::{Format, Reply};
-use std::alloc::{AllocError, Global};
-use told::{Form, Refuses, reply};
-
-/// What is told of the bytes of a certificate, with experiments on these sets.
-pub fn check_reply(
-    alloc: Global,
-    diagram: &Diagram,
-    experiments: &Vec<VSet>,
-    certificate: &[u8],
-    format: Format,
-) -> Result<Reply, AllocError>
-    requires { length certificate.now ≤ 67108864 }
-    ensures { let seen = diagram.now.observed in IfOk result (λ r. Tells check_telling certificate_refusal
-        (IsForCertificate (graph_of seen.graph) seen.names (masks_of experiments.now.items) certificate.now) (plain_form format) seen.names r.outcome (told_of r)) }
-{
-    let answer = check_answer(alloc, &diagram.observed, experiments, certificate);
-    reply(alloc, Form::plain(format), &diagram.observed.names, &answer)
-}
-
-/// What is told of a certificate of more than 67,108,864 bytes.
-pub fn long_certificate(alloc: Global) -> Result<Reply, AllocError>
-    ensures { IfOk result (λ r. (form : AskedForm) (q : MixedGraph) (names : List (List ℕ)) (zs certificate : List ℕ) → 67108864 < length certificate
-        → Tells check_telling certificate_refusal (IsForCertificate q names zs certificate) form names r.outcome (told_of r)) }
-{
-    CertificateFault::TooLong.refuse(alloc)
-}
+use std::alloc::Global;
 
 /// Whether a certificate shows what it says of an effect, in an observed graph.
 ///

@@ -31,19 +31,9 @@ pub struct Request<'a> {
 }
 
 impl<'a> Request<'a> {
-    ghost use Rattle.replies.specs.Command.{AsksNothing};
-    ghost use Rattle.check_command.specs.Command.{check_command};
-    ghost use Rattle.check_command.specs.Requests.{Request as Asked, certificate_row, check_row, request_of, IsRequest};
+    ghost use Rattle.check_command.specs.Requests.{Request as Asked, certificate_row, request_of, IsRequest};
 
-    /// What the words ask for, exactly where their values are what they have to be.
-    pub fn read(alloc: Global, values: &Values<'a>) -> Result<Self, RequestFault>
-        ensures ok { (uses : List Use) → HoldsCall check_row uses values.now → IfOk result (λ r. IsRequest uses (request_of r)) }
-        ensures none { (uses : List Use) → HoldsCall check_row uses values.now → IsErrOf result RequestFault.NotUnderstood → AsksNothing check_command uses }
-    {
-        Request::read_named(alloc, values)
-    }
-
-    /// The same of a command of any name.
+    /// What the words ask for of a command of any name, exactly where their values are what they have to be.
     pub fn read_named(alloc: Global, values: &Values<'a>) -> Result<Self, RequestFault>
         ensures ok { (name : Text) (uses : List Use) → HoldsCall (certificate_row name) uses values.now → IfOk result (λ r. IsRequest uses (request_of r)) }
         ensures none { (name : Text) (uses : List Use) → HoldsCall (certificate_row name) uses values.now → IsErrOf result RequestFault.NotUnderstood

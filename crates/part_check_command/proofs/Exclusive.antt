@@ -1,7 +1,7 @@
 -- Right answers of a certificate end alike: a text is read in one way, and parts that are accepted have no fault.
 use Rattle.std.proofs.Common.{◌≡◌, ◌≤◌, ◌<◌, ◌+◌, ◌⊎◌, ℕ, Bool, true, false, List, [], ◌∷◌, length, Some, Result, Ok, Err, inl, inr, refl, sym, ap, ap₂, subst, ◌∙◌, arith}
 use Rattle.std.specs.Prelude.{nat_lt}
-use Rattle.mixed_graph.specs.Vocabulary.{has, MixedGraph, union, graph_of}
+use Rattle.mixed_graph.specs.Vocabulary.{has, MixedGraph, union}
 use Rattle.finite_models.proofs.Bools.{not_both}
 use Rattle.hedge.specs.Vocabulary.{AreDistricts, AreDistrictsOf}
 use Rattle.identification_theory.proofs.Unique.{one_set}
@@ -21,13 +21,8 @@ use Rattle.certificate.specs.declared.fault.CertFault.{CertFault}
 use Rattle.certificate.specs.declared.fault.CertFault.TheVariants as certificates
 use Rattle.certificate.specs.Vocabulary.{PlainCertificate, PlainPartCertificate, certificate_in, part_certificate_in}
 use Rattle.certificate.specs.Plain as plain
-use Rattle.targets.specs.declared.fault.TargetFault.{TargetFault}
-use Rattle.diagram.specs.declared.diagram.Diagram.{Diagram}
-use Rattle.diagram.proofs.OneDiagram.{AreSameDiagrams, same_drawing}
 use Rattle.replies.specs.declared.outcome.Outcome.{Outcome}
 use Rattle.replies.specs.declared.outcome.Outcome.TheVariants.{Yes, No, Graph, Second}
-use Rattle.experiment_lists.specs.Vocabulary.{AreExperimentSets, Lists}
-use Rattle.experiment_lists.proofs.OneSet.{one_by_one}
 use Rattle.told.specs.Vocabulary.{outcome_in}
 use Rattle.treated_command.specs.declared.fault.TreatedFault.{TreatedFault}
 use Rattle.treated_command.specs.declared.fault.TreatedFault.TheVariants as treated_faults
@@ -37,7 +32,7 @@ use Rattle.natural_command.specs.declared.fault.NaturalFault.TheVariants as natu
 use Rattle.natural_command.specs.Vocabulary.{IsFaultOfQuestion}
 use Rattle.check_command.specs.declared.answer.Answer.{Answer as CheckAnswer}
 use Rattle.check_command.specs.declared.fault.CertificateFault.TheVariants.{TooLong, Faulty, NoMemory}
-use Rattle.check_command.specs.Vocabulary.{AreExperimentsOn, HoldsCertificate, IsForText, of_formula, of_hedge, check_telling}
+use Rattle.check_command.specs.Vocabulary.{HoldsCertificate, IsForText, of_formula, of_hedge, check_telling}
 use Rattle.check_command.proofs.Exclusive.{certificate_alike}
 use Rattle.part_check_command.specs.Faults.{part_check_refusal}
 use Rattle.part_check_command.specs.Right.{HoldsParts, IsForCertificate, IsNestedQuestion, IsTreatedQuestion, IsUnread, lemmas_at_fault, nested_lemmas, question_of, sets_of, treated_lemmas}
@@ -266,16 +261,3 @@ module _ (q : MixedGraph) (names : List (List ℕ)) (zs bytes : List ℕ) where
       → outcome_in part_check_telling part_check_refusal a ≡ outcome_in part_check_telling part_check_refusal b
   parts_alike a b x y = same_ends (content names bytes) (outcome_in part_check_telling part_check_refusal a) (outcome_in part_check_telling part_check_refusal b)
       (ends a x) (ends b y)
-
--- and so they do on diagrams that are the same
-pub second_ends : (d e : Diagram) → AreSameDiagrams d e → (experiments : Lists) (zs ws : List ℕ) → AreExperimentsOn d.read.names d.observed.names experiments zs
-    → AreExperimentsOn e.read.names e.observed.names experiments ws → (bytes : List ℕ) (a b : Result Answer Fault)
-    → IsForCertificate (graph_of d.observed.graph) d.observed.names zs bytes a → IsForCertificate (graph_of e.observed.graph) e.observed.names ws bytes b
-    → outcome_in part_check_telling part_check_refusal a ≡ outcome_in part_check_telling part_check_refusal b
-second_ends d e same experiments zs ws n m bytes a b x y =
-    let seen = d.observed.names in
-    let others : AreExperimentSets seen experiments ws = subst (λ (ns : List (List ℕ)). AreExperimentSets ns experiments ws) same.observed.names m.sets in
-    parts_alike (graph_of d.observed.graph) seen zs bytes a b x
-    (subst (λ (vs : List ℕ). IsForCertificate (graph_of d.observed.graph) seen vs bytes b) (one_by_one seen experiments zs ws n.sets others)
-    (subst (λ (ns : List (List ℕ)). IsForCertificate (graph_of d.observed.graph) ns ws bytes b) same.observed.names
-    (subst (λ (g : MixedGraph). IsForCertificate g e.observed.names ws bytes b) (sym (same_drawing d e same)) y)))

@@ -4,6 +4,5 @@ pub mod Telling
 pub mod Faults
 pub mod Right
 pub mod Decisions
-pub mod Firsts
 pub mod Command
 pub mod Vocabulary

@@ -11,7 +11,7 @@ use Rattle.certificate.specs.Vocabulary.{PlainCertificate, PlainPartCertificate,
 use Rattle.targets.specs.declared.fault.TargetFault.{TargetFault}
 use Rattle.targets.specs.declared.query.Sets.{Sets}
 use Rattle.diagram.specs.declared.diagram.Diagram.{Diagram}
-use Rattle.experiment_lists.specs.Vocabulary.{IsExperimentsFault, Lists}
+use Rattle.experiment_lists.specs.Vocabulary.{Lists}
 use Rattle.treated_models.specs.Vocabulary.{name_count}
 use Rattle.treated_id.specs.Vocabulary.{IsTreatedTarget}
 use Rattle.treated_parts.specs.Vocabulary.{EqualsAmongParts}
@@ -31,6 +31,7 @@ use Rattle.natural_command.specs.Vocabulary.{IsFaultOfQuestion, IsAskedFor as Is
 use Rattle.check_command.specs.declared.fault.CertificateFault.{CertificateFault}
 use Rattle.check_command.specs.declared.fault.CertificateFault.TheVariants.{TooLong, Faulty, NoMemory}
 use Rattle.check_command.specs.Vocabulary.{IsForText as IsForWhole}
+use Rattle.check_command.specs.Vocabulary as checks
 use Rattle.part_check_command.specs.declared.answer.Answer.{Answer}
 use Rattle.part_check_command.specs.declared.answer.Answer.TheVariants.{Whole, Treated, Natural, RefusedTreated, RefusedNatural}
 use Rattle.part_check_command.specs.declared.fault.Fault.{Fault}
@@ -40,8 +41,7 @@ use Rattle.part_check_command.specs.declared.fault.Fault.TheVariants as faults
 
 -- the diagram alone has no answer, but a listed name of an experiment may be at fault
 abbrev pub IsForFirst : Diagram → Lists → Result Answer TargetFault → Type 0
-IsForFirst d experiments (Ok a) = ⊥
-IsForFirst d experiments (Err fault) = IsExperimentsFault d.read.names d.observed.names experiments fault
+IsForFirst = checks.IsForFirst
 
 -- ---- an effect among the treated, in the observed graph q
 

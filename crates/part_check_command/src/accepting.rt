@@ -2,8 +2,10 @@
 
 ghost use Rattle.std.specs.Prelude.{IfOk};
 ghost use Rattle.experiment_lists.specs.Vocabulary.{lists_in};
-ghost use Rattle.part_check_command.specs.Firsts.{IsAcceptance};
+ghost use Rattle.check_command.specs.Vocabulary.{IsAcceptance};
+ghost use Rattle.part_check_command.specs.Telling.{part_check_telling};
 
+use crate::answer::Answer;
 use check_command::Acceptance;
 use diagram::Diagram;
 use std::alloc::{AllocError, Global};
@@ -14,7 +16,7 @@ pub fn accept_experiments(
     diagram: &Diagram,
     experiments: &Vec<Vec<Vec<u8>>>,
 ) -> Result<Acceptance, AllocError>
-    ensures { IfOk result (IsAcceptance diagram.now (lists_in experiments.now)) }
+    ensures { IfOk result (IsAcceptance part_check_telling diagram.now (lists_in experiments.now)) }
 {
-    check_command::accept_experiments(alloc, diagram, experiments)
+    check_command::accept_experiments::<Answer>(alloc, diagram, experiments)
 }

@@ -1,4 +1,3 @@
 mod Deriving
-mod Replied
 pub mod Checking
 pub mod Lawful

@@ -3,6 +3,5 @@ pub mod Texts
 pub mod Objects
 pub mod Telling
 pub mod Right
-pub mod Firsts
 pub mod Command
 pub mod Vocabulary

@@ -8,10 +8,11 @@ use Rattle.derivation_steps.specs.declared.parts.Part.{Part}
 use Rattle.certificate.specs.Vocabulary.{formula}
 use Rattle.targets.specs.declared.fault.TargetFault.{TargetFault}
 use Rattle.diagram.specs.declared.diagram.Diagram.{Diagram}
-use Rattle.experiment_lists.specs.Vocabulary.{IsExperimentsFault, Lists}
+use Rattle.experiment_lists.specs.Vocabulary.{Lists}
 use Rattle.effect_answers.specs.declared.formulas.EffectFormula.{EffectFormula}
 use Rattle.effect_answers.specs.Vocabulary.{formula_certificate}
 use Rattle.check_command.specs.Vocabulary.{IsCertificateFault, IsForText}
+use Rattle.check_command.specs.Vocabulary as checks
 use Rattle.check_command.specs.declared.answer.Answer.{Answer as CheckAnswer}
 use Rattle.check_command.specs.declared.answer.Answer.TheVariants.{AcceptedFormula}
 use Rattle.check_command.specs.declared.fault.CertificateFault.{CertificateFault}
@@ -20,10 +21,9 @@ use Rattle.steps_command.specs.declared.answer.Answer.TheVariants.{Explained, Ch
 
 -- ---- on the diagram alone
 
--- the diagram alone has no answer, but a listed name of an experiment may be at fault
+-- the diagram alone has no answer, as for `check`
 abbrev pub IsForFirst : Diagram → Lists → Result Answer TargetFault → Type 0
-IsForFirst d experiments (Ok a) = ⊥
-IsForFirst d experiments (Err fault) = IsExperimentsFault d.read.names d.observed.names experiments fault
+IsForFirst = checks.IsForFirst
 
 -- ---- for a certificate in the observed graph q, with experiments on the sets zs
 

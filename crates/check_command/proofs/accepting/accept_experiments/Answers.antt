@@ -6,7 +6,7 @@ use Rattle.experiment_lists.specs.Vocabulary.{experiments_fault, AreExperimentSe
 use Rattle.check_command.proofs.accepting.accept_experiments.Goals as goal
 
 pub returns-in-Ok : goal.returns-in-Ok
-returns-in-Ok c =
+returns-in-Ok g c =
     let all = c.args.diagram.now.read.names in
     let seen = c.args.diagram.now.observed.names in
     let value = c.as_slice.ensures.value in record {
@@ -15,7 +15,7 @@ returns-in-Ok c =
     }
 
 pub returns-in_ok-refuse-in-Err : goal.returns-in_ok-refuse-in-Err
-returns-in_ok-refuse-in-Err c =
+returns-in_ok-refuse-in-Err g c =
     let all = c.args.diagram.now.read.names in
     let seen = c.args.diagram.now.observed.names in
     let reply = c.in_ok-refuse-in-Err in
