@@ -1,0 +1,2 @@
+pub mod MinusLaws
+mod Worked
