@@ -1,8 +1,6 @@
 -- Laws of differences of fractions.
 use Rattle.std.proofs.Common.{ℕ, ◌+◌, ◌*◌, ◌-◌, ◌≡◌, ◌≤◌, ap, ap₂, sym, ◌∙◌, arith, mul-pos, mul-le-mul_right, le_trans, le_of_eq}
-use Rattle.fractions.specs.Vocabulary.{Fraction, IsEqual, add}
 use Rattle.differences.specs.Laws.Taken.{sub_times, scaled}
-use Rattle.differences.specs.Minus.{IsAtMost, minus}
 use Rattle.differences.specs.Theorems.{DifferenceIsUndone, DifferencesAreEqual, EqualKeepsAtMost}
 
 undone_numbers : (p q r s : ℕ) → r * q ≤ p * s → ((p * s - r * q) * s + r * (q * s)) * q ≡ p * (q * s * s)

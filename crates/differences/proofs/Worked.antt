@@ -1,5 +1,5 @@
 -- Worked numbers.
-use Rattle.std.proofs.Common.{◌≡◌, refl, Ok, Err, Some, None}
+use Rattle.std.proofs.Common.{◌≡◌, refl, Ok, Some, None}
 use Rattle.fractions.specs.Vocabulary.{over}
 use Rattle.quantity.specs.Kinds.{pair}
 use Rattle.differences.specs.Kinds.{bounds_minus}

@@ -45,22 +45,22 @@ other_top g a b r gt gb fb h =
     ∙ (let x : (gt * (g * b)) * (a * fb) ≡ gt * fb * (g * a * b) = omega arith in x)
 
 module _ (a b : Pair) (f g : Fraction) (h : Equals a f) (k : Equals b g) where
-  l : ℕ
+  abbrev l : ℕ
   l = lcm_of a.second b.second
 
-  t : ℕ
+  abbrev t : ℕ
   t = a.first * (l / a.second)
 
-  u : ℕ
+  abbrev u : ℕ
   u = b.first * (l / b.second)
 
-  d : ℕ
+  abbrev d : ℕ
   d = gcd_of a.second b.second
 
-  x : ℕ
+  abbrev x : ℕ
   x = a.second / d
 
-  y : ℕ
+  abbrev y : ℕ
   y = b.second / d
 
   m : IsMultiple a.second b.second (x * b.second) x y

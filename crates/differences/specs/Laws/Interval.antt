@@ -1,5 +1,5 @@
 -- Bounds of a difference enclose it.
-use Rattle.std.proofs.Common.{ℕ, ◌*◌, ◌-◌, ◌≡◌, ◌<◌, ◌≤◌, Bool, true, false, cond, leb, refl, ap, sym, ◌∙◌, subst, arith, mul-pos, mul-le-mul_right}
+use Rattle.std.proofs.Common.{ℕ, ◌*◌, ◌-◌, ◌≡◌, ◌<◌, ◌≤◌, Bool, true, false, cond, leb, refl, sym, subst, arith, mul-pos, mul-le-mul_right}
 use Rattle.std.proofs.Common.{le_trans, le_of_eq, Option, Some, None, Result, Ok, Err}
 use Rattle.fractions.specs.Vocabulary.{Fraction}
 use Rattle.quantity.specs.declared.fault.QuantityFault.{QuantityFault}
