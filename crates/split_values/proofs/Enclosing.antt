@@ -1,0 +1,1 @@
+-- What a kind gives encloses the value.
