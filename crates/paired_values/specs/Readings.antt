@@ -1,14 +1,16 @@
 -- An effect whose values are had at two levels of x at once.
 use Rattle.std.specs.Prelude.{ℕ, ◌≡◌, ◌≤◌, ◌<◌, true}
 use Rattle.mixed_graph.specs.Vocabulary.{has, minus, union}
+use Rattle.do_rules.specs.Vocabulary.{AreThreeSets}
 use Rattle.prob_expr.specs.Mentioned.{mentioned}
 use Rattle.prob_expr.specs.Vocabulary.{PlainFormula, formula_view, free_of}
 use Rattle.count_rows.specs.Vocabulary.{Table}
 use Rattle.count_table.specs.Vocabulary.{AreCounts}
-use Rattle.count_eval.specs.Vocabulary.{IsEvaluable, is_used}
+use Rattle.count_eval.specs.Vocabulary.{is_used}
 use Rattle.treated_models.specs.Vocabulary.{name_count}
 use Rattle.factor_values.specs.Vocabulary.{AreEvaluable, PlainFactors, factors_view}
 use Rattle.natural_values.specs.Vocabulary.{free_in_factors, mentioned_in_factors}
+use Rattle.split_values.specs.Vocabulary.{IsSplitEvaluable}
 use Rattle.paired_values.specs.declared.readings.PairedEffect.{PairedEffect}
 use Rattle.paired_values.specs.declared.readings.Reading.{Reading}
 use Rattle.paired_values.specs.declared.readings.Reading.TheVariants.{Factors, Split}
@@ -59,15 +61,14 @@ abbrev pub pinned_in : PlainPaired → ℕ
 pinned_in e = free_by e.reading (sets_of e)
 
 -- the reading can be evaluated over a table
-abbrev pub IsReadable : (n : ℕ) → Table → PlainReading → Type 0
-IsReadable n t (by_factors f) = AreEvaluable n t f
-IsReadable n t (by_split f) = IsEvaluable n t f
+abbrev pub IsReadable : PlainPaired → Table → PlainReading → Type 0
+IsReadable e t (by_factors f) = AreEvaluable e.vertices t f
+IsReadable e t (by_split joint) = IsSplitEvaluable e.vertices t e.x e.y e.given joint
 
--- The effect can be read over a table: so can its reading, its sets are used vertices of the graph, and there are at most 64 names with those of x as
--- observed.
+-- the effect can be read over a table: its sets are three, there are at most 64 names with those of x as observed, and its reading can be evaluated
 pub record IsOver (e : PlainPaired) (t : Table) : Type 0 where
   pub few : name_count e.vertices e.x ≤ 64
+  pub sets : AreThreeSets e.vertices (has e.x) (has e.y) (has e.given)
   pub counts : AreCounts t
   pub below : (v : ℕ) → is_used t v ≡ true → v < e.vertices
-  pub used : (v : ℕ) → has (sets_of e) v ≡ true → is_used t v ≡ true
-  pub readable : IsReadable e.vertices t e.reading
+  pub readable : IsReadable e t e.reading

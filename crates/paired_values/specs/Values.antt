@@ -1,5 +1,5 @@
 -- The values at cells, in order; or the first cell that has none, and why.
-use Rattle.std.specs.Prelude.{ℕ, ◌≡◌, Bool, true, false, List, [], ◌∷◌, ◌++◌, Option, Some, None, Result, Ok, Err, option_map}
+use Rattle.std.specs.Prelude.{ℕ, ◌≡◌, Bool, true, false, List, [], ◌∷◌, ◌++◌, Option, Some, None, Result, Ok, Err}
 use Rattle.quantity.specs.Exacts.{exact}
 use Rattle.quantity.specs.Intervals.{bounds}
 use Rattle.quantity.specs.Kinds.{Pair}
@@ -10,6 +10,7 @@ use Rattle.prob_expr.specs.Vocabulary.{Weights}
 use Rattle.count_rows.specs.Vocabulary.{Table}
 use Rattle.count_eval.specs.declared.failure.EvalFault.{EvalFault}
 use Rattle.count_eval.specs.Vocabulary.{IsEvaluationFault, after, cell_of, is_used, weights_in}
+use Rattle.count_eval.specs.Programs.{seen_so_far}
 use Rattle.count_eval.specs.Stops.{Stop}
 use Rattle.factor_values.specs.Vocabulary.{factors_outcome}
 use Rattle.split_values.specs.Vocabulary.{split_outcome}
@@ -99,5 +100,5 @@ IsWhyNone is_exact e t fault = (f : PlainFault) × (values_at (value_in is_exact
 
 -- the answer is the value, or that there is none, or the fault of the stop
 abbrev pub MayAnswer : {Q : Type 0} → (Q → Pair) → Table → Result (Option Pair) Stop → Result (Option Q) EvalFault → Type 0
-MayAnswer numbers t o (Ok q) = o ≡ Ok (option_map numbers q)
+MayAnswer numbers t o (Ok q) = o ≡ Ok (seen_so_far numbers q)
 MayAnswer numbers t o (Err e) = (s : Stop) × (o ≡ Err s) × IsEvaluationFault (is_used t) e s

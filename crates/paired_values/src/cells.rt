@@ -1,15 +1,14 @@
 //! The values at the cells along some names.
 
-ghost use Rattle.std.specs.Prelude.{ℕ, ◌≡◌, ◌∷◌, [], All, true, false, Some, Ok, OnOk, IfErr};
-ghost use Rattle.mixed_graph.specs.Vocabulary.{has};
+ghost use Rattle.std.specs.Prelude.{◌≡◌, ◌∷◌, [], All, false, Some, Ok, OnOk, IfErr};
 ghost use Rattle.prob_expr.specs.Vocabulary.{formula_view};
 ghost use Rattle.count_table.specs.Vocabulary.{AreCounts, HasLevels};
-ghost use Rattle.count_eval.specs.Vocabulary.{IsEvaluable, after, cell_of, is_used, weights_in};
+ghost use Rattle.count_eval.specs.Vocabulary.{after, cell_of, is_used, weights_in};
 ghost use Rattle.factor_values.specs.Vocabulary.{AreEvaluable, factors_outcome, factors_view};
-ghost use Rattle.split_values.specs.Vocabulary.{split_outcome};
+ghost use Rattle.split_values.specs.Vocabulary.{IsSplitEvaluable, split_outcome};
 ghost use Rattle.evaluate_command.specs.Vocabulary.{plain_in};
 ghost use Rattle.paired_values.specs.Cells.{cells_at, IsAxis, IsNameCell};
-ghost use Rattle.paired_values.specs.Readings.{IsOver, paired_view, sets_of};
+ghost use Rattle.paired_values.specs.Readings.{IsOver, paired_view};
 ghost use Rattle.paired_values.specs.Values.{IsBelow, MayAnswer, is_wanting, value_by};
 ghost use Rattle.paired_values.specs.Walking.{Appends, IsFaultAt};
 
@@ -64,8 +63,7 @@ fn split_at<Q: Difference>(
     second: &[u32; 64],
 ) -> Result<Option<Q>, EvalFault>
     requires counts { AreCounts counts.now }
-    requires joint { IsEvaluable effect.now.n counts.now (formula_view joint.now) }
-    requires used { (v : ℕ) → has (sets_of (paired_view effect.now)) v ≡ true → is_used counts.now v ≡ true }
+    requires joint { IsSplitEvaluable effect.now.n counts.now effect.now.sets.x.bits effect.now.sets.y.bits effect.now.sets.given.bits (formula_view joint.now) }
     requires first { HasLevels counts.now (is_used counts.now) first.now }
     requires second { HasLevels counts.now (is_used counts.now) second.now }
     ensures { MayAnswer Q.numbers counts.now

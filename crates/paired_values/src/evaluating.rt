@@ -1,8 +1,6 @@
 //! The values of an effect over a table of counts.
 
 ghost use Rattle.std.specs.Prelude.{◌≡◌, Ok, false, IfOk, IfErr};
-ghost use Rattle.mixed_graph.specs.Vocabulary.{has};
-ghost use Rattle.do_rules.specs.Vocabulary.{AreThreeSets};
 ghost use Rattle.evaluate_command.specs.Vocabulary.{plain_in};
 ghost use Rattle.paired_values.specs.Cells.{printed_cells};
 ghost use Rattle.paired_values.specs.Readings.{IsOver, paired_view};
@@ -28,8 +26,7 @@ pub fn values_over(
     counts: &Counts,
     exact: bool,
 ) -> Result<Values, PairFault>
-    requires over { IsOver (paired_view effect.now) counts.now }
-    requires sets { AreThreeSets effect.now.n (has effect.now.sets.x.bits) (has effect.now.sets.y.bits) (has effect.now.sets.given.bits) }
+    requires { IsOver (paired_view effect.now) counts.now }
     ensures values { IfOk result (AreValuesOver exact (paired_view effect.now) counts.now) }
     ensures fault { IfErr result (λ f. is_wanting f ≡ false → IsWhyNone exact (paired_view effect.now) counts.now f) }
 {
@@ -51,8 +48,7 @@ fn values_in<Q: Difference>(
     effect: &PairedEffect<'_>,
     counts: &Counts,
 ) -> Result<Vec<Valued<Q>>, PairFault>
-    requires over { IsOver (paired_view effect.now) counts.now }
-    requires sets { AreThreeSets effect.now.n (has effect.now.sets.x.bits) (has effect.now.sets.y.bits) (has effect.now.sets.given.bits) }
+    requires { IsOver (paired_view effect.now) counts.now }
     ensures values { IfOk result (λ v. values_at (value_by Q.kind Q.difference (paired_view effect.now) counts.now) (printed_cells (paired_view effect.now) counts.now)
         ≡ Ok (plain_in Q.numbers v.items)) }
     ensures fault { IfErr result (λ f. is_wanting f ≡ false

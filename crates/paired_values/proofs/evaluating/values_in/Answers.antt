@@ -10,7 +10,7 @@ use Rattle.paired_values.proofs.Printed.{all_appended}
 use Rattle.paired_values.proofs.evaluating.values_in.Goals as goal
 
 pub varied-requires-clause-few : goal.varied-requires-clause-few
-varied-requires-clause-few g c = c.requires.over.few
+varied-requires-clause-few g c = c.requires.few
 
 pub varied-requires-clause-within : goal.varied-requires-clause-within
 varied-requires-clause-within g c = c.requires.sets.x_within

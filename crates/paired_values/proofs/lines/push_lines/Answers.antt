@@ -1,6 +1,7 @@
-use Rattle.std.proofs.Common.{◌≡◌, ◌∙◌, ◌++◌, ◌+◌, ◌≤◌, ℕ, List, drop, length, refl, sym, ap, append_assoc, append-nil, arith, rules}
+use Rattle.std.proofs.Common.{◌≡◌, ◌∙◌, ◌++◌, ◌+◌, ◌≤◌, ℕ, List, drop, length, refl, sym, ap, append_assoc, append-nil, arith}
 use Rattle.std.proofs.Math.ListN.{drop_of_length-le}
 use Rattle.std.proofs.lemmas.List.{at_drop_more}
+use Rattle.primed_names.specs.Vocabulary.{primed_names}
 use Rattle.evaluate_command.specs.Vocabulary.{plain_of}
 use Rattle.evaluate_command.specs.declared.answer.Valued.{Valued}
 use Rattle.paired_values.specs.Lines.{cells_text, value_line}
@@ -15,7 +16,7 @@ loop-valued-preserved g c =
     let later = drop (i + 1) values in
     let left : text (drop i values) ≡ line v ++ text later =
     at_drop_more text values i v c.loop-valued-test.true ∙ ap (λ (u : Valued g.row.Q.Denot). line u ++ text later) (sym c.valued-item.is) in
-    ap (λ (t : List ℕ). t ++ text later) (c.in_ok-push_line.ensures (search rules))
+    ap (λ (t : List ℕ). t ++ text later) (c.in_ok-push_line.ensures (c.in_ok-all.ensures ∙ ap (primed_names c.args.names.now) c.treatment.ensures))
     ∙ append_assoc out (line v) (text later) ∙ ap (λ (t : List ℕ). out ++ t) (sym left) ∙ c.loop-valued.invariant
 
 pub returns : goal.returns
