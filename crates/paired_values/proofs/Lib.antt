@@ -4,3 +4,6 @@ pub mod CellLists
 pub mod Walks
 mod Printed
 mod Walked
+pub mod Counted
+pub mod OneTable
+pub mod ValuedCells

@@ -1,5 +1,5 @@
 -- The values at cells: one list after another.
-use Rattle.std.proofs.Common.{◌≡◌, ℕ, ◌+◌, ◌-◌, ◌<◌, List, [], ◌∷◌, ◌++◌, Some, None, Ok, Err, refl, sym, ap, subst, ◌∙◌, append-nil, append_assoc}
+use Rattle.std.proofs.Common.{◌≡◌, ℕ, ◌+◌, ◌-◌, ◌<◌, List, [], ◌∷◌, ◌++◌, Some, None, Result, Ok, Err, OnOk, IfErr, true, false, true≢false, refl, sym, ap, subst, ◌∙◌, append-nil, append_assoc}
 use Rattle.std.specs.List.{flat_map, range_with_len}
 use Rattle.quantity.specs.Kinds.{Pair}
 use Rattle.quantity.specs.Vocabulary.{Kind}
@@ -9,7 +9,7 @@ use Rattle.count_eval.specs.Vocabulary.{is_used}
 use Rattle.table_cells.proofs.CellLists.{numbers_more, numbers_around}
 use Rattle.evaluate_command.specs.Vocabulary.{CellValue}
 use Rattle.paired_values.specs.Readings.{PlainPaired}
-use Rattle.paired_values.specs.Values.{IsBelow, Says, below, value_by, values_at}
+use Rattle.paired_values.specs.Values.{IsBelow, Says, below, is_wanting, value_by, values_at}
 use Rattle.paired_values.specs.Walking.{Appends, IsFaultAt}
 use Rattle.paired_values.specs.declared.fault.PairFault.{PairFault}
 use Rattle.paired_values.specs.declared.fault.PairFault.TheVariants.{Stopped, Below}
@@ -62,3 +62,14 @@ module _ (kind : Kind) (minus : Subtraction) (e : PlainPaired) (t : Table) where
   pub all_appended : (cells : List (List ℕ)) (old new : List CellValue) → old ≡ [] → Appends kind minus e t cells old new
       → values_at (value_by kind minus e t) cells ≡ Ok new
   all_appended cells old new none a = a.evaluated ∙ ap (λ (vs : List CellValue). Ok vs) (sym (a.list ∙ ap (λ (vs : List CellValue). vs ++ a.values) none))
+
+  pub appended_one : (cell : List ℕ) (q : Pair) (old new : List CellValue) {U : Type 0} (r : Result U PairFault) → value_by kind minus e t cell ≡ Ok (Some q)
+      → OnOk r (new ≡ old ++ (record { cell = cell; quantity = q } ∷ [])) → OnOk r (Appends kind minus e t (cell ∷ []) old new)
+  appended_one cell q old new (Ok u) is list = appends_one cell q old new is list
+  appended_one cell q old new (Err f) is list = tt
+
+  -- want of memory is no fault of a cell
+  pub never_kept : (cell : List ℕ) {U : Type 0} (r : Result U PairFault) → IfErr r (λ f. is_wanting f ≡ true)
+      → IfErr r (λ f. is_wanting f ≡ false → IsFaultAt kind minus e t (cell ∷ []) f)
+  never_kept cell (Ok u) h = tt
+  never_kept cell (Err f) h = λ kept. absurd (true≢false (sym h ∙ kept))

@@ -1,9 +1,10 @@
 -- The values at cells, in order; or the first cell that has none, and why.
 use Rattle.std.specs.Prelude.{ℕ, ◌≡◌, Bool, true, false, List, [], ◌∷◌, ◌++◌, Option, Some, None, Result, Ok, Err}
+use Rattle.fractions.specs.Vocabulary.{Fraction}
 use Rattle.quantity.specs.Exacts.{exact}
-use Rattle.quantity.specs.Intervals.{bounds}
+use Rattle.quantity.specs.Intervals.{Encloses, bounds}
 use Rattle.quantity.specs.Kinds.{Pair}
-use Rattle.quantity.specs.Vocabulary.{Kind}
+use Rattle.quantity.specs.Vocabulary.{Covers, Equals, Kind}
 use Rattle.differences.specs.Kinds.{bounds_minus, exact_minus}
 use Rattle.differences.specs.Vocabulary.{Subtraction}
 use Rattle.prob_expr.specs.Vocabulary.{Weights}
@@ -27,6 +28,16 @@ use Rattle.paired_values.specs.declared.fault.PairFault.TheVariants.{Stopped, Be
 abbrev pub kind_in : (is_exact : Bool) → Kind
 kind_in true = exact
 kind_in false = bounds
+
+-- the fractions that they stand for
+abbrev pub covers_in : (is_exact : Bool) → Pair → Fraction → Type 0
+covers_in true = Equals
+covers_in false = Covers
+
+-- those that differences stand for: of bounds it isn't known whether they are of 0
+abbrev pub encloses_in : (is_exact : Bool) → Pair → Fraction → Type 0
+encloses_in true = Equals
+encloses_in false = Encloses
 
 -- and their differences
 abbrev pub minus_in : (is_exact : Bool) → Subtraction

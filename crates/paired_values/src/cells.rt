@@ -1,6 +1,6 @@
 //! The values at the cells along some names.
 
-ghost use Rattle.std.specs.Prelude.{◌≡◌, ◌∷◌, [], All, false, Some, Ok, OnOk, IfErr};
+ghost use Rattle.std.specs.Prelude.{◌≡◌, ◌++◌, ◌∷◌, [], All, true, false, Some, Ok, OnOk, IfErr};
 ghost use Rattle.prob_expr.specs.Vocabulary.{formula_view};
 ghost use Rattle.count_table.specs.Vocabulary.{AreCounts, HasLevels};
 ghost use Rattle.count_eval.specs.Vocabulary.{after, cell_of, is_used, weights_in};
@@ -114,6 +114,22 @@ fn below(alloc: Global, cell: &[u32]) -> PairFault
     }
 }
 
+/// Appends a cell with its quantity.
+fn push_quantity<Q: Quantity>(
+    alloc: Global,
+    out: &mut Vec<Valued<Q>>,
+    cell: &[u32],
+    quantity: Q,
+) -> Result<(), PairFault>
+    ensures values { OnOk result (plain_in Q.numbers out.new.items ≡ plain_in Q.numbers out.old.items ++ (record { cell = cell.now; quantity = Q.numbers quantity } ∷ [])) }
+    ensures fault { IfErr result (λ f. is_wanting f ≡ true) }
+{
+    match push_valued(alloc, out, cell, quantity) {
+        Ok(()) => Ok(()),
+        Err(_) => Err(PairFault::Stopped(EvalFault::NoMemory)),
+    }
+}
+
 /// Appends the value at a cell.
 fn push_cell<Q: Difference>(
     alloc: Global,
@@ -132,12 +148,9 @@ fn push_cell<Q: Difference>(
         Ok(found) => found,
         Err(fault) => return Err(PairFault::Stopped(fault)),
     };
-    let Some(quantity) = found else {
-        return Err(below(alloc, cell));
-    };
-    match push_valued(alloc, out, cell, quantity) {
-        Ok(()) => Ok(()),
-        Err(_) => Err(PairFault::Stopped(EvalFault::NoMemory)),
+    match found {
+        Some(quantity) => push_quantity(alloc, out, cell, quantity),
+        None => Err(below(alloc, cell)),
     }
 }
 

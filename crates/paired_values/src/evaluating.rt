@@ -4,7 +4,7 @@ ghost use Rattle.std.specs.Prelude.{◌≡◌, Ok, false, IfOk, IfErr};
 ghost use Rattle.evaluate_command.specs.Vocabulary.{plain_in};
 ghost use Rattle.paired_values.specs.Cells.{printed_cells};
 ghost use Rattle.paired_values.specs.Readings.{IsOver, paired_view};
-ghost use Rattle.paired_values.specs.Values.{AreValuesOver, IsWhyNone, is_wanting, value_by, values_at};
+ghost use Rattle.paired_values.specs.Values.{AreValuesOver, IsWhyNone, are_exact, is_wanting, value_by, values_at};
 ghost use Rattle.paired_values.specs.Walking.{IsFaultAt};
 
 use crate::axes::varied;
@@ -61,5 +61,15 @@ fn values_in<Q: Difference>(
     match push_cells(alloc, &mut values, effect, counts, &axes, [0; 64]) {
         Ok(()) => Ok(values),
         Err(fault) => Err(fault),
+    }
+}
+
+/// Whether they are exact fractions.
+pub fn are_exact(values: &Values) -> bool
+    ensures { result ≡ are_exact values.now }
+{
+    match values {
+        Values::Exact(_) => true,
+        Values::Bounds(_) => false,
     }
 }

@@ -13,7 +13,7 @@ mod readings;
 mod shown;
 
 pub use axes::{Axis, observed_axes};
-pub use evaluating::values_over;
+pub use evaluating::{are_exact, values_over};
 pub use fault::PairFault;
 pub use lines::{push_axes_text, push_values_text};
 pub use objects::{push_axes, push_cells_of, push_pinned};

@@ -24,7 +24,7 @@ returns-in_default-clause-values g t c =
 pub returns-in_default-clause-fault : goal.returns-in_default-clause-fault
 returns-in_default-clause-fault g t c =
     subst (λ (cs : List (List ℕ)). IfErr c.push_cell.result (λ f. is_wanting f ≡ false
-    → IsFaultAt g.Q.Quantity.kind (paired_view c.args.effect.now) c.args.counts.now cs f))
+    → IsFaultAt g.Q.Quantity.kind g.Q.Difference.difference (paired_view c.args.effect.now) c.args.counts.now cs f))
     (sym (cells_at_none c.args.counts.now c.args.cell c.args.axes.now c.in_default.len_below)) c.push_cell.ensures.fault
 
 pub loop-k-init : goal.loop-k-init
@@ -70,7 +70,7 @@ returns-in-Err-clause-fault g t c = λ kept.
     let e = paired_view c.args.effect.now in
     let rest = take (length axes - 1) (drop 1 axes) in
     let below = c.loop-k-test.true in let n = level_count u (get_or axes 0 d).vertex in
-    subst (λ (cs : List (List ℕ)). IsFaultAt g.Q.Quantity.kind e u cs c.in-Err.fault)
+    subst (λ (cs : List (List ℕ)). IsFaultAt g.Q.Quantity.kind g.Q.Difference.difference e u cs c.in-Err.fault)
     (cells_all u c.args.cell axes rest d n c.in-len1-up.len_at_least (take_rest axes 1) refl)
     (fault_turn g.Q.Quantity.kind g.Q.Difference.difference e u
     (λ (j : ℕ). cells_at u (set c.args.cell (get_or axes 0 d).name j) rest) c.loop-k.k n _ _ c.in-Err.fault
