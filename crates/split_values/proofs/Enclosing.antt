@@ -1,5 +1,5 @@
 -- What a kind gives encloses the value.
-use Rattle.std.proofs.Common.{ℕ, ◌≡◌, ◌≤◌, Bool, true, false, cond, eqb, ne_eqb, ◌&&◌, not, refl, ap, ◌∙◌, sym, arith, Option, Some, None, Result, Ok, Err}
+use Rattle.std.proofs.Common.{ℕ, ◌≡◌, ◌≤◌, Bool, true, false, cond, eqb, ne_eqb, ◌&&◌, not, refl, ap, arith, Option, Some, None, Result, Ok, Err}
 use Rattle.std.proofs.lemmas.Bool.{and_from}
 use Rattle.mixed_graph.specs.Vocabulary.{union}
 use Rattle.fractions.specs.Vocabulary.{Fraction, div}
@@ -120,9 +120,6 @@ module _ (kind : Kind) (less : Subtraction) (covers encloses : Pair → Fraction
       go None k is =
           split.below k.whole k.shown (value_of w joint s) (value_of w (shown_of x y z) s) (covered joint s k.whole k.whole_is).1
           (covered (shown_of x y z) s k.shown k.shown_is).1 k.is at_most
-
-  abbrev if_same : {A : Type 0} → Bool → A → A → A
-  if_same b p q = cond b p q
 
   enclosed : (c : Pair) → split_outcome kind less w x y z joint s t ≡ Ok (Some c)
       → (split_supported w x y z joint s t ≡ true)

@@ -1,6 +1,5 @@
 -- Over weights that match a positive model the value is the model's.
-use Rattle.std.proofs.Common.{ℕ, ◌≡◌, ◌<◌, ◌≤◌, Bool, true, false, cond, eqb, ◌||◌, refl, sym, ap, ◌∙◌, subst, arith}
-use Rattle.std.proofs.lemmas.Bool.{cases_Bool}
+use Rattle.std.proofs.Common.{ℕ, ◌≡◌, ◌<◌, Bool, true, false, cond, eqb, ◌||◌, refl, sym, ◌∙◌, subst, arith}
 use Rattle.mixed_graph.specs.Vocabulary.{has, MixedGraph, IsMixedGraph, union}
 use Rattle.mixed_graph.proofs.MaskLaws.{has_join, has_none}
 use Rattle.fractions.specs.Vocabulary.{Fraction, IsEqual, div}
@@ -12,7 +11,7 @@ use Rattle.prob_expr.specs.Vocabulary.{PlainFormula, Weights, effect, effect_on,
 use Rattle.prob_expr.proofs.ValueLaws.{values_are_positive}
 use Rattle.quantity.specs.Kinds.{Pair}
 use Rattle.quantity.specs.Vocabulary.{Kind, IsLawful}
-use Rattle.differences.specs.Vocabulary.{IsAtMost, IsLawfulDifference, Subtraction, minus}
+use Rattle.differences.specs.Vocabulary.{IsLawfulDifference, Subtraction, minus}
 use Rattle.differences.proofs.MinusLaws.{equal_at_most, minus_equal}
 use Rattle.count_eval.specs.Vocabulary.{AllUsed, IsMatched, IsUsed}
 use Rattle.count_eval.proofs.Matched.{matched_has_value}
@@ -82,12 +81,6 @@ module _ (g : MixedGraph) (ok : IsMixedGraph g) (m : FiniteModel) (fit : Fits g 
   equal_effect : IsEqual (split_value w x y z joint s t) (effect_among m (has x) (has y) (λ u. has x u || has z u) s t)
   equal_effect = go (is_same w.vertices x s t) refl
     where
-      among : Fraction
-      among = effect_among m (has x) (has y) (λ u. has x u || has z u) s t
-
-      whole : Fraction
-      whole = effect m (effect_on x (union y z)) s
-
       go : (b : Bool) → is_same w.vertices x s t ≡ b
           → IsEqual (cond b (value_of w (share_of y (union x z)) s) (div (left_value w x y z joint s) (value_of w (chance_of (union x z)) t)))
           (effect_among m (has x) (has y) (λ u. has x u || has z u) s t)

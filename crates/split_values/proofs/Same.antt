@@ -1,5 +1,5 @@
 -- Whether levels are the same, vertex by vertex.
-use Rattle.std.proofs.Common.{ℕ, suc, ◌+◌, ◌≡◌, ◌<◌, ◌≤◌, Bool, true, false, eqb, eqb-true, refl, sym, subst, arith}
+use Rattle.std.proofs.Common.{ℕ, ◌+◌, ◌≡◌, ◌<◌, Bool, true, false, eqb, eqb-true, refl, sym, subst, arith}
 use Rattle.std.proofs.lemmas.Bool.{false_from_ne_true}
 use Rattle.mixed_graph.specs.Vocabulary.{has}
 use Rattle.finite_models.proofs.Solutions.{agree_from, agree_gives}

@@ -1,5 +1,5 @@
 -- In a model what the joint effect leaves to those who have the other level, over their probability, is the effect among them.
-use Rattle.std.proofs.Common.{ℕ, ◌+◌, ◌*◌, ◌-◌, ◌≡◌, ◌<◌, ◌≤◌, Bool, true, false, eqb, ◌||◌, ◌==◌, refl, sym, ap, ap₂, ◌∙◌, subst, arith, [], ◌∷◌}
+use Rattle.std.proofs.Common.{ℕ, ◌+◌, ◌*◌, ◌-◌, ◌≡◌, ◌<◌, ◌≤◌, Bool, true, false, ◌||◌, ◌==◌, refl, sym, ap, ap₂, ◌∙◌, subst, arith, [], ◌∷◌}
 use Rattle.std.proofs.Common.{mul-pos, mul-le-mul_right}
 use Rattle.std.proofs.lemmas.Bool.{false_from_ne_true}
 use mathlib.Core.Path.{fun_ext}
