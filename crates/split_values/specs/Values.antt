@@ -1,6 +1,6 @@
 -- P(y under do(x) at s | x, z as observed at t) for a treatment of two levels, of what is observed and of the joint effect: a world that shows a level is as
 -- where it is set (consistency: Pearl, Causality, chapter 7.3.1), and who hasn't the one level has the other.
-use Rattle.std.specs.Prelude.{ℕ, ◌≡◌, Bool, true, false, not, ◌&&◌, ◌==◌, if◌then◌else◌, []}
+use Rattle.std.specs.Prelude.{ℕ, ◌≡◌, Bool, false, not, ◌&&◌, ◌==◌, if◌then◌else◌, []}
 use Rattle.mixed_graph.specs.Vocabulary.{has, union}
 use Rattle.fractions.specs.Vocabulary.{Fraction, div}
 use Rattle.finite_models.specs.Vocabulary.{agree}

@@ -98,13 +98,7 @@ fn same_at<Q: Difference, L: Lookup<Q>>(reading: &Reading<L>) -> Result<Option<Q
     ensures { seen_more Q.numbers result ≡ same_outcome Q.kind (weights_in reading.now.n (L.counts reading.now.lookup.now)) reading.now.x.bits reading.now.y.bits reading.now.given.bits (cell_of reading.now.first.now) }
 {
     let given = reading.x.union(reading.given);
-    let q: Q = share_at(
-        reading.lookup,
-        reading.n,
-        reading.y,
-        given,
-        *reading.first,
-    )?;
+    let q: Q = share_at(reading.lookup, reading.n, reading.y, given, *reading.first)?;
     Ok(Some(q))
 }
 
@@ -118,13 +112,7 @@ fn left_at<Q: Difference, L: Lookup<Q>>(reading: &Reading<L>) -> Result<Option<Q
 {
     let joint: Q = joint_at(reading)?;
     let all = reading.x.union(reading.y).union(reading.given);
-    let shown: Q = share_at(
-        reading.lookup,
-        reading.n,
-        all,
-        VSet::EMPTY,
-        *reading.first,
-    )?;
+    let shown: Q = share_at(reading.lookup, reading.n, all, VSet::EMPTY, *reading.first)?;
     left_over(joint.subtract(&shown), reading.first)
 }
 

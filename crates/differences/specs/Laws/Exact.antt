@@ -1,14 +1,14 @@
 -- Exact differences are the true ones.
-use Rattle.std.proofs.Common.{ℕ, ◌*◌, ◌/◌, ◌-◌, ◌≡◌, ◌<◌, ◌≤◌, ◌&&◌, Bool, true, false, cond, leb, refl, sym, ap, ap₂, ◌∙◌, subst, arith, mul-pos}
+use Rattle.std.proofs.Common.{ℕ, zero, suc, ◌+◌, ◌*◌, ◌/◌, ◌-◌, ◌≡◌, ◌<◌, ◌≤◌, ◌&&◌, Bool, true, false, cond, eqb, leb, refl, sym, ap, ap₂, ◌∙◌, subst, arith, mul-pos}
 use Rattle.std.proofs.Common.{le_trans, le_of_eq, mul-le-mul_right, Option, Some, None, Result, Ok, Err}
 use Rattle.fractions.specs.Vocabulary.{Fraction, over, IsEqual}
 use Rattle.quantity.specs.declared.fault.QuantityFault.{QuantityFault}
-use Rattle.quantity.specs.declared.fault.QuantityFault.TheVariants.{TooWide}
+use Rattle.quantity.specs.declared.fault.QuantityFault.TheVariants.{TooWide, ZeroBelow}
 use Rattle.quantity.specs.Divisors.{gcd_of, lcm_of}
 use Rattle.quantity.specs.Kinds.{Pair}
 use Rattle.quantity.specs.Laws.Exact.{IsMultiple, multiple_of, exact_lawful}
 use Rattle.quantity.specs.Vocabulary.{Equals, lowest, most}
-use Rattle.quantity.specs.Exacts.{exact}
+use Rattle.quantity.specs.Exacts.{exact, product_of}
 use Rattle.differences.specs.Kinds.{exact_minus}
 use Rattle.differences.specs.Lawful.{IsLawfulDifference}
 use Rattle.differences.specs.Laws.Taken.{sub_times, scaled, not_less}
@@ -104,11 +104,22 @@ module _ (a b : Pair) (f g : Fraction) (h : Equals a f) (k : Equals b g) where
       (scaled u t (f.bottom * g.bottom) (mul-pos h.right_bottom k.right_bottom)
       (le_trans (le_of_eq second_top) (le_trans (mul-le-mul_right l at_most) (le_of_eq (sym first_top)))))
 
+-- a divisor that is 0 has no quotient
+not_zero : (p b q s : ℕ) (r : Result Pair QuantityFault) (c : Pair) → 1 ≤ q → b * q ≡ p * s → cond (eqb b 0) (Err ZeroBelow) r ≡ Ok c → 1 ≤ p
+not_zero zero b q s r c le h e = absurd (
+    let k : Err ZeroBelow ≡ Ok c = ap (λ n. cond (eqb n 0) (Err ZeroBelow) r) (sym (no_factor b q le (h ∙ omega arith))) ∙ e in cc)
+  where
+    no_factor : (b q : ℕ) → 1 ≤ q → b * q ≡ 0 → b ≡ 0
+    no_factor zero q le e = refl
+    no_factor (suc b) q le e = absurd (let r : suc b * q ≡ q + b * q = omega arith in omega arith)
+not_zero (suc p) b q s r c le h e = omega arith
+
 pub exact_difference_lawful : IsLawfulDifference exact exact_minus Equals Equals
 exact_difference_lawful = record {
   difference = λ a b c f g h k at_most e. difference_is a b f g h k c e;
   below = λ a b f g h k e at_most. none_below a b f g h k e at_most;
   div = exact_lawful.keeps.div;
+  divisor = λ a b c g k e. not_zero g.top b.first g.bottom b.second (product_of a.first a.second b.second b.first) c k.right_bottom k.products e;
   weaker = λ n f h. h;
   equal = exact_lawful.keeps.equal;
   wide = λ a b fault e.

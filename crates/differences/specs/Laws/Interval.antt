@@ -1,11 +1,11 @@
 -- Bounds of a difference enclose it.
-use Rattle.std.proofs.Common.{ℕ, ◌*◌, ◌-◌, ◌≡◌, ◌<◌, ◌≤◌, Bool, true, false, cond, leb, refl, sym, subst, arith, mul-pos, mul-le-mul_right}
+use Rattle.std.proofs.Common.{ℕ, zero, suc, ◌*◌, ◌/◌, ◌-◌, ◌≡◌, ◌<◌, ◌≤◌, Bool, true, false, cond, eqb, leb, refl, sym, ap, ◌∙◌, subst, arith, mul-pos, mul-le-mul_right}
 use Rattle.std.proofs.Common.{le_trans, le_of_eq, Option, Some, None, Result, Ok, Err}
 use Rattle.fractions.specs.Vocabulary.{Fraction}
 use Rattle.quantity.specs.declared.fault.QuantityFault.{QuantityFault}
-use Rattle.quantity.specs.declared.fault.QuantityFault.TheVariants.{TooWide}
-use Rattle.quantity.specs.Intervals.{unit, bounds, Encloses, Covers}
-use Rattle.quantity.specs.Kinds.{Pair, pair}
+use Rattle.quantity.specs.declared.fault.QuantityFault.TheVariants.{TooWide, TooFine, ZeroBelow}
+use Rattle.quantity.specs.Intervals.{unit, ceiling, bounds, Encloses, Covers}
+use Rattle.quantity.specs.Kinds.{Pair, pair, most}
 use Rattle.quantity.specs.Laws.Interval.{bounds_keep}
 use Rattle.differences.specs.Kinds.{bounds_minus}
 use Rattle.differences.specs.Lawful.{IsLawfulDifference}
@@ -73,6 +73,11 @@ crossed a b f g h k most =
     (le_trans (lower b.first g.bottom g.top f.bottom unit k.lower)
     (le_trans (mul-le-mul_right unit most) (upper a.second f.bottom f.top g.bottom unit h.upper))))
 
+-- a divisor that is 0 has no quotient
+not_zero : (p b : ℕ) (r : Result Pair QuantityFault) (c : Pair) → (p ≡ 0 → b ≡ 0) → cond (eqb b 0) (Err ZeroBelow) r ≡ Ok c → 1 ≤ p
+not_zero zero b r c h e = absurd (let k : Err ZeroBelow ≡ Ok c = ap (λ n. cond (eqb n 0) (Err ZeroBelow) r) (sym (h refl)) ∙ e in cc)
+not_zero (suc p) b r c h e = omega arith
+
 less_of : (a b : ℕ) → leb a b ≡ false → b < a
 less_of a b e = grind (arith, e)
 
@@ -85,6 +90,9 @@ bounds_difference_lawful = record {
       not_less a.second b.first (less_of b.first a.second (none_is (leb b.first a.second) (pair (a.first - b.second) (a.second - b.first)) e))
       (crossed a b f g h.within k.within most);
   div = λ a b c f g h k e. bounds_keep.div a b c f g h k.within e;
+  divisor = λ a b c g k e.
+      not_zero g.top b.second (cond (eqb b.first 0) (Err TooFine) (cond (leb (a.second * unit) most)
+      (Ok (pair (a.first * unit / b.second) (ceiling (a.second * unit) b.first))) (Err TooWide))) c k.zero.1 e;
   weaker = λ n f h. h.within;
   equal = bounds_keep.equal;
   wide = λ a b fault e. never_err (leb b.first a.second) (pair (a.first - b.second) (a.second - b.first)) fault e;
