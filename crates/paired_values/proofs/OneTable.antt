@@ -1,5 +1,5 @@
 -- Bytes are the text of one table, as far as values hang on it.
-use Rattle.std.proofs.Common.{◌≡◌, ℕ, Bool, List, Option, Result, length, map, refl, sym, ap, ◌∙◌}
+use Rattle.std.proofs.Common.{◌≡◌, ℕ, Bool, List, Option, Result, Ok, Err, length, map, refl, sym, ap, ◌∙◌}
 use mathlib.Core.Path.{fun_ext}
 use Rattle.prob_expr.specs.Vocabulary.{Weights}
 use Rattle.count_rows.specs.Vocabulary.{Field, records_of, rows_of, Table, counted, rows_in}
@@ -9,7 +9,9 @@ use Rattle.table_cells.specs.Vocabulary.{with_levels, first_cell, level_count}
 use Rattle.evaluate_command.specs.Vocabulary.{CellValue}
 use Rattle.paired_values.specs.Cells.{printed_cells, second_levels, varied}
 use Rattle.paired_values.specs.Readings.{PlainPaired}
-use Rattle.paired_values.specs.Values.{PlainFault, kind_in, minus_in, outcome_at, value_in, values_at}
+use Rattle.paired_values.specs.Values.{AreValuesOver, IsWhyNone, PlainFault, kind_in, minus_in, outcome_at, plain_values, value_in, values_at}
+use Rattle.evaluate_command.specs.declared.answer.Values.{Values}
+use Rattle.paired_values.specs.declared.fault.PairFault.{PairFault}
 use Rattle.paired_values.specs.declared.axes.Axis.{Axis}
 
 -- the values hang on parts of a table
@@ -51,3 +53,9 @@ module _ (names : List (List ℕ)) (read : ℕ) (bytes : List ℕ) (count : Opti
       ∙ ap (λ (l : List (List Field)). values_of is_exact e t.vertices l (counted u.vertices u.rows)) same_fields
       ∙ ap (λ (w : (ℕ → Bool) → (ℕ → ℕ) → ℕ). values_of is_exact e t.vertices t.levels w) ws
       ∙ sym (of_table is_exact e t)
+
+  -- the values of one, and why there are none for the other
+  pub all_or_why : (is_exact : Bool) (e : PlainPaired) (values : Values) (fault : PairFault) → AreValuesOver is_exact e t values → IsWhyNone is_exact e u fault → ⊥
+  all_or_why is_exact e values fault h k =
+      let clash : ◌≡◌ {A = Result (List CellValue) PlainFault} (Ok (plain_values values)) (Err k.0) =
+      sym h.evaluated ∙ sym (same_values is_exact e) ∙ k.1 in cc clash
