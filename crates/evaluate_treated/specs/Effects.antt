@@ -97,6 +97,11 @@ abbrev pub HasPath : MixedGraph → Asked → Way → Type 0
 HasPath g asked (Factors f) = Unit {0}
 HasPath g asked (Split joint path) = IsByPath g asked path
 
+-- this answer is at hand
+abbrev pub IsPathOf : Answer → Way → Type 0
+IsPathOf a (Factors f) = ⊥
+IsPathOf a (Split joint path) = path ≡ a
+
 -- an effect that is identified, in this way
 pub record IsHeld (e : PlainAmong) (way : Way) : Type 0 where
   pub identified : IsIdentified e

@@ -7,3 +7,4 @@ mod Walked
 pub mod Counted
 pub mod OneTable
 pub mod ValuedCells
+pub mod NameModels

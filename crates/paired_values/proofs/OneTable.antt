@@ -9,9 +9,11 @@ use Rattle.table_cells.specs.Vocabulary.{with_levels, first_cell, level_count}
 use Rattle.evaluate_command.specs.Vocabulary.{CellValue}
 use Rattle.paired_values.specs.Cells.{printed_cells, second_levels, varied}
 use Rattle.paired_values.specs.Readings.{PlainPaired}
-use Rattle.paired_values.specs.Values.{AreValuesOver, IsWhyNone, PlainFault, kind_in, minus_in, outcome_at, plain_values, value_in, values_at}
+use Rattle.paired_values.specs.Values.{AreValuesOver, IsWhyNone, PlainFault, Says, below, kind_in, minus_in, outcome_at, plain_values, stopped, value_in, values_at}
 use Rattle.evaluate_command.specs.declared.answer.Values.{Values}
+use Rattle.count_eval.specs.declared.failure.EvalFault.{EvalFault}
 use Rattle.paired_values.specs.declared.fault.PairFault.{PairFault}
+use Rattle.paired_values.specs.declared.fault.PairFault.TheVariants.{Stopped}
 use Rattle.paired_values.specs.declared.axes.Axis.{Axis}
 
 -- the values hang on parts of a table
@@ -28,6 +30,13 @@ of_table : (is_exact : Bool) (e : PlainPaired) (t : Table) → values_at (value_
     ≡ values_of is_exact e t.vertices t.levels (counted t.vertices t.rows)
 unfolding values_of
 of_table is_exact e t = refl
+
+-- a stop names no cell
+stop_or_below : {used : ℕ → Bool} (r : Result (List CellValue) PlainFault) (cell : List ℕ) (fault : EvalFault) (f : PlainFault) → r ≡ Err (below cell) → r ≡ Err f
+    → Says used (Stopped fault) f → ⊥
+stop_or_below r cell fault (stopped s) h k says =
+    let clash : ◌≡◌ {A = Result (List CellValue) PlainFault} (Err (below cell)) (Err (stopped s)) = sym h ∙ k in cc clash
+stop_or_below r cell fault (below c) h k says = says
 
 module _ (names : List (List ℕ)) (read : ℕ) (bytes : List ℕ) (count : Option Field) (t u : Table) (a : IsTableOf bytes names read count t)
     (b : IsTableOf bytes names read count u) where
@@ -59,3 +68,16 @@ module _ (names : List (List ℕ)) (read : ℕ) (bytes : List ℕ) (count : Opti
   all_or_why is_exact e values fault h k =
       let clash : ◌≡◌ {A = Result (List CellValue) PlainFault} (Ok (plain_values values)) (Err k.0) =
       sym h.evaluated ∙ sym (same_values is_exact e) ∙ k.1 in cc clash
+
+  -- the values of one, and a cell of the other that has none
+  pub all_or_below : (is_exact : Bool) (e : PlainPaired) (values : Values) (cell : List ℕ) → AreValuesOver is_exact e t values
+      → values_at (value_in is_exact e u) (printed_cells e u) ≡ Err (below cell) → ⊥
+  all_or_below is_exact e values cell h k =
+      let clash : ◌≡◌ {A = Result (List CellValue) PlainFault} (Ok (plain_values values)) (Err (below cell)) =
+      sym h.evaluated ∙ sym (same_values is_exact e) ∙ k in cc clash
+
+  -- a cell of one that has none, and a stop of the other
+  pub below_or_stop : (is_exact : Bool) (e : PlainPaired) (cell : List ℕ) (fault : EvalFault)
+      → values_at (value_in is_exact e t) (printed_cells e t) ≡ Err (below cell) → IsWhyNone is_exact e u (Stopped fault) → ⊥
+  below_or_stop is_exact e cell fault h k = stop_or_below (values_at (value_in is_exact e t) (printed_cells e t)) cell fault k.0 h
+      (sym (same_values is_exact e) ∙ k.1) k.2

@@ -1,16 +1,21 @@
 -- What is so of the values at the printed cells.
 use Rattle.std.proofs.Common.{◌≡◌, ℕ, Bool, List, Option, Some, None, Result, Ok, Err, All, ap, sym, ◌∙◌}
+use Rattle.std.specs.Global.{Vec}
 use Rattle.quantity.specs.Kinds.{Pair, pair}
 use Rattle.count_rows.specs.Vocabulary.{Table}
 use Rattle.count_eval.specs.Stops.{Stop}
-use Rattle.count_eval.specs.Vocabulary.{after, cell_of, weights_in}
+use Rattle.count_eval.specs.Vocabulary.{after, cell_of, is_used, weights_in}
 use Rattle.evaluate_command.specs.Vocabulary.{CellValue}
 use Rattle.evaluate_command.specs.declared.answer.Values.{Values}
 use Rattle.factor_values.specs.Vocabulary.{PlainFactors, factors_outcome}
+use Rattle.prob_expr.specs.Vocabulary.{PlainFormula}
+use Rattle.split_values.specs.Vocabulary.{split_outcome}
 use Rattle.table_cells.specs.Vocabulary.{first_cell}
 use Rattle.paired_values.specs.Cells.{IsNameCell, printed_cells, second_levels, varied}
-use Rattle.paired_values.specs.Readings.{IsOver, PlainPaired, by_factors}
-use Rattle.paired_values.specs.Values.{AreValuesOver, IsWhyNone, below, kind_in, minus_in, outcome_at, plain_values, value_in, values_at}
+use Rattle.paired_values.specs.Readings.{IsOver, PlainPaired, by_factors, by_split}
+use Rattle.paired_values.specs.Values.{AreValuesOver, IsBelow, IsWhyNone, PlainFault, Says, below, kind_in, minus_in, outcome_at, plain_values, stopped, value_in, values_at}
+use Rattle.paired_values.specs.declared.fault.PairFault.{PairFault}
+use Rattle.paired_values.specs.declared.fault.PairFault.TheVariants.{Stopped, Below}
 use Rattle.paired_values.proofs.CellLists.{cells_are}
 use Rattle.paired_values.proofs.NameCells.{first_is_name_cell, varied_are}
 use Rattle.paired_values.proofs.Walks.{each_valued, named_below}
@@ -37,6 +42,13 @@ from_factors is_exact e t f is cell q h =
     some_of (factors_outcome (kind_in is_exact) (weights_in e.vertices t) f (cell_of cell) (second_levels e cell)) q
     (ap (λ r. outcome_at (kind_in is_exact) (minus_in is_exact) (weights_in e.vertices t) e r (cell_of cell) (second_levels e cell)) (sym is) ∙ h)
 
+-- by two levels there is what the two levels give
+pub from_split : (is_exact : Bool) (e : PlainPaired) (t : Table) (joint : PlainFormula) → e.reading ≡ by_split joint → (cell : List ℕ)
+    (r : Result (Option Pair) Stop) → value_in is_exact e t cell ≡ r
+    → split_outcome (kind_in is_exact) (minus_in is_exact) (weights_in e.vertices t) e.x e.y e.given joint (cell_of cell) (second_levels e cell) ≡ r
+from_split is_exact e t joint is cell r h =
+    ap (λ k. outcome_at (kind_in is_exact) (minus_in is_exact) (weights_in e.vertices t) e k (cell_of cell) (second_levels e cell)) (sym is) ∙ h
+
 pub never_below : (is_exact : Bool) (e : PlainPaired) (t : Table) (f : PlainFactors) → e.reading ≡ by_factors f → (cell : List ℕ)
     → value_in is_exact e t cell ≡ Ok None → ⊥
 never_below is_exact e t f is cell h =
@@ -57,3 +69,14 @@ module _ (is_exact : Bool) (e : PlainPaired) (t : Table) (over : IsOver e t) whe
   pub each_below : (cell : List ℕ) → values_at (value_in is_exact e t) (printed_cells e t) ≡ Err (below cell)
       → IsNameCell e.vertices e.x t cell × (value_in is_exact e t cell ≡ Ok None)
   each_below cell h = named_below (value_in is_exact e t) (IsNameCell e.vertices e.x t) (printed_cells e t) printed_are cell h
+
+-- the fault that names a cell is that of the cells
+named_cell : (used : ℕ → Bool) (r : Result (List CellValue) PlainFault) (c : Vec ℕ) (f : PlainFault) → r ≡ Err f → Says used (Below c) f → r ≡ Err (below c.items)
+named_cell used r c (stopped s) e says = absurd says
+named_cell used r c (below d) e says = e ∙ ap (λ (k : List ℕ). Err (below k)) (sym says)
+
+pub why_below : (is_exact : Bool) (e : PlainPaired) (t : Table) (fault : PairFault) → IsWhyNone is_exact e t fault → (cell : List ℕ) → IsBelow cell fault
+    → values_at (value_in is_exact e t) (printed_cells e t) ≡ Err (below cell)
+why_below is_exact e t (Stopped fault) h cell is = absurd is
+why_below is_exact e t (Below c) h cell is =
+    named_cell (is_used t) (values_at (value_in is_exact e t) (printed_cells e t)) c h.0 h.1 h.2 ∙ ap (λ (k : List ℕ). Err (below k)) is

@@ -1,6 +1,10 @@
-use Rattle.std.proofs.Common.{◌≡◌, ◌<◌, sym, ap, subst, ◌∙◌, arith}
-use Rattle.mixed_graph.specs.Vocabulary.{has}
-use Rattle.paired_values.specs.Vocabulary.{PlainPaired, read_in}
-use Rattle.evaluate_natural.specs.Effects.{nested_in, paired_in}
+use Rattle.std.proofs.Common.{◌<◌, sym, ap, subst, ◌∙◌}
+use Rattle.paired_values.specs.Vocabulary.{read_in}
+use Rattle.evaluate_natural.specs.Effects.{nested_in}
 use Rattle.evaluate_natural.proofs.Evaluable.{read_some}
 use Rattle.evaluate_natural.proofs.reply.nested_answer.Goals as goal
+
+pub read_counts-requires-clause-some : goal.read_counts-requires-clause-some
+read_counts-requires-clause-some c =
+    subst (λ m. 0 < m) (sym (c.read_for-read.ensures ∙ ap read_in c.paired.ensures))
+    (read_some (nested_in c.args.seen.now c.args.found.now) c.requires.identified)
