@@ -33,8 +33,8 @@ use Rattle.evaluate_command.specs.Vocabulary.{CellValue, values_refusal}
 use Rattle.evaluate_command.specs.declared.answer.Values.{Values}
 use Rattle.evaluate_command.specs.declared.answer.Values.TheVariants as values
 use Rattle.evaluate_command.specs.declared.faults.ValuesFault.{ValuesFault}
-use Rattle.evaluate_natural.specs.Cells.{second_levels}
-use Rattle.evaluate_natural.specs.Effects.{PlainNested, Identifies}
+use Rattle.paired_values.specs.Vocabulary.{second_levels}
+use Rattle.evaluate_natural.specs.Effects.{PlainNested, Identifies, paired_in}
 use Rattle.evaluate_natural.specs.First.{HasNoFormula, IsForDiagram}
 use Rattle.evaluate_natural.specs.Requests as nested_requests
 use Rattle.evaluate_natural.specs.Right.{CoversNested, IsForCounts, IsOverTable}
@@ -59,7 +59,7 @@ use Rattle.causal_cli.proofs.ToldAnswers.{answered, answered_on_both}
 covers_as_drawn : (kind : Kind) (covers : Pair → Fraction → Type 0) → IsLawful kind covers → (g : ReadGraph) (e : PlainNested) → IsObservedGraph g e.graph
     → (t : Table) (v : CellValue) → CoversNested covers e t v → CoversNestedAsDrawn covers g e t v
 covers_as_drawn kind covers lawful g e is t v h m fit observed matched hs ht =
-    let l = has g.latent.bits in let q = e.asked.question in let s = cell_of v.cell in let u = second_levels e v.cell in
+    let l = has g.latent.bits in let q = e.asked.question in let s = cell_of v.cell in let u = second_levels (paired_in e) v.cell in
     let f = each_has_nested_matched (graph_of g.graph) g.graph.valid l e.graph is m fit observed (is_used t) (weights_in e.graph.vertices t)
     (cells.total t.rows) matched in
     lawful.keeps.equal v.quantity (nested_effect f.folded (has q.x.bits) (has q.through.bits) (has q.y.bits) (has q.given.bits) s u)
@@ -74,8 +74,8 @@ each_covers true g e t (values.Exact list) is h =
     All-weaker (CoversNested Equals e t) (CoversNestedAsDrawn Equals g e t) (λ v c. covers_as_drawn exact Equals exact_lawful g e is t v c) _ h.effects
 each_covers false g e t (values.Bounds list) is h =
     All-weaker (CoversNested Covers e t) (CoversNestedAsDrawn Covers g e t) (λ v c. covers_as_drawn bounds Covers bounds_lawful g e is t v c) _ h.effects
-each_covers true g e t (values.Bounds list) is h = absurd h
-each_covers false g e t (values.Exact list) is h = absurd h
+each_covers true g e t (values.Bounds list) is h = absurd (false≢true h.evaluated.kind)
+each_covers false g e t (values.Exact list) is h = absurd (false≢true (sym h.evaluated.kind))
 
 -- a right answer over counts
 nested_drawn : (q : nested_requests.Request) (other : List ℕ) (d : Diagram) (e : PlainNested) (a : Answer) → Identifies d q.effect e

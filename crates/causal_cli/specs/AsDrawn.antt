@@ -48,11 +48,13 @@ use Rattle.implications_command.specs.declared.answer.Answer.TheVariants as impl
 use Rattle.evaluate_command.specs.declared.answer.Answer.{Answer as EvaluateAnswer}
 use Rattle.evaluate_command.specs.Vocabulary.{CellValue, plain_in, exact_numbers, bounds_numbers, PlainEffect, target_of, by_procedure, by_adjusting, by_condition}
 use Rattle.evaluate_command.specs.Ways.{Way}
-use Rattle.evaluate_treated.specs.Vocabulary.{PlainAmong}
+use Rattle.evaluate_treated.specs.Vocabulary.{PlainAmong, shown_in}
+use Rattle.evaluate_treated.specs.declared.answer.Answer.TheVariants as among
+use Rattle.paired_values.specs.Vocabulary.{are_exact, plain_values, second_levels}
 use Rattle.evaluate_treated.specs.declared.answer.Answer.{Answer as AmongAnswer}
 use Rattle.natural_drawn.specs.Vocabulary.{EqualsNaturalAsDrawn, drawn_nested_effect}
 use Rattle.hidden_models.specs.Vocabulary.{drawn_weights}
-use Rattle.evaluate_natural.specs.Cells.{second_levels}
+use Rattle.evaluate_natural.specs.Effects.{paired_in}
 use Rattle.evaluate_natural.specs.Vocabulary.{PlainNested}
 use Rattle.evaluate_natural.specs.declared.answer.Answer.{Answer as NestedAnswer}
 use Rattle.evaluate_command.specs.declared.answer.Values.{Values}
@@ -280,14 +282,20 @@ CoversAmongAsDrawn covers g e t v = (m : FiniteModel) → Fits (graph_of g.graph
     (cell_of v.cell)
     → covers v.quantity (drawn_among (has g.latent.bits) m e.asked.sets.x.bits e.asked.sets.y.bits e.asked.sets.given.bits (cell_of v.cell))
 
--- so does each value, in exact fractions or in bounds
+-- so does each value, in exact fractions or in bounds: values by two levels enclose it alone
 abbrev pub EachCoversAmongAsDrawn : ReadGraph → PlainAmong → Table → Values → Type 0
-EachCoversAmongAsDrawn g e t (values.Exact list) = All (CoversAmongAsDrawn Equals g e t) (plain_in exact_numbers list.items)
-EachCoversAmongAsDrawn g e t (values.Bounds list) = All (CoversAmongAsDrawn Covers g e t) (plain_in bounds_numbers list.items)
+EachCoversAmongAsDrawn g e t values = All (CoversAmongAsDrawn (shown_in (are_exact values) e.reading) g e t) (plain_values values)
 
--- those of an answer
+-- no model of the graph that was read that is positive on the observed vertices has the counts' observed weights, up to one factor
+abbrev pub NoModelHasAsDrawn : ReadGraph → PlainAmong → Table → Type 0
+NoModelHasAsDrawn g e t = (m : FiniteModel) → Fits (graph_of g.graph) m → IsObservedPositive (has g.latent.bits) m
+    → IsMatchedAsDrawn (has g.latent.bits) (is_used t) (weights_in e.graph.vertices t) (total t.rows) m → ⊥
+
+-- values; or no model has the counts; or two models show that the effect isn't identifiable, as `treated` says of it
 abbrev pub AreAmongAsDrawn : Diagram → PlainAmong → AmongAnswer → Type 0
-AreAmongAsDrawn d e a = EachCoversAmongAsDrawn d.read e a.counts a.values
+AreAmongAsDrawn d e (among.Values a) = EachCoversAmongAsDrawn d.read e a.counts a.values
+AreAmongAsDrawn d e (among.NoModel a) = NoModelHasAsDrawn d.read e a.counts
+AreAmongAsDrawn d e (among.Path a) = IsTreatedAsDrawn d a.now
 
 -- ---- evaluate, nested effects
 
@@ -297,9 +305,9 @@ abbrev pub CoversNestedAsDrawn : (Pair → Fraction → Type 0) → ReadGraph �
 CoversNestedAsDrawn covers g e t v = (m : FiniteModel) → Fits (graph_of g.graph) m → IsObservedPositive (has g.latent.bits) m
     → IsMatchedAsDrawn (has g.latent.bits) (is_used t) (weights_in e.graph.vertices t) (total t.rows) m
     → IsAssignment (drawn_weights (has g.latent.bits) m).vertices (drawn_weights (has g.latent.bits) m).size (cell_of v.cell)
-    → IsAssignment (drawn_weights (has g.latent.bits) m).vertices (drawn_weights (has g.latent.bits) m).size (second_levels e v.cell)
+    → IsAssignment (drawn_weights (has g.latent.bits) m).vertices (drawn_weights (has g.latent.bits) m).size (second_levels (paired_in e) v.cell)
     → covers v.quantity (drawn_nested_effect (has g.latent.bits) m e.asked.question.x.bits e.asked.question.through.bits e.asked.question.y.bits
-    e.asked.question.given.bits (cell_of v.cell) (second_levels e v.cell))
+    e.asked.question.given.bits (cell_of v.cell) (second_levels (paired_in e) v.cell))
 
 -- so does each value, in exact fractions or in bounds
 abbrev pub EachCoversNestedAsDrawn : ReadGraph → PlainNested → Table → Values → Type 0

@@ -130,7 +130,7 @@ left_of d (input.Check experiments certificate format) = part_check_left format 
 left_of d (input.Evaluate found counts count exact zero matched format) =
     evaluate_left format (effect_in d.observed found) counts.now (option_map (λ s. s.now) count) exact zero matched
 left_of d (input.EvaluateTreated found counts count exact form) =
-    evaluate_treated_left form (among_in d.observed found) counts.now (option_map (λ s. s.now) count) exact
+    evaluate_treated_left form (among_in d.observed found) found.way counts.now (option_map (λ s. s.now) count) exact
 left_of d (input.EvaluateNatural found counts count exact form) =
     evaluate_natural_left form (nested_in d.observed found) counts.now (option_map (λ s. s.now) count) exact
 left_of d (input.Equivalent sets second format) = equivalent_left format d sets second.now

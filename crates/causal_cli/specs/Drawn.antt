@@ -1,5 +1,5 @@
 -- What the answers of the commands say of the diagram as drawn, with its hidden vertices, beside what they say of the observed graph.
-use Rattle.std.specs.Prelude.{ℕ, ◌≡◌, ◌≤◌, true, List, Option, Some, None, IfSome, codes}
+use Rattle.std.specs.Prelude.{◌⊎◌, ℕ, ◌≡◌, ◌≤◌, true, List, Option, Some, None, IfSome, codes}
 use Rattle.std.specs.Io.KnownBytes.{Appends}
 use Rattle.mixed_graph.specs.Vocabulary.{graph_of}
 use Rattle.command_words.specs.Vocabulary.{Text, Use, has_flag}
@@ -148,7 +148,7 @@ IsBounded q = IsAnsweredOnBoth bounds_telling (λ d. IsAsked (graph_of d.observe
 
 -- What is written with status 0 or 1 for `identify`, `adjust`, `surrogate`, `treated`, `natural`, `separate`, `rule`, `check`, `steps` and `evaluate`, and with
 -- status 0 for `implications` and `bounds`, is told of a right answer, which is so in the diagram as drawn. A status of 1 of `evaluate` is one of the
--- diagram alone, whatever its counts hold.
+-- diagram alone, whatever its counts hold; but for `evaluate --treated`, which may say of counts that no model has them, or that x has more than two levels.
 pub record RightAsDrawn (r : Call) (code : ℕ) : Type 0 where
   pub identified : (uses : List Use) → IsCallOf identify_row r.words uses → code ≤ 1
       → WrittenFor identify_requests.IsRequest (λ q. q.file) (λ q bytes. IsIdentifiedAsDrawn q bytes code) r uses
@@ -177,6 +177,7 @@ pub record RightAsDrawn (r : Call) (code : ℕ) : Type 0 where
       → WrittenForBoth among_requests.IsRequest (λ q. q.effect.file) (λ q. q.counts) (λ q bytes other. IsEvaluatedAmong q bytes other code) r uses
   pub unevaluated_among : (uses : List Use) → IsCallOf evaluate_row r.words uses → has_flag uses (codes "treated") ≡ true → code ≡ 1
       → WrittenFor among_requests.IsRequest (λ q. q.effect.file) (λ q bytes. IsUnevaluatedAmong q bytes code) r uses
+      ⊎ WrittenForBoth among_requests.IsRequest (λ q. q.effect.file) (λ q. q.counts) (λ q bytes other. IsEvaluatedAmong q bytes other code) r uses
   pub evaluated_nested : (uses : List Use) → IsCallOf evaluate_row r.words uses → has_flag uses (codes "natural") ≡ true → code ≡ 0
       → WrittenForBoth nested_requests.IsRequest (λ q. q.effect.file) (λ q. q.counts) (λ q bytes other. IsEvaluatedNested q bytes other code) r uses
   pub unevaluated_nested : (uses : List Use) → IsCallOf evaluate_row r.words uses → has_flag uses (codes "natural") ≡ true → code ≡ 1

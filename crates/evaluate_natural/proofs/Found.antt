@@ -22,7 +22,7 @@ use Rattle.factor_values.specs.Vocabulary.{PlainFactor, PlainFactors, factors_vi
 use Rattle.natural_values.specs.Factors.{factor_of_part}
 use Rattle.natural_values.specs.Vocabulary.{AreFactorsNested, mentioned_in_factors, natural_factors}
 use Rattle.evaluate_command.proofs.Mentions.{in_either, in_none, mentioned_only}
-use Rattle.evaluate_natural.specs.Effects.{PlainNested, nested_in, IsIdentified, Identifies, read_in}
+use Rattle.evaluate_natural.specs.Effects.{PlainNested, nested_in, IsIdentified, Identifies}
 use Rattle.evaluate_natural.specs.declared.identified.Identified.{Identified}
 
 -- the vertices that the factors of found parts name are vertices of the graph

@@ -1,17 +1,9 @@
 -- The command's words ask for one request, and its right answers end alike.
-use Rattle.std.proofs.Common.{◌≡◌, ◌<◌, ◌≤◌, ℕ, Bool, true, false, List, Option, Some, Result, Ok, Err, length, refl, sym, ap, subst, ◌∙◌, arith}
+use Rattle.std.proofs.Common.{◌≡◌, ℕ, Bool, false, List, Option, Result, Ok, Err, refl, sym, subst, ◌∙◌}
 use Rattle.std.specs.Prelude.{codes}
-use Rattle.std.proofs.lemmas.Option.{none-some, same_Some}
-use Rattle.std.specs.Borrow.{Bor}
+use Rattle.std.proofs.lemmas.Option.{same_Some}
 use Rattle.mixed_graph.specs.Vocabulary.{graph_of}
-use Rattle.quantity.specs.Exacts.{exact}
-use Rattle.quantity.specs.Intervals.{bounds}
-use Rattle.quantity.specs.Vocabulary.{Kind}
-use Rattle.count_rows.specs.declared.fault.CountFault.{CountFault}
-use Rattle.count_rows.specs.Vocabulary.{Field, Table}
-use Rattle.count_eval.specs.Stops.{Stop}
-use Rattle.count_eval.specs.declared.failure.EvalFault.{EvalFault}
-use Rattle.count_answers.specs.Vocabulary.{HoldsCounts}
+use Rattle.count_rows.specs.Vocabulary.{Field}
 use Rattle.command_words.specs.Vocabulary.{Use, value_of}
 use Rattle.command_words.proofs.OneValue.{one_listed, one_listed_or_empty, one_needed_list}
 use Rattle.diagram.specs.declared.diagram.Diagram.{Diagram}
@@ -31,20 +23,21 @@ use Rattle.natural_command.specs.declared.answer.Answer.{Answer as Found}
 use Rattle.natural_command.specs.declared.answer.Answer.TheVariants as natural
 use Rattle.natural_command.specs.declared.fault.NaturalFault.{NaturalFault}
 use Rattle.natural_command.proofs.Lawful.{alike, same_answer}
-use Rattle.evaluate_command.specs.Vocabulary.{CellValue, values_at, values_refusal}
-use Rattle.evaluate_command.specs.declared.answer.Values.{Values}
-use Rattle.evaluate_command.specs.declared.answer.Values.TheVariants.{Exact, Bounds}
+use Rattle.evaluate_command.specs.Vocabulary.{values_refusal}
 use Rattle.evaluate_command.specs.declared.faults.ValuesFault.{ValuesFault}
 use Rattle.evaluate_command.specs.declared.faults.ValuesFault.TheVariants.{TooLong, Counts, NoValue, NoMemory}
-use Rattle.evaluate_natural.specs.Cells.{printed_cells, value_in}
-use Rattle.evaluate_natural.specs.Effects.{PlainNested, Identifies, read_in}
+use Rattle.evaluate_natural.specs.Effects.{PlainNested, Identifies, paired_in}
 use Rattle.evaluate_natural.specs.First.{HasNoFormula, IsForDiagram}
-use Rattle.evaluate_natural.specs.Right.{IsOverTable, HasNoValue, HasValues, LackValues, AreNoCounts, IsCountsFault, IsForCounts}
+use Rattle.evaluate_natural.specs.Right.{AreValuesOf, HasNoValue, IsForCounts}
 use Rattle.evaluate_natural.specs.Requests.{Request, IsRequest}
 use Rattle.evaluate_natural.specs.Command.{evaluate_natural_command, evaluate_natural_left}
 use Rattle.evaluate_natural.specs.Telling.{nested_telling}
 use Rattle.evaluate_natural.specs.declared.answer.Answer.{Answer}
-use Rattle.evaluate_natural.proofs.OneEffect.{same_effect, same_values}
+use Rattle.paired_values.specs.Vocabulary.{read_in}
+use Rattle.paired_values.specs.declared.fault.PairFault.TheVariants.{Stopped}
+use Rattle.paired_values.proofs.Counted.{bytes_alike}
+use Rattle.paired_values.proofs.OneTable.{all_or_why}
+use Rattle.evaluate_natural.proofs.OneEffect.{same_effect}
 
 -- the uses ask for one effect
 one_effect : (uses : List Use) (q r : Request) → IsRequest uses q → IsRequest uses r → r.effect ≡ q.effect
@@ -103,63 +96,13 @@ refused (Counts fault) = tt
 refused (NoValue names t fault) = tt
 refused NoMemory = tt
 
-abbrev kind_in : (is_exact : Bool) → Kind
-kind_in true = exact
-kind_in false = bounds
-
-evaluated : (is_exact : Bool) (e : PlainNested) (t : Table) (values : Values) → IsOverTable is_exact e t values
-    → (list : List CellValue) × (values_at (value_in (kind_in is_exact) e t) (printed_cells e t) ≡ Ok list)
-evaluated true e t (Exact values) h = (_, h.evaluated)
-evaluated false e t (Bounds values) h = (_, h.evaluated)
-evaluated true e t (Bounds values) h = absurd h
-evaluated false e t (Exact values) h = absurd h
-
-stopped : (is_exact : Bool) (e : PlainNested) (t : Table) (fault : EvalFault) → HasNoValue is_exact e t fault
-    → (s : Stop) × (values_at (value_in (kind_in is_exact) e t) (printed_cells e t) ≡ Err s)
-stopped true e t fault h = (h.0, h.1)
-stopped false e t fault h = (h.0, h.1)
-
 module _ (is_exact : Bool) (e : PlainNested) (count : Option Field) (bytes : List ℕ) where
-  all_or_stop : (a : Answer) (names : Bor (List (List ℕ))) (u : Table) (fault : EvalFault) → HasValues is_exact e count bytes a
-      → LackValues is_exact e count bytes (NoValue names u fault) → ⊥
-  all_or_stop a names u fault h k =
-      let x = evaluated is_exact e h.table a.values h.answer.values in
-      let y = stopped is_exact e k.table fault k.over.value in
-      let clash : ◌≡◌ {A = Result (List CellValue) Stop} (Ok x.0) (Err y.0) =
-      sym x.1 ∙ sym (same_values (kind_in is_exact) e bytes count h.table k.table h.holds.reads k.holds.reads) ∙ y.1 in cc clash
-
-  read_or_long : (t : Table) → HoldsCounts e.names (read_in e) count bytes t → 67108864 < length bytes → ⊥
-  read_or_long t h long = let small = h.small in omega (arith, small, long)
-
-  read_or_fault : (t : Table) (fault : CountFault) → HoldsCounts e.names (read_in e) count bytes t → AreNoCounts e count bytes fault → ⊥
-  read_or_fault t fault h f = none-some fault (sym h.fits ∙ f.found)
-
-  values_or_fault : (a : Answer) (fault : ValuesFault) → HasValues is_exact e count bytes a → IsCountsFault is_exact e count bytes fault → ⊥
-  values_or_fault a TooLong h f = read_or_long h.table h.holds f
-  values_or_fault a (Counts fault) h f = read_or_fault h.table fault h.holds f
-  values_or_fault a (NoValue names t fault) h f = all_or_stop a names t fault h f
-  values_or_fault a NoMemory h f = f
-
-  faults_alike : (f g : ValuesFault) → IsCountsFault is_exact e count bytes f → IsCountsFault is_exact e count bytes g
-      → values_refusal.outcome f ≡ values_refusal.outcome g
-  faults_alike TooLong TooLong x y = refl
-  faults_alike TooLong (Counts fault) x y = refl
-  faults_alike TooLong (NoValue names t fault) x y = absurd (read_or_long y.table y.holds x)
-  faults_alike (Counts fault) TooLong x y = refl
-  faults_alike (Counts fault) (Counts other) x y = refl
-  faults_alike (Counts fault) (NoValue names t other) x y = absurd (read_or_fault y.table fault y.holds x)
-  faults_alike (NoValue names t fault) TooLong x y = absurd (read_or_long x.table x.holds y)
-  faults_alike (NoValue names t fault) (Counts other) x y = absurd (read_or_fault x.table other x.holds y)
-  faults_alike (NoValue names t fault) (NoValue others u other) x y = refl
-  faults_alike NoMemory g x y = absurd x
-  faults_alike f NoMemory x y = absurd y
-
   counts_alike : (a b : Result Answer ValuesFault) → IsForCounts is_exact e count bytes a → IsForCounts is_exact e count bytes b
       → outcome_in nested_telling values_refusal a ≡ outcome_in nested_telling values_refusal b
-  counts_alike (Ok a) (Ok b) f g = refl
-  counts_alike (Ok a) (Err fault) f g = absurd (values_or_fault a fault f g)
-  counts_alike (Err fault) (Ok b) f g = absurd (values_or_fault b fault g f)
-  counts_alike (Err fault) (Err other) f g = faults_alike fault other f g
+  counts_alike = bytes_alike e.names (read_in (paired_in e)) (AreValuesOf is_exact e) (HasNoValue is_exact e) count bytes nested_telling
+      (λ t u ht hu a right fault lacks. all_or_why e.names (read_in (paired_in e)) bytes count t u ht hu is_exact (paired_in e) a.values (Stopped fault)
+      right.values.evaluated lacks)
+      (λ t u ht hu a b x y. refl)
 
 -- what is right for a request over both inputs
 abbrev IsForBoth : Request → Diagram → List ℕ → Outcome → Told → Type 0

@@ -1,19 +1,11 @@
 -- Lists name one nested effect with one formula, and bytes are the text of one table.
-use Rattle.std.proofs.Common.{◌≡◌, ℕ, Bool, true, false, List, Option, Ok, Result, length, map, refl, sym, ap, ◌∙◌, subst}
-use mathlib.Core.Path.{fun_ext}
+use Rattle.std.proofs.Common.{◌≡◌, ℕ, Bool, true, false, List, Ok, refl, sym, ap, ◌∙◌, subst}
 use Rattle.mixed_graph.specs.declared.sets.VSet.{VSet}
 use Rattle.mixed_graph.specs.Vocabulary.{MixedGraph, graph_of}
 use Rattle.identification_theory.proofs.Unique.{one_set}
-use Rattle.prob_expr.specs.Vocabulary.{Weights}
-use Rattle.count_rows.specs.Vocabulary.{Field, records_of, rows_of, Table, counted, rows_in}
-use Rattle.count_table.specs.Vocabulary.{cells_of, levels_in, IsTableOf, layout_in}
-use Rattle.count_eval.specs.Vocabulary.{cell_of}
-use Rattle.count_eval.specs.Stops.{Stop}
-use Rattle.quantity.specs.Vocabulary.{Kind}
-use Rattle.table_cells.specs.Vocabulary.{first_cell, with_levels}
 use Rattle.diagram.specs.declared.diagram.Diagram.{Diagram}
 use Rattle.diagram.proofs.OneDiagram.{AreSameDiagrams, same_drawing}
-use Rattle.factor_values.specs.Vocabulary.{PlainFactors, factors_outcome}
+use Rattle.factor_values.specs.Vocabulary.{PlainFactors}
 use Rattle.natural_id.specs.Vocabulary.{IsFormulaByParts, parts_view}
 use Rattle.natural_id.proofs.One.{one_formula_by_parts}
 use Rattle.natural_command.specs.Requests.{Request}
@@ -24,11 +16,7 @@ use Rattle.natural_command.specs.Asking.{natural_lists}
 use Rattle.natural_command.specs.Vocabulary.{IsAskedFor}
 use Rattle.natural_command.proofs.Lawful.{one_question, same_answer}
 use Rattle.natural_values.specs.Vocabulary.{natural_factors}
-use Rattle.evaluate_command.specs.Vocabulary.{CellValue, values_at}
-use Rattle.evaluate_treated.specs.Cells.{varied}
-use Rattle.evaluate_treated.specs.declared.axes.Axis.{Axis}
-use Rattle.evaluate_natural.specs.Cells.{printed_cells, second_levels, value_in}
-use Rattle.evaluate_natural.specs.Effects.{PlainNested, Identifies, IsFound, read_in}
+use Rattle.evaluate_natural.specs.Effects.{PlainNested, Identifies, IsFound}
 
 vertex_set : (a b : VSet) → b.bits ≡ a.bits → b ≡ a
 vertex_set a b e = λ i. record { bits = e i }
@@ -96,32 +84,3 @@ same_effect q d d' s e f a i =
     let asked_same = same_asked q d e f a.found found in
     let fs = same_factors q d e f a.found found in
     λ j. effect_for (ns j) (gs j) (asked_same j) (fs j)
-
--- the values at the printed cells, from the parts of a table that they hang on
-values_of : (kind : Kind) (e : PlainNested) (vertices : List ℕ) (levels : List (List Field)) (weight : (ℕ → Bool) → (ℕ → ℕ) → ℕ) → Result (List CellValue) Stop
-values_of kind e vertices levels weight =
-    let w : Weights = record { vertices = e.graph.vertices; size = λ v. length (levels_in vertices levels v); weight = λ b a s. weight a s } in
-    let axes = varied e.graph.vertices e.asked.question.x.bits e.asked.question.given.bits e.asked.question.y.bits in
-    values_at (λ cell. factors_outcome kind w e.factors (cell_of cell) (second_levels e cell))
-    (map (with_levels (first_cell 64) (map (λ (a : Axis). a.name) axes)) (cells_of (map (λ (a : Axis). length (levels_in vertices levels a.vertex)) axes)))
-
-of_table : (kind : Kind) (e : PlainNested) (t : Table) → values_at (value_in kind e t) (printed_cells e t)
-    ≡ values_of kind e t.vertices t.levels (counted t.vertices t.rows)
-unfolding values_of
-of_table kind e t = refl
-
--- bytes are the text of one table, as far as values hang on it
-pub same_values : (kind : Kind) (e : PlainNested) (bytes : List ℕ) (count : Option Field) (t u : Table) → IsTableOf bytes e.names (read_in e) count t
-    → IsTableOf bytes e.names (read_in e) count u
-    → values_at (value_in kind e u) (printed_cells e u) ≡ values_at (value_in kind e t) (printed_cells e t)
-same_values kind e bytes count t u a b =
-    let vs : u.vertices ≡ t.vertices = b.vertices ∙ sym a.vertices in
-    let ls : u.levels ≡ t.levels = b.levels ∙ sym a.levels in
-    let all = rows_in (layout_in (records_of bytes) e.names (read_in e) count) (rows_of (records_of bytes)) in
-    let ws : counted u.vertices u.rows ≡ counted t.vertices t.rows =
-    fun_ext (λ k. fun_ext (λ s. b.rows k s ∙ ap (λ (v : List ℕ). counted v all k s) vs ∙ sym (a.rows k s))) in
-    of_table kind e u
-    ∙ ap (λ (v : List ℕ). values_of kind e v u.levels (counted u.vertices u.rows)) vs
-    ∙ ap (λ (l : List (List Field)). values_of kind e t.vertices l (counted u.vertices u.rows)) ls
-    ∙ ap (λ (w : (ℕ → Bool) → (ℕ → ℕ) → ℕ). values_of kind e t.vertices t.levels w) ws
-    ∙ sym (of_table kind e t)

@@ -1,5 +1,4 @@
 pub mod Effects
-pub mod Cells
 pub mod Requests
 pub mod First
 pub mod Lines

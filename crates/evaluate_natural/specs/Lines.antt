@@ -1,23 +1,15 @@
 -- The lines that `evaluate --natural` prints.
-use Rattle.std.specs.Prelude.{ℕ, List, [], ◌++◌, codes, Bool, true, false, map, drop, if◌then◌else◌}
+use Rattle.std.specs.Prelude.{ℕ, List, [], ◌++◌, codes, map, drop, if◌then◌else◌}
 use Rattle.std.specs.List.{flat_map}
 use Rattle.mixed_graph.specs.Vocabulary.{has, is_empty, members_below, name_of}
 use Rattle.answer_text.specs.Vocabulary.{printed}
-use Rattle.quantity.specs.Exacts.{exact}
-use Rattle.quantity.specs.Intervals.{bounds}
-use Rattle.quantity.specs.Kinds.{Pair}
-use Rattle.quantity.specs.Vocabulary.{Kind}
 use Rattle.count_rows.specs.Vocabulary.{Table}
-use Rattle.count_eval.specs.Vocabulary.{cell_of}
 use Rattle.count_answers.specs.Vocabulary.{assignments, level_text, printed_level, with_commas}
 use Rattle.primed_names.specs.Vocabulary.{primed_names}
 use Rattle.natural_command.specs.Vocabulary.{group_text}
-use Rattle.evaluate_command.specs.Vocabulary.{CellValue, bounds_numbers, exact_numbers, pinned_lines, plain_of, sign_of}
-use Rattle.evaluate_command.specs.declared.answer.Valued.{Valued}
-use Rattle.evaluate_command.specs.declared.answer.Values.{Values}
-use Rattle.evaluate_command.specs.declared.answer.Values.TheVariants.{Exact, Bounds}
-use Rattle.evaluate_treated.specs.Lines.{axis_text}
-use Rattle.evaluate_treated.specs.declared.axes.Axis.{Axis}
+use Rattle.evaluate_command.specs.Vocabulary.{pinned_lines}
+use Rattle.paired_values.specs.Vocabulary.{axis_text, values_text}
+use Rattle.paired_values.specs.declared.axes.Axis.{Axis}
 use Rattle.evaluate_natural.specs.declared.answer.Answer.{Answer}
 
 -- `X'=level`: names with the levels of their vertices there, with commas between them
@@ -46,19 +38,6 @@ effect_text names a cell = codes "P("
     ++ (with_commas (map (outcome_text names a.counts (under_text names a cell) cell) (members_below (has a.asked.question.y.bits) 64))
     ++ (condition_text names a cell ++ codes ")"))
 
--- the line of a cell
-abbrev pub value_line : Kind → (is_exact : Bool) → List (List ℕ) → Answer → CellValue → List ℕ
-value_line kind is_exact names a v = effect_text names a (cell_of v.cell) ++ (sign_of is_exact ++ (kind.text v.quantity ++ codes "\n"))
-
--- the lines of cells with their quantities
-abbrev pub cells_text : {Q : Type 0} → (Q → Pair) → Kind → (is_exact : Bool) → List (List ℕ) → Answer → List (Valued Q) → List ℕ
-cells_text numbers kind is_exact names a values = flat_map (λ v. value_line kind is_exact names a (plain_of numbers v)) values
-
--- those of the values
-abbrev pub cells_lines : List (List ℕ) → Answer → Values → List ℕ
-cells_lines names a (Exact values) = cells_text exact_numbers exact true names a values.items
-cells_lines names a (Bounds values) = cells_text bounds_numbers bounds false names a values.items
-
 -- the lines of what is pinned, and those of the values
 abbrev pub values_lines : List (List ℕ) → Answer → List ℕ
-values_lines names a = pinned_lines names a.counts a.pinned.bits ++ cells_lines names a a.values
+values_lines names a = pinned_lines names a.counts a.pinned.bits ++ values_text (effect_text names a) a.values

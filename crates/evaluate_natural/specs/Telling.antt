@@ -10,5 +10,5 @@ abbrev pub nested_telling : Telling Answer
 nested_telling = record {
   outcome = λ a. Yes;
   text = λ w names a. values_lines names a;
-  members = λ w names a. answer_members names a a.values;
+  members = λ w names a. answer_members names a;
 }

@@ -6,7 +6,6 @@
 #![tactic(auto)]
 
 mod answer;
-mod cells;
 mod evaluating;
 mod first;
 mod identified;

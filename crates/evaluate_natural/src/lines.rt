@@ -1,22 +1,20 @@
 //! The lines of an answer.
 
-ghost use Rattle.std.specs.Prelude.{◌≡◌, ◌++◌, codes, drop, map, OnOk, IfOk};
+ghost use Rattle.std.specs.Prelude.{◌≡◌, ◌++◌, drop, map, OnOk, IfOk};
 ghost use Rattle.mixed_graph.specs.Vocabulary.{has, members_below};
 ghost use Rattle.count_eval.specs.Vocabulary.{cell_of};
 ghost use Rattle.count_answers.specs.Vocabulary.{with_commas};
 ghost use Rattle.primed_names.specs.Vocabulary.{primed_names};
-ghost use Rattle.evaluate_command.specs.Vocabulary.{plain_of, sign_of};
-ghost use Rattle.evaluate_natural.specs.Lines.{cells_lines, cells_text, condition_text, effect_text, outcome_text, second_text, under_text, value_line, values_lines};
+ghost use Rattle.evaluate_natural.specs.Lines.{condition_text, effect_text, outcome_text, second_text, under_text, values_lines};
 
 use crate::answer::Answer;
 use answer_text::push_vertex;
 use count_answers::{level_text, number_at, push_assignments, push_level, separator};
 use count_table::Counts;
-use evaluate_command::{Shown, Valued, Values, pinned_lines, sign_of};
-use evaluate_treated::{Axis, push_observed};
+use evaluate_command::pinned_lines;
 use mixed_graph::{Names, VSet};
 use natural_command::push_group;
-use primed_names::primed_names;
+use paired_values::{Axis, push_axes_text, push_values_text};
 use std::alloc::{AllocError, Global};
 
 /// What stands behind the first byte.
@@ -41,7 +39,7 @@ fn push_second(
     ensures { OnOk result (out.new.items ≡ out.old.items ++ second_text all.now counts.now (cell_of cell.now) axes.now) }
 {
     let mut text = Vec::new(alloc);
-    push_observed(&mut text, all, counts, cell, axes)?;
+    push_axes_text(&mut text, all, counts, cell, axes)?;
     out.extend_from_slice(behind_first(text.as_slice()))?;
     Ok(())
 }
@@ -126,7 +124,7 @@ fn push_condition(
 }
 
 /// Appends the effect at a cell, as `P(Y[X=level,M[X'=level]]=level|Z=level)`.
-fn push_effect(
+pub fn push_effect(
     alloc: Global,
     out: &mut Vec<u8>,
     names: &Names,
@@ -147,70 +145,11 @@ fn push_effect(
     Ok(())
 }
 
-/// Appends a quantity behind its sign, and ends the line.
-fn push_quantity<Q: Shown>(alloc: Global, out: &mut Vec<u8>, quantity: &Q) -> Result<(), AllocError>
-    ensures { OnOk result (out.new.items ≡ out.old.items ++ (sign_of Q.IS_EXACT ++ (Q.kind.text (Q.numbers quantity.now) ++ codes "\n"))) }
-{
-    out.extend_from_slice(sign_of(Q::IS_EXACT))?;
-    quantity.print(alloc, out)?;
-    out.push(b'\n')?;
-    Ok(())
-}
-
-/// Appends the line of a cell with its quantity.
-fn push_line<Q: Shown>(
-    alloc: Global,
-    out: &mut Vec<u8>,
-    names: &Names,
-    all: &Names,
-    answer: &Answer,
-    valued: &Valued<Q>,
-) -> Result<(), AllocError>
-    ensures { all.now ≡ primed_names names.now answer.now.asked.question.x.bits
-        → OnOk result (out.new.items ≡ out.old.items ++ value_line Q.kind Q.IS_EXACT names.now answer.now (plain_of Q.numbers valued.now)) }
-{
-    push_effect(alloc, out, names, all, answer, valued.cell.as_slice())?;
-    push_quantity(alloc, out, &valued.quantity)?;
-    Ok(())
-}
-
-/// Appends the lines of cells with their quantities.
-fn push_lines<Q: Shown>(
-    alloc: Global,
-    out: &mut Vec<u8>,
-    names: &Names,
-    answer: &Answer,
-    values: &[Valued<Q>],
-) -> Result<(), AllocError>
-    ensures { OnOk result (out.new.items ≡ out.old.items ++ cells_text Q.numbers Q.kind Q.IS_EXACT names.now answer.now values.now) }
-{
-    let all = primed_names(alloc, names, answer.asked.question.x)?;
-    for valued in values {
-        push_line(alloc, out, names, &all, answer, valued)?;
-    }
-    Ok(())
-}
-
-/// Appends the lines of the values.
-fn push_values(
-    alloc: Global,
-    out: &mut Vec<u8>,
-    names: &Names,
-    answer: &Answer,
-) -> Result<(), AllocError>
-    ensures { OnOk result (out.new.items ≡ out.old.items ++ cells_lines names.now answer.now answer.now.values) }
-{
-    match &answer.values {
-        Values::Exact(values) => push_lines(alloc, out, names, answer, values.as_slice()),
-        Values::Bounds(values) => push_lines(alloc, out, names, answer, values.as_slice()),
-    }
-}
-
 /// The lines of what is pinned, and those of the values.
 pub fn values_text(alloc: Global, names: &Names, answer: &Answer) -> Result<Vec<u8>, AllocError>
     ensures { IfOk result (λ v. v.items ≡ values_lines names.now answer.now) }
 {
     let mut text = pinned_lines(alloc, names, &answer.counts, answer.pinned)?;
-    push_values(alloc, &mut text, names, answer)?;
+    push_values_text(alloc, &mut text, names, answer, &answer.values)?;
     Ok(text)
 }

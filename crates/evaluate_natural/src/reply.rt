@@ -7,18 +7,20 @@ ghost use Rattle.replies.specs.Vocabulary.{told_of};
 ghost use Rattle.told.specs.declared.form.Form.{Form as AskedForm};
 ghost use Rattle.told.specs.Vocabulary.{Tells};
 ghost use Rattle.evaluate_command.specs.ValuesFaults.{is_memory, values_refusal};
-ghost use Rattle.evaluate_natural.specs.Effects.{PlainNested, nested_in, read_in, IsIdentified};
-ghost use Rattle.evaluate_natural.specs.Right.{AreValuesOf, HasValues, IsCountsFault, IsFaultOver, IsForCounts};
+ghost use Rattle.paired_values.specs.Bytes.{HasAnswer, IsBytesFault};
+ghost use Rattle.paired_values.specs.Vocabulary.{IsTableFault, read_in};
+ghost use Rattle.evaluate_natural.specs.Effects.{PlainNested, nested_in, paired_in, IsIdentified};
+ghost use Rattle.evaluate_natural.specs.Right.{AreValuesOf, HasNoValue, IsForCounts};
 ghost use Rattle.evaluate_natural.specs.Telling.{nested_telling};
 
 use crate::answer::Answer;
-use crate::evaluating::values_over;
-use crate::identified::{Identified, pinned_for, read_for};
+use crate::evaluating::nested_values;
+use crate::identified::{Identified, paired};
 use count_table::{Counts, read_counts};
 use dag_reader::ReadGraph;
 use diagram::Diagram;
 use evaluate_command::ValuesFault;
-use evaluate_treated::observed_axes;
+use paired_values::{observed_axes, pinned_for, read_for};
 use replies::Reply;
 use std::alloc::{AllocError, Global};
 use told::{Form, Refuses, reply};
@@ -63,10 +65,14 @@ fn nested_answer<'a>(
 ) -> Result<Answer, ValuesFault<'a>>
     requires identified { IsIdentified (nested_in seen.now found.now) }
     requires small { length bytes.now ≤ 67108864 }
-    ensures answer { IfOk result (HasValues exact (nested_in seen.now found.now) (option_map (λ s. s.now) count.entry) bytes.now) }
-    ensures fault { IfErr result (λ f. is_memory f ≡ false → IsCountsFault exact (nested_in seen.now found.now) (option_map (λ s. s.now) count.entry) bytes.now f) }
+    ensures answer { let e = nested_in seen.now found.now in
+        IfOk result (HasAnswer e.names (read_in (paired_in e)) (AreValuesOf exact e) (option_map (λ s. s.now) count.entry) bytes.now) }
+    ensures fault { let e = nested_in seen.now found.now in
+        IfErr result (λ f. is_memory f ≡ false
+        → IsBytesFault e.names (read_in (paired_in e)) (HasNoValue exact e) (option_map (λ s. s.now) count.entry) bytes.now f) }
 {
-    match read_counts(alloc, bytes, &seen.names, read_for(found), count) {
+    let read = read_for(&paired(seen, found));
+    match read_counts(alloc, bytes, &seen.names, read, count) {
         Ok(counts) => over_table(alloc, seen, found, exact, counts),
         Err(fault) => Err(ValuesFault::Counts(fault)),
     }
@@ -81,15 +87,15 @@ fn over_table<'a>(
     counts: Counts,
 ) -> Result<Answer, ValuesFault<'a>>
     requires identified { IsIdentified (nested_in seen.now found.now) }
-    requires read { counts.vertices ≡ members_below (has (read_in (nested_in seen.now found.now))) 64 }
+    requires read { counts.vertices ≡ members_below (has (read_in (paired_in (nested_in seen.now found.now)))) 64 }
     ensures answer { IfOk result (AreValuesOf exact (nested_in seen.now found.now) counts) }
-    ensures fault { IfErr result (λ f. is_memory f ≡ false → IsFaultOver exact (nested_in seen.now found.now) counts f) }
+    ensures fault { let e = nested_in seen.now found.now in IfErr result (λ f. is_memory f ≡ false → IsTableFault e.names (HasNoValue exact e) counts f) }
 {
     // The clause `table` of `used` is needed: it is a table of counts.
     let _used = counts.used();
     let second = observed_axes(alloc, seen.graph.n, found.asked.question.x)?;
-    let pinned = pinned_for(alloc, found)?;
-    match values_over(alloc, seen, found, &counts, exact) {
+    let pinned = pinned_for(alloc, &paired(seen, found))?;
+    match nested_values(alloc, seen, found, &counts, exact) {
         Ok(values) => Ok(Answer {
             asked: found.asked,
             second,

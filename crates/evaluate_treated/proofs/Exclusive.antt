@@ -1,37 +1,39 @@
--- Right answers end alike: an effect without a formula, refused lists, values, a cell without one and refused counts exclude each other.
-use Rattle.std.proofs.Common.{◌≡◌, ◌<◌, ℕ, Bool, true, false, List, Option, Result, Ok, Err, length, refl, sym, ◌∙◌, arith}
-use Rattle.std.proofs.lemmas.Option.{none-some}
-use Rattle.std.specs.Borrow.{Bor}
-use Rattle.quantity.specs.Exacts.{exact}
-use Rattle.quantity.specs.Intervals.{bounds}
-use Rattle.quantity.specs.Vocabulary.{Kind}
-use Rattle.count_rows.specs.declared.fault.CountFault.{CountFault}
+-- Right answers end alike: an answer without counts, refused lists, values, counts that no model has, a path and a stop exclude each other.
+use Rattle.std.proofs.Common.{◌≡◌, ◌<◌, ◌≤◌, ℕ, Bool, true, false, List, Option, Some, Result, Ok, Err, refl, sym, subst, ap, ◌∙◌, arith}
+use Rattle.std.proofs.lemmas.Bool.{true≢false}
+use Rattle.mixed_graph.specs.Vocabulary.{has, graph_of}
 use Rattle.count_rows.specs.Vocabulary.{Field, Table}
-use Rattle.count_eval.specs.Stops.{Stop}
+use Rattle.count_table.specs.Vocabulary.{IsTableOf}
 use Rattle.count_eval.specs.declared.failure.EvalFault.{EvalFault}
-use Rattle.count_answers.specs.Vocabulary.{HoldsCounts}
 use Rattle.diagram.specs.declared.diagram.Diagram.{Diagram}
+use Rattle.diagram.specs.Vocabulary.{query_lists}
 use Rattle.diagram.proofs.OneDiagram.{AreSameDiagrams}
-use Rattle.replies.specs.declared.outcome.Outcome.TheVariants.{Yes}
+use Rattle.replies.specs.declared.outcome.Outcome.{Outcome}
+use Rattle.replies.specs.declared.outcome.Outcome.TheVariants.{Yes, No}
 use Rattle.told.specs.Vocabulary.{outcome_in}
 use Rattle.treated_command.specs.Requests.{Request}
+use Rattle.treated_command.specs.Sentences.{is_single}
 use Rattle.treated_command.specs.Vocabulary.{treated_refusal, treated_telling}
+use Rattle.treated_command.specs.declared.answer.Asked.{Asked}
 use Rattle.treated_command.specs.declared.answer.Answer.{Answer}
 use Rattle.treated_command.specs.declared.answer.Answer.TheVariants.{Formula, Certified, Excluded, Unfixed}
 use Rattle.treated_command.specs.declared.fault.TreatedFault.{TreatedFault}
 use Rattle.treated_command.proofs.Lawful.{treated_alike}
-use Rattle.evaluate_command.specs.Vocabulary.{CellValue, bounds_numbers, exact_numbers, plain_in, values_at, values_refusal}
-use Rattle.evaluate_command.specs.declared.answer.Values.{Values}
-use Rattle.evaluate_command.specs.declared.answer.Values.TheVariants.{Exact, Bounds}
+use Rattle.evaluate_command.specs.Vocabulary.{CellValue, values_refusal}
 use Rattle.evaluate_command.specs.declared.faults.ValuesFault.{ValuesFault}
-use Rattle.evaluate_command.specs.declared.faults.ValuesFault.TheVariants.{TooLong, Counts, NoValue, NoMemory}
-use Rattle.evaluate_treated.specs.Cells.{printed_cells, value_in}
-use Rattle.evaluate_treated.specs.Effects.{PlainAmong, Identifies, read_in}
+use Rattle.paired_values.specs.Vocabulary.{PlainReading, by_factors, by_split, paired_view, read_in}
+use Rattle.paired_values.specs.declared.fault.PairFault.TheVariants.{Stopped}
+use Rattle.paired_values.proofs.Counted.{bytes_alike}
+use Rattle.paired_values.proofs.OneTable.{all_or_below, all_or_why, below_or_stop, same_levels}
+use Rattle.evaluate_treated.specs.Effects.{IsFoundBy, PlainAmong, Identifies, paired_in}
 use Rattle.evaluate_treated.specs.First.{HasNoFormula, IsForDiagram}
-use Rattle.evaluate_treated.specs.Right.{AreNoCounts, HasNoValue, HasValues, IsCountsFault, IsForCounts, IsOverTable, LackValues}
+use Rattle.evaluate_treated.specs.Right.{AreMoreLevels, AreTwoLevels, HasItsLevels, HasMoreLevels, HasNoValue, IsForCounts, IsOverTable}
 use Rattle.evaluate_treated.specs.Telling.{among_telling}
 use Rattle.evaluate_treated.specs.declared.answer.Answer.{Answer as AmongAnswer}
-use Rattle.evaluate_treated.proofs.OneEffect.{same_values}
+use Rattle.evaluate_treated.specs.declared.answer.Answer.TheVariants as answers
+use Rattle.evaluate_treated.proofs.OneEffect.{on_same, one_by_path, path_or_hedge}
+
+-- ---- before the counts
 
 not_yes : (r : Result Answer TreatedFault) → HasNoFormula r → outcome_in treated_telling treated_refusal r ≡ Yes → ⊥
 not_yes (Ok (Formula a f)) h e = h
@@ -40,69 +42,61 @@ not_yes (Ok (Excluded a c h pair)) none e = cc e
 not_yes (Ok (Unfixed a c)) none e = cc e
 not_yes (Err fault) none e = cc e
 
+module _ (q : Request) (d e : Diagram) (s : AreSameDiagrams d e) (f : PlainAmong) where
+  -- it excludes either way
+  alone : (r : Result Answer TreatedFault) → IsForDiagram d q r → (reading : PlainReading) → IsFoundBy e q f reading → ⊥
+  alone r h (by_factors k) i =
+      not_yes r h.1 (treated_alike false false d e s q.x q.y q.given r (Ok (Formula f.asked i.formula)) h.0 i.answered)
+  alone (Ok (Formula a k)) h (by_split joint) i = h.1
+  alone (Ok (Certified a c)) h (by_split joint) i = h.1
+  alone (Ok (Excluded a c k pair)) h (by_split joint) i =
+      path_or_hedge (graph_of d.observed.graph) (query_lists d.read d.observed.names q.x q.y (Some q.given)) f.asked a i.path c k pair
+      (on_same d e s q (Unfixed f.asked i.path) i.answered) h.0
+  alone (Ok (Unfixed a c)) h (by_split joint) i =
+      let same = one_by_path (graph_of d.observed.graph) (query_lists d.read d.observed.names q.x q.y (Some q.given)) a f.asked c i.path h.0
+      (on_same d e s q (Unfixed f.asked i.path) i.answered) in
+      true≢false (sym i.single ∙ ap is_single same ∙ h.1)
+  alone (Err fault) h (by_split joint) i =
+      cc (treated_alike false false d e s q.x q.y q.given (Err fault) (Ok (Unfixed f.asked i.path)) h.0 i.answered)
+
 pub first_alone : (q : Request) (d e : Diagram) → AreSameDiagrams d e → (r : Result Answer TreatedFault) (f : PlainAmong) → IsForDiagram d q r → Identifies e q f
     → ⊥
-first_alone q d e s r f is i =
-    not_yes r is.1 (treated_alike false false d e s q.x q.y q.given r (Ok (Formula f.asked i.found.formula)) is.0 i.found.answered)
+first_alone q d e s r f is i = alone q d e s f r is f.reading i.found
 
 -- ---- over the bytes of counts
-
--- exact fractions, or else bounds
-abbrev kind_in : (is_exact : Bool) → Kind
-kind_in true = exact
-kind_in false = bounds
-
-evaluated : (is_exact : Bool) (e : PlainAmong) (t : Table) (values : Values) → IsOverTable is_exact e t values
-    → (list : List CellValue) × (values_at (value_in (kind_in is_exact) e t) (printed_cells e t) ≡ Ok list)
-evaluated true e t (Exact values) h = (plain_in exact_numbers values.items, h.evaluated)
-evaluated false e t (Bounds values) h = (plain_in bounds_numbers values.items, h.evaluated)
-evaluated true e t (Bounds values) h = absurd h
-evaluated false e t (Exact values) h = absurd h
-
-stopped : (is_exact : Bool) (e : PlainAmong) (t : Table) (fault : EvalFault) → HasNoValue is_exact e t fault
-    → (s : Stop) × (values_at (value_in (kind_in is_exact) e t) (printed_cells e t) ≡ Err s)
-stopped true e t fault h = (h.0, h.1)
-stopped false e t fault h = (h.0, h.1)
-
 module _ (is_exact : Bool) (e : PlainAmong) (count : Option Field) (bytes : List ℕ) where
-  all_or_stop : (a : AmongAnswer) (names : Bor (List (List ℕ))) (u : Table) (fault : EvalFault) → HasValues is_exact e count bytes a
-      → LackValues is_exact e count bytes (NoValue names u fault) → ⊥
-  all_or_stop a names u fault h k =
-      let x = evaluated is_exact e h.table a.values h.answer.values in
-      let y = stopped is_exact e k.table fault k.over.value in
-      let clash : ◌≡◌ {A = Result (List CellValue) Stop} (Ok x.0) (Err y.0) =
-      sym x.1 ∙ sym (same_values (kind_in is_exact) e bytes count h.table k.table h.holds.reads k.holds.reads) ∙ y.1 in cc clash
+  abbrev read : ℕ
+  read = read_in (paired_in e)
 
-  -- counts that are read are neither too long nor at fault
-  read_or_long : (t : Table) → HoldsCounts e.names (read_in e) count bytes t → 67108864 < length bytes → ⊥
-  read_or_long t h long = let small = h.small in omega (arith, small, long)
+  -- the levels of one table are those of the other
+  few_or_more : (r : PlainReading) (t u : Table) → IsTableOf bytes e.names read count t → IsTableOf bytes e.names read count u
+      → HasItsLevels e.asked.sets.x.bits t r → HasMoreLevels e.asked.sets.x.bits u r → ⊥
+  few_or_more (by_factors f) t u ht hu few more = more
+  few_or_more (by_split joint) t u ht hu few (v, is, more) =
+      let two = few v is in let same = same_levels e.names read bytes count t u ht hu v in omega (arith, two, same, more)
 
-  read_or_fault : (t : Table) (fault : CountFault) → HoldsCounts e.names (read_in e) count bytes t → AreNoCounts e count bytes fault → ⊥
-  read_or_fault t fault h f = none-some fault (sym h.fits ∙ f.found)
+  apart : (t u : Table) → IsTableOf bytes e.names read count t → IsTableOf bytes e.names read count u → (a : AmongAnswer) → IsOverTable is_exact e t a
+      → (fault : EvalFault) → HasNoValue is_exact e u fault → ⊥
+  apart t u ht hu (answers.Values a) right fault lacks =
+      all_or_why e.names read bytes count t u ht hu is_exact (paired_in e) a.values (Stopped fault) right.values lacks.stopped
+  apart t u ht hu (answers.NoModel a) right fault lacks =
+      below_or_stop e.names read bytes count t u ht hu is_exact (paired_in e) a.cell.items fault right.cell lacks.stopped
+  apart t u ht hu (answers.Path a) right fault lacks = few_or_more e.reading u t hu ht lacks.levels right.1
 
-  values_or_fault : (a : AmongAnswer) (fault : ValuesFault) → HasValues is_exact e count bytes a → IsCountsFault is_exact e count bytes fault → ⊥
-  values_or_fault a TooLong h f = read_or_long h.table h.holds f
-  values_or_fault a (Counts fault) h f = read_or_fault h.table fault h.holds f
-  values_or_fault a (NoValue names t fault) h f = all_or_stop a names t fault h f
-  values_or_fault a NoMemory h f = f
-
-  faults_alike : (f g : ValuesFault) → IsCountsFault is_exact e count bytes f → IsCountsFault is_exact e count bytes g
-      → values_refusal.outcome f ≡ values_refusal.outcome g
-  faults_alike TooLong TooLong x y = refl
-  faults_alike TooLong (Counts fault) x y = refl
-  faults_alike TooLong (NoValue names t fault) x y = absurd (read_or_long y.table y.holds x)
-  faults_alike (Counts fault) TooLong x y = refl
-  faults_alike (Counts fault) (Counts other) x y = refl
-  faults_alike (Counts fault) (NoValue names t other) x y = absurd (read_or_fault y.table fault y.holds x)
-  faults_alike (NoValue names t fault) TooLong x y = absurd (read_or_long x.table x.holds y)
-  faults_alike (NoValue names t fault) (Counts other) x y = absurd (read_or_fault x.table other x.holds y)
-  faults_alike (NoValue names t fault) (NoValue others u other) x y = refl
-  faults_alike NoMemory g x y = absurd x
-  faults_alike f NoMemory x y = absurd y
+  alike : (t u : Table) → IsTableOf bytes e.names read count t → IsTableOf bytes e.names read count u → (a b : AmongAnswer) → IsOverTable is_exact e t a
+      → IsOverTable is_exact e u b → among_telling.outcome a ≡ among_telling.outcome b
+  alike t u ht hu (answers.Values a) (answers.Values b) x y = refl
+  alike t u ht hu (answers.Values a) (answers.NoModel b) x y =
+      absurd (all_or_below e.names read bytes count t u ht hu is_exact (paired_in e) a.values b.cell.items x.values y.cell)
+  alike t u ht hu (answers.Values a) (answers.Path b) x y = absurd (few_or_more e.reading t u ht hu x.levels y.1)
+  alike t u ht hu (answers.NoModel a) (answers.Values b) x y =
+      absurd (all_or_below e.names read bytes count u t hu ht is_exact (paired_in e) b.values a.cell.items y.values x.cell)
+  alike t u ht hu (answers.NoModel a) (answers.NoModel b) x y = refl
+  alike t u ht hu (answers.NoModel a) (answers.Path b) x y = refl
+  alike t u ht hu (answers.Path a) (answers.Values b) x y = absurd (few_or_more e.reading u t hu ht y.levels x.1)
+  alike t u ht hu (answers.Path a) (answers.NoModel b) x y = refl
+  alike t u ht hu (answers.Path a) (answers.Path b) x y = refl
 
   pub counts_alike : (a b : Result AmongAnswer ValuesFault) → IsForCounts is_exact e count bytes a → IsForCounts is_exact e count bytes b
       → outcome_in among_telling values_refusal a ≡ outcome_in among_telling values_refusal b
-  counts_alike (Ok a) (Ok b) f g = refl
-  counts_alike (Ok a) (Err fault) f g = absurd (values_or_fault a fault f g)
-  counts_alike (Err fault) (Ok b) f g = absurd (values_or_fault b fault g f)
-  counts_alike (Err fault) (Err other) f g = faults_alike fault other f g
+  counts_alike = bytes_alike e.names read (IsOverTable is_exact e) (HasNoValue is_exact e) count bytes among_telling apart alike

@@ -20,7 +20,11 @@ use Rattle.evaluate_command.specs.Vocabulary.{values_refusal}
 use Rattle.evaluate_command.specs.declared.faults.ValuesFault.{ValuesFault}
 use Rattle.evaluate_command.specs.declared.faults.ValuesFault.TheVariants.{TooLong, Counts, NoValue, NoMemory}
 use Rattle.evaluate_treated.specs.Command.{evaluate_treated_command, evaluate_treated_left}
-use Rattle.evaluate_treated.specs.Effects.{PlainAmong, Identifies}
+use Rattle.mixed_graph.specs.Vocabulary.{MixedGraph, graph_of}
+use Rattle.evaluate_treated.specs.Effects.{HasPath, PlainAmong, Identifies}
+use Rattle.evaluate_treated.specs.declared.identified.Way.{Way}
+use Rattle.evaluate_treated.specs.declared.answer.Answer.{Answer as AmongAnswer}
+use Rattle.evaluate_treated.specs.declared.answer.Answer.TheVariants as answers
 use Rattle.evaluate_treated.specs.First.{IsForDiagram}
 use Rattle.evaluate_treated.specs.Requests.{Request, IsRequest}
 use Rattle.evaluate_treated.specs.Right.{IsForCounts}
@@ -49,6 +53,11 @@ lost_answered (Certified a c) = tt
 lost_answered (Excluded a c h pair) = tt
 lost_answered (Unfixed a c) = tt
 
+among_answered : (a : AmongAnswer) → IsAnswered (among_telling.outcome a)
+among_answered (answers.Values a) = tt
+among_answered (answers.NoModel a) = tt
+among_answered (answers.Path a) = tt
+
 refused : (f : ValuesFault) → IsAnswered (values_refusal.outcome f)
 refused TooLong = tt
 refused (Counts fault) = tt
@@ -64,7 +73,7 @@ IsForBoth q d other o told = (e : PlainAmong) × Identifies d q.effect e
 pub evaluate_treated_lawful : IsLawful evaluate_treated_command
 evaluate_treated_lawful = lawful_on_two_inputs one_request
     (λ q d o told h. told_answered treated_telling treated_refusal lost_answered (λ e. tt) (IsForDiagram d q.effect) q.effect.form d.observed.names o told h)
-    (λ q d other o told h. told_answered among_telling values_refusal (λ a. tt) refused (IsForCounts q.exact h.0 q.count other) q.effect.form h.0.names o told
+    (λ q d other o told h. told_answered among_telling values_refusal among_answered refused (IsForCounts q.exact h.0 q.count other) q.effect.form h.0.names o told
     h.2)
     (λ q bytes. one_on_diagram bytes (λ d. Tells treated_telling treated_refusal (IsForDiagram d q.effect) q.effect.form d.observed.names)
     (λ d e s o p told other a b. a.ends ∙ treated_alike false false d e s q.effect.x q.effect.y q.effect.given a.answer b.answer a.right.0 b.right.0 ∙ sym b.ends))
@@ -74,6 +83,11 @@ evaluate_treated_lawful = lawful_on_two_inputs one_request
     ∙ sym b.2.ends))
     (λ q name d e same names o told a n. first_alone q.effect d e same a.answer n.0 a.right n.1)
 
-pub evaluate_treated_is_left : (q : Request) (d : Diagram) (e : PlainAmong) → Identifies d q.effect e
-    → IsLeft evaluate_treated_command q d (evaluate_treated_left q.effect.form e q.counts q.count q.exact)
-evaluate_treated_is_left q d e is = record { named = refl; continues = (e, is); known = is.identified; answers = λ other o told a. (e, is, a) }
+pub evaluate_treated_is_left : (q : Request) (d : Diagram) (e : PlainAmong) (way : Way) → Identifies d q.effect e → HasPath (graph_of d.observed.graph) e.asked way
+    → IsLeft evaluate_treated_command q d (evaluate_treated_left q.effect.form e way q.counts q.count q.exact)
+evaluate_treated_is_left q d e way is path = record {
+  named = refl;
+  continues = (e, is);
+  known = record { identified = is.identified; path = subst (λ (g : MixedGraph). HasPath g e.asked way) (sym is.graph) path };
+  answers = λ other o told a. (e, is, a);
+}

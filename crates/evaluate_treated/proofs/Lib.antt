@@ -1,14 +1,7 @@
-mod Counted
-mod Walked
 mod Terms
 pub mod Known
 pub mod Evaluable
-pub mod NameCells
-pub mod CellLists
-mod Printed
-mod Whole
-mod AxisLists
-mod FactorNames
+mod Covered
 mod Replied
 mod OneFormula
 mod OneEffect

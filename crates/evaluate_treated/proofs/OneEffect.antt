@@ -1,73 +1,35 @@
--- Lists name one effect with one list of factors, and bytes are the text of one table.
-use Rattle.std.proofs.Common.{◌≡◌, ℕ, Bool, false, List, Option, Some, Result, Ok, length, map, refl, sym, ap, ◌∙◌, subst}
-use mathlib.Core.Path.{fun_ext}
-use Rattle.mixed_graph.specs.Vocabulary.{MixedGraph, graph_of}
+-- Lists name one effect, whose values are had in one way.
+use Rattle.std.proofs.Common.{◌≡◌, ℕ, false, Some, Ok, sym, ap, ◌∙◌, subst}
+use Rattle.mixed_graph.specs.Vocabulary.{MixedGraph, graph_of, union}
 use Rattle.prob_expr.specs.declared.expr.Formula.{Formula}
-use Rattle.prob_expr.specs.Vocabulary.{PlainFormula, Weights, formula_view}
+use Rattle.prob_expr.specs.Vocabulary.{PlainFormula, formula_view}
+use Rattle.identification_theory.specs.Vocabulary as identification
+use Rattle.identification_theory.proofs.Answered as answered
 use Rattle.targets.specs.declared.query.Sets.{Sets}
 use Rattle.targets.specs.Vocabulary.{Lists, AreListedSets}
-use Rattle.quantity.specs.Vocabulary.{Kind}
-use Rattle.count_rows.specs.Vocabulary.{Field, records_of, rows_of, Table, counted, rows_in}
-use Rattle.count_table.specs.Vocabulary.{cells_of, levels_in, IsTableOf, layout_in}
-use Rattle.count_eval.specs.Vocabulary.{cell_of}
-use Rattle.count_eval.specs.Stops.{Stop}
 use Rattle.diagram.specs.declared.diagram.Diagram.{Diagram}
 use Rattle.diagram.specs.Vocabulary.{query_lists}
 use Rattle.diagram.proofs.OneDiagram.{AreSameDiagrams, same_drawing, same_query_lists}
 use Rattle.replies.proofs.OneTarget.{one_set}
-use Rattle.table_cells.specs.Vocabulary.{with_levels, first_cell}
-use Rattle.treated_models.specs.Vocabulary.{as_observed}
+use Rattle.hedge.specs.Vocabulary.{IsHedge}
 use Rattle.treated_command.specs.Requests.{Request}
-use Rattle.treated_command.specs.Right.{IsAskedFor, IsForNames, IsForSets, IsOfSets}
+use Rattle.treated_command.specs.Right.{IsAskedFor, IsExcluded, IsForNames, IsForSets, IsOfSets, IsUnfixed}
+use Rattle.treated_command.specs.Sentences.{is_single}
+use Rattle.treated_command.specs.Vocabulary.{IsTreatedAnswer, treated_refusal, treated_telling}
 use Rattle.treated_command.specs.declared.answer.Asked.{Asked}
+use Rattle.treated_command.specs.declared.answer.Answer.{Answer}
 use Rattle.treated_command.specs.declared.answer.Answer.TheVariants as treated
-use Rattle.factor_values.specs.Vocabulary.{factors_outcome}
+use Rattle.treated_command.proofs.Lawful.{treated_alike}
+use Rattle.treated_id.specs.declared.answers.Confounding.{Confounding}
+use Rattle.hedge.specs.declared.hedge.Hedge.{Hedge}
+use Rattle.counter_models.specs.declared.counter_pair.CounterPair.{CounterPair}
+use Rattle.factor_values.specs.Vocabulary.{PlainFactors}
 use Rattle.named_factors.specs.Vocabulary.{AreNamedFactors}
-use Rattle.evaluate_command.specs.Vocabulary.{CellValue, values_at}
-use Rattle.evaluate_treated.specs.Cells.{cells_at, printed_cells, value_in, varied}
-use Rattle.evaluate_treated.specs.Effects.{PlainAmong, Identifies, read_in}
-use Rattle.evaluate_treated.specs.declared.axes.Axis.{Axis}
+use Rattle.paired_values.specs.Vocabulary.{PlainReading, by_factors, by_split}
+use Rattle.evaluate_treated.specs.Effects.{IsByFormula, IsByJoint, IsFoundBy, PlainAmong, Identifies}
 use Rattle.evaluate_treated.proofs.OneFormula.{one_formula, one_list, one_names}
 
--- ---- the values hang on parts of a table
-values_of : (kind : Kind) (e : PlainAmong) (vertices : List ℕ) (levels : List (List Field)) (weight : (ℕ → Bool) → (ℕ → ℕ) → ℕ)
-    → Result (List CellValue) Stop
-values_of kind e vertices levels weight =
-    let n = e.graph.vertices in let s = e.asked.sets in
-    let w : Weights = record { vertices = n; size = λ v. length (levels_in vertices levels v); weight = λ b a c. weight a c } in
-    let axes = varied n s.x.bits s.given.bits s.y.bits in
-    values_at (λ cell. factors_outcome kind w e.factors (cell_of cell) (as_observed n s.x.bits (cell_of cell)))
-    (map (with_levels (first_cell 64) (map (λ (a : Axis). a.name) axes))
-    (cells_of (map (λ (a : Axis). length (levels_in vertices levels a.vertex)) axes)))
-
-of_table : (kind : Kind) (e : PlainAmong) (t : Table) → values_at (value_in kind e t) (printed_cells e t)
-    ≡ values_of kind e t.vertices t.levels (counted t.vertices t.rows)
-unfolding values_of
-of_table kind e t = refl
-
--- bytes are the text of one table, as far as values hang on it
-pub same_values : (kind : Kind) (e : PlainAmong) (bytes : List ℕ) (count : Option Field) (t u : Table) → IsTableOf bytes e.names (read_in e) count t
-    → IsTableOf bytes e.names (read_in e) count u
-    → values_at (value_in kind e u) (printed_cells e u) ≡ values_at (value_in kind e t) (printed_cells e t)
-same_values kind e bytes count t u a b =
-    let vs : u.vertices ≡ t.vertices = b.vertices ∙ sym a.vertices in
-    let ls : u.levels ≡ t.levels = b.levels ∙ sym a.levels in
-    let all = rows_in (layout_in (records_of bytes) e.names (read_in e) count) (rows_of (records_of bytes)) in
-    let ws : counted u.vertices u.rows ≡ counted t.vertices t.rows =
-    fun_ext (λ k. fun_ext (λ s. b.rows k s ∙ ap (λ (v : List ℕ). counted v all k s) vs ∙ sym (a.rows k s))) in
-    of_table kind e u
-    ∙ ap (λ (v : List ℕ). values_of kind e v u.levels (counted u.vertices u.rows)) vs
-    ∙ ap (λ (l : List (List Field)). values_of kind e t.vertices l (counted u.vertices u.rows)) ls
-    ∙ ap (λ (w : (ℕ → Bool) → (ℕ → ℕ) → ℕ). values_of kind e t.vertices t.levels w) ws
-    ∙ sym (of_table kind e t)
-
--- ---- the effect
-
--- what is asked for, with its formula, is one for lists
-record IsOne (g : MixedGraph) (a b : Asked) (f h : PlainFormula) : Type 0 where
-  asked : b ≡ a
-  formula : h ≡ f
-
+-- ---- what is asked for
 module _ (g : MixedGraph) (l : Lists) where
   same_sets : (s t : Sets) → AreListedSets l s.x.bits s.y.bits s.given.bits → AreListedSets l t.x.bits t.y.bits t.given.bits → t ≡ s
   same_sets s t n m = λ i. record {
@@ -82,38 +44,77 @@ module _ (g : MixedGraph) (l : Lists) where
     primes = record { bits = one_names g.vertices s.x.bits s.x.bits s.x.bits b.primes.bits a.primes.bits k.primes h.primes i };
   }
 
-  one_answer : (a b : Asked) (f h : Formula) → IsOfSets l (λ s. IsForSets false g s (treated.Formula a f)) → IsOfSets l (λ s. IsForSets false g s (treated.Formula b h))
-      → IsOne g a b (formula_view f) (formula_view h)
-  one_answer a b f h p r =
-      let s = p.sets in
-      let moved : IsForSets false g s (treated.Formula b h) =
-      subst (λ (t : Sets). IsForSets false g t (treated.Formula b h)) (same_sets s r.sets p.named r.named) r.is in
-      record {
-        asked = same_asked s a b p.is.decided.0 moved.decided.0;
-        formula = one_formula g s.x.bits s.y.bits s.given.bits (formula_view h) (formula_view f) moved.decided.1.formula p.is.decided.1.formula;
-      }
+  -- an answer for other sets that lists name is one for these
+  moved : (a b : Answer) (p : IsOfSets l (λ s. IsForSets false g s a)) → IsOfSets l (λ s. IsForSets false g s b) → IsForSets false g p.sets b
+  moved a b p r = subst (λ (t : Sets). IsForSets false g t b) (same_sets p.sets r.sets p.named r.named) r.is
+
+  one_by_formula : (a b : Asked) (f h : Formula) → IsOfSets l (λ s. IsForSets false g s (treated.Formula a f))
+      → IsOfSets l (λ s. IsForSets false g s (treated.Formula b h)) → (b ≡ a) × (formula_view h ≡ formula_view f)
+  one_by_formula a b f h p r =
+      let s = p.sets in let k = moved (treated.Formula a f) (treated.Formula b h) p r in (
+        same_asked s a b p.is.decided.0 k.decided.0,
+        one_formula g s.x.bits s.y.bits s.given.bits (formula_view h) (formula_view f) k.decided.1.formula p.is.decided.1.formula,
+      )
+
+  one_by_path : (a b : Asked) (c e : Confounding) → IsOfSets l (λ s. IsForSets false g s (treated.Unfixed a c))
+      → IsOfSets l (λ s. IsForSets false g s (treated.Unfixed b e)) → b ≡ a
+  one_by_path a b c e p r = same_asked p.sets a b p.is.decided.0 (moved (treated.Unfixed a c) (treated.Unfixed b e) p r).decided.0
+
+  -- a path that excludes a hedge, and a hedge
+  path_or_hedge : (a b : Asked) (c e : Confounding) (h : Hedge) (pair : CounterPair) → IsOfSets l (λ s. IsForSets false g s (treated.Unfixed a c))
+      → IsOfSets l (λ s. IsForSets false g s (treated.Excluded b e h pair)) → ⊥
+  path_or_hedge a b c e h pair p r =
+      p.is.decided.1.no_hedge h (moved (treated.Unfixed a c) (treated.Excluded b e h pair) p r).decided.1.found.right.hedge
+
+-- an answer on a diagram is one on one that is the same
+pub on_same : (d e : Diagram) → AreSameDiagrams d e → (q : Request) (a : Answer) → IsTreatedAnswer false e q.x q.y q.given (Ok a)
+    → IsTreatedAnswer false d q.x q.y q.given (Ok a)
+on_same d e s q a h =
+    subst (λ (l : Lists). IsForNames false (graph_of d.observed.graph) l (Ok a)) (same_query_lists q.x q.y (Some q.given) d e s)
+    (subst (λ (g : MixedGraph). IsForNames false g (query_lists e.read e.observed.names q.x q.y (Some q.given)) (Ok a)) (sym (same_drawing d e s)) h)
+
+-- ---- the effect
+module _ (d e : Diagram) (s : AreSameDiagrams d e) (q : Request) (a b : PlainAmong) (graphs : b.graph ≡ a.graph) where
+  abbrev l : Lists
+  l = query_lists d.read d.observed.names q.x q.y (Some q.given)
+
+  abbrev g : MixedGraph
+  g = graph_of d.observed.graph
+
+  -- an answer with a formula, and one without
+  formula_or_path : (f : Formula) (c : Confounding) → IsTreatedAnswer false d q.x q.y q.given (Ok (treated.Formula a.asked f))
+      → IsTreatedAnswer false e q.x q.y q.given (Ok (treated.Unfixed b.asked c)) → ⊥
+  formula_or_path f c h k = cc (treated_alike false false d e s q.x q.y q.given (Ok (treated.Formula a.asked f)) (Ok (treated.Unfixed b.asked c)) h k)
+
+  path_or_formula : (c : Confounding) (f : Formula) → IsTreatedAnswer false d q.x q.y q.given (Ok (treated.Unfixed a.asked c))
+      → IsTreatedAnswer false e q.x q.y q.given (Ok (treated.Formula b.asked f)) → ⊥
+  path_or_formula c f h k = cc (treated_alike false false d e s q.x q.y q.given (Ok (treated.Unfixed a.asked c)) (Ok (treated.Formula b.asked f)) h k)
+
+  one_reading : (r u : PlainReading) → IsFoundBy d q a r → IsFoundBy e q b u → (b.asked ≡ a.asked) × (u ≡ r)
+  one_reading (by_factors f) (by_factors k) i j =
+      let both = one_by_formula g l a.asked b.asked i.formula j.formula i.answered (on_same d e s q (treated.Formula b.asked j.formula) j.answered) in (
+        both.0,
+        ap by_factors (one_list a.graph.vertices a.asked.sets.x.bits (formula_view i.formula).main k f
+            (subst (λ (h : PlainFormula). AreNamedFactors a.graph.vertices a.asked.sets.x.bits h.main k) both.1
+            (subst (λ (h : Asked). AreNamedFactors a.graph.vertices h.sets.x.bits (formula_view j.formula).main k) both.0
+            (subst (λ (h : MixedGraph). AreNamedFactors h.vertices b.asked.sets.x.bits (formula_view j.formula).main k) graphs j.factors)))
+            i.factors),
+      )
+  one_reading (by_split joint) (by_split other) i j =
+      let same = one_by_path g l a.asked b.asked i.path j.path i.answered (on_same d e s q (treated.Unfixed b.asked j.path) j.answered) in (
+        same,
+        ap by_split (answered.one_formula a.graph a.asked.sets.x.bits (union a.asked.sets.y.bits a.asked.sets.given.bits) other joint
+            (subst (λ (h : Asked). identification.IsIdentified a.graph h.sets.x.bits (union h.sets.y.bits h.sets.given.bits) other) same
+            (subst (λ (h : MixedGraph). identification.IsIdentified h b.asked.sets.x.bits (union b.asked.sets.y.bits b.asked.sets.given.bits) other) graphs j.joint))
+            i.joint),
+      )
+  one_reading (by_factors f) (by_split other) i j = absurd (formula_or_path i.formula j.path i.answered j.answered)
+  one_reading (by_split joint) (by_factors k) i j = absurd (path_or_formula i.path j.formula i.answered j.answered)
 
 -- an effect of a request is one on diagrams that are the same
 pub same_effect : (d e : Diagram) → AreSameDiagrams d e → (q : Request) (a b : PlainAmong) → Identifies d q a → Identifies e q b → b ≡ a
-same_effect d e s q a b i j = λ k. record { names = names k; graph = graphs k; asked = both.asked k; factors = factors k }
-  where
-    names : b.names ≡ a.names
-    names = j.names ∙ s.observed.names ∙ sym i.names
-
-    graphs : b.graph ≡ a.graph
-    graphs = j.graph ∙ sym (same_drawing d e s) ∙ sym i.graph
-
-    both : IsOne (graph_of d.observed.graph) a.asked b.asked (formula_view i.found.formula) (formula_view j.found.formula)
-    both = one_answer (graph_of d.observed.graph) (query_lists d.read d.observed.names q.x q.y (Some q.given)) a.asked b.asked i.found.formula j.found.formula
-        i.found.answered
-        (subst (λ (l : Lists). IsForNames false (graph_of d.observed.graph) l (Ok (treated.Formula b.asked j.found.formula)))
-        (same_query_lists q.x q.y (Some q.given) d e s)
-        (subst (λ (g : MixedGraph). IsForNames false g (query_lists e.read e.observed.names q.x q.y (Some q.given)) (Ok (treated.Formula b.asked j.found.formula)))
-        (sym (same_drawing d e s)) j.found.answered))
-
-    factors : b.factors ≡ a.factors
-    factors = one_list a.graph.vertices a.asked.sets.x.bits (formula_view i.found.formula).main b.factors a.factors
-        (subst (λ (f : PlainFormula). AreNamedFactors a.graph.vertices a.asked.sets.x.bits f.main b.factors) both.formula
-        (subst (λ (k : Asked). AreNamedFactors a.graph.vertices k.sets.x.bits (formula_view j.found.formula).main b.factors) both.asked
-        (subst (λ (g : MixedGraph). AreNamedFactors g.vertices b.asked.sets.x.bits (formula_view j.found.formula).main b.factors) graphs j.found.factors)))
-        i.found.factors
+same_effect d e s q a b i j =
+    let names : b.names ≡ a.names = j.names ∙ s.observed.names ∙ sym i.names in
+    let graphs : b.graph ≡ a.graph = j.graph ∙ sym (same_drawing d e s) ∙ sym i.graph in
+    let both = one_reading d e s q a b graphs a.reading b.reading i.found j.found in
+    λ k. record { names = names k; graph = graphs k; asked = both.0 k; reading = both.1 k }

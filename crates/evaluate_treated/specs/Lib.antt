@@ -1,7 +1,6 @@
 pub mod Requests
 pub mod Effects
 pub mod First
-pub mod Cells
 pub mod Right
 pub mod Walking
 pub mod Lines

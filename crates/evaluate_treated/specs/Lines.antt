@@ -1,50 +1,47 @@
--- The lines that `evaluate --treated` prints.
-use Rattle.std.specs.Prelude.{ℕ, List, ◌++◌, codes, Bool, true, false}
+-- The texts that `evaluate --treated` prints over counts.
+use Rattle.std.specs.Prelude.{ℕ, List, ◌++◌, codes}
 use Rattle.std.specs.List.{flat_map}
-use Rattle.mixed_graph.specs.Vocabulary.{has, members_below, name_of}
-use Rattle.answer_text.specs.Vocabulary.{printed}
+use Rattle.mixed_graph.specs.Vocabulary.{has, members_below, union}
 use Rattle.prob_expr.specs.Vocabulary.{PlainTarget}
-use Rattle.quantity.specs.Exacts.{exact}
-use Rattle.quantity.specs.Intervals.{bounds}
-use Rattle.quantity.specs.Kinds.{Pair}
-use Rattle.quantity.specs.Vocabulary.{Kind}
 use Rattle.count_rows.specs.Vocabulary.{Table}
 use Rattle.count_eval.specs.Vocabulary.{cell_of}
-use Rattle.count_answers.specs.Vocabulary.{assignments, level_text, printed_level}
+use Rattle.count_answers.specs.Vocabulary.{assignments}
 use Rattle.primed_names.specs.Vocabulary.{primed_names}
+use Rattle.treated_command.specs.Sentences.{joint_of}
 use Rattle.treated_command.specs.declared.answer.Asked.{Asked}
-use Rattle.evaluate_command.specs.Vocabulary.{CellValue, bounds_numbers, doing_text, exact_numbers, given_text, plain_of, sign_of}
-use Rattle.evaluate_command.specs.declared.answer.Valued.{Valued}
-use Rattle.evaluate_command.specs.declared.answer.Values.{Values}
-use Rattle.evaluate_command.specs.declared.answer.Values.TheVariants.{Exact, Bounds}
-use Rattle.evaluate_treated.specs.declared.answer.Answer.{Answer}
-use Rattle.evaluate_treated.specs.declared.axes.Axis.{Axis}
+use Rattle.evaluate_command.specs.Vocabulary.{doing_text, given_text, pinned_lines}
+use Rattle.paired_values.specs.Vocabulary.{axis_text, values_text}
+use Rattle.paired_values.specs.declared.axes.Axis.{Axis}
+use Rattle.evaluate_treated.specs.declared.answer.AmongValues.{AmongValues}
+use Rattle.evaluate_treated.specs.declared.answer.NoModel.{NoModel}
 
 -- the sets of the effect
 abbrev pub target_of : Asked → PlainTarget
 target_of a = record { x = a.sets.x.bits; y = a.sets.y.bits; given = a.sets.given.bits }
 
--- `,X'=level`: a name with the level of its vertex there
-abbrev pub axis_text : (all : List (List ℕ)) → Table → (ℕ → ℕ) → Axis → List ℕ
-axis_text all t cell a = codes "," ++ (printed (name_of all a.name) ++ (codes "=" ++ printed_level (level_text t a.vertex (cell a.name))))
-
 -- the effect at a cell: `P(Y=level|do(X=level),Z=level,X'=level)`
-abbrev pub effect_text : List (List ℕ) → Answer → (ℕ → ℕ) → List ℕ
-effect_text names a cell = codes "P("
-    ++ (assignments names a.counts cell (members_below (has a.asked.sets.y.bits) 64)
-    ++ (doing_text names (target_of a.asked) a.counts cell
-    ++ (given_text names (target_of a.asked) a.counts cell
-    ++ (flat_map (axis_text (primed_names names a.asked.sets.x.bits) a.counts cell) a.observed.items ++ codes ")"))))
+abbrev pub effect_text : List (List ℕ) → Asked → List Axis → Table → (ℕ → ℕ) → List ℕ
+effect_text names a observed t cell = codes "P("
+    ++ (assignments names t cell (members_below (has a.sets.y.bits) 64)
+    ++ (doing_text names (target_of a) t cell
+    ++ (given_text names (target_of a) t cell
+    ++ (flat_map (axis_text (primed_names names a.sets.x.bits) t cell) observed ++ codes ")"))))
 
--- the line of a cell
-abbrev pub value_line : Kind → (is_exact : Bool) → List (List ℕ) → Answer → CellValue → List ℕ
-value_line kind is_exact names a v = effect_text names a (cell_of v.cell) ++ (sign_of is_exact ++ (kind.text v.quantity ++ codes "\n"))
+-- the lines of what is pinned, and those of the values
+abbrev pub values_lines : List (List ℕ) → AmongValues → List ℕ
+values_lines names a = pinned_lines names a.counts a.pinned.bits ++ values_text (effect_text names a.asked a.observed.items a.counts) a.values
 
--- the lines of cells with their quantities
-abbrev pub cells_text : {Q : Type 0} → (Q → Pair) → Kind → (is_exact : Bool) → List (List ℕ) → Answer → List (Valued Q) → List ℕ
-cells_text numbers kind is_exact names a values = flat_map (λ v. value_line kind is_exact names a (plain_of numbers v)) values
+-- `P(Y=level,Z=level|do(X=level))`: the joint effect at a cell
+abbrev pub joint_text : List (List ℕ) → Asked → Table → (ℕ → ℕ) → List ℕ
+joint_text names a t cell = codes "P("
+    ++ (assignments names t cell (members_below (has (joint_of a)) 64) ++ (doing_text names (target_of a) t cell ++ codes ")"))
 
--- all lines
-abbrev pub values_lines : List (List ℕ) → Answer → Values → List ℕ
-values_lines names a (Exact values) = cells_text exact_numbers exact true names a values.items
-values_lines names a (Bounds values) = cells_text bounds_numbers bounds false names a values.items
+-- `P(X=level,Y=level,Z=level)`: what of it those have who show the levels that are set
+abbrev pub shown_text : List (List ℕ) → Asked → Table → (ℕ → ℕ) → List ℕ
+shown_text names a t cell = codes "P(" ++ (assignments names t cell (members_below (has (union a.sets.x.bits (joint_of a))) 64) ++ codes ")")
+
+-- `no model of this diagram has these counts`, and in which cell the joint effect is less than what was observed
+abbrev pub no_model_text : List (List ℕ) → NoModel → List ℕ
+no_model_text names a = codes "no model of this diagram has these counts\n"
+    ++ (joint_text names a.asked a.counts (cell_of a.cell.items) ++ (codes " is less than "
+    ++ (shown_text names a.asked a.counts (cell_of a.cell.items) ++ codes "\n")))

@@ -1,34 +1,28 @@
--- What the functions promise that walk through the cells.
-use Rattle.std.specs.Prelude.{ℕ, ◌≡◌, List, All, ◌++◌, Result, Ok, Err}
-use Rattle.fractions.specs.Vocabulary.{Fraction}
+-- Of which table values are had, and what the functions promise that give them.
+use Rattle.std.specs.Prelude.{ℕ, ◌≡◌, Bool, List, All}
 use Rattle.mixed_graph.specs.Vocabulary.{has, members_below}
-use Rattle.quantity.specs.Kinds.{Pair}
-use Rattle.quantity.specs.Vocabulary.{Kind}
 use Rattle.count_rows.specs.Vocabulary.{Table}
 use Rattle.count_table.specs.Vocabulary.{AreCounts}
-use Rattle.count_eval.specs.declared.failure.EvalFault.{EvalFault}
-use Rattle.count_eval.specs.Vocabulary.{IsEvaluationFault, is_used}
-use Rattle.count_eval.specs.Stops.{Stop}
-use Rattle.evaluate_command.specs.Vocabulary.{CellValue, values_at}
-use Rattle.evaluate_treated.specs.Cells.{value_in}
-use Rattle.evaluate_treated.specs.Effects.{PlainAmong, IsIdentified, read_in}
-use Rattle.evaluate_treated.specs.Right.{CoversFactors, CoversAmong}
+use Rattle.evaluate_command.specs.declared.answer.Values.{Values}
+use Rattle.paired_values.specs.declared.fault.PairFault.{PairFault}
+use Rattle.paired_values.specs.Values.{IsBelow}
+use Rattle.paired_values.specs.Vocabulary.{AreValuesOver, IsWhyNone, plain_values, read_in}
+use Rattle.evaluate_treated.specs.Effects.{PlainAmong, IsIdentified, paired_in}
+use Rattle.evaluate_treated.specs.Right.{CoversAmong, NoModelHas, ShowsCounts, shown_in}
 
 -- the effect is identified, and the table is one of counts of the vertices that are read for it
 pub record IsOver (e : PlainAmong) (t : Table) : Type 0 where
   pub identified : IsIdentified e
   pub counts : AreCounts t
-  pub vertices : t.vertices ≡ members_below (has (read_in e)) 64
+  pub vertices : t.vertices ≡ members_below (has (read_in (paired_in e))) 64
 
--- the cells are appended, with the values there
-pub record Appends (kind : Kind) (covers : Pair → Fraction → Type 0) (e : PlainAmong) (t : Table) (cells : List (List ℕ)) (old new : List CellValue)
-    : Type 0 where
-  pub values : List CellValue
-  pub evaluated : values_at (value_in kind e t) cells ≡ Ok values
-  pub counts : All (CoversFactors covers e t) values
-  pub effects : All (CoversAmong covers e t) values
-  pub list : new ≡ old ++ values
+-- the values at the printed cells, and what they stand for
+pub record AreShown (is_exact : Bool) (e : PlainAmong) (t : Table) (values : Values) : Type 0 where
+  pub evaluated : AreValuesOver is_exact (paired_in e) t values
+  pub counts : All (ShowsCounts is_exact e e.reading t) (plain_values values)
+  pub effects : All (CoversAmong (shown_in is_exact e.reading) e t) (plain_values values)
 
--- the fault is that of the first cell without a value
-abbrev pub IsFaultAt : Kind → PlainAmong → Table → List (List ℕ) → EvalFault → Type 0
-IsFaultAt kind e t cells fault = (s : Stop) × (values_at (value_in kind e t) cells ≡ Err s) × IsEvaluationFault (is_used t) fault s
+-- why there are none: where a value would be below 0, no model has the counts
+pub record IsNone (is_exact : Bool) (e : PlainAmong) (t : Table) (fault : PairFault) : Type 0 where
+  pub why : IsWhyNone is_exact (paired_in e) t fault
+  pub none : (cell : List ℕ) → IsBelow cell fault → NoModelHas e.graph t

@@ -1,64 +1,39 @@
 //! The values of an effect over a table of counts.
 
 ghost use Rattle.std.specs.Prelude.{◌≡◌, false, IfOk, IfErr};
-ghost use Rattle.evaluate_command.specs.Stopped.{is_stop_memory};
-ghost use Rattle.evaluate_command.specs.Vocabulary.{plain_in};
 ghost use Rattle.evaluate_treated.specs.Effects.{among_in};
-ghost use Rattle.evaluate_treated.specs.Right.{AreEvaluated, HasNoValue, IsOverTable, IsUnvalued};
-ghost use Rattle.evaluate_treated.specs.Walking.{IsOver};
+ghost use Rattle.evaluate_treated.specs.Right.{HasItsLevels};
+ghost use Rattle.evaluate_treated.specs.Walking.{AreShown, IsOver, IsNone};
+ghost use Rattle.paired_values.specs.Vocabulary.{is_wanting};
 
-use crate::axes::varied;
-use crate::cells::push_cells;
-use crate::identified::Identified;
-use count_eval::EvalFault;
+use crate::identified::{Identified, paired};
 use count_table::Counts;
 use dag_reader::ReadGraph;
-use evaluate_command::{Valued, Values};
-use quantity::{Bounds, Exact, Quantity};
+use evaluate_command::Values;
+use paired_values::{PairFault, values_over};
+use quantity::{Bounds, Exact};
 use std::alloc::Global;
 
-/// The values of an identified effect over a table of counts, in exact fractions or in bounds; or why the first printed cell
-/// that has none has none.
-pub fn values_over(
+/// The values of an effect over a table of counts that has levels of which they are had, in exact fractions or in bounds; or why the
+/// first printed cell that has none has none.
+pub fn among_values(
     alloc: Global,
     seen: &ReadGraph,
     found: &Identified,
     counts: &Counts,
     exact: bool,
-) -> Result<Values, EvalFault>
-    requires { IsOver (among_in seen.now found.now) counts.now }
-    ensures values { IfOk result (IsOverTable exact (among_in seen.now found.now) counts.now) }
-    ensures fault { IfErr result (λ f. is_stop_memory f ≡ false → HasNoValue exact (among_in seen.now found.now) counts.now f) }
+) -> Result<Values, PairFault>
+    requires over { IsOver (among_in seen.now found.now) counts.now }
+    requires levels { HasItsLevels found.now.asked.sets.x.bits counts.now (among_in seen.now found.now).reading }
+    ensures values { IfOk result (AreShown exact (among_in seen.now found.now) counts.now) }
+    ensures fault { IfErr result (λ f. is_wanting f ≡ false → IsNone exact (among_in seen.now found.now) counts.now f) }
 {
-    if exact {
-        return match values_in::<Exact>(alloc, seen, found, counts) {
-            Ok(values) => Ok(Values::Exact(values)),
-            Err(fault) => Err(fault),
-        };
-    }
-    match values_in::<Bounds>(alloc, seen, found, counts) {
-        Ok(values) => Ok(Values::Bounds(values)),
-        Err(fault) => Err(fault),
-    }
-}
-
-/// The values in a kind of quantity.
-fn values_in<Q: Quantity>(
-    alloc: Global,
-    seen: &ReadGraph,
-    found: &Identified,
-    counts: &Counts,
-) -> Result<Vec<Valued<Q>>, EvalFault>
-    requires { IsOver (among_in seen.now found.now) counts.now }
-    ensures values { IfOk result (λ v. AreEvaluated Q.kind Q.covers (among_in seen.now found.now) counts.now (plain_in Q.numbers v.items)) }
-    ensures fault { IfErr result (λ f. is_stop_memory f ≡ false → IsUnvalued Q.kind (among_in seen.now found.now) counts.now f) }
-{
-    let Ok(axes) = varied(alloc, seen.graph.n, found.asked.sets) else {
-        return Err(EvalFault::NoMemory);
-    };
-    let mut values = Vec::new(alloc);
-    match push_cells(alloc, &mut values, seen, found, counts, &axes, [0; 64]) {
-        Ok(()) => Ok(values),
-        Err(fault) => Err(fault),
-    }
+    // Their clauses say what the values stand for, in either kind of quantity.
+    factor_values::laws::<Exact>();
+    factor_values::laws::<Bounds>();
+    named_factors::laws::<Exact>();
+    named_factors::laws::<Bounds>();
+    split_values::laws::<Exact>();
+    split_values::laws::<Bounds>();
+    values_over(alloc, &paired(seen, found), counts, exact)
 }

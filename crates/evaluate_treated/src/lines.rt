@@ -1,21 +1,19 @@
-//! The lines of an answer.
+//! The texts over counts.
 
 ghost use Rattle.std.specs.Prelude.{◌≡◌, ◌++◌, OnOk, IfOk};
-ghost use Rattle.std.specs.List.{flat_map};
+ghost use Rattle.mixed_graph.specs.Vocabulary.{union};
 ghost use Rattle.prob_expr.specs.Vocabulary.{target_view};
 ghost use Rattle.count_eval.specs.Vocabulary.{cell_of};
 ghost use Rattle.primed_names.specs.Vocabulary.{primed_names};
-ghost use Rattle.evaluate_command.specs.Vocabulary.{plain_of};
-ghost use Rattle.evaluate_treated.specs.Lines.{axis_text, cells_text, effect_text, target_of, value_line, values_lines};
+ghost use Rattle.treated_command.specs.Sentences.{joint_of};
+ghost use Rattle.evaluate_treated.specs.Lines.{effect_text, joint_text, no_model_text, shown_text, target_of, values_lines};
 
-use crate::answer::Answer;
-use crate::axes::Axis;
-use answer_text::push_vertex;
-use count_answers::{level_text, number_at, push_assignments, push_level};
+use crate::answer::{AmongValues, NoModel};
+use count_answers::push_assignments;
 use count_table::Counts;
-use evaluate_command::{Shown, Valued, Values, push_doing, push_given, sign_of};
-use mixed_graph::Names;
-use primed_names::primed_names;
+use evaluate_command::{pinned_lines, push_doing, push_given};
+use mixed_graph::{Names, VSet};
+use paired_values::{Axis, push_axes_text, push_values_text};
 use prob_expr::Target;
 use std::alloc::{AllocError, Global};
 use treated_command::Asked;
@@ -32,105 +30,93 @@ pub fn target_of(asked: Asked) -> Target
     }
 }
 
-/// Appends a name with the level of its vertex there, behind a comma, as `,X'=level`.
-fn push_axis(
-    out: &mut Vec<u8>,
-    all: &Names,
-    counts: &Counts,
-    cell: &[u32],
-    axis: Axis,
-) -> Result<(), AllocError>
-    ensures { OnOk result (out.new.items ≡ out.old.items ++ axis_text all.now counts.now (cell_of cell.now) axis) }
-{
-    out.push(b',')?;
-    push_vertex(out, all, axis.name)?;
-    out.push(b'=')?;
-    push_level(
-        out,
-        level_text(counts, axis.vertex, number_at(cell, axis.name)),
-    )?;
-    Ok(())
-}
-
-/// Appends x as it was observed.
-pub fn push_observed(
-    out: &mut Vec<u8>,
-    all: &Names,
-    counts: &Counts,
-    cell: &[u32],
-    axes: &[Axis],
-) -> Result<(), AllocError>
-    ensures { OnOk result (out.new.items ≡ out.old.items ++ flat_map (axis_text all.now counts.now (cell_of cell.now)) axes.now) }
-{
-    for axis in axes {
-        push_axis(out, all, counts, cell, *axis)?;
-    }
-    Ok(())
-}
-
 /// Appends the effect at a cell, as `P(Y=level|do(X=level),Z=level,X'=level)`.
-fn push_effect(
+pub fn push_effect(
     out: &mut Vec<u8>,
     names: &Names,
     all: &Names,
-    answer: &Answer,
+    asked: Asked,
+    observed: &[Axis],
+    counts: &Counts,
     cell: &[u32],
 ) -> Result<(), AllocError>
-    ensures { all.now ≡ primed_names names.now answer.now.asked.sets.x.bits
-        → OnOk result (out.new.items ≡ out.old.items ++ effect_text names.now answer.now (cell_of cell.now)) }
+    ensures { all.now ≡ primed_names names.now asked.sets.x.bits
+        → OnOk result (out.new.items ≡ out.old.items ++ effect_text names.now asked observed.now counts.now (cell_of cell.now)) }
 {
-    let (counts, target) = (&answer.counts, target_of(answer.asked));
+    let target = target_of(asked);
     out.extend_from_slice(b"P(")?;
     push_assignments(out, names, counts, target.y, cell)?;
     push_doing(out, names, &target, counts, cell)?;
     push_given(out, names, &target, counts, cell)?;
-    push_observed(out, all, counts, cell, answer.observed.as_slice())?;
+    push_axes_text(out, all, counts, cell, observed)?;
     out.push(b')')?;
     Ok(())
 }
 
-/// Appends the line of a cell with its quantity.
-fn push_line<Q: Shown>(
-    alloc: Global,
-    out: &mut Vec<u8>,
-    names: &Names,
-    all: &Names,
-    answer: &Answer,
-    valued: &Valued<Q>,
-) -> Result<(), AllocError>
-    ensures { all.now ≡ primed_names names.now answer.now.asked.sets.x.bits
-        → OnOk result (out.new.items ≡ out.old.items ++ value_line Q.kind Q.IS_EXACT names.now answer.now (plain_of Q.numbers valued.now)) }
-{
-    push_effect(out, names, all, answer, valued.cell.as_slice())?;
-    out.extend_from_slice(sign_of(Q::IS_EXACT))?;
-    valued.quantity.print(alloc, out)?;
-    out.push(b'\n')?;
-    Ok(())
-}
-
-/// The lines of cells with their quantities.
-fn lines_text<Q: Shown>(
+/// The lines of what is pinned, and those of the values.
+pub fn values_text(
     alloc: Global,
     names: &Names,
-    answer: &Answer,
-    values: &[Valued<Q>],
+    values: &AmongValues,
 ) -> Result<Vec<u8>, AllocError>
-    ensures { IfOk result (λ v. v.items ≡ cells_text Q.numbers Q.kind Q.IS_EXACT names.now answer.now values.now) }
+    ensures { IfOk result (λ v. v.items ≡ values_lines names.now values.now) }
 {
-    let all = primed_names(alloc, names, answer.asked.sets.x)?;
-    let mut text = Vec::new(alloc);
-    for valued in values {
-        push_line(alloc, &mut text, names, &all, answer, valued)?;
-    }
+    let mut text = pinned_lines(alloc, names, &values.counts, values.pinned)?;
+    push_values_text(alloc, &mut text, names, values, &values.values)?;
     Ok(text)
 }
 
-/// All lines.
-pub fn values_text(alloc: Global, names: &Names, answer: &Answer) -> Result<Vec<u8>, AllocError>
-    ensures { IfOk result (λ v. v.items ≡ values_lines names.now answer.now answer.now.values) }
+/// The outcomes of the joint effect: y and what is given.
+fn joint_of(asked: Asked) -> VSet
+    ensures { result.bits ≡ joint_of asked }
 {
-    match &answer.values {
-        Values::Exact(values) => lines_text(alloc, names, answer, values.as_slice()),
-        Values::Bounds(values) => lines_text(alloc, names, answer, values.as_slice()),
-    }
+    asked.sets.y.union(asked.sets.given)
+}
+
+/// Appends the joint effect at a cell, as `P(Y=level,Z=level|do(X=level))`.
+fn push_joint(
+    out: &mut Vec<u8>,
+    names: &Names,
+    asked: Asked,
+    counts: &Counts,
+    cell: &[u32],
+) -> Result<(), AllocError>
+    ensures { OnOk result (out.new.items ≡ out.old.items ++ joint_text names.now asked counts.now (cell_of cell.now)) }
+{
+    out.extend_from_slice(b"P(")?;
+    push_assignments(out, names, counts, joint_of(asked), cell)?;
+    push_doing(out, names, &target_of(asked), counts, cell)?;
+    out.extend_from_slice(b")")?;
+    Ok(())
+}
+
+/// Appends what of it those have who show the levels that are set, as `P(X=level,Y=level,Z=level)`.
+fn push_shown(
+    out: &mut Vec<u8>,
+    names: &Names,
+    asked: Asked,
+    counts: &Counts,
+    cell: &[u32],
+) -> Result<(), AllocError>
+    ensures { OnOk result (out.new.items ≡ out.old.items ++ shown_text names.now asked counts.now (cell_of cell.now)) }
+{
+    let all = asked.sets.x.union(joint_of(asked));
+    out.extend_from_slice(b"P(")?;
+    push_assignments(out, names, counts, all, cell)?;
+    out.extend_from_slice(b")")?;
+    Ok(())
+}
+
+/// That no model of the diagram has the counts, and at which cell the joint effect is less than what of it was observed.
+pub fn no_model_text(alloc: Global, names: &Names, none: &NoModel) -> Result<Vec<u8>, AllocError>
+    ensures { IfOk result (λ v. v.items ≡ no_model_text names.now none.now) }
+{
+    let cell = none.cell.as_slice();
+    let mut text = Vec::new(alloc);
+    text.extend_from_slice(b"no model of this diagram has these counts\n")?;
+    push_joint(&mut text, names, none.asked, &none.counts, cell)?;
+    text.extend_from_slice(b" is less than ")?;
+    push_shown(&mut text, names, none.asked, &none.counts, cell)?;
+    text.extend_from_slice(b"\n")?;
+    Ok(text)
 }

@@ -7,19 +7,21 @@ ghost use Rattle.replies.specs.Vocabulary.{told_of};
 ghost use Rattle.told.specs.declared.form.Form.{Form as AskedForm};
 ghost use Rattle.told.specs.Vocabulary.{Tells};
 ghost use Rattle.evaluate_command.specs.ValuesFaults.{is_memory, values_refusal};
-ghost use Rattle.evaluate_treated.specs.Effects.{PlainAmong, among_in, read_in, IsIdentified};
-ghost use Rattle.evaluate_treated.specs.Right.{AreValuesOf, HasValues, IsCountsFault, IsFaultOver, IsForCounts};
+ghost use Rattle.paired_values.specs.Bytes.{HasAnswer, IsBytesFault};
+ghost use Rattle.paired_values.specs.Vocabulary.{IsTableFault, read_in};
+ghost use Rattle.evaluate_treated.specs.Effects.{PlainAmong, among_in, paired_in, IsHeld};
+ghost use Rattle.evaluate_treated.specs.Right.{HasItsLevels, HasNoValue, IsForCounts, IsOverTable};
 ghost use Rattle.evaluate_treated.specs.Telling.{among_telling};
 
-use crate::answer::Answer;
-use crate::axes::observed_axes;
-use crate::evaluating::values_over;
-use crate::identified::Identified;
-use crate::naming::read_for;
+use crate::answer::{AmongValues, Answer, NoModel};
+use crate::evaluating::among_values;
+use crate::identified::{Identified, paired};
+use crate::levels::beyond_two;
 use count_table::{Counts, read_counts};
 use dag_reader::ReadGraph;
 use diagram::Diagram;
 use evaluate_command::ValuesFault;
+use paired_values::{PairFault, observed_axes, pinned_for, read_for};
 use replies::Reply;
 use std::alloc::{AllocError, Global};
 use told::{Form, Refuses, reply};
@@ -35,7 +37,7 @@ pub fn among_reply(
     bytes: &[u8],
     form: Form,
 ) -> Result<Reply, AllocError>
-    requires identified { IsIdentified (among_in diagram.now.observed found.now) }
+    requires held { IsHeld (among_in diagram.now.observed found.now) found.now.way }
     requires small { length bytes.now ≤ 67108864 }
     ensures { IfOk result (λ r. Tells among_telling values_refusal
         (IsForCounts exact (among_in diagram.now.observed found.now) (option_map (λ s. s.now) count.entry) bytes.now) form
@@ -53,49 +55,83 @@ pub fn long_counts(alloc: Global) -> Result<Reply, AllocError>
     ValuesFault::TooLong.refuse(alloc)
 }
 
-/// The values of an effect that was identified in an observed graph, from counts in CSV: in exact fractions, or in bounds; or why there are none.
+/// The answer for an effect that was identified in an observed graph, from counts in CSV: in exact fractions, or in bounds; or why there is none.
 fn among_answer<'a>(
     alloc: Global,
     seen: &'a ReadGraph,
-    found: &Identified,
+    found: &'a Identified,
     count: Option<&[u8]>,
     exact: bool,
     bytes: &[u8],
-) -> Result<Answer, ValuesFault<'a>>
-    requires identified { IsIdentified (among_in seen.now found.now) }
+) -> Result<Answer<'a>, ValuesFault<'a>>
+    requires held { IsHeld (among_in seen.now found.now) found.now.way }
     requires small { length bytes.now ≤ 67108864 }
-    ensures answer { IfOk result (HasValues exact (among_in seen.now found.now) (option_map (λ s. s.now) count.entry) bytes.now) }
-    ensures fault { IfErr result (λ f. is_memory f ≡ false → IsCountsFault exact (among_in seen.now found.now) (option_map (λ s. s.now) count.entry) bytes.now f) }
+    ensures answer { let e = among_in seen.now found.now in
+        IfOk result (HasAnswer e.names (read_in (paired_in e)) (IsOverTable exact e) (option_map (λ s. s.now) count.entry) bytes.now) }
+    ensures fault { let e = among_in seen.now found.now in
+        IfErr result (λ f. is_memory f ≡ false
+        → IsBytesFault e.names (read_in (paired_in e)) (HasNoValue exact e) (option_map (λ s. s.now) count.entry) bytes.now f) }
 {
-    match read_counts(alloc, bytes, &seen.names, read_for(found), count) {
+    let read = read_for(&paired(seen, found));
+    match read_counts(alloc, bytes, &seen.names, read, count) {
         Ok(counts) => over_table(alloc, seen, found, exact, counts),
         Err(fault) => Err(ValuesFault::Counts(fault)),
     }
 }
 
-/// The values over a table of counts.
+/// The answer over a table of counts.
 fn over_table<'a>(
+    alloc: Global,
+    seen: &'a ReadGraph,
+    found: &'a Identified,
+    exact: bool,
+    counts: Counts,
+) -> Result<Answer<'a>, ValuesFault<'a>>
+    requires held { IsHeld (among_in seen.now found.now) found.now.way }
+    requires read { counts.vertices ≡ members_below (has (read_in (paired_in (among_in seen.now found.now)))) 64 }
+    ensures answer { IfOk result (IsOverTable exact (among_in seen.now found.now) counts) }
+    ensures fault { let e = among_in seen.now found.now in IfErr result (λ f. is_memory f ≡ false → IsTableFault e.names (HasNoValue exact e) counts f) }
+{
+    if let Some(path) = beyond_two(found, &counts) {
+        return Ok(Answer::Path(path));
+    }
+    by_levels(alloc, seen, found, exact, counts)
+}
+
+/// The values over a table that has levels of which they are had; or that no model has the counts.
+fn by_levels<'a>(
     alloc: Global,
     seen: &'a ReadGraph,
     found: &Identified,
     exact: bool,
     counts: Counts,
-) -> Result<Answer, ValuesFault<'a>>
-    requires identified { IsIdentified (among_in seen.now found.now) }
-    requires read { counts.vertices ≡ members_below (has (read_in (among_in seen.now found.now))) 64 }
-    ensures answer { IfOk result (AreValuesOf exact (among_in seen.now found.now) counts) }
-    ensures fault { IfErr result (λ f. is_memory f ≡ false → IsFaultOver exact (among_in seen.now found.now) counts f) }
+) -> Result<Answer<'a>, ValuesFault<'a>>
+    requires held { IsHeld (among_in seen.now found.now) found.now.way }
+    requires read { counts.vertices ≡ members_below (has (read_in (paired_in (among_in seen.now found.now)))) 64 }
+    requires levels { HasItsLevels found.now.asked.sets.x.bits counts (among_in seen.now found.now).reading }
+    ensures answer { IfOk result (IsOverTable exact (among_in seen.now found.now) counts) }
+    ensures fault { let e = among_in seen.now found.now in IfErr result (λ f. is_memory f ≡ false → IsTableFault e.names (HasNoValue exact e) counts f) }
 {
     // The clause `table` of `used` is needed: it is a table of counts.
     let _used = counts.used();
-    let observed = observed_axes(alloc, seen.graph.n, found.asked.sets.x)?;
-    match values_over(alloc, seen, found, &counts, exact) {
-        Ok(values) => Ok(Answer {
-            asked: found.asked,
+    let asked = found.asked;
+    let observed = observed_axes(alloc, seen.graph.n, asked.sets.x)?;
+    let pinned = pinned_for(alloc, &paired(seen, found))?;
+    match among_values(alloc, seen, found, &counts, exact) {
+        Ok(values) => Ok(Answer::Values(AmongValues {
+            asked,
             observed,
+            pinned,
             counts,
             values,
-        }),
-        Err(fault) => Err(ValuesFault::NoValue(&seen.names, counts, fault)),
+        })),
+        Err(PairFault::Below { cell }) => Ok(Answer::NoModel(NoModel {
+            asked,
+            observed,
+            pinned,
+            counts,
+            cell,
+        })),
+        Err(PairFault::Stopped(fault)) => Err(ValuesFault::NoValue(&seen.names, counts, fault)),
     }
 }

@@ -18,6 +18,7 @@ returns-in-Answered c =
 pub returns : goal.returns
 returns c =
     let d = c.args.diagram.now in let q = request_of c.args.asked in let e = among_in d.observed c.in-Found.found in
-    let l = evaluate_treated_left q.effect.form e q.counts q.count q.exact in
+    let way = c.in-Found.found.way in let is = rw c.in-Found.is at c.identify_among.ensures in
+    let l = evaluate_treated_left q.effect.form e way q.counts q.count q.exact in
     left_of_second evaluate_command (one_of evaluate_treated_command evaluate_natural_command) (first q) d l
-    (left_of_first evaluate_treated_command evaluate_natural_command q d l (evaluate_treated_is_left q d e (rw c.in-Found.is at c.identify_among.ensures)))
+    (left_of_first evaluate_treated_command evaluate_natural_command q d l (evaluate_treated_is_left q d e way is.0 is.1))

@@ -1,0 +1,4 @@
+pub mod MinusLaws
+mod Quotients
+mod SubtractionSteps
+mod Worked

@@ -1,8 +1,0 @@
-use Rattle.std.proofs.Common.{◌≡◌, drop}
-use Rattle.answer_json.specs.Vocabulary.{with_values}
-use Rattle.evaluate_natural.specs.Objects.{cells_json}
-use Rattle.evaluate_natural.proofs.objects.push_each.Given as goal
-
-abbrev pub invariant-loop-valued : goal.invariant-loop-valued
-invariant-loop-valued g l = with_values (cells_json g.Q.Quantity.numbers g.Q.Shown.IS_EXACT l.names l.answer (drop l.valued-index l.values)) l.object
-    ≡ with_values (cells_json g.Q.Quantity.numbers g.Q.Shown.IS_EXACT l.names l.answer l.values) l.fn.object

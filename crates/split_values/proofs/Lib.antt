@@ -1,0 +1,5 @@
+pub mod Consistency
+pub mod Enclosing
+pub mod Matching
+mod Same
+pub mod Splitting

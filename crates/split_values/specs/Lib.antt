@@ -1,0 +1,5 @@
+pub mod Values
+pub mod Outcomes
+pub mod Laws
+pub mod Code
+pub mod Vocabulary
