@@ -177,8 +177,8 @@ class Values(unittest.TestCase):
         with self.assertRaisesRegex(causal.NoModelError, r"P\(Y=1\|do\(X=0\)\) is less than P\(X=0,Y=1\)") as refused:
             NAPKIN.effects(BELOW, "X", "Y", treated=True)
         self.assertEqual(refused.exception.place.given, {"X'": 1})
-        thin = {name: [level for level, z in zip(levels, COUNTS["Z"]) if z or levels[0] != 54] for name, levels in COUNTS.items() if name != "n"}
-        thin = {name: levels + [0] for name, levels in {**thin, "Z": [1] * len(thin["Z"])}.items()}
+        # no record has W=1 and Z=0
+        thin = {"W": [0, 1, 0, 1], "Z": [0, 1, 1, 1], "X": [0, 1, 1, 0], "Y": [0, 1, 0, 1]}
         with self.assertRaises(causal.EvaluationError):
             NAPKIN.effects(thin, "X", "Y", treated=True)
         several = Diagram("dag { W -> Z -> X -> Y W <-> X W <-> Y V -> Y }")
