@@ -23,7 +23,8 @@ class Confounded(Shown):
 
     `treatment` has the child `child`, to which `path` leads back by bidirected edges among the ancestors of the target: it is proved that
     this is so, and that two models then exclude a formula. Where the joint effect `joint` has no formula either, they are those of its
-    `hedge`. Where it has one, `two_values` says for a single treatment how `joint` is made up, if the treatment has two values.
+    `hedge`. Where it has one, `two_values` says for a single treatment how `joint` is made up, if the treatment has two values: over such data
+    `Diagram.effects` has values (see `TwoLevels`).
 
     >>> from causal import Diagram
     >>> answer = Diagram("dag { X -> Y X <-> Y }").treated("X", "Y")
