@@ -74,14 +74,23 @@ const decoder = new TextDecoder();
 export const levelsIn = (cell) =>
   cell.map(([name, level]) => ({ name, level: typeof level === "string" ? level : decoder.decode(Uint8Array.from(level)) }));
 
-/** @typedef {{y: string, x: string, given: string, text: string, value: number}} Cell levels as they are printed, `T=A`; none is "" */
+/**
+ * Levels as they are printed, `T=A`; none is "". Among the treated `given` has the observed levels too, and `hadIt` says whether they are those that are set.
+ * @typedef {{y: string, x: string, given: string, hadIt: boolean, text: string, value: number}} Cell
+ */
 
 /** The values of an effect. @returns {Cell[]} */
-export const valuesOf = ({ cells }) => cells.map(({ y, x, given, value, from, to }) => {
-  const [yLevels, xLevels, among] = [y, x, given].map((part) => levelsText(levelsIn(part)));
-  const number = value ? fraction(value) : (Number(from) + Number(to)) / 2;
-  return { y: yLevels, x: xLevels, given: among, text: value ?? `${from} … ${to}`, value: number };
+export const valuesOf = ({ cells }) => cells.map(({ y, x, given, observed = [], value, from, to }) => {
+  const [yLevels, xLevels, among] = [y, x, [...given, ...observed]].map((part) => levelsText(levelsIn(part)));
+  const number = value ? fraction(value) : (Number(from) + Number(to)) / 2, [had, set] = [observed, x].map((part) => levelsIn(part).map(({ level }) => level).join("\n"));
+  return { y: yLevels, x: xLevels, given: among, hadIt: observed.length > 0 && had === set, text: value ?? `${from} … ${to}`, value: number };
 });
+
+/** That an effect is less than what was observed of it: both as they are printed. @param {string[]} names in the order of the vertices */
+export function lessIn({ less }, names) {
+  const [y, x, given] = [less.y, less.x, less.given].map(levelsIn), ordered = (levels) => levelsText(names.flatMap((name) => levels.filter((it) => it.name === name)));
+  return { effect: `P(${ordered([...y, ...given])}|do(${levelsText(x)}))`, share: `P(${ordered([...x, ...y, ...given])})` };
+}
 
 /** @typedef {import("./statistics/fraction.js").Fraction & {text: string}} End  @typedef {{y: string, x: string, given: string, low: End, high: End}} Bound */
 

@@ -174,7 +174,7 @@ def adjusts_for_less(s):
     s.check("don't help where nothing beside is 0", "Nothing that it is multiplied by is 0" in s.panel(), s.panel())
     s.one("#zero").click()
     s.soon("and are left again", lambda: s.command() == "$ causal evaluate diagram.dag hormones.csv --count=n", s.command)
-    s.check("the ways", ways(s) == ["of the effect", "of adjusting for SES, Age", "under a condition", "none: at least and at most"], ways(s))
+    s.check("the ways", ways(s) == ["of the effect", "of adjusting for SES, Age", "under a condition", "among the treated", "none: at least and at most"], ways(s))
     s.one("#use").click()
     s.soon("the minimal set", lambda: s.command() == "$ causal evaluate diagram.dag hormones.csv --set SES,Age --count=n --exact", s.command)
     s.check("has the same value", ["HRT=no", "CHD=no", "0.6500", "13/20"] in values(s) and len(values(s)) == 4, values(s))
@@ -235,6 +235,38 @@ def evaluates_under_a_condition(s):
     s.soon("none is identified", lambda: "Not identifiable under this condition" in s.panel(), s.panel)
     s.example("napkin")
     s.soon("another diagram has none", lambda: not s.all("[data-key='arm condition']"), s.panel)
+
+
+def evaluates_among_the_treated(s):
+    """The effect among the treated: by its formula, by two values of the exposure, and why there is none."""
+    s.example("kidney_stones")
+    s.tab("data")
+    drop(s, "kidney_stones.csv", (EXAMPLES / "kidney_stones.csv").read_text())
+    s.soon("a table", lambda: s.all(".contrasts"), s.panel)
+    by(s, "treated")
+    s.soon("the treated", lambda: s.command() == "$ causal evaluate diagram.dag kidney_stones.csv --treated --count=count --exact", s.command)
+    s.soon("each value that is set among those who had each", lambda: ["T=A", "T'=B", "R=success", "0.8851", "33753/38135"] in values(s), lambda: values(s))
+    contrast(s, y="R=success", a="T=A", b="T=B", among="T'=B")
+    s.soon("their contrast", lambda: contrasts(s)[2][:2] == ["risk difference", "0.0594"], lambda: contrasts(s))
+    s.check("nothing crude beside it", len(contrasts(s)[2]) == 3, contrasts(s))
+    s.check("zeros aren't asked about", not s.all("#zero"), s.panel())
+    s.check("its intervals", has_intervals(s), contrasts(s))
+    s.example("napkin")
+    drop(s, "napkin.csv", (EXAMPLES / "napkin.csv").read_text())
+    s.tab("data")
+    by(s, "treated")
+    s.soon("by two values", lambda: "at most two values of X" in s.panel() and ["X=0", "X'=1", "Y=1", "0.5208", "25/48"] in values(s), s.panel)
+    s.check("what is free is pinned", "Z=0" in s.panel(), s.panel())
+    s.check("the effect on those who had what is set first", contrasts(s)[0][0] == "P(Y=1|X'=1) when X=1 is set" and contrasts(s)[2][:2] == ["risk difference", "-0.0417"], contrasts(s))
+    s.check("with its intervals", has_intervals(s), contrasts(s))
+    head, *rows = (EXAMPLES / "napkin.csv").read_text().splitlines()
+    drop(s, "three.csv", "\n".join([head, *rows, "0,0,2,0,5", ""]))
+    s.soon("three values are too many", lambda: "Two values of X would do" in s.panel(), s.panel)
+    drop(s, "below.csv", "W,Z,X,Y\n0,0,0,0\n0,0,1,1\n0,1,0,1\n0,1,1,0\n")
+    s.soon("no model has such counts", lambda: "No model of this diagram has these counts" in s.panel(), s.panel)
+    s.check("what can't be", "P(Y=1|do(X=0)) is less than P(X=0,Y=1), which can't be" in s.panel(), s.panel())
+    s.soon("as it is printed", lambda: s.printed() == "no model of this diagram has these counts\nP(Y=1|do(X=0)) is less than P(X=0,Y=1)", s.printed)
+    by(s, "")
 
 
 def evaluates_the_marked_set(s):
@@ -551,6 +583,6 @@ def stops_the_draws(s):
 
 PARTS = [
     cleans_a_table, matches_columns, tells_what_is_rejected, tests_many_columns, stops_the_draws, drops_a_table, reads_other_tables, contrasts_with_intervals, adjusts_for_less, counts_zero_cells_for_nothing,
-    evaluates_under_a_condition, evaluates_the_marked_set, gives_bounds,
+    evaluates_under_a_condition, evaluates_among_the_treated, evaluates_the_marked_set, gives_bounds,
     gives_bounds_by_a_set, draws_over_bounds,
 ]

@@ -1,7 +1,7 @@
 // What the page does without the program: fitting of places, layouts.
 import katex from "katex";
 import { naturalMarks } from "../src/diagram/marks.js";
-import { instrumentsIn } from "../src/objects.js";
+import { instrumentsIn, lessIn, valuesOf } from "../src/objects.js";
 import { apart, circle, scaleFor } from "../src/diagram/fitting.js";
 import { arrange } from "../src/layout.js";
 import { markOf, readRows, written } from "../src/text/csv.js";
@@ -52,6 +52,16 @@ function testFitting() {
   check("a wide drawing gets less, so that names are seen larger", Math.abs(scaleFor(row, halves, HEIGHT, 100, narrow) - 456 / 5) < 0.1, scaleFor(row, halves, HEIGHT, 100, narrow));
   check("but not so little that they meet", scaleFor(new Map([["A", { x: 0, y: 0 }], ["B", { x: 1, y: 0 }], ["C", { x: 9, y: 0 }]]), halves, HEIGHT, 100, { width: 300, height: 400 }) > 68, "");
   check("a scale that will do is kept", scaleFor(new Map([["A", { x: 0, y: 0 }], ["B", { x: 1, y: 0 }]]), halves, HEIGHT, 100) === 100);
+}
+
+/** Values among the treated, of objects by hand. */
+function testTreated() {
+  const cell = { y: [["Y", "1"]], x: [["X", "0"]], given: [["S", "a"]], observed: [["X'", "1"]], value: "25/48" };
+  const [other, same] = valuesOf({ cells: [cell, { ...cell, observed: [["X'", "0"]] }] });
+  check("the observed level stands with what is given", other.given === "S=a,X'=1" && other.text === "25/48", other);
+  check("whether it is the one that is set", !other.hadIt && same.hadIt && !valuesOf({ cells: [{ ...cell, observed: undefined }] })[0].hadIt, [other, same]);
+  const { effect, share } = lessIn({ less: cell }, ["S", "X", "Y"]);
+  check("what is less than what was observed", effect === "P(S=a,Y=1|do(X=0))" && share === "P(S=a,X=0,Y=1)", { effect, share });
 }
 
 function testLines() {
@@ -323,6 +333,7 @@ function testLevels() {
 testLevels();
 testInstruments();
 testNatural();
+testTreated();
 testLines();
 testSigns();
 testTaken();

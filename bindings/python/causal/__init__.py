@@ -28,6 +28,7 @@ from causal.errors import (
     FileRefused,
     LibraryMissing,
     MissingValues,
+    NoModelError,
     NotIdentifiable,
     PackageMissing,
     Refusal,
@@ -42,7 +43,7 @@ from causal.version import VERSION
 
 if TYPE_CHECKING:
     from causal.bootstrap import Bootstrap, MeanInterval
-    from causal.bounds import EffectBound, EffectBounds, NoInstrument, NoModel
+    from causal.bounds import CrossedBounds, EffectBound, EffectBounds, NoInstrument
     from causal.comparison import Comparison
     from causal.contrasts import Contrast, ContrastInterval, Contrasts
     from causal.derivation import AskedRule, Derivation, DerivationPart, Expression, Move
@@ -56,12 +57,13 @@ if TYPE_CHECKING:
     from causal.mediation import Mediation
     from causal.models import Fit
     from causal.natural import NaturalFormula, NoNaturalFormula
+    from causal.no_model import LessThanObserved, NoModel
     from causal.parts import PartsCheck, PartsRefusal
     from causal.queries import counts_query
     from causal.report import Report
     from causal.sensitivity import EValue, e_value
     from causal.support import SupportTable
-    from causal.treated import Confounded
+    from causal.treated import Confounded, TwoLevels
     from causal.walks import Paths
     from causal.weighting import Balance, Weighting
 
@@ -77,6 +79,7 @@ _LATER = {
     "Contrast": "causal.contrasts",
     "ContrastInterval": "causal.contrasts",
     "Contrasts": "causal.contrasts",
+    "CrossedBounds": "causal.bounds",
     "Derivation": "causal.derivation",
     "DerivationPart": "causal.derivation",
     "Difference": "causal.implications",
@@ -96,13 +99,14 @@ _LATER = {
     "Instrument": "causal.instruments",
     "Instruments": "causal.instruments",
     "Interval": "causal.intervals",
+    "LessThanObserved": "causal.no_model",
     "Mean": "causal.effects",
     "MeanInterval": "causal.bootstrap",
     "Mediation": "causal.mediation",
     "Move": "causal.derivation",
     "NaturalFormula": "causal.natural",
     "NoInstrument": "causal.bounds",
-    "NoModel": "causal.bounds",
+    "NoModel": "causal.no_model",
     "NoNaturalFormula": "causal.natural",
     "PartsCheck": "causal.parts",
     "PartsRefusal": "causal.parts",
@@ -110,6 +114,7 @@ _LATER = {
     "Report": "causal.report",
     "Spread": "causal.effects",
     "SupportTable": "causal.support",
+    "TwoLevels": "causal.treated",
     "Value": "causal.effects",
     "Weighting": "causal.weighting",
     "counts_query": "causal.queries",
@@ -133,6 +138,7 @@ __all__ = [
     "ContrastInterval",
     "Contrasts",
     "CountsError",
+    "CrossedBounds",
     "DataWarning",
     "Derivation",
     "DerivationPart",
@@ -163,6 +169,7 @@ __all__ = [
     "Instrument",
     "Instruments",
     "Interval",
+    "LessThanObserved",
     "LibraryMissing",
     "Mean",
     "MeanInterval",
@@ -172,6 +179,7 @@ __all__ = [
     "NaturalFormula",
     "NoInstrument",
     "NoModel",
+    "NoModelError",
     "NoNaturalFormula",
     "NotIdentifiable",
     "PackageMissing",
@@ -191,6 +199,7 @@ __all__ = [
     "SupportTable",
     "TargetError",
     "Term",
+    "TwoLevels",
     "UnreadableAnswer",
     "Value",
     "Weighting",

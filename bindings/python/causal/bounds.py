@@ -19,6 +19,7 @@ from causal.framed import Shown
 from causal.frequencies import doubt_frequencies
 from causal.intervals import Interval, check_asked, range_interval
 from causal.names import Names, list_word, names_of, printed_name, printed_set
+from causal.no_model import NoModel
 from causal.objects import Told, name_in
 from causal.reading import read_adjustment
 from causal.tables import Table, check_request, table_of, table_of_file
@@ -346,7 +347,7 @@ class NoInstrument(Shown):
 
 
 @dataclass(frozen=True)
-class NoModel(Shown):
+class CrossedBounds(NoModel):
     """That no model of the diagram has these counts, which is proved; it counts as false.
 
     `crossed` has the effect whose bounds cross: it would have to be at least more than what it is at most. In a sample small strata can
@@ -357,14 +358,13 @@ class NoModel(Shown):
     crossed: EffectBound
     ends: Tuple[str, str]
 
-    def __bool__(self) -> bool:
-        return False
+    @property
+    def why(self) -> str:
+        """What can't be, as it is printed."""
+        return f"{self.crossed.cell} at least {self.ends[0]}, at most {self.ends[1]}"
 
-    def __str__(self) -> str:
-        return f"no model of this diagram has these counts\n{self.crossed.cell} at least {self.ends[0]}, at most {self.ends[1]}"
 
-
-Bounded = Union[EffectBounds, NoInstrument, NoModel, Adjustment]
+Bounded = Union[EffectBounds, NoInstrument, CrossedBounds, Adjustment]
 
 
 class BoundsQuestion:
@@ -522,7 +522,7 @@ def read_bounds(
         return EffectBounds(asked, tuple(bound(cell, told["exact"]) for cell in told["cells"]), told["exact"], dropped, typed)
     if told["answer"] == "no model":
         crossed = told["crossed"]
-        return NoModel(asked, bound(crossed, True), (crossed["at_least"], crossed["at_most"]))
+        return CrossedBounds(asked, bound(crossed, True), (crossed["at_least"], crossed["at_most"]))
     if told["answer"] != "no instrument":
         raise CausalError(f"the library answered {told['answer']!r}")
     path = Path(tuple(told["open"]["vertices"]), tuple(told["open"]["marks"])) if "open" in told else None

@@ -153,7 +153,10 @@ class DataQuestions:
 
         With `treated` the effect is that among those for whom each level of the exposures was observed, by the formula of `treated`,
         which reads no `set`, `zero` or `short`: what is given has the observed level besides, under the name of the exposure with a
-        prime, as in `given={"T'": "B"}`. It is proved alike: the value covers the effect among these in each such model.
+        prime, as in `given={"T'": "B"}`. It is proved alike: the value covers the effect among these in each such model. Where there is no
+        formula, but the joint effect of the only exposure has one, and the exposure has at most two levels in the data, values are a difference
+        (`TwoLevels`): each such model's effect lies in their bounds. `NoModelError` is raised where one would be below 0, since no model of the
+        diagram has such counts; a sample may have them by chance.
 
         A missing value in a used column, an empty field or `NA` in a file too, is refused as `MissingValues`; with `missing="drop"` its
         record is left out, and the answer's `dropped` counts these (which estimates the effect among complete records: whether
@@ -178,6 +181,9 @@ class DataQuestions:
         >>> treated = Diagram("dag { S -> T -> R <- S }").effects(data, "T", "R", treated=True, exact=True)
         >>> print(treated.formula, treated.at("good", "A", {"T'": "B"}), sep="; ")
         P(R|do(T),T') = sum{S} P(S|T') * P(R|S,T); = 3/4
+        >>> napkin, counts = Diagram("dag { W -> Z -> X -> Y W <-> X W <-> Y }"), {name: [k >> bit & 1 for k in range(16)] for bit, name in enumerate("WZXY")}
+        >>> print(napkin.effects(counts, "X", "Y", treated=True, exact=True)[2])
+        P(Y=0|do(X=0),X'=1) = 1/2
         """
         from causal.evaluation import Evaluation
         from causal.samples import Design
@@ -362,8 +368,8 @@ class DataQuestions:
         The levels are given as they stand in the data. Where x or y has several variables, they are given by name, or in a list in the
         order in which x (or y) lists them; where x isn't given, by name alone. `given` as a mapping of variables to levels, as in
         `given={"sex": "f"}`, gives the contrast there; names give one for each level. Other options are as in `effects` and `bootstrap`.
-        With `observed` both risks are those among the ones for whom this level of the exposures was observed, by the formula of `treated`:
-        with `treated=1, control=0, observed=1` the difference is the effect of treatment on the treated.
+        With `observed` both risks are those among the ones for whom this level of the exposures was observed, as `effects` has them with
+        `treated`: with `treated=1, control=0, observed=1` the difference is the effect of treatment on the treated.
         Of both effects is proved what `effects` says; the difference and the ratios are computed from them, outward where they are bounds.
         The intervals are computed too, as `bootstrap` says; with `resamples=0` there are none.
 
@@ -445,8 +451,8 @@ class DataQuestions:
         proved is the value over the data's counts; the draws and the interval are only computed (by numpy for many tables at once, where
         that gives on the data what the program gives, and else by the program). A draw has the levels of x, of y, of what is given and
         of pinned variables that the data has; a level of another variable that isn't drawn is left out of that draw. A draw with a cell
-        that has no value is left out and counted (`without_value`): where these are many, the interval says little, and a `DataWarning`
-        says so. `set`, `back_door`, `given`, `zero`, `short` and `treated` are as in `effects`.
+        that has no value is left out and counted (`without_value`), and among the treated one that no model of the diagram has: where these
+        are many, the interval says little, and a `DataWarning` says so. `set`, `back_door`, `given`, `zero`, `short` and `treated` are as in `effects`.
 
         Rows that `count` counts are drawn as that many records. A survey's records have `weights`, and may have been drawn as `clusters`,
         within `strata`, each the name of a column: then clusters (or single records) are drawn within the strata, one fewer than there

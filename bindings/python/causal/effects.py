@@ -11,7 +11,6 @@ from typing import TYPE_CHECKING, AbstractSet, Any, Callable, Dict, Hashable, It
 
 from causal.display import Printed, html_table
 from causal.errors import RequestError
-from causal.formula import Formula
 from causal.names import Names, names_of, printed_level, printed_name
 from causal.objects import Told, name_in
 from causal.vocabulary import Renamed, needed
@@ -20,6 +19,7 @@ if TYPE_CHECKING:
     import pandas
 
     from causal.contrasts import Contrast
+    from causal.treated import ValuedBy
 
 Level = Hashable
 # Finds the level of a variable for what is told for it.
@@ -283,7 +283,8 @@ class Effects(Sequence[Effect]):
     positive model that fits the diagram and that the counts match. That the counts are those of the data is tested. How far
     the counts of a sample are from those of the population isn't in it: see `Diagram.bootstrap`.
 
-    `formula` is the formula; `pinned` has the level at which each variable stands that the formula reads beside the target's
+    `formula` is the formula, or where an effect among the treated has none the `TwoLevels` by which it has values, each of which is proved to
+    lie in its bounds in each such model; `pinned` has the level at which each variable stands that the formula reads beside the target's
     sets; `exact` says whether exact fractions were asked for; `dropped` says how many records were left out since they lacked a
     value; `remarks` are further notes.
 
@@ -298,7 +299,7 @@ class Effects(Sequence[Effect]):
     Fraction(1, 2)
     """
 
-    formula: Formula
+    formula: ValuedBy
     effects: Tuple[Effect, ...]
     pinned: Dict[str, Level]
     exact: bool = False
@@ -586,11 +587,12 @@ def value_of(told: Told) -> Value:
 
 def read_effects(
     told: Told,
-    formula: Formula,
+    formula: ValuedBy,
     level_of: LevelOf = lambda name, level: level,
     dropped: int = 0,
     orders: Optional[Mapping[str, Sequence[Level]]] = None,
     typed: Tuple[Optional[Tuple[str, ...]], Optional[Tuple[str, ...]]] = (None, None),
+    remarks: Tuple[str, ...] = (),
 ) -> Effects:
     """Reads the answer of `evaluate` for a formula.
 
@@ -607,4 +609,4 @@ def read_effects(
     effects = [
         Effect(levels(cell["y"]), levels(cell["x"]), value_of(cell), levels([*cell["given"], *cell.get("observed", ())])) for cell in told["cells"]
     ]
-    return Effects(formula, tuple(effects), levels(told.get("pinned", ())), told["exact"], dropped, typed=typed, orders=orders or {})
+    return Effects(formula, tuple(effects), levels(told.get("pinned", ())), told["exact"], dropped, remarks, typed, orders or {})

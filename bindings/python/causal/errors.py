@@ -174,7 +174,7 @@ class EvaluationPlace(NamedTuple):
 
 
 class NotIdentifiable(CausalError):
-    """The effect can't be computed from observations. The place is the `Hedge` that shows it.
+    """The effect can't be computed from observations. The place is the `Hedge` that shows it, or among the treated a `Confounded`.
 
     >>> from causal import Diagram, NotIdentifiable
     >>> try:
@@ -182,6 +182,20 @@ class NotIdentifiable(CausalError):
     ... except NotIdentifiable as error:
     ...     print(error, error.place.big)
     P(Y|do(X)) is not identifiable: the error's place has the hedge, and bounds(data, ..) says what the effect is at least and at most ('X', 'Y')
+    """
+
+
+class NoModelError(CausalError):
+    """No model of the diagram has the counts of the data, which is proved: an effect among the treated would be below 0. The place is a
+    `LessThanObserved`. In a sample chance alone can bring this about.
+
+    >>> from causal import Diagram, NoModelError
+    >>> napkin = Diagram("dag { W -> Z -> X -> Y W <-> X W <-> Y }")
+    >>> try:
+    ...     napkin.effects({"W": [0] * 4, "Z": [0, 0, 1, 1], "X": [0, 1, 0, 1], "Y": [0, 1, 1, 0]}, "X", "Y", treated=True)
+    ... except NoModelError as error:
+    ...     print(error)
+    no model of this diagram has these counts: P(Y=1|do(X=0)) is less than P(X=0,Y=1)
     """
 
 

@@ -2,12 +2,15 @@
 from __future__ import annotations
 
 from dataclasses import dataclass
-from typing import Any, Dict, List, Mapping, Optional, Sequence, Tuple
+from typing import TYPE_CHECKING, Any, Dict, List, Mapping, Optional, Sequence, Tuple
 
 from causal.errors import RequestError
 from causal.formula import Formula
 from causal.models import Linear, Model, chosen, model_of
 from causal.rows import Rows
+
+if TYPE_CHECKING:
+    from causal.treated import ValuedBy
 
 STEP = 1e-5
 Arm = Mapping[str, int]
@@ -188,7 +191,7 @@ class DoublyRobust(Weighted):
         return found
 
 
-def pattern_of(formula: Formula) -> Optional[Tuple[str, ...]]:
+def pattern_of(formula: ValuedBy) -> Optional[Tuple[str, ...]]:
     """Where a formula is a sum over a set of P(set) P(y | x, set), or a term P(y | x): what y is given; else None.
 
     >>> from causal import Diagram
@@ -196,6 +199,8 @@ def pattern_of(formula: Formula) -> Optional[Tuple[str, ...]]:
     >>> pattern_of(Diagram("dag { Z -> X -> Y <- Z }").identify("X", "Y")), pattern_of(Diagram("dag { X -> M -> Y X <-> Y }").identify("X", "Y"))
     (('Z', 'X'), None)
     """
+    if not isinstance(formula, Formula):
+        return None
     *definitions, tree = formula._known()
     y, fixed = formula.target.y, {*formula.target.x, *formula.target.given}
     if definitions or formula.free:

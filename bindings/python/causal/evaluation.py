@@ -13,7 +13,7 @@ from causal.columnwise import ColumnEvaluator
 from causal.columns import Data, in_order, may_have_blanks, path_of
 from causal.draws import drawn_numbers, seed_of
 from causal.effects import Effect, Effects, Level, LevelOf, Spread, levels_at, read_effects, typed_order
-from causal.errors import CausalError, DataWarning, EvaluationError, NotIdentifiable, RequestError, WrongType
+from causal.errors import CausalError, DataWarning, EvaluationError, NoModelError, NotIdentifiable, RequestError, WrongType
 from causal.estimators import pattern_of
 from causal.events import Support
 from causal.files import read_bytes
@@ -21,11 +21,12 @@ from causal.formula import Formula, Hedge
 from causal.frequencies import doubt_frequencies
 from causal.intervals import check_asked
 from causal.names import Names, list_word
+from causal.no_model import read_less
 from causal.objects import Told
 from causal.occurring import Occurring, occurring_in
 from causal.samples import Design, Sample, sample_of
 from causal.tables import Cell, Table, check_request, table_of, table_of_file
-from causal.treated import among_treated, primed
+from causal.treated import TwoLevels, ValuedBy, primed, read_treated, values_among_treated, without_formula
 from causal.values import Evaluator, evaluator_of
 from causal.vocabulary import check_progress, warn
 
@@ -48,7 +49,7 @@ OTHERWISE = (
 
 class Evaluation:
     """The effect of x on y in a diagram, which has a formula: that of `identify`, also under a condition or a short one, that of a set
-    to adjust for, or that of `treated`; and how data is read for it.
+    to adjust for, or that of `treated`, or two levels in its place; and how data is read for it.
 
     >>> from causal import Diagram
     >>> from causal.evaluation import Evaluation
@@ -91,7 +92,7 @@ class Evaluation:
             if set is not None or back_door:
                 raise RequestError("an effect among the treated has a formula of its own: it is asked for without set and back_door")
             self.zero = self.short = False
-            self.formula = among_treated(diagram, x, y, names)
+            self.formula: ValuedBy = values_among_treated(diagram, x, y, names)
         elif set is None:
             if back_door:
                 raise RequestError("the back-door criterion is asked of a set: set names it")
@@ -238,7 +239,7 @@ class Evaluation:
         try:
             direct = self.over_file(text, exact=False)
             return direct.effects, direct.pinned
-        except EvaluationError as error:
+        except (EvaluationError, NoModelError, NotIdentifiable) as error:
             return error.number, error.place
 
     def outcome_over_table(self, table: Table) -> object:
@@ -246,7 +247,7 @@ class Evaluation:
         try:
             found = self.over_table(table, exact=False)
             return found.effects, found.pinned
-        except EvaluationError as error:
+        except (EvaluationError, NoModelError, NotIdentifiable) as error:
             return error.number, error.place
 
     def pinned(self, table: Table, at: Pins) -> Table:
@@ -313,11 +314,23 @@ class Evaluation:
             return level_of(self.primes.get(name, name), level)
 
         def read(told: Told) -> Effects:
-            return read_effects(told, self.formula, own_level, dropped, orders, self.typed)
+            remarks = (self.formula.note,) if isinstance(self.formula, TwoLevels) else ()
+            self.check_answer(told, own_level)
+            return read_effects(told, self.formula, own_level, dropped, orders, self.typed, remarks)
 
         # (the cell of a fault among the treated has the exposures' own names, which the divisor needn't have)
-        formula = None if self.is_treated else self.formula
+        formula = self.formula if isinstance(self.formula, Formula) and not self.is_treated else None
         return self.diagram._ask(read, "evaluate", *self.words, *words, second=text, level_of=own_level, formula=formula)
+
+    def check_answer(self, told: Told, level_of: LevelOf) -> None:
+        """Refuses the answers of two levels that have no values: that there are more than two, and that no model has the counts."""
+        if told.get("answer") == "path":
+            answer = read_treated(told)
+            if not isinstance(answer, Formula):
+                raise without_formula(answer, f": {answer.treatment} has more than two levels in the data")
+        if told.get("answer") == "no model":
+            less = read_less(told, self.diagram.vertices, level_of)
+            raise NoModelError(str(less).replace("\n", ": "), place=less)
 
     def over_counts(self, table: Table, numbers: Sequence[int]) -> Optional[Effects]:
         """The effects over other counts of a table, or None where some cell has no value."""
@@ -326,7 +339,7 @@ class Evaluation:
         text = table.text({cell: number for cell, number in zip(table.counts, numbers) if number}, kept)
         try:
             return self.over_table(table, exact=False, text=text)
-        except EvaluationError:
+        except (EvaluationError, NoModelError):
             return None
 
     def over_numbers(
@@ -382,7 +395,7 @@ class Evaluation:
 
     def remedied(self, error: EvaluationError, data: Data) -> EvaluationError:
         """The error with what would answer, in the user's words."""
-        if error.number != 1:
+        if error.number != 1 or isinstance(self.formula, TwoLevels):
             return error
         if self.is_treated:
             sentence = f"{error.sentence}; estimate(data, .., observed=..) gives a value by models"

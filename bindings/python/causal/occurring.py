@@ -19,7 +19,7 @@ from causal.samples import Sample
 from causal.tables import Cell, Table
 
 if TYPE_CHECKING:
-    from causal.formula import Formula
+    from causal.treated import ValuedBy
 
 
 @dataclass(frozen=True)
@@ -60,11 +60,11 @@ class Occurring:
         codes = (strata, *([cell[place] for cell in cells] for place in others))
         return Sample(self.table, codes, self.table.levels, sample.weights, sample.units, sample.strata)
 
-    def told(self, effects: Effects, formula: "Formula") -> Effects:
+    def told(self, effects: Effects, formula: "ValuedBy") -> Effects:
         """The effects as those of the formula that was asked for."""
         return replace(effects, formula=formula, remarks=(*effects.remarks, self.note))
 
-    def retold(self, error: EvaluationError, formula: "Formula", table: Table) -> EvaluationError:
+    def retold(self, error: EvaluationError, formula: "ValuedBy", table: Table) -> EvaluationError:
         """A refusal as that of the formula that was asked for, over the table that this is made of."""
         cell, given = error.place and error.place.cell, pattern_of(formula)
         if error.number != 1 or not cell or self.name not in cell or given is None:
@@ -80,7 +80,7 @@ class Occurring:
         return EvaluationError(sentence, 1, EvaluationPlace(None, node, there), error.excerpt, error.printed)
 
 
-def occurring_in(formula: "Formula", table: Table, zero: bool) -> Optional[Occurring]:
+def occurring_in(formula: "ValuedBy", table: Table, zero: bool) -> Optional[Occurring]:
     """The table over the strata that occur; None where the formula is no sum over a set, or a product with a factor 0 needn't be 0."""
     given, target = pattern_of(formula), formula.target
     if given is None or not zero or target.given:

@@ -8,6 +8,7 @@ from __future__ import annotations
 from typing import TYPE_CHECKING, Any, Dict, List, Mapping, Optional, Sequence, Tuple, Union
 
 from causal.columnwise import ColumnEvaluator
+from causal.treated import TwoLevels
 
 if TYPE_CHECKING:
     from causal.effects import Effects
@@ -128,11 +129,15 @@ class Evaluator:
     def values(self, counts: Any) -> Tuple[Any, Any]:
         """The value of each effect over each table, and whether it is known; a row for each table."""
         numpy = self.numpy
-        found = self.formulas.over(counts.reshape((len(counts), *self.sizes)))
+        found = self.found(counts.reshape((len(counts), *self.sizes)))
         shape = numpy.broadcast_shapes(found.value.shape, found.known.shape)
         rows = (slice(None), *(numpy.zeros_like(at) if size == 1 else at for at, size in zip(self.chosen, shape[1:])))
         value, known = (numpy.broadcast_to(it, (len(counts), *shape[1:]))[rows] for it in (found.value, found.known))
         return value, known
+
+    def found(self, counts: Any) -> Partial:
+        """The values at all levels, for each table of counts, which has an axis for each variable."""
+        return self.formulas.over(counts)
 
     def over(self, places: Sequence[int], numbers: Sequence[Sequence[int]]) -> List[Optional[Tuple[float, ...]]]:
         """The values over tables that have these numbers at some places, and else 0; None where one is unknown."""
@@ -143,11 +148,41 @@ class Evaluator:
         return [tuple(row) if is_known else None for row, is_known in zip(values.tolist(), known.all(axis=1).tolist())]
 
 
+class SplitEvaluator(Evaluator):
+    """The same of an effect among the treated that is had by two levels (see `TwoLevels`). As by the program, a table has all of its values
+    or none, and none where one would be below 0.
+    """
+
+    def __init__(self, numpy: Any, effects: "Effects", names: Sequence[str], levels: Sequence[Sequence[Any]], zero: bool) -> None:
+        super().__init__(numpy, effects, names, levels, zero)
+        target = effects.formula.target
+        (self.x,) = target.x
+        *self.given, self.had = target.given
+        self.y, self.free = target.y, effects.formula.free
+
+    def found(self, counts: Any) -> Partial:
+        """The difference of the joint effect and of what was observed, over the share of those who had the other level; and among those who
+        had the very level what was observed. Numbers of records stand in place of shares."""
+        numpy, of = self.numpy, self.formulas
+        joint, names = of.over(counts), [*self.given, *self.y, self.x]
+        seen, had = of._sums(names), of._sums([*self.given, self.had])
+        shape = [1] * counts.ndim
+        shape[of.axes[self.x]] = shape[of.axes[self.had]] = counts.shape[of.axes[self.x]]
+        is_same = numpy.eye(counts.shape[of.axes[self.x]], dtype=bool).reshape(shape)
+        other = joint.value * of._sums([]) - seen
+        value = numpy.where(is_same, seen, other) / numpy.where(had > 0, had, 1.0)
+        known = (is_same | joint.known) & (had > 0)
+        # (what is free stands at its first level)
+        places = tuple(slice(1) if name in self.free else slice(None) for name in of.names)
+        has_all = (known & (value >= -NEAR))[(slice(None), *places)].all(axis=tuple(of.axes.values()), keepdims=True)
+        return Partial(numpy.maximum(value, 0.0), known & has_all)
+
+
 def evaluator_of(
     effects: "Effects", names: Sequence[str], levels: Sequence[Sequence[Any]], counts: Mapping[int, int], zero: bool
 ) -> Union[Evaluator, ColumnEvaluator, None]:
     """What evaluates many tables of a formula at once, by numpy where that is there; None where the table is large, or it doesn't give
-    for the counts of the table itself, by their places, what the program gave."""
+    for the counts of the table itself, by their places, what the program gave; and of two levels without numpy."""
     size = 1
     for held in levels:
         size *= max(len(held), 1)
@@ -157,11 +192,12 @@ def evaluator_of(
     try:
         import numpy
     except ImportError:
-        if size > MOST_PLAIN:
+        if size > MOST_PLAIN or isinstance(effects.formula, TwoLevels):
             return None
         evaluator = ColumnEvaluator(effects, names, levels, zero)
     else:
-        evaluator = Evaluator(numpy, effects, names, levels, zero)
+        kind = SplitEvaluator if isinstance(effects.formula, TwoLevels) else Evaluator
+        evaluator = kind(numpy, effects, names, levels, zero)
     (found,) = evaluator.over(list(counts), [list(counts.values())])
     wanted = [float(effect.value) for effect in effects]
     if found is None or any(abs(a - b) > NEAR * (1 + abs(b)) for a, b in zip(found, wanted)):

@@ -4,11 +4,13 @@ import re
 import tempfile
 import threading
 import unittest
+from fractions import Fraction
 
 from worked import all_cases, cases_in_text, asks_nested
 
 import causal
 from causal.bounds import BoundsQuestion
+from causal.effects import digits
 from causal.evaluation import Evaluation
 
 LISTS = ("x", "y", "z", "do", "given", "set", "instrument", "strata", "through")
@@ -48,6 +50,12 @@ def options_of(words):
 def with_number(options):
     """The options, with how many sets are wanted as a number."""
     return {name: int(value) if name == "most" else value for name, value in options.items()}
+
+
+def in_digits(value):
+    """An exact value as its bounds are printed."""
+    number = digits(Fraction(int(value[1]), int(value[2])))
+    return f"from {number} to {number}"
 
 
 class Words(unittest.TestCase):
@@ -170,7 +178,7 @@ class Questions(unittest.TestCase):
             exact = options.pop("exact", False)
             options = {name.replace("-", "_"): value for name, value in self.with_exposures(diagram, options).items()}
             return Evaluation(diagram, **{"x": None, "y": None, "zero": False, "short": False, **options}).over_file(second or b"", exact).text
-        except (causal.NotIdentifiable, causal.RequestError) as error:
+        except (causal.NoModelError, causal.NotIdentifiable, causal.RequestError) as error:
             return error.place
 
     def test_questions(self):
@@ -201,8 +209,8 @@ class Questions(unittest.TestCase):
             printed = f"{self.ask(case, folder)}\n"
         except causal.CausalError as error:
             return error.printed.replace("causal: graph", "causal: second graph" if case.status == 4 else "causal: graph") + "\n"
-        zeros = "0." + "0" * 18
-        return printed.replace("= 0/1", f"from {zeros} to {zeros}") if "from 0.99" in case.printed else printed
+        # (bounds that are equal are told as the fraction that they are)
+        return printed if "--exact" in case.words else re.sub(r"= (\d+)/(\d+)$", in_digits, printed, flags=re.M)
 
 
 if __name__ == "__main__":

@@ -8,27 +8,26 @@ import { zeroPart } from "./formulas.js";
 const YES = /=(1|yes|true|success)$/i; // the outcome that is looked at first
 
 /** @typedef {import("../objects.js").Cell} Cell */
-/** @typedef {import("./draws.js").Order & {cells: Cell[], crude: Cell[]}} Order with the values over the table itself */
+/** @typedef {import("./draws.js").Order & {cells: Cell[], crude: Cell[], readsZeros: boolean}} Order with the values over the table itself */
 
 /**
  * What is contrasted: what was chosen, as far as there is such a cell; nothing where the exposure has one value.
- * @param {{ctx: import("./parts.js").Context, cells: {y: string, x: string, given: string}[]}} order
+ * @param {{ctx: import("./parts.js").Context, cells: {y: string, x: string, given: string, hadIt?: boolean}[]}} order
  */
 export function chosenContrast({ ctx: { memory }, cells }) {
   const settings = unique(cells.map((c) => c.x)), outcomes = unique(cells.map((c) => c.y)), groups = unique(cells.map((c) => c.given));
   if (settings.length < 2) return null;
   const now = memory.contrast ?? {}, pick = (value, list, other) => (list.includes(value) ? value : other);
-  return {
-    y: pick(now.y, outcomes, outcomes.find((y) => YES.test(y)) ?? outcomes.at(-1)), a: pick(now.a, settings, settings[1]), b: pick(now.b, settings, settings[0]),
-    among: pick(now.among, groups, groups[0]),
-  };
+  const y = pick(now.y, outcomes, outcomes.find((it) => YES.test(it)) ?? outcomes.at(-1)), a = pick(now.a, settings, settings[1]), b = pick(now.b, settings, settings[0]);
+  // (of the treated those are taken that had the first value)
+  return { y, a, b, among: pick(now.among, groups, cells.find((c) => c.hadIt && c.x === a)?.given ?? groups[0]) };
 }
 
 /** The part of a card that contrasts two values of the exposure. @param {Order} order */
 export function contrastPart(order) {
   const choice = chosenContrast(order);
   if (!choice) return null;
-  const results = (kept) => [table(order, choice, kept), says(order.ctx, kept)];
+  const results = (kept) => [table(order, choice, kept), says(order, kept)];
   return h("div", { class: "stack" }, h("h3", {}, "Difference and ratio"), contrastChoices(order, choice), drawsBox(order, results, true));
 }
 
@@ -91,11 +90,11 @@ function table(order, choice, { values, isReady, isRunning }) {
 
 export const shown = (value) => (Number.isFinite(value) ? value.toFixed(4) : "none");
 
-function says(ctx, { values, isReady }) {
+function says({ ctx, readsZeros }, { values, isReady }) {
   const lost = values.filter((v) => !v).length;
   return h("div", { class: "stack" },
     h("p", { class: "small-print" }, "Computed here, not proved: percentiles of ", `${DRAWS} draws of the table's records with replacement `
       + `(seed ${SEED}). Each draw's values are the program's. The intervals hold in about 95% of large samples, if the diagram is right.`,
       isReady && lost ? ` ${lost} draws had no value at some cell, and are left out.` : ""),
-    isReady && lost && !ctx.memory.zero ? zeroPart(ctx, true) : null);
+    isReady && lost && readsZeros && !ctx.memory.zero ? zeroPart(ctx, true) : null);
 }

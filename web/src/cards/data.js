@@ -7,10 +7,11 @@ import { levelsText, setText } from "../text/printed.js";
 import { askedBounds, boundsBy, boundsMarks, boundsPart } from "./bounds.js";
 import { contrastPart } from "./contrast.js";
 import { orderOf } from "./draws.js";
-import { BOUNDS, chosenFormula, withoutRecords, zeroPart } from "./formulas.js";
+import { BOUNDS, TREATED, chosenFormula, withoutRecords, zeroPart } from "./formulas.js";
 import { fold, listed, sourceOf, verdict, withRole } from "./parts.js";
 import { dotPlot } from "./plot.js";
 import { asksForTable, countWords, tableName, tableRow } from "./table.js";
+import { byTwoValues, noValuesAmong } from "./treated.js";
 
 const MOST_DIGITS = 15; // of a fraction in the table
 const MOST_TRIED = 4; // sets whose formula is tried where another has no value
@@ -22,9 +23,10 @@ const MOST_TRIED = 4; // sets whose formula is tried where another has no value
 export async function measured(ctx) {
   if (!ctx.memory.csv) return null;
   const { way, ways } = await chosenFormula(ctx), said = way.by === BOUNDS ? null : await ctx.read(wordsOf(ctx, way, tableName(ctx.memory.csv.name), countWords(ctx)));
+  if (said?.status === 1 && way.by === TREATED) return { way, none: noValuesAmong(said.object, ctx.observed) };
   if (!said || hasNoFormula(way, said)) return { way, asked: await askedBounds(ctx, way.given, minimalSets(ways)) };
-  if (said.status !== 0) return { way, fault: said.fault, instead: said.fault && isWithoutRecords(said.fault) ? (await boundsInstead(ctx, { way, ways })) ?? (await askedBounds(ctx, way.given)) : null };
-  const crude = way.given.length ? [] : await crudeValues(ctx);
+  if (said.status !== 0) return { way, fault: said.fault, instead: said.fault && isWithoutRecords(said.fault) ? (await boundsInstead(ctx, { way, ways })) ?? (await boundsAnyway(ctx, way)) : null };
+  const crude = way.given.length || way.by === TREATED ? [] : await crudeValues(ctx);
   return { way, order: contrastOrder({ ctx, way, crude }, valuesOf(said.object)) };
 }
 
@@ -35,12 +37,15 @@ async function answer(ctx) {
   if (way.by === BOUNDS) return bounded(ctx, choice, () => null);
   const words = wordsOf(ctx, way, tableName(ctx.memory.csv.name), countWords(ctx)), exactWords = [...words, "--exact"];
   const [bounds, exact] = await Promise.all([ctx.read(words), ctx.read(exactWords)]), isExact = exact.status === 0;
+  const isTreated = way.by === TREATED;
+  if (bounds.status === 1 && isTreated) return { dot: "no", view: () => noneAmong({ ctx, choice, words, bounds }) };
   if (hasNoFormula(way, bounds)) return bounded(ctx, choice, () => noFormula(way));
   const { fault } = bounds, hasValue = bounds.status === 0 || isExact;
   const without = !fault || hasValue ? null : await withoutRecords(ctx, way, fault);
-  const crude = hasValue && !way.given.length ? await crudeValues(ctx) : [];
-  const other = without && !way.given.length && (await otherWay(ctx, choice)), instead = without && (await boundsInstead(ctx, choice));
-  const found = { ctx, choice, way, words, exactWords, bounds, exact, fault, without, crude, other, instead };
+  const crude = hasValue && !way.given.length && !isTreated ? await crudeValues(ctx) : [];
+  const other = without && !way.given.length && !isTreated && (await otherWay(ctx, choice)), instead = without && (await boundsInstead(ctx, choice));
+  const twoValues = isTreated ? (await ctx.read(way.question)).object.two_values : null;
+  const found = { ctx, choice, way, words, exactWords, bounds, exact, fault, without, crude, other, instead, twoValues };
   const view = bounds.status === 1 ? notAdmissible : hasValue ? values : noValue;
   const marks = { vertices: new Map([...(way.set ?? instead?.set ?? []), ...way.given].map((name) => [name, "chosen"])) };
   return { dot: hasValue ? "yes" : "no", view: () => view(found), marks };
@@ -54,9 +59,12 @@ const minimalSets = (ways) => ways.filter(({ by, set }) => set && by === setText
 
 /** The bounds by a set that is adjusted for, where some condition has no record: by the one that is chosen, or the first; null where there are none. */
 async function boundsInstead(ctx, { ways, way }) {
-  const [set] = way.set ? [way.set] : way.given.length ? [] : minimalSets(ways), asked = set && (await boundsBy(ctx, set));
+  const [set] = way.set ? [way.set] : way.given.length || way.by === TREATED ? [] : minimalSets(ways), asked = set && (await boundsBy(ctx, set));
   return asked?.said.status === 0 ? asked : null;
 }
+
+/** The bounds without a set; of the treated none are known. */
+const boundsAnyway = async (ctx, { by, given }) => (by === TREATED ? null : askedBounds(ctx, given));
 
 /** The bounds in place of values. */
 async function bounded(ctx, choice, told) {
@@ -82,7 +90,7 @@ async function otherWay(ctx, { ways, way }) {
 }
 
 /** The question for the effect over a table. */
-const wordsOf = ({ memory }, way, table, count) => ["evaluate", DIAGRAM, table, ...way.words, ...count, ...(memory.zero ? ["--zero"] : [])];
+const wordsOf = ({ memory }, way, table, count) => ["evaluate", DIAGRAM, table, ...way.words, ...count, ...(memory.zero && way.by !== TREATED ? ["--zero"] : [])];
 
 // ---- What may come
 
@@ -103,8 +111,14 @@ function notAdmissible(found) {
     sourceOf(ctx, words, bounds));
 }
 
+/** Why there are no values among the treated. */
+function noneAmong(found) {
+  const { ctx, words, bounds } = found, { title, why } = noValuesAmong(bounds.object, ctx.observed);
+  return h("div", {}, choices(found), verdict("no", title, why), sourceOf(ctx, words, bounds));
+}
+
 function noValue(found) {
-  const { ctx, words, bounds, fault, without, other, instead } = found, fine = without ? ctx.memory.csv.notes.filter(({ isFine, points }) => isFine && !points) : [];
+  const { ctx, way, words, bounds, fault, without, other, instead } = found, fine = without ? ctx.memory.csv.notes.filter(({ isFine, points }) => isFine && !points) : [];
   const many = fine.map(({ name, size }) => `${name} has ${size} different values`).join(", ");
   const use = (by) => () => {
     ctx.memory.by = by;
@@ -114,10 +128,10 @@ function noValue(found) {
     ? verdict("no", `Group ${fine.map(({ name }) => name).join(" and ")} first`, `${many}, so most combinations have no row. `
       + "Cut them above. ", without)
     : lacksMark(fault) ? verdict("ask", fault.sentence) : verdict("no", "No value", without ?? fault.sentence, without && hasLoose(ctx) && " The buttons above leave out rows or join levels."),
-  zeroPart(ctx, without),
+  way.by === TREATED ? null : zeroPart(ctx, without),
   other ? h("p", {}, "The formula of adjusting for ", other.set.length ? listed(other.set) : "nothing", " has a value over this table. ",
     button("Use it", use(other.by), { id: "use" })) : null,
-  without && h("p", {}, instead ? "Other bounds, as by an instrument: " : "Bounds need no such records: ", button("At least and at most", use(BOUNDS), { id: "use-bounds" })),
+  without && way.by !== TREATED && h("p", {}, instead ? "Other bounds, as by an instrument: " : "Bounds need no such records: ", button("At least and at most", use(BOUNDS), { id: "use-bounds" })),
   sourceOf(ctx, words, bounds),
   instead && h("div", { class: "stack", id: "instead" }, h("h3", {}, "What the records still say"), boundsPart(instead)));
 }
@@ -128,14 +142,14 @@ const hasLoose = ({ memory: { csv, table: { reading } } }) => (csv.incomplete > 
 // ---- The effect
 
 /** The draws of the table over which values are contrasted. */
-const contrastOrder = ({ ctx, way, crude }, cells) => ({ ...orderOf(ctx, (name, count) => wordsOf(ctx, way, name, count)), cells, crude });
+const contrastOrder = ({ ctx, way, crude }, cells) => ({ ...orderOf(ctx, (name, count) => wordsOf(ctx, way, name, count)), cells, crude, readsZeros: way.by !== TREATED });
 
 function values(found) {
-  const { ctx, words, exactWords, bounds, exact } = found;
+  const { ctx, way, words, exactWords, bounds, exact, twoValues } = found;
   const isExact = exact.status === 0, { object } = isExact ? exact : bounds, cells = valuesOf(object);
   const pinned = levelsIn(object.pinned).map((level) => levelsText([level])).join(", ");
-  return h("div", {}, choices(found), zeroPart(ctx, false),
-    verdict("warn", "Plug-in values", "The formula's value with the table's proportions in it, without sampling error. "
+  return h("div", {}, choices(found), way.by === TREATED ? null : zeroPart(ctx, false),
+    twoValues ? byTwoValues(object, twoValues) : verdict("warn", "Plug-in values", "The formula's value with the table's proportions in it, without sampling error. "
       + "A small table can be far from the truth."),
     dotPlot(cells),
     pinned ? h("p", {}, "Pinned at its first level (in a population that fits the diagram the value doesn't "

@@ -3,6 +3,7 @@
 import { h } from "../dom.js";
 import { isWithoutRecords } from "../faults.js";
 import { DIAGRAM } from "../names.js";
+import { levelsIn } from "../objects.js";
 import { missingOf } from "../support.js";
 import { listWord, setText } from "../text/printed.js";
 import { chosenForm } from "./forms.js";
@@ -10,6 +11,7 @@ import { listed, withRole } from "./parts.js";
 import { chosenSet, howToChoose } from "./sets.js";
 
 const EFFECT = "", MARKED = "marked", CONDITION = "condition"; // beside these and the next, a printed set
+export const TREATED = "treated";
 export const BOUNDS = "bounds";
 
 /**
@@ -22,9 +24,10 @@ export const BOUNDS = "bounds";
 /** The ways that there are, and the one that is chosen. @param {import("./parts.js").Context} ctx @returns {Promise<Choice>} */
 export async function chosenFormula(ctx) {
   const { memory } = ctx, { sets = [] } = (await ctx.read(["adjust", DIAGRAM])).object;
-  const ways = [ofEffect, ...sets.map(ofSet), ...markedWays(ctx, sets), conditional(ctx, CONDITION, "under a condition"), conditional(ctx, BOUNDS, "none: at least and at most")];
-  const way = ways.find(({ by }) => by === memory.by) ?? ofEffect, form = way.set || way.by === BOUNDS ? null : await chosenForm(ctx, way.question);
-  const picker = way.by === CONDITION || way.by === BOUNDS ? chosenSet(ctx, "condition", "Given", []) : null;
+  const others = [conditional(ctx, CONDITION, "under a condition"), amongTreated(ctx), conditional(ctx, BOUNDS, "none: at least and at most")];
+  const ways = [ofEffect, ...sets.map(ofSet), ...markedWays(ctx, sets), ...others];
+  const way = ways.find(({ by }) => by === memory.by) ?? ofEffect, form = way.set || [TREATED, BOUNDS].includes(way.by) ? null : await chosenForm(ctx, way.question);
+  const picker = others.some(({ by }) => by === way.by) ? chosenSet(ctx, "condition", "Given", []) : null;
   return { ways, way: form ? inForm(way, form) : way, row: () => row(ctx, ways, way, picker, form) };
 }
 
@@ -54,6 +57,12 @@ function conditional({ memory, observed }, by, label) {
   return { by, label, words, question: ["identify", DIAGRAM, ...words], set: null, given };
 }
 
+/** The way to the effect among the treated, which reads no zeros otherwise. */
+function amongTreated(ctx) {
+  const way = conditional(ctx, TREATED, "among the treated");
+  return { ...way, words: [...way.words, "--treated"], question: ["treated", DIAGRAM, ...way.words] };
+}
+
 function row(ctx, ways, way, picker, form) {
   const choose = (e) => {
     Object.assign(ctx.memory, { by: e.target.value, armed: null });
@@ -74,6 +83,8 @@ function row(ctx, ways, way, picker, form) {
  */
 export async function withoutRecords(ctx, way, fault) {
   if (!isWithoutRecords(fault)) return null;
+  // (the cell of a fault among the treated has the exposures' own names)
+  if (way.by === TREATED) return ["A divisor is 0 at ", listed(levelsIn(fault.cell).map(({ name, level }) => `${name} = ${level || "(empty)"}`)), ": too few records are there."];
   const missing = missingOf(fault, (await ctx.read(way.question)).object);
   if (!missing) return [fault.sentence];
   const levels = listed(missing.at.map(({ name, level }) => `${name} = ${level || "(empty)"}`));

@@ -2,7 +2,7 @@
 import { hedgeVertices } from "../diagram/marks.js";
 import { h } from "../dom.js";
 import { DIAGRAM } from "../names.js";
-import { edgesOf, textOf } from "../objects.js";
+import { edgesOf, lessIn, textOf } from "../objects.js";
 import { listWord, pathText, termText } from "../text/printed.js";
 import { hedgeParts } from "./hedge.js";
 import { whatNext } from "./next.js";
@@ -64,4 +64,23 @@ const excluded = (object) => verdict("no", "Not identifiable", reason(object), "
 
 const excludedByPath = (object) => verdict("no", "Not identifiable", reason(object), "No formula over what is observed equals ", h("code", {}, object.effect),
   ": two models fit the diagram and agree on all observations, but differ on it. ", jointText(object), " itself has a formula",
-  object.two_values ? ["; where ", h("b", {}, object.treatment), " has two values, ", h("code", {}, object.two_values)] : [], ".");
+  object.two_values ? ["; where ", h("b", {}, object.treatment), " has two values, ", h("code", {}, object.two_values), ", and Data has values"] : [], ".");
+
+// ---- Over a table
+
+/** That values are had by two values of the exposure, where no formula equals the effect. */
+export const byTwoValues = ({ x }, equation) => verdict("warn", "Plug-in values", "No formula equals this effect, but the table has at most two values of ", listed(x), ", and ",
+  h("code", {}, equation), ". So it is a difference of the table's proportions, without sampling error: the fewer had the other value, the farther it can be from the truth.");
+
+/**
+ * Why a table has no values among the treated.
+ * @param {string[]} names in the order of the vertices @returns {{title: string, why: string}}
+ */
+export function noValuesAmong(object, names) {
+  if (object.less) {
+    const { effect, share } = lessIn(object, names);
+    return { title: "No model of this diagram has these counts", why: `${effect} is less than ${share}, which can't be. So the diagram is wrong; or it is chance, where few records have these levels.` };
+  }
+  const { treatment, effect, two_values: twoValues } = object, why = `No formula over what is observed equals ${effect}: see Effect, among the treated.`;
+  return { title: "Not identifiable", why: twoValues ? `${why} Two values of ${treatment} would do, but the table has more: join its levels above.` : why };
+}

@@ -3,6 +3,7 @@ import { inWords } from "../cards/derivation.js";
 import { contrastRows, intervalText, shown } from "../cards/contrast.js";
 import { boundsParts } from "../cards/bounds.js";
 import { measured } from "../cards/data.js";
+import { TREATED } from "../cards/formulas.js";
 import { impliedPairs, part } from "../cards/implications.js";
 import { commandOf, withRole } from "../cards/parts.js";
 import { chosenForm } from "../cards/forms.js";
@@ -113,7 +114,7 @@ async function counterfactual(ctx, words, linesOf) {
   const { status, object, fault } = await ctx.read(words), code = { code: commandOf(words) };
   if (fault) return [{ text: fault.sentence }, code];
   if (status === 0) return [{ text: "It is identified: under the diagram it equals this formula." }, { formula: linesOf(object) }, code];
-  if (!object.hedge) return [{ text: `For ${object.effect} no formula was found, and no proof that there is none.` }, code];
+  if (!object.hedge) return [{ text: `${object.effect} isn't identifiable: two models fit the diagram and agree on all that is observed, but differ on it.` }, code];
   const joint = termText({ term: object.joint.y, do: object.joint.x, given: [] });
   return [{ text: `${object.effect} isn't identifiable: two models fit the diagram and agree on all that is observed, but differ on ${joint}, which would follow from a formula. ${hedgeText(object.hedge)}` }, code];
 }
@@ -133,16 +134,17 @@ async function valuesPart(ctx) {
   const found = await measured(ctx);
   if (!found) return [];
   const { csv, table } = ctx.memory, read = table.reading.leavesOut && csv.incomplete ? `, ${csv.incomplete} of ${csv.all} rows with missing values left out` : "";
+  if (found.none) return [{ text: `Over ${table.name}${read}. ${found.none.title}: ${found.none.why}` }];
   if (found.asked) return [{ text: `Over ${table.name}${read}.` }, ...boundsParts(found.asked), { code: commandOf(found.asked.words) }];
   if (!found.order) {
     const { fault, instead } = found, bounds = instead ? [...boundsParts(instead), { code: commandOf(instead.words) }] : [];
     return [{ text: `The table ${table.name}${read} gives no value${fault ? `: ${fault.sentence}` : "."}` }, ...bounds];
   }
-  const rows = await contrastRows(found.order), hasCrude = found.order.crude.length > 0;
+  const rows = await contrastRows(found.order), hasCrude = found.order.crude.length > 0, hasGroups = found.order.cells.some((c) => c.given);
   return [
-    { text: `Plug-in values of the formula ${found.way.label} over ${table.name}${read}. Intervals are percentiles of 1000 draws of the records with replacement; they are computed by the page, and not proved.` },
-    { table: { head: ["when set", ...(found.way.given.length ? ["among"] : []), "outcome", "value"],
-      rows: found.order.cells.map((c) => [c.x || "–", ...(found.way.given.length ? [c.given] : []), c.y, shown(c.value)]) } },
+    { text: `Plug-in values of the ${found.way.by === TREATED ? "effect" : "formula"} ${found.way.label} over ${table.name}${read}. Intervals are percentiles of 1000 draws of the records with replacement; they are computed by the page, and not proved.` },
+    { table: { head: ["when set", ...(hasGroups ? ["among"] : []), "outcome", "value"],
+      rows: found.order.cells.map((c) => [c.x || "–", ...(hasGroups ? [c.given] : []), c.y, shown(c.value)]) } },
     ...(rows.length ? [{ table: { head: ["", "value", "95% interval", ...(hasCrude ? ["crude"] : [])],
       rows: rows.map(({ label, value, interval, crude }) => [label, shown(value), intervalText(interval), ...(hasCrude ? [shown(crude)] : [])]) } }] : []),
   ];

@@ -1,5 +1,5 @@
 # How an effect in data is asked for: by the formula of the diagram, also under a condition or a short one, by that of a set to adjust
-# for, or by that of `treated`. `words` are those of `evaluate`, and `formula` the one whose values it gives, with its `trees`.
+# for, or by that of `treated`, or two levels in its place. `words` are those of `evaluate`, and `formula` the one whose values it gives, with its `trees`.
 
 asked_of <- function(diagram, x, y, set = NULL, given = NULL, back_door = FALSE, zero = FALSE, short = FALSE, treated = FALSE, among = NULL) {
   diagram <- as_causal_diagram(diagram)
@@ -26,7 +26,7 @@ asked_of <- function(diagram, x, y, set = NULL, given = NULL, back_door = FALSE,
 # under their second names (`observed`, by exposure).
 asked_over_treated <- function(diagram, x, y, set, given, back_door, among) {
   if (!is.null(set) || isTRUE(back_door)) refuse("an effect among the treated goes by its own formula: it is asked for without `set` and `back_door`")
-  asked <- asked_among(diagram, x, y, given, among)
+  asked <- asked_among(diagram, x, y, given, among, by_levels = TRUE)
   condition <- option("given", asked$given)
   if (!is.null(among)) asked$levels <- c(asked$levels, observed_levels(asked, among))
   asked$given <- c(asked$given, unname(asked$observed))

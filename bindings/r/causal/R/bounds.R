@@ -109,8 +109,9 @@ print.causal_bounds <- function(x, ...) print_with_notes(x, x, ...)
 
 as.data.frame.causal_bounds <- function(x, ...) frame_of(as.list(x))
 
-# The levels of a crossing stand in the data, and not in what was asked.
+# The levels of a crossing stand in the data, and not in what was asked. (A refusal of this class is a condition.)
 print.causal_no_model <- function(x, ...) {
+  if (inherits(x, "condition")) return(NextMethod())
   cat("no model of this diagram has these counts: bounds cross\n")
   print(x$crossed, ...)
   invisible(x)

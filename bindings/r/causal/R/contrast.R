@@ -34,8 +34,8 @@ bootstrapped <- function(asked, data, count, missing, at, level, resamples, seed
 warn_of_lost <- function(drawn) {
   lost <- sum(is.na(drawn$drawn[, 1]))
   if (lost >= 0.05 * nrow(drawn$drawn) && lost > 0)
-    doubt(lost, " of ", nrow(drawn$drawn), " resamples had no value, so that the intervals are too narrow: the data are too thin for the formula. ",
-          remedies(drawn$asked))
+    doubt(lost, " of ", nrow(drawn$drawn), " resamples had no value, so that the intervals are too narrow: the data are too thin for the formula",
+          if (!is.null(drawn$asked$split)) ", or no model has the counts there", ". ", remedies(drawn$asked))
 }
 
 check_numbers <- function(level, resamples) {
@@ -142,7 +142,7 @@ contrast_frame <- function(drawn, arms) {
             outcomes = c(names(effects$given[[1]]), names(effects$y[[1]])), exposures = names(effects$x[[1]]),
             treated = levels_at(table, effects$x[[arms$treated[1]]]), control = levels_at(table, effects$x[[arms$control[1]]]),
             pinned = levels_at(table, effects$pinned), dropped = table$dropped, weighted = !is.null(table$survey), frequencies = frequency_note(table),
-            strata = table$strata)
+            strata = table$strata, split = table$split)
 }
 
 # The level of one exposure, or those of several with their names.

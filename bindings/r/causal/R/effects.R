@@ -15,6 +15,7 @@ table_for <- function(asked, data, count, missing, at = NULL, design = NULL) {
   table <- count_table(asked$diagram, asked$words, data, count, missing, keeps = asked$y, design = design)
   table <- with_second_names(table, asked$observed)
   table <- pin(table, first_places(table, asked$formula$free, at))
+  table$split <- asked$split
   if (is.data.frame(data) || inherits(data, "table")) table$source <- list(data = data, count = count, missing = missing, design = design)
   table
 }
@@ -83,7 +84,21 @@ effects_of <- function(asked, table, exact = FALSE) {
   words <- c(asked$words, "--count", count_name(table), flag("exact", exact))
   told <- ask_table(asked$diagram, words, table, hand_back = 5L)
   if (told$status == 5) stop(with_levels(causal_fault(told, list(diagram = asked$diagram$text)), table, asked))
-  c(read_effects(object_of(told)), list(out = told$out))
+  object <- object_of(told)
+  if (object$answer == "path") refuse_treated(object, ": ", asked$x, " has more than two levels in the data")
+  if (object$answer == "no model") refuse_less(read_less(object), table, asked)
+  c(read_effects(object), list(out = told$out))
+}
+
+# That no model has the counts: an effect is less than what was observed of it. The condition has the levels, `less`.
+refuse_less <- function(read, table, asked) {
+  of <- function(levels) {
+    told <- labels_at(table, levels[intersect(asked$diagram$vertices$name, names(levels))])
+    paste0(names(told), "=", printed_level(unlist(told)), collapse = ",")
+  }
+  effect <- paste0("P(", of(c(read$y, read$given)), "|do(", of(read$x), "))")
+  refuse("no model of this diagram has these counts: ", effect, " is less than P(", of(c(read$x, read$y, read$given)), ")", kind = "no_model",
+         told = list(less = levels_at(table, c(read$x, read$given, read$y, read$observed))))
 }
 
 # The cells of effects for which something holds.
@@ -129,6 +144,7 @@ set_with_value <- function(asked, table) {
 # What may have a value where this has none, in the words of the caller.
 remedies <- function(asked, set = NULL) {
   if (!is.null(asked$outer)) asked <- asked$outer
+  if (!is.null(asked$split)) return("What may help: fewer classes, of which the records are more")
   if (length(asked$observed)) return("What may help: fewer classes; estimate() with `observed` fills in by models")
   tried <- c(if (!asked$zero) "zero = TRUE", if (is.null(asked$set) && !asked$short) "short = TRUE")
   other <- if (is.null(set)) "another `set` of adjustment_sets()" else paste0("set = ", paste(deparse(set, width.cutoff = 500), collapse = " "), " (it has a value)")
@@ -163,7 +179,7 @@ effects_frame <- function(effects, table) {
   columns <- c(columns_of(effects$x, table), columns_of(effects$given, table), columns_of(effects$y, table))
   columns <- c(columns, list(estimate = values_of(effects)), effects[names(effects) %in% c("fraction", "from", "to")])
   structure(frame_of(columns), class = c("causal_effects", "data.frame"), pinned = levels_at(table, effects$pinned), dropped = table$dropped,
-            weighted = !is.null(table$survey), strata = table$strata)
+            weighted = !is.null(table$survey), strata = table$strata, split = table$split)
 }
 
 columns_of <- function(cells, table) {

@@ -61,14 +61,23 @@ asked_by_trees <- function(diagram, told, x, y, condition, observed = character(
        given = condition$names, levels = condition$levels, set = NULL, zero = TRUE, short = FALSE, observed = observed)
 }
 
-asked_among <- function(diagram, x, y, given, among) {
+# The effect among the treated by its formula; or where it has none and `by_levels` lets it, by two levels of the exposure.
+asked_among <- function(diagram, x, y, given, among, by_levels = FALSE) {
   check_exposures(diagram, x)
   condition <- condition_of(given)
   told <- ask("treated", diagram, c(option("x", x), option("y", y), option("given", condition$names)))
-  if (!told$yes) refuse("the effect among the treated has no formula: ", object_of(told)$effect, " is not identifiable; treated_effect() says why",
-                        kind = "not_identifiable")
   object <- object_of(told)
-  c(asked_by_trees(diagram, told, x, y, condition, stats::setNames(texts(object$observed), texts(object$x))), list(among = among))
+  seconds <- stats::setNames(texts(object$observed), texts(object$x))
+  if (told$yes) return(c(asked_by_trees(diagram, told, x, y, condition, seconds), list(among = among)))
+  if (is.null(object$two_values)) refuse_treated(object, "; treated_effect() says why")
+  if (!by_levels) refuse_treated(object, "; evaluate() and contrast() have values where ", names(seconds), " has two levels")
+  joint <- ask("identify", diagram, c(option("x", texts(object$joint$x)), option("y", texts(object$joint$y))))
+  asked <- asked_by_trees(diagram, joint, x, y, condition, seconds)
+  utils::modifyList(asked, list(y = texts(object$y), split = paste0("two values of ", names(seconds), ": ", text_in(object$two_values)), among = among))
+}
+
+refuse_treated <- function(object, ...) {
+  refuse("the effect among the treated has no formula: ", object$effect, " is not identifiable", ..., kind = "not_identifiable")
 }
 
 asked_from_experiments <- function(diagram, x, y, given, experiments) {

@@ -4,7 +4,7 @@
 head_notes <- function(x) {
   pinned <- attr(x, "pinned")
   c(character(), if (length(pinned)) paste0("pinned: ", level_text(pinned), " (in the population every level gives the same)"),
-    attr(x, "strata"), if (isTRUE(attr(x, "weighted"))) "weighted; the value is that of the weights, rounded to some 12 digits of their sum",
+    attr(x, "split"), attr(x, "strata"), if (isTRUE(attr(x, "weighted"))) "weighted; the value is that of the weights, rounded to some 12 digits of their sum",
     if (isTRUE(attr(x, "dropped") > 0)) paste("records left out for missing values:", format(attr(x, "dropped"), big.mark = ",")))
 }
 

@@ -303,6 +303,9 @@ read_effects <- function(object) {
     if (object$exact) list(fraction = numbers("value")) else list(from = numbers("from"), to = numbers("to")))
 }
 
+# The levels at which an effect is less than what was observed of it.
+read_less <- function(object) lapply(object$less[c("y", "x", "given", "observed")], read_levels)
+
 # Levels by name, as text.
 read_levels <- function(cell) stats::setNames(texts(lapply(cell, `[[`, 2)), texts(lapply(cell, `[[`, 1)))
 

@@ -17,11 +17,39 @@ values_over <- function(asked, table, effects) {
   values_by_library(asked, table, effects)
 }
 
+# What gives the factor of an effect, and how many combinations of levels its largest node has.
+effect_factor <- function(asked) if (is.null(asked$split)) function(scope) trees_factor(asked$trees, scope) else function(scope) split_factor(asked, scope)
+
+largest_of <- function(asked, sizes) {
+  max(largest_node(asked$trees, sizes), if (!is.null(asked$split)) prod(sizes[c(asked$x, asked$given, asked$y, asked$formula$free)]))
+}
+
+# That of an effect among the treated by two levels: the joint effect less what was observed, over the share of those who had the other
+# level; among those who had the very level, what was observed. Numbers of records stand in place of shares. As by the library, a table has
+# all values or none, and none where one would be below 0. What is free stands at its first level.
+split_factor <- function(asked, scope) {
+  sizes <- scope$sizes
+  joint <- trees_factor(asked$trees, scope)
+  had <- unname(asked$observed)
+  wide <- union(c(asked$x, asked$given, asked$y), joint$names)
+  records <- function(names) scope$records(names)[rows_in(names, wide, sizes), , drop = FALSE]
+  seen <- records(c(asked$x, setdiff(asked$given, had), asked$y))
+  values <- sweep(widened(joint, wide, sizes), 2, scope$records(character())[1, ], "*") - seen
+  is_same <- rows_in(asked$x, wide, sizes) == rows_in(had, wide, sizes)
+  values[is_same, ] <- seen[is_same, ]
+  values <- values / records(asked$given)
+  first <- Reduce(`&`, lapply(asked$formula$free, function(name) rows_in(name, wide, sizes) == 1), rep(TRUE, nrow(values)))
+  lacks <- colSums(!is.finite(values[first, , drop = FALSE]) | values[first, , drop = FALSE] < -1e-9) > 0
+  values[, lacks] <- NaN
+  new_factor(wide, pmax(values, 0))
+}
+
 # By the formula's tree; NULL where it is too large for arrays.
 values_by_tree <- function(asked, table, effects) {
   sizes <- lengths(table$levels)
-  largest <- largest_node(asked$trees, sizes)
+  largest <- largest_of(asked, sizes)
   if (largest > 2^20) return(NULL)
+  factor <- effect_factor(asked)
   whole <- whole_names(effects)
   cells <- cell_codes(effects, table)
   function(counts) {
@@ -32,7 +60,7 @@ values_by_tree <- function(asked, table, effects) {
       here <- seq(first, length.out = min(room, ncol(counts) - first + 1))
       if (!length(here)) next
       scope <- counts_scope(table$codes, sizes, counts[, here, drop = FALSE], whole, asked$zero)
-      values[here, ] <- t(at_cells(trees_factor(asked$trees, scope), cells, sizes))
+      values[here, ] <- t(at_cells(factor(scope), cells, sizes))
     }
     values[rowSums(!is.finite(values)) > 0, ] <- NA
     values

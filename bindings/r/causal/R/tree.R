@@ -114,7 +114,7 @@ counts_scope <- function(codes, sizes, counts, whole, zero) {
     values[unique(key), ] <- sums
     values
   }
-  list(sizes = sizes, tables = ncol(counts), zero = zero,
+  list(sizes = sizes, tables = ncol(counts), zero = zero, records = margin,
        term = function(of, given, do) {
          names <- c(given, setdiff(of, given))
          below <- margin(given)

@@ -34,7 +34,7 @@ contrast(diagram, data, x = NULL, y = NULL, treated = NULL, control = NULL,
   \item{clusters, strata}{names of columns of the design of a survey: resamples draw clusters within strata, one fewer than there are, and
     raise their weights by as much. They go with \code{"percentile"} alone.}
   \item{observed}{the level of \code{x} that was observed, given as an arm is: then both risks are those among the ones for whom it was,
-    by the formula of \code{\link{treated_effect}}. With \code{observed} the level of \code{treated} the difference is the effect of
+    by the formula of \code{\link{treated_effect}}, or where it has none by two levels of \code{x}, as \code{\link{evaluate}} has it. With \code{observed} the level of \code{treated} the difference is the effect of
     treatment on the treated.}
   \item{digits}{how many digits are shown.}
   \item{measure}{which measure the forest plot is of.}
@@ -46,7 +46,8 @@ contrast(diagram, data, x = NULL, y = NULL, treated = NULL, control = NULL,
   over it. The exposures, the outcomes, what is given and the pinned variables keep their levels and their pinned level; of the
   other variables a resample has the levels that it drew. A resample in which some cell has no support has no value; it is left out
   of the intervals, and the number of these is said. Where it is not small, the intervals are too narrow, and the data are too
-  thin for the formula; with \code{zero} or \code{short} it may be smaller. A resample in which the control's probability is 0 has no ratio; where one of both is 1, no odds ratio.
+  thin for the formula; with \code{zero} or \code{short} it may be smaller. With \code{observed} and two levels a resample that no model of
+  the diagram has is such a one too. A resample in which the control's probability is 0 has no ratio; where one of both is 1, no odds ratio.
 
   With rare outcomes neither interval reaches its level, and \code{"bca"} isn't the better one. Lost resamples, fewer than five records
   with the outcome in an arm, and intervals of width 0 are told in the column \code{note}; a share of lost resamples from 5\% on is warned

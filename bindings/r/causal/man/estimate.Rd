@@ -40,7 +40,7 @@ estimate(diagram, data, x = NULL, y = NULL, treated = NULL, control = NULL,
     is there (models of the package's own with few coefficients, and no number that is drawn) and no \code{resamples} are asked for.}
   \item{factors}{names of numbers that are categories. Exposures with three to ten levels are so too, but in formulas that are given.}
   \item{smoothing}{for a \code{"table"}: how many records are added to each combination of what is given, with all levels alike.}
-  \item{observed}{a level of the exposure: the effect among those for whom it was observed, by the formula of
+  \item{observed}{a level of the exposure: the effect among those for whom it was observed, by the formula (and not by two levels) of
     \code{\link{treated_effect}}.}
   \item{trials, experiments}{the data of trials on other variables, by what each of them set, as \code{list(Z = trial)} or
     \code{list("A,B" = trial)}; or these sets in \code{experiments}, as \code{\link{surrogate}} has them. Each term of its formula is

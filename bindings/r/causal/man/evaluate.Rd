@@ -71,7 +71,13 @@ evaluate(diagram, data, x = NULL, y = NULL, count = NULL, exact = FALSE,
   became these counts, and \code{estimate}, the nearest number of R.
 
   With \code{treated} the answer has a further column for each vertex of \code{x}, under its name with a prime: the level that was
-  observed. It is proved alike that the value is that of the formula, and that it covers the effect among these.
+  observed. It is proved alike that the value is that of the formula, and that it covers the effect among these. Where there is no formula,
+  but the joint effect of the only exposure has one, and the exposure has at most two levels in the data, values are a difference: the
+  joint effect less what was observed, over the share of those who had the other level. Each such model's effect is enclosed by their
+  bounds then; the answer says so, and its attribute \code{split} does. Where a value would be below 0, no model of the diagram has these
+  counts, which is proved, and the answer is an error of the class \code{causal_no_model}, whose \code{less} has the levels at which the
+  effect is less than what was observed of it. A sample may have such counts by chance. With more than two levels there is an error of the
+  class \code{causal_not_identifiable}.
 
   A value is a plug-in value: it says nothing about its sampling error. See \code{\link{contrast}} for intervals.
 
@@ -94,6 +100,10 @@ evaluate(diagram, kidney_stones, count = "count", given = "S")
 
 # Those who got B would have succeeded with A in 33753 of 38135
 evaluate(diagram, kidney_stones, count = "count", treated = TRUE, exact = TRUE)
+
+# There is no formula here, and two levels of X give values
+cells <- expand.grid(W = 0:1, Z = 0:1, X = 0:1, Y = 0:1)
+evaluate("dag { W -> Z -> X -> Y W <-> X W <-> Y }", cells, "X", "Y", treated = TRUE, exact = TRUE)
 
 # The short formula reads no column of the weight
 births <- causal_diagram("dag { smoking [exposure] death [outcome]

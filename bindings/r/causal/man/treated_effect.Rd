@@ -19,7 +19,8 @@ treated_effect(diagram, x = NULL, y = NULL, given = NULL, certificate = FALSE)
 
   Proved: a formula equals the effect in every positive finite model that fits the diagram's observed graph, at every assignment. Where a
   treatment is joined by bidirected edges to a child of its own there is none, which two models show. Where the joint effect has a formula
-  even so, it gives the effect among the treated of a treatment with two values.
+  even so, it gives the effect among the treated of a treatment with two values; over data \code{\link{evaluate}} and
+  \code{\link{contrast}} have it then.
 }
 \value{
   For a formula a list of the class \code{causal_formula}, as \code{\link{identify_effect}} gives it. Else a list of the class
