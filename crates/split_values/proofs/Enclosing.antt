@@ -80,8 +80,8 @@ module _ (kind : Kind) (less : Subtraction) (covers encloses : Pair → Fraction
       → ((is_supported w joint s && (is_supported w (shown_of x y z) s && (is_supported w others t && not (eqb (value_of w others t).top 0)))) ≡ true)
       × (IsAtMost (value_of w (shown_of x y z) s) (value_of w joint s) → encloses c (div (left_value w x y z joint s) (value_of w others t)))
   share_encloses d c k e =
-      let share = is_after (formula_value (plain kind) w others t) (λ p. as_some (placed None 0 s (kind.div d p))) (Some c) e in
-      let is = placed_is s (kind.div d share.value) c (some_is (placed None 0 s (kind.div d share.value)) c share.next) in
+      let share = is_after (formula_value (plain kind) w others t) (λ p. as_some (placed None 0 t (kind.div d p))) (Some c) e in
+      let is = placed_is t (kind.div d share.value) c (some_is (placed None 0 t (kind.div d share.value)) c share.next) in
       let a = covered joint s k.whole k.whole_is in
       let b = covered (shown_of x y z) s k.shown k.shown_is in
       let p = covered others t share.value share.first in
@@ -115,8 +115,8 @@ module _ (kind : Kind) (less : Subtraction) (covers encloses : Pair → Fraction
     where
       go : (o : Option Pair) → IsLeft o → if_left (others_outcome kind w x z s t) o ≡ Ok None → ⊥
       go (Some d) k is =
-          let share = is_after (formula_value (plain kind) w others t) (λ p. as_some (placed None 0 s (kind.div d p))) None is in
-          some_never (placed None 0 s (kind.div d share.value)) share.next
+          let share = is_after (formula_value (plain kind) w others t) (λ p. as_some (placed None 0 t (kind.div d p))) None is in
+          some_never (placed None 0 t (kind.div d share.value)) share.next
       go None k is =
           split.below k.whole k.shown (value_of w joint s) (value_of w (shown_of x y z) s) (covered joint s k.whole k.whole_is).1
           (covered (shown_of x y z) s k.shown k.shown_is).1 k.is at_most

@@ -29,9 +29,9 @@ abbrev pub left_outcome : Kind → Subtraction → Weights → (x y z : ℕ) →
 left_outcome k less w x y z joint s =
     after (formula_value (plain k) w joint s) (λ a. after (formula_value (plain k) w (shown_of x y z) s) (λ b. placed_left s (less a b)))
 
--- its share among those who have the other level: node 0
+-- its share among those who have the other level: node 0, at their levels
 abbrev pub others_outcome : Kind → Weights → (x z : ℕ) → (s t : ℕ → ℕ) → Pair → Result (Option Pair) Stop
-others_outcome k w x z s t left = after (formula_value (plain k) w (chance_of (union x z)) t) (λ p. as_some (placed None 0 s (k.div left p)))
+others_outcome k w x z s t left = after (formula_value (plain k) w (chance_of (union x z)) t) (λ p. as_some (placed None 0 t (k.div left p)))
 
 -- the same, where something is left
 abbrev pub if_left : (Pair → Result (Option Pair) Stop) → Option Pair → Result (Option Pair) Stop

@@ -134,7 +134,7 @@ fn others_at<Q: Difference, L: Lookup<Q>>(
         VSet::EMPTY,
         *reading.second,
     )?;
-    share(left.div(&others), reading.first)
+    share(left.div(&others), reading.second)
 }
 
 /// The value of P(y under do(x) at the first levels | x, given at the second), for an x of one vertex with two levels:

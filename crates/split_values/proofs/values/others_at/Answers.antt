@@ -16,8 +16,8 @@ share_at-requires-clause-given g c = λ v e. absurd (false≢true (sym (has_none
 pub returns : goal.returns
 returns g c =
     let r = c.args.reading.now in let k = g.Q.Quantity.kind in let numbers = g.Q.Quantity.numbers in
-    let w = weights_in r.n (g.L.Lookup.counts r.lookup.now) in let s = cell_of r.first.now in
-    c.share.ensures ∙ ap (λ (q : Result Pair QuantityFault). as_some (placed None 0 s q)) c.div.ensures
-    ∙ ap (λ (p : Result Pair Stop). after p (λ b. as_some (placed None 0 s (k.div (numbers c.args.left) b))))
+    let w = weights_in r.n (g.L.Lookup.counts r.lookup.now) in let t = cell_of r.second.now in
+    c.share.ensures ∙ ap (λ (q : Result Pair QuantityFault). as_some (placed None 0 t q)) c.div.ensures
+    ∙ ap (λ (p : Result Pair Stop). after p (λ b. as_some (placed None 0 t (k.div (numbers c.args.left) b))))
     (ap (seen numbers) (sym c.in_ok-others.was) ∙ c.share_at.ensures
-    ∙ ap (λ u. formula_value (plain k) w (share_of u 0) (cell_of r.second.now)) c.union.ensures.mask)
+    ∙ ap (λ u. formula_value (plain k) w (share_of u 0) t) c.union.ensures.mask)
