@@ -119,15 +119,19 @@ module _ (is_exact : Bool) (laws : AreLaws is_exact) (e : PlainAmong) (t : Table
   none_below (by_factors f) is right levels cell named h = absurd (never_below is_exact (paired_in e) t f is cell h)
   none_below (by_split joint) is right levels cell named h = none_of_joint joint is right levels cell named h
 
+  -- the quantity is that of its cell
+  abbrev IsOfCell : CellValue → Type 0
+  IsOfCell v = IsNameCell e.graph.vertices e.asked.sets.x.bits t v.cell × (value_in is_exact (paired_in e) t v.cell ≡ Ok (Some v.quantity))
+
   module _ (levels : HasItsLevels e.asked.sets.x.bits t e.reading) where
     are_shown : (values : Values) → AreValuesOver is_exact (paired_in e) t values → AreShown is_exact e t values
     are_shown values h =
         let all = each_value is_exact (paired_in e) t (over_paired e t over) values h in
         record {
           evaluated = h;
-          counts = All-weaker _ (ShowsCounts is_exact e e.reading t)
+          counts = All-weaker IsOfCell (ShowsCounts is_exact e e.reading t)
               (λ v k. (value_shown e.reading refl over.identified.right levels v k.0 k.1).0) (plain_values values) all;
-          effects = All-weaker _ (CoversAmong (shown_in is_exact e.reading) e t)
+          effects = All-weaker IsOfCell (CoversAmong (shown_in is_exact e.reading) e t)
               (λ v k. (value_shown e.reading refl over.identified.right levels v k.0 k.1).1) (plain_values values) all;
         }
 

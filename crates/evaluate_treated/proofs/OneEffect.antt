@@ -105,8 +105,8 @@ module _ (d e : Diagram) (s : AreSameDiagrams d e) (q : Request) (a b : PlainAmo
         same,
         ap by_split (answered.one_formula a.graph a.asked.sets.x.bits (union a.asked.sets.y.bits a.asked.sets.given.bits) other joint
             (subst (λ (h : Asked). identification.IsIdentified a.graph h.sets.x.bits (union h.sets.y.bits h.sets.given.bits) other) same
-            (subst (λ (h : MixedGraph). identification.IsIdentified h b.asked.sets.x.bits (union b.asked.sets.y.bits b.asked.sets.given.bits) other) graphs j.joint))
-            i.joint),
+            (subst (λ (h : MixedGraph). identification.IsIdentified h b.asked.sets.x.bits (union b.asked.sets.y.bits b.asked.sets.given.bits) other) graphs j.formula))
+            i.formula),
       )
   one_reading (by_factors f) (by_split other) i j = absurd (formula_or_path i.formula j.path i.answered j.answered)
   one_reading (by_split joint) (by_factors k) i j = absurd (path_or_formula i.path j.formula i.answered j.answered)
