@@ -56,15 +56,15 @@ module _ (g : MixedGraph) (l : Lists) where
         one_formula g s.x.bits s.y.bits s.given.bits (formula_view h) (formula_view f) k.decided.1.formula p.is.decided.1.formula,
       )
 
-  one_by_path : (a b : Asked) (c e : Confounding) → IsOfSets l (λ s. IsForSets false g s (treated.Unfixed a c))
+  pub one_by_path : (a b : Asked) (c e : Confounding) → IsOfSets l (λ s. IsForSets false g s (treated.Unfixed a c))
       → IsOfSets l (λ s. IsForSets false g s (treated.Unfixed b e)) → b ≡ a
   one_by_path a b c e p r = same_asked p.sets a b p.is.decided.0 (moved (treated.Unfixed a c) (treated.Unfixed b e) p r).decided.0
 
   -- a path that excludes a hedge, and a hedge
-  path_or_hedge : (a b : Asked) (c e : Confounding) (h : Hedge) (pair : CounterPair) → IsOfSets l (λ s. IsForSets false g s (treated.Unfixed a c))
+  pub path_or_hedge : (a b : Asked) (c e : Confounding) (h : Hedge) (pair : CounterPair) → IsOfSets l (λ s. IsForSets false g s (treated.Unfixed a c))
       → IsOfSets l (λ s. IsForSets false g s (treated.Excluded b e h pair)) → ⊥
   path_or_hedge a b c e h pair p r =
-      p.is.decided.1.no_hedge h (moved (treated.Unfixed a c) (treated.Excluded b e h pair) p r).decided.1.found.right.hedge
+      p.is.decided.1.no_hedge h (moved (treated.Unfixed a c) (treated.Excluded b e h pair) p r).decided.1.found.evidence
 
 -- an answer on a diagram is one on one that is the same
 pub on_same : (d e : Diagram) → AreSameDiagrams d e → (q : Request) (a : Answer) → IsTreatedAnswer false e q.x q.y q.given (Ok a)

@@ -5,7 +5,7 @@ use Rattle.mixed_graph.specs.Vocabulary.{has, IsAncestor, Within, Apart, graph_o
 use Rattle.prob_expr.specs.Vocabulary.{EqualsEffect, effect_on, fault_in, formula_view, is_do_free}
 use Rattle.identification_theory.specs.Names.{FormulaNamesOnly}
 use Rattle.identification_theory.specs.Vocabulary.{IsIdentified}
-use Rattle.identify.specs.Vocabulary.{IfFormulaAlone}
+use Rattle.identify.specs.Answers.{IfFormulaAlone}
 use Rattle.treated_command.specs.Sentences.{is_single}
 use Rattle.treated_command.proofs.Sets.{joint_within, joint_apart, joint_some}
 use Rattle.evaluate_treated.proofs.Known.{by_joint, known_path}
@@ -58,6 +58,5 @@ returns-in-Ok-Formula c = λ q is.
         identified = by_joint d q a c.args.c is single f formed free names equals;
         found = record { path = c.args.c; answered = is; single = single; formula = found };
       },
-      refl,
-      (known_path d q a c.args.c is).1,
+      (refl, (known_path d q a c.args.c is).1),
     )
