@@ -40,7 +40,14 @@ pub fn push_all_levels(
 {
     let counts = &answer.counts;
     push_levels(object, names, &target_of(answer.asked), counts, cell)?;
-    push_axes(object, "second", all, counts, cell, answer.second.as_slice())?;
+    push_axes(
+        object,
+        "second",
+        all,
+        counts,
+        cell,
+        answer.second.as_slice(),
+    )?;
     Ok(())
 }
 

@@ -66,46 +66,46 @@ module _ (is_exact : Bool) (laws : AreLaws is_exact) (e : PlainAmong) (t : Table
 
   -- ---- by two levels
   module _ (joint : PlainFormula) (is : e.reading ≡ by_split joint) (right : IsRightJoint e.graph e.asked.sets joint) (two : AreTwoLevels e.asked.sets.x.bits t)
-      where
-    observed_split : IsObservedSplit (is_used t) (weights_in e.graph.vertices t) e.asked.sets.x.bits e.asked.sets.y.bits e.asked.sets.given.bits joint
-    observed_split =
-        let read = subst (λ r. (u : ℕ) → has (read_by r (sets_of (paired_in e))) u ≡ true → is_used t u ≡ true) is (used e t over) in
-        let k = joint_evaluable e t over joint right read in
-        record { x_used = k.x_used; y_used = k.y_used; z_used = k.z_used; defs = k.formula.defs; main = k.formula.main; two = two }
+    where
+      observed_split : IsObservedSplit (is_used t) (weights_in e.graph.vertices t) e.asked.sets.x.bits e.asked.sets.y.bits e.asked.sets.given.bits joint
+      observed_split =
+          let read = subst (λ r. (u : ℕ) → has (read_by r (sets_of (paired_in e))) u ≡ true → is_used t u ≡ true) is (used e t over) in
+          let k = joint_evaluable e t over joint right read in
+          record { x_used = k.x_used; y_used = k.y_used; z_used = k.z_used; defs = k.formula.defs; main = k.formula.main; two = two }
 
-    observed_at : (cell : List ℕ) → IsNameCell e.graph.vertices e.asked.sets.x.bits t cell → (m : FiniteModel) → Fits e.graph m
-        → IsMatched (is_used t) (weights_in e.graph.vertices t) (total t.rows) m
-        → AreObservedAt m e.asked.sets.x.bits (cell_of cell) (second_levels (paired_in e) cell)
-    observed_at cell named m fits matched = record {
-      first = first_within e.graph e.asked.sets.x.bits t cell named m fits matched;
-      second = second_within e.graph e.asked.sets.x.bits t cell named m fits matched;
-      others = others_same e.graph.vertices e.asked.sets.x.bits (cell_of cell);
-    }
+      observed_at : (cell : List ℕ) → IsNameCell e.graph.vertices e.asked.sets.x.bits t cell → (m : FiniteModel) → Fits e.graph m
+          → IsMatched (is_used t) (weights_in e.graph.vertices t) (total t.rows) m
+          → AreObservedAt m e.asked.sets.x.bits (cell_of cell) (second_levels (paired_in e) cell)
+      observed_at cell named m fits matched = record {
+        first = first_within e.graph e.asked.sets.x.bits t cell named m fits matched;
+        second = second_within e.graph e.asked.sets.x.bits t cell named m fits matched;
+        others = others_same e.graph.vertices e.asked.sets.x.bits (cell_of cell);
+      }
 
-    from_right_joint : (v : CellValue) → IsNameCell e.graph.vertices e.asked.sets.x.bits t v.cell
-        → value_in is_exact (paired_in e) t v.cell ≡ Ok (Some v.quantity)
-        → ShowsCounts is_exact e (by_split joint) t v × CoversAmong (encloses_in is_exact) e t v
-    from_right_joint v named h =
-        let s = e.asked.sets in let w = weights_in e.graph.vertices t in
-        let value = from_split is_exact (paired_in e) t joint is v.cell (Ok (Some v.quantity)) h in
-        let all = laws.split_counts w s.x.bits s.y.bits s.given.bits joint (cell_of v.cell) (second_levels (paired_in e) v.cell) v.quantity value in (
-          record { supported = all.0; enclosed = all.1 },
-          λ m fits positive matched.
-              subst (λ n. encloses_in is_exact v.quantity (effect_among m (has s.x.bits) (has s.y.bits) (λ u. has s.x.bits u || has s.given.bits u)
-              (cell_of v.cell) (as_observed n s.x.bits (cell_of v.cell)))) (sym fits.vertices)
-              (laws.split_among e.graph over.identified.graph m fits positive (is_used t) w (total t.rows) matched
-              s.x.bits s.y.bits s.given.bits joint right.target observed_split (cell_of v.cell) (second_levels (paired_in e) v.cell)
-              (observed_at v.cell named m fits matched) v.quantity value),
-        )
+      from_right_joint : (v : CellValue) → IsNameCell e.graph.vertices e.asked.sets.x.bits t v.cell
+          → value_in is_exact (paired_in e) t v.cell ≡ Ok (Some v.quantity)
+          → ShowsCounts is_exact e (by_split joint) t v × CoversAmong (encloses_in is_exact) e t v
+      from_right_joint v named h =
+          let s = e.asked.sets in let w = weights_in e.graph.vertices t in
+          let value = from_split is_exact (paired_in e) t joint is v.cell (Ok (Some v.quantity)) h in
+          let all = laws.split_counts w s.x.bits s.y.bits s.given.bits joint (cell_of v.cell) (second_levels (paired_in e) v.cell) v.quantity value in (
+            record { supported = all.0; enclosed = all.1 },
+            λ m fits positive matched.
+                subst (λ n. encloses_in is_exact v.quantity (effect_among m (has s.x.bits) (has s.y.bits) (λ u. has s.x.bits u || has s.given.bits u)
+                (cell_of v.cell) (as_observed n s.x.bits (cell_of v.cell)))) (sym fits.vertices)
+                (laws.split_among e.graph over.identified.graph m fits positive (is_used t) w (total t.rows) matched
+                s.x.bits s.y.bits s.given.bits joint right.target observed_split (cell_of v.cell) (second_levels (paired_in e) v.cell)
+                (observed_at v.cell named m fits matched) v.quantity value),
+          )
 
-    -- where there is none, no model has the counts
-    none_of_joint : (cell : List ℕ) → IsNameCell e.graph.vertices e.asked.sets.x.bits t cell → value_in is_exact (paired_in e) t cell ≡ Ok None
-        → NoModelHas e.graph t
-    none_of_joint cell named h m fits positive matched =
-        let s = e.asked.sets in
-        laws.split_none e.graph over.identified.graph m fits positive (is_used t) (weights_in e.graph.vertices t) (total t.rows) matched
-        s.x.bits s.y.bits s.given.bits joint right.target observed_split (cell_of cell) (second_levels (paired_in e) cell)
-        (observed_at cell named m fits matched) (from_split is_exact (paired_in e) t joint is cell (Ok None) h)
+      -- where there is none, no model has the counts
+      none_of_joint : (cell : List ℕ) → IsNameCell e.graph.vertices e.asked.sets.x.bits t cell → value_in is_exact (paired_in e) t cell ≡ Ok None
+          → NoModelHas e.graph t
+      none_of_joint cell named h m fits positive matched =
+          let s = e.asked.sets in
+          laws.split_none e.graph over.identified.graph m fits positive (is_used t) (weights_in e.graph.vertices t) (total t.rows) matched
+          s.x.bits s.y.bits s.given.bits joint right.target observed_split (cell_of cell) (second_levels (paired_in e) cell)
+          (observed_at cell named m fits matched) (from_split is_exact (paired_in e) t joint is cell (Ok None) h)
 
   -- ---- either way
   value_shown : (r : PlainReading) → e.reading ≡ r → IsRightReading e.graph e.asked.sets r → HasItsLevels e.asked.sets.x.bits t r
@@ -119,15 +119,19 @@ module _ (is_exact : Bool) (laws : AreLaws is_exact) (e : PlainAmong) (t : Table
   none_below (by_factors f) is right levels cell named h = absurd (never_below is_exact (paired_in e) t f is cell h)
   none_below (by_split joint) is right levels cell named h = none_of_joint joint is right levels cell named h
 
+  -- the quantity is that of its cell
+  abbrev IsOfCell : CellValue → Type 0
+  IsOfCell v = IsNameCell e.graph.vertices e.asked.sets.x.bits t v.cell × (value_in is_exact (paired_in e) t v.cell ≡ Ok (Some v.quantity))
+
   module _ (levels : HasItsLevels e.asked.sets.x.bits t e.reading) where
     are_shown : (values : Values) → AreValuesOver is_exact (paired_in e) t values → AreShown is_exact e t values
     are_shown values h =
         let all = each_value is_exact (paired_in e) t (over_paired e t over) values h in
         record {
           evaluated = h;
-          counts = All-weaker _ (ShowsCounts is_exact e e.reading t)
+          counts = All-weaker IsOfCell (ShowsCounts is_exact e e.reading t)
               (λ v k. (value_shown e.reading refl over.identified.right levels v k.0 k.1).0) (plain_values values) all;
-          effects = All-weaker _ (CoversAmong (shown_in is_exact e.reading) e t)
+          effects = All-weaker IsOfCell (CoversAmong (shown_in is_exact e.reading) e t)
               (λ v k. (value_shown e.reading refl over.identified.right levels v k.0 k.1).1) (plain_values values) all;
         }
 

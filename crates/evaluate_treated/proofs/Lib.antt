@@ -2,6 +2,7 @@ mod Terms
 pub mod Known
 pub mod Evaluable
 mod Covered
+mod Pieces
 mod Replied
 mod OneFormula
 mod OneEffect

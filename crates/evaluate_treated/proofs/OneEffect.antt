@@ -56,15 +56,15 @@ module _ (g : MixedGraph) (l : Lists) where
         one_formula g s.x.bits s.y.bits s.given.bits (formula_view h) (formula_view f) k.decided.1.formula p.is.decided.1.formula,
       )
 
-  one_by_path : (a b : Asked) (c e : Confounding) → IsOfSets l (λ s. IsForSets false g s (treated.Unfixed a c))
+  pub one_by_path : (a b : Asked) (c e : Confounding) → IsOfSets l (λ s. IsForSets false g s (treated.Unfixed a c))
       → IsOfSets l (λ s. IsForSets false g s (treated.Unfixed b e)) → b ≡ a
   one_by_path a b c e p r = same_asked p.sets a b p.is.decided.0 (moved (treated.Unfixed a c) (treated.Unfixed b e) p r).decided.0
 
   -- a path that excludes a hedge, and a hedge
-  path_or_hedge : (a b : Asked) (c e : Confounding) (h : Hedge) (pair : CounterPair) → IsOfSets l (λ s. IsForSets false g s (treated.Unfixed a c))
+  pub path_or_hedge : (a b : Asked) (c e : Confounding) (h : Hedge) (pair : CounterPair) → IsOfSets l (λ s. IsForSets false g s (treated.Unfixed a c))
       → IsOfSets l (λ s. IsForSets false g s (treated.Excluded b e h pair)) → ⊥
   path_or_hedge a b c e h pair p r =
-      p.is.decided.1.no_hedge h (moved (treated.Unfixed a c) (treated.Excluded b e h pair) p r).decided.1.found.right.hedge
+      p.is.decided.1.no_hedge h (moved (treated.Unfixed a c) (treated.Excluded b e h pair) p r).decided.1.found.evidence
 
 -- an answer on a diagram is one on one that is the same
 pub on_same : (d e : Diagram) → AreSameDiagrams d e → (q : Request) (a : Answer) → IsTreatedAnswer false e q.x q.y q.given (Ok a)
@@ -105,8 +105,8 @@ module _ (d e : Diagram) (s : AreSameDiagrams d e) (q : Request) (a b : PlainAmo
         same,
         ap by_split (answered.one_formula a.graph a.asked.sets.x.bits (union a.asked.sets.y.bits a.asked.sets.given.bits) other joint
             (subst (λ (h : Asked). identification.IsIdentified a.graph h.sets.x.bits (union h.sets.y.bits h.sets.given.bits) other) same
-            (subst (λ (h : MixedGraph). identification.IsIdentified h b.asked.sets.x.bits (union b.asked.sets.y.bits b.asked.sets.given.bits) other) graphs j.joint))
-            i.joint),
+            (subst (λ (h : MixedGraph). identification.IsIdentified h b.asked.sets.x.bits (union b.asked.sets.y.bits b.asked.sets.given.bits) other) graphs j.formula))
+            i.formula),
       )
   one_reading (by_factors f) (by_split other) i j = absurd (formula_or_path i.formula j.path i.answered j.answered)
   one_reading (by_split joint) (by_factors k) i j = absurd (path_or_formula i.path j.formula i.answered j.answered)

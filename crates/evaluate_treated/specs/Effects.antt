@@ -118,7 +118,7 @@ pub record IsByJoint (d : Diagram) (q : Request) (e : PlainAmong) (joint : Plain
   pub path : Confounding
   pub answered : IsTreatedAnswer false d q.x q.y q.given (Ok (treated.Unfixed e.asked path))
   pub single : is_single e.asked ≡ true
-  pub joint : identification.IsIdentified e.graph e.asked.sets.x.bits (union e.asked.sets.y.bits e.asked.sets.given.bits) joint
+  pub formula : identification.IsIdentified e.graph e.asked.sets.x.bits (union e.asked.sets.y.bits e.asked.sets.given.bits) joint
 
 -- either way
 abbrev pub IsFoundBy : Diagram → Request → PlainAmong → PlainReading → Type 0

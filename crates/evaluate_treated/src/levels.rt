@@ -1,6 +1,6 @@
 //! How many levels the treatment has in a table.
 
-ghost use Rattle.std.specs.Prelude.{IfSome, OnNone};
+ghost use Rattle.std.specs.Prelude.{IfSome, IfNone};
 ghost use Rattle.std.specs.Bool.{OnTrue, OnFalse};
 ghost use Rattle.evaluate_treated.specs.Effects.{IsPathOf, reading_of};
 ghost use Rattle.evaluate_treated.specs.Right.{AreMoreLevels, AreTwoLevels, HasItsLevels, HasMoreLevels};
@@ -26,7 +26,7 @@ fn are_two_levels(counts: &Counts, x: VSet) -> bool
 pub fn beyond_two<'a>(found: &'a Identified, counts: &Counts) -> Option<&'a treated_command::Answer>
     ensures more { IfSome result (λ a. HasMoreLevels found.now.asked.sets.x.bits counts.now (reading_of found.now.way)) }
     ensures path { IfSome result (λ a. IsPathOf a.now found.now.way) }
-    ensures none { OnNone result (HasItsLevels found.now.asked.sets.x.bits counts.now (reading_of found.now.way)) }
+    ensures none { IfNone result (HasItsLevels found.now.asked.sets.x.bits counts.now (reading_of found.now.way)) }
 {
     match &found.way {
         Way::Factors(_) => None,

@@ -73,18 +73,20 @@ fn push_less(object: &mut Object, names: &Names, none: &NoModel) -> Result<(), A
     object.key("less")?;
     object.begin_object()?;
     push_levels(
-        object, names, &all, none.asked, observed, &none.counts, cell,
+        object,
+        names,
+        &all,
+        none.asked,
+        observed,
+        &none.counts,
+        cell,
     )?;
     object.end_object()?;
     Ok(())
 }
 
 /// The members where no model has the counts.
-pub fn push_no_model(
-    object: &mut Object,
-    names: &Names,
-    none: &NoModel,
-) -> Result<(), AllocError>
+pub fn push_no_model(object: &mut Object, names: &Names, none: &NoModel) -> Result<(), AllocError>
     ensures { OnOk result (object.new ≡ with_members (no_model_members names.now none.now) object.old) }
 {
     object.word_at("answer", "no model")?;

@@ -32,11 +32,11 @@ unfolding values_of
 of_table is_exact e t = refl
 
 -- a stop names no cell
-stop_or_below : {used : ℕ → Bool} (r : Result (List CellValue) PlainFault) (cell : List ℕ) (fault : EvalFault) (f : PlainFault) → r ≡ Err (below cell) → r ≡ Err f
+stop_or_below : (used : ℕ → Bool) (r : Result (List CellValue) PlainFault) (cell : List ℕ) (fault : EvalFault) (f : PlainFault) → r ≡ Err (below cell) → r ≡ Err f
     → Says used (Stopped fault) f → ⊥
-stop_or_below r cell fault (stopped s) h k says =
+stop_or_below used r cell fault (stopped s) h k says =
     let clash : ◌≡◌ {A = Result (List CellValue) PlainFault} (Err (below cell)) (Err (stopped s)) = sym h ∙ k in cc clash
-stop_or_below r cell fault (below c) h k says = says
+stop_or_below used r cell fault (below c) h k says = says
 
 module _ (names : List (List ℕ)) (read : ℕ) (bytes : List ℕ) (count : Option Field) (t u : Table) (a : IsTableOf bytes names read count t)
     (b : IsTableOf bytes names read count u) where
@@ -79,5 +79,5 @@ module _ (names : List (List ℕ)) (read : ℕ) (bytes : List ℕ) (count : Opti
   -- a cell of one that has none, and a stop of the other
   pub below_or_stop : (is_exact : Bool) (e : PlainPaired) (cell : List ℕ) (fault : EvalFault)
       → values_at (value_in is_exact e t) (printed_cells e t) ≡ Err (below cell) → IsWhyNone is_exact e u (Stopped fault) → ⊥
-  below_or_stop is_exact e cell fault h k = stop_or_below (values_at (value_in is_exact e t) (printed_cells e t)) cell fault k.0 h
+  below_or_stop is_exact e cell fault h k = stop_or_below _ (values_at (value_in is_exact e t) (printed_cells e t)) cell fault k.0 h
       (sym (same_values is_exact e) ∙ k.1) k.2

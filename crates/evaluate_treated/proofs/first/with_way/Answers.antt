@@ -39,10 +39,6 @@ with_joint-requires c =
     let q = c.requires.0 in
     (q, subst (λ (a : Answer). IsTreatedAnswer false c.args.diagram.now q.x q.y q.given (Ok a)) c.in-Unfixed.is c.requires.1)
 
-pub returns-in-Unfixed : goal.returns-in-Unfixed
-returns-in-Unfixed c = λ q is.
-    c.with_joint.ensures q (subst (λ (a : Answer). IsTreatedAnswer false c.args.diagram.now q.x q.y q.given (Ok a)) c.in-Unfixed.is is)
-
 pub returns-in-Excluded : goal.returns-in-Excluded
 returns-in-Excluded c = λ q is.
     (subst (λ (a : Answer). IsTreatedAnswer false c.args.diagram.now q.x q.y q.given (Ok a)) c.in-Excluded.is is, tt)
