@@ -1,31 +1,17 @@
 -- The sets that the lists of a question name are sets of the graph, apart from each other.
-use Rattle.std.proofs.Common.{◌≡◌, ◌<◌, ℕ, Bool, true, false, ◌||◌, List, [], ◌∷◌, ◌++◌, length, None, refl, sym, ap, ap₂, subst, ◌∙◌, inl, inr}
-use Rattle.std.specs.Str.{bytes_eq}
+use Rattle.std.proofs.Common.{◌≡◌, ◌<◌, ℕ, Bool, true, false, ◌||◌, List, ◌++◌, length, None, refl, ap₂, subst, inl, inr}
 use Rattle.std.proofs.lemmas.Bool.{cases_Bool}
-use Rattle.std.proofs.lemmas.List.Folds.{list_any-append}
 use Rattle.mixed_graph.specs.Vocabulary.{has, is_named, Within, Apart}
 use Rattle.do_rules.specs.Vocabulary.{AreFourSets}
-use Rattle.targets.specs.Vocabulary.{first_fault, walked_in, Lists, IsListedSet, AreSets}
+use Rattle.targets.specs.Vocabulary.{first_fault, IsListedSet}
 use Rattle.targets.proofs.Disjoint.{disjoint_sets}
-use Rattle.targets.proofs.Queries.{behind, set_test, set_within}
+use Rattle.targets.proofs.Queries.{behind, set_within}
 use Rattle.targets.proofs.RuleWalks.{not_walked, sets_apart}
-use Rattle.targets.proofs.Walking.{same_first_fault}
+use Rattle.further_lists.proofs.WalkedNames.{in_none, neither_of}
 use Rattle.natural_bounds.specs.Vocabulary.{fixed}
 use Rattle.bound_values.specs.declared.questions.Question.{Question}
 use Rattle.bound_values.specs.Vocabulary.{asked_of}
 use Rattle.bounds_command.specs.Asking.{BoundLists, AreNamed}
-
-or_or : (a b c : Bool) → (a || (b || c)) ≡ ((a || b) || c)
-or_or true b c = refl
-or_or false b c = refl
-
--- a name is in two lists where it is in one of them
-pub named-append : (xs ys : List (List ℕ)) (m : List ℕ) → is_named (xs ++ ys) m ≡ (is_named xs m || is_named ys m)
-named-append xs ys m = list_any-append (bytes_eq m) xs ys
-
-neither_of : (a b : Bool) → (a || b) ≡ false → (a ≡ false) × (b ≡ false)
-neither_of false b e = (refl, e)
-neither_of true b e = absurd (cc)
 
 swap : (p q : ℕ → Bool) → Apart p q → Apart q p
 swap p q a v h = elim (cases_Bool (p v)) [ inl t ↦ absurd (let f = a v t in cc) | inr f ↦ f ]
@@ -33,37 +19,15 @@ swap p q a v h = elim (cases_Bool (p v)) [ inl t ↦ absurd (let f = a v t in cc
 from_either : (p q r : ℕ → Bool) → Apart p q → Apart p r → Apart p (λ v. q v || r v)
 from_either p q r a b v h = ap₂ (λ (c d : Bool). c || d) (a v h) (b v h)
 
--- ---- what was walked
--- the sets x, y and given, as a test of names
-pub walked_names : (l : Lists) (x y given walked : ℕ) → AreSets l x y given → ((v : ℕ) → has walked v ≡ ((has x v || has y v) || has given v))
-    → (list : List (List ℕ)) → first_fault l.all l.observed (walked_in l.observed walked) list
-    ≡ first_fault l.all l.observed (is_named (l.x ++ (l.y ++ l.given))) list
-walked_names l x y given walked s is list = same_first_fault l.all l.observed (walked_in l.observed walked) (is_named (l.x ++ (l.y ++ l.given))) same list
-  where
-    same : (m : List ℕ) → is_named l.observed m ≡ true → walked_in l.observed walked m ≡ is_named (l.x ++ (l.y ++ l.given)) m
-    same m there =
-        is _
-        ∙ ap₂ (λ (a b : Bool). a || b) (ap₂ (λ (a b : Bool). a || b) (set_test l.observed l.x x s.set_x m there) (set_test l.observed l.y y s.set_y m there))
-        (set_test l.observed l.given given s.set_given m there)
-        ∙ sym (or_or (is_named l.x m) (is_named l.y m) (is_named l.given m))
-        ∙ sym (named-append l.x (l.y ++ l.given) m ∙ ap (λ b. is_named l.x m || b) (named-append l.y l.given m))
-
 -- ---- apart
 module _ (l : BoundLists) (q : Question) (named : AreNamed l q) where
   parts : (first_fault l.query.all l.query.observed (is_named (l.query.x ++ (l.query.y ++ l.query.given))) l.instruments ≡ None)
       × (first_fault l.query.all l.query.observed (λ m. is_named (l.query.x ++ (l.query.y ++ l.query.given)) m || is_named l.instruments m) l.strata ≡ None)
   parts = behind l.query.all l.query.observed (is_named (l.query.x ++ (l.query.y ++ l.query.given))) l.instruments l.strata named.no_fault
 
-  -- a name that isn't walked is in none of the three lists
-  in_none : (m : List ℕ) → is_named (l.query.x ++ (l.query.y ++ l.query.given)) m ≡ false
-      → (is_named l.query.x m ≡ false) × ((is_named l.query.y m ≡ false) × (is_named l.query.given m ≡ false))
-  in_none m h =
-      let one = neither_of (is_named l.query.x m) (is_named (l.query.y ++ l.query.given) m) (sym (named-append l.query.x (l.query.y ++ l.query.given) m) ∙ h) in
-      (one.0, neither_of (is_named l.query.y m) (is_named l.query.given m) (sym (named-append l.query.y l.query.given m) ∙ one.1))
-
   of_instruments : (m : List ℕ) → is_named l.instruments m ≡ true
       → (is_named l.query.x m ≡ false) × ((is_named l.query.y m ≡ false) × (is_named l.query.given m ≡ false))
-  of_instruments m h = in_none m (not_walked l.query.all l.query.observed (is_named (l.query.x ++ (l.query.y ++ l.query.given))) l.instruments parts.0 m h)
+  of_instruments m h = in_none l.query m (not_walked l.query.all l.query.observed (is_named (l.query.x ++ (l.query.y ++ l.query.given))) l.instruments parts.0 m h)
 
   of_strata : (m : List ℕ) → is_named l.strata m ≡ true → (is_named (l.query.x ++ (l.query.y ++ l.query.given)) m ≡ false)
       × (is_named l.instruments m ≡ false)
@@ -72,21 +36,21 @@ module _ (l : BoundLists) (q : Question) (named : AreNamed l q) where
 
   pub given_strata : Apart (has q.given.bits) (has q.strata.bits)
   given_strata = sets_apart l.query.observed l.query.given l.strata q.given.bits q.strata.bits named.query.set_given named.strata
-      (λ m h. (in_none m (of_strata m h).0).1.1)
+      (λ m h. (in_none l.query m (of_strata m h).0).1.1)
 
   x_instruments : Apart (has q.x.bits) (has q.instruments.bits)
   x_instruments = sets_apart l.query.observed l.query.x l.instruments q.x.bits q.instruments.bits named.query.set_x named.instruments
       (λ m h. (of_instruments m h).0)
 
   x_strata : Apart (has q.x.bits) (has q.strata.bits)
-  x_strata = sets_apart l.query.observed l.query.x l.strata q.x.bits q.strata.bits named.query.set_x named.strata (λ m h. (in_none m (of_strata m h).0).0)
+  x_strata = sets_apart l.query.observed l.query.x l.strata q.x.bits q.strata.bits named.query.set_x named.strata (λ m h. (in_none l.query m (of_strata m h).0).0)
 
   y_instruments : Apart (has q.y.bits) (has q.instruments.bits)
   y_instruments = sets_apart l.query.observed l.query.y l.instruments q.y.bits q.instruments.bits named.query.set_y named.instruments
       (λ m h. (of_instruments m h).1.0)
 
   y_strata : Apart (has q.y.bits) (has q.strata.bits)
-  y_strata = sets_apart l.query.observed l.query.y l.strata q.y.bits q.strata.bits named.query.set_y named.strata (λ m h. (in_none m (of_strata m h).0).1.0)
+  y_strata = sets_apart l.query.observed l.query.y l.strata q.y.bits q.strata.bits named.query.set_y named.strata (λ m h. (in_none l.query m (of_strata m h).0).1.0)
 
   given_instruments : Apart (has q.given.bits) (has q.instruments.bits)
   given_instruments = sets_apart l.query.observed l.query.given l.instruments q.given.bits q.instruments.bits named.query.set_given named.instruments

@@ -1,5 +1,5 @@
 -- Right answers end alike.
-use Rattle.std.proofs.Common.{◌≡◌, ◌<◌, ◌≤◌, ℕ, Bool, List, Option, None, Result, Ok, Err, length, refl, sym, subst, ◌∙◌, arith}
+use Rattle.std.proofs.Common.{◌≡◌, ◌<◌, ℕ, Bool, List, Option, None, Result, Ok, Err, length, refl, sym, subst, ◌∙◌, arith}
 use Rattle.std.proofs.lemmas.Option.{none-some}
 use Rattle.mixed_graph.specs.Vocabulary.{MixedGraph}
 use Rattle.targets.specs.declared.fault.TargetFault.{TargetFault}

@@ -1,6 +1,5 @@
 mod NoWays
 mod AskedSets
-mod NameFaults
 mod FirstReplies
 pub mod InModels
 pub mod Known

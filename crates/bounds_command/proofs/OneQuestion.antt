@@ -1,5 +1,5 @@
 -- Lists ask for one question, and have no fault where they ask for one.
-use Rattle.std.proofs.Common.{◌≡◌, ◌⊎◌, ℕ, [], inl, inr, sym, subst, ◌∙◌}
+use Rattle.std.proofs.Common.{◌≡◌, ℕ, inl, inr, sym, subst, ◌∙◌}
 use Rattle.std.specs.Prelude.{slice_index}
 use Rattle.mixed_graph.specs.declared.sets.VSet.{VSet}
 use Rattle.mixed_graph.specs.Vocabulary.{has, MixedGraph}

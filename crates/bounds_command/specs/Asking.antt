@@ -1,8 +1,9 @@
 -- What the lists of `bounds` ask for.
-use Rattle.std.specs.Prelude.{ℕ, ◌≡◌, ◌⊎◌, List, ◌++◌, Option, Some, None}
-use Rattle.mixed_graph.specs.Vocabulary.{has, MixedGraph, is_named}
+use Rattle.std.specs.Prelude.{ℕ, ◌≡◌, List, ◌++◌, Option, Some, None}
+use Rattle.mixed_graph.specs.Vocabulary.{has, MixedGraph}
 use Rattle.targets.specs.declared.fault.TargetFault.{TargetFault}
-use Rattle.targets.specs.Vocabulary.{Lists, NameFault, first_fault, IsFaultOfTarget, IsListedSet, AreSets, IsTargetFault}
+use Rattle.targets.specs.Vocabulary.{Lists, NameFault, IsListedSet, AreSets, IsTargetFault}
+use Rattle.further_lists.specs.Vocabulary.{IsFaultOfAll, further_fault}
 use Rattle.diagram.specs.declared.diagram.Diagram.{Diagram}
 use Rattle.diagram.specs.Vocabulary.{Names, query_lists}
 use Rattle.adjustment.specs.Vocabulary.{IsAdmissible}
@@ -42,19 +43,11 @@ asked_lists (by_adjusting set) d x y = of_set (query_lists d.read d.observed.nam
 
 -- the first name at fault of the instruments and then of the strata, where x, y and given were walked before
 abbrev pub later_fault : BoundLists → Option NameFault
-later_fault l = first_fault l.query.all l.query.observed (is_named (l.query.x ++ (l.query.y ++ l.query.given))) (l.instruments ++ l.strata)
-
--- the lists x, y and given name sets, and the fault is that of the first name at fault of the others
-pub record IsLaterFault (l : BoundLists) (fault : TargetFault) : Type 0 where
-  pub x : ℕ
-  pub y : ℕ
-  pub given : ℕ
-  pub query : AreSets l.query x y given
-  pub named : IsFaultOfTarget (later_fault l) l.query.y l.query.x fault
+later_fault l = further_fault l.query (l.instruments ++ l.strata)
 
 -- the fault of lists: that of x, y and given, or else of the others
 abbrev pub IsBoundFault : BoundLists → TargetFault → Type 0
-IsBoundFault l fault = IsTargetFault l.query fault ⊎ IsLaterFault l fault
+IsBoundFault l = IsFaultOfAll l.query (l.instruments ++ l.strata)
 
 -- the same in either way
 abbrev pub IsAskedFault : AskedLists → TargetFault → Type 0

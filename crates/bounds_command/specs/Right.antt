@@ -6,7 +6,6 @@ use Rattle.replies.specs.declared.outcome.Outcome.{Outcome}
 use Rattle.replies.specs.Told.{Told}
 use Rattle.told.specs.Vocabulary.{plain_form, Tells}
 use Rattle.count_rows.specs.Vocabulary.{Field, Table}
-use Rattle.count_rows.specs.declared.fault.CountFault.TheVariants as count
 use Rattle.count_table.specs.Vocabulary.{total, text_fault}
 use Rattle.count_eval.specs.Vocabulary.{weights_in, is_used, cell_of}
 use Rattle.count_answers.specs.Vocabulary.{HoldsCounts}

@@ -8,6 +8,7 @@ ghost use Rattle.bounds_command.specs.Asking.{bound_lists, AreNamed, IsBoundFaul
 
 use bound_values::{Method, Question};
 use diagram::{Diagram, asked_query};
+use further_lists::walked;
 use std::alloc::Global;
 use targets::{TargetFault, walk_two};
 
@@ -31,7 +32,7 @@ pub fn question_of(
         Ok(sets) => sets,
         Err(fault) => return Err(fault),
     };
-    let walked = sets.x.union(sets.y).union(sets.given);
+    let walked = walked(sets);
     let names = &diagram.observed.names;
     match walk_two(
         alloc,

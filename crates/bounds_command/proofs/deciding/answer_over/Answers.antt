@@ -1,4 +1,4 @@
-use Rattle.std.proofs.Common.{◌≡◌, ◌<◌, length, sym, subst}
+use Rattle.std.proofs.Common.{◌<◌, length, sym, subst}
 use Rattle.mixed_graph.specs.Vocabulary.{has, Within, graph_of}
 use Rattle.bounds_command.proofs.InModels.{joint_some, joint_within}
 use Rattle.bounds_command.proofs.deciding.answer_over.Goals as goal

@@ -1,4 +1,4 @@
-use Rattle.std.proofs.Common.{◌≡◌, ◌<◌, ℕ, refl}
+use Rattle.std.proofs.Common.{refl}
 use Rattle.mixed_graph.specs.Vocabulary.{graph_of}
 use Rattle.bound_values.proofs.Used.{counted_of, asked_used}
 use Rattle.bounds_command.proofs.InModels.{joint_below, joint_low, found_holds}

@@ -1,4 +1,4 @@
-use Rattle.std.proofs.Common.{◌≡◌, Err, refl, ap₂, ◌∙◌}
+use Rattle.std.proofs.Common.{Err, refl, ap₂}
 use Rattle.replies.specs.Vocabulary.{refusal_of}
 use Rattle.bounds_command.specs.declared.faults.BoundsFault.TheVariants.{TooLong}
 use Rattle.bounds_command.proofs.reply.long_counts.Goals as goal
