@@ -464,7 +464,7 @@ function testObjects() {
   const bytes = impliedBy({ pairs: [{ x: "A", y: "b c", given: [], difference: "-5", cell: [["A", "0"], ["b c", [99, 97, 102, 233]]] }] });
   same("a level that isn't UTF-8", levelsText(bytes[0].cell), 'A=0,"b c"=caf\ufffd', "");
   const cell = { y: [["R", "success"]], x: [], given: [["S", "a,b"]], from: "0.5", to: "0.7" };
-  same("bounds", valuesOf({ cells: [cell] }), [{ y: "R=success", x: "", given: "S=a,b", text: "0.5 … 0.7", value: 0.6 }], "");
+  same("bounds", valuesOf({ cells: [cell] }), [{ y: "R=success", x: "", given: "S=a,b", hadIt: false, text: "0.5 … 0.7", value: 0.6 }], "");
   const napkin = read(["identify", "g"], "dag { X [exposure] Y [outcome] W Z W -> Z -> X -> Y W <-> X W <-> Y }").object;
   const levels = [["W", "1"], ["Z", "0"], ["X", "1"], ["Y", "0"]];
   same("a condition in a part", missingOf({ definition: 0, node: 3, cell: levels }, napkin),
