@@ -134,7 +134,7 @@ module _ (r : Call) (uses : List Use) (code : ℕ) (text : Told) (is_treated : h
   evaluated_among (on_words (choice.second (choice.second q)) is h) = absurd h
   evaluated_among (on_file (choice.first q) is file names h) = absurd (false≢true (sym is.plain.treated ∙ is_treated))
   evaluated_among (on_both (choice.first q) is file second names names_second other all h) = absurd (false≢true (sym is.plain.treated ∙ is_treated))
-  evaluated_among (on_file (choice.second (choice.second q)) is file names h) = absurd (false≢true (sym is.alone.flags.treated ∙ is_treated))
+  evaluated_among (on_file (choice.second (choice.second q)) is file names h) = absurd (false≢true (sym is.alone.treated ∙ is_treated))
   evaluated_among (on_file (choice.second (choice.first q)) is file names h) = record {
     request = q;
     told = text;
@@ -144,7 +144,7 @@ module _ (r : Call) (uses : List Use) (code : ℕ) (text : Told) (is_treated : h
         (λ bytes b. absurd (no_values_alone b.answer.answer b.answer.right.1 b.answer.ends)) names h;
     whole = whole;
   }
-  evaluated_among (on_both (choice.second (choice.second q)) is file second names names_second other all h) = absurd (false≢true (sym is.alone.flags.treated ∙ is_treated))
+  evaluated_among (on_both (choice.second (choice.second q)) is file second names names_second other all h) = absurd (false≢true (sym is.alone.treated ∙ is_treated))
   evaluated_among (on_both (choice.second (choice.first q)) is file second names names_second other all h) = record {
     request = q;
     told = text;
@@ -172,7 +172,7 @@ module _ (r : Call) (uses : List Use) (code : ℕ) (text : Told) (is_treated : h
   unevaluated_among (on_words (choice.second (choice.second q)) is h) = absurd h
   unevaluated_among (on_file (choice.first q) is file names h) = absurd (false≢true (sym is.plain.treated ∙ is_treated))
   unevaluated_among (on_both (choice.first q) is file second names names_second other all h) = absurd (false≢true (sym is.plain.treated ∙ is_treated))
-  unevaluated_among (on_file (choice.second (choice.second q)) is file names h) = absurd (false≢true (sym is.alone.flags.treated ∙ is_treated))
+  unevaluated_among (on_file (choice.second (choice.second q)) is file names h) = absurd (false≢true (sym is.alone.treated ∙ is_treated))
   unevaluated_among (on_file (choice.second (choice.first q)) is file names h) = inl (record {
     request = q;
     told = text;
@@ -183,7 +183,7 @@ module _ (r : Call) (uses : List Use) (code : ℕ) (text : Told) (is_treated : h
         (λ d. IsForDiagram d q.effect) IsTreatedAsDrawn (λ d a h. treats false q.effect.x q.effect.y q.effect.given d a h.0) b.diagram b.holds b.answer) names h;
     whole = whole;
   })
-  unevaluated_among (on_both (choice.second (choice.second q)) is file second names names_second other all h) = absurd (false≢true (sym is.alone.flags.treated ∙ is_treated))
+  unevaluated_among (on_both (choice.second (choice.second q)) is file second names names_second other all h) = absurd (false≢true (sym is.alone.treated ∙ is_treated))
   unevaluated_among (on_both (choice.second (choice.first q)) is file second names names_second other all h) = inr (record {
     request = q;
     told = text;

@@ -101,7 +101,7 @@ module _ (r : Call) (uses : List Use) (code : ℕ) (text : Told) (is_natural : h
   evaluated_nested (on_words (choice.second (choice.first q)) is h) = absurd h
   evaluated_nested (on_file (choice.first q) is file names h) = absurd (false≢true (sym is.plain.natural ∙ is_natural))
   evaluated_nested (on_both (choice.first q) is file second names names_second other all h) = absurd (false≢true (sym is.plain.natural ∙ is_natural))
-  evaluated_nested (on_file (choice.second (choice.first q)) is file names h) = absurd (false≢true (sym is.alone.flags.natural ∙ is_natural))
+  evaluated_nested (on_file (choice.second (choice.first q)) is file names h) = absurd (false≢true (sym is.alone.natural ∙ is_natural))
   evaluated_nested (on_file (choice.second (choice.second q)) is file names h) = record {
     request = q;
     told = text;
@@ -111,7 +111,7 @@ module _ (r : Call) (uses : List Use) (code : ℕ) (text : Told) (is_natural : h
         (λ bytes b. absurd (no_values_alone b.answer.answer b.answer.right.1 b.answer.ends)) names h;
     whole = whole;
   }
-  evaluated_nested (on_both (choice.second (choice.first q)) is file second names names_second other all h) = absurd (false≢true (sym is.alone.flags.natural ∙ is_natural))
+  evaluated_nested (on_both (choice.second (choice.first q)) is file second names names_second other all h) = absurd (false≢true (sym is.alone.natural ∙ is_natural))
   evaluated_nested (on_both (choice.second (choice.second q)) is file second names names_second other all h) = record {
     request = q;
     told = text;
@@ -140,7 +140,7 @@ module _ (r : Call) (uses : List Use) (code : ℕ) (text : Told) (is_natural : h
   unevaluated_nested (on_words (choice.second (choice.first q)) is h) = absurd h
   unevaluated_nested (on_file (choice.first q) is file names h) = absurd (false≢true (sym is.plain.natural ∙ is_natural))
   unevaluated_nested (on_both (choice.first q) is file second names names_second other all h) = absurd (false≢true (sym is.plain.natural ∙ is_natural))
-  unevaluated_nested (on_file (choice.second (choice.first q)) is file names h) = absurd (false≢true (sym is.alone.flags.natural ∙ is_natural))
+  unevaluated_nested (on_file (choice.second (choice.first q)) is file names h) = absurd (false≢true (sym is.alone.natural ∙ is_natural))
   unevaluated_nested (on_file (choice.second (choice.second q)) is file names h) = record {
     request = q;
     told = text;
@@ -151,7 +151,7 @@ module _ (r : Call) (uses : List Use) (code : ℕ) (text : Told) (is_natural : h
         (λ d. IsForDiagram d q.effect) IsNaturalAsDrawn (λ d a h. naturals false q.effect.x q.effect.y q.effect.through q.effect.given d a h.0) b.diagram b.holds b.answer) names h;
     whole = whole;
   }
-  unevaluated_nested (on_both (choice.second (choice.first q)) is file second names names_second other all h) = absurd (false≢true (sym is.alone.flags.natural ∙ is_natural))
+  unevaluated_nested (on_both (choice.second (choice.first q)) is file second names names_second other all h) = absurd (false≢true (sym is.alone.natural ∙ is_natural))
   unevaluated_nested (on_both (choice.second (choice.second q)) is file second names names_second other all h) = record {
     request = q;
     told = text;

@@ -60,7 +60,7 @@ each command.Check = part_check_lawful
 each command.Adjust = adjust_lawful
 each command.Evaluate = one_of_lawful evaluate_command (one_of evaluate_treated_command evaluate_natural_command) evaluate_lawful
     (one_of_lawful evaluate_treated_command evaluate_natural_command evaluate_treated_lawful evaluate_natural_lawful
-    (λ uses q r a b. false≢true (sym b.alone.flags.treated ∙ a.treated)))
+    (λ uses q r a b. false≢true (sym b.alone.treated ∙ a.treated)))
     plain_or_other
 each command.Equivalent = equivalent_lawful
 each command.Implications = implications_lawful

@@ -6,6 +6,7 @@ use Rattle.replies.specs.Vocabulary.{format_of}
 use Rattle.told.specs.Vocabulary.{plain_form}
 use Rattle.natural_command.specs.Requests as natural
 use Rattle.evaluate_command.specs.Vocabulary.{evaluate_row}
+use Rattle.paired_values.specs.Vocabulary.{HaveNoPlainFlag}
 use Rattle.evaluate_natural.specs.declared.request.Request.{Request as CodeRequest}
 
 -- a request: what `natural` is asked for, and over which counts
@@ -24,18 +25,11 @@ request_of r = record {
   exact = r.exact;
 }
 
--- no flag is there that isn't understood beside `--natural`
-pub record HaveNoOtherFlag (uses : List Use) : Type 0 where
-  pub back_door : has_flag uses (codes "back-door") ≡ false
-  pub zero : has_flag uses (codes "zero") ≡ false
-  pub matched : has_flag uses (codes "matched") ≡ false
-  pub short : has_flag uses (codes "short") ≡ false
-  pub treated : has_flag uses (codes "treated") ≡ false
-
 -- nothing is asked for that isn't understood beside `--natural`
 pub record AskNoOther (uses : List Use) : Type 0 where
   pub set : value_of uses (codes "set") ≡ None
-  pub flags : HaveNoOtherFlag uses
+  pub treated : has_flag uses (codes "treated") ≡ false
+  pub flags : HaveNoPlainFlag uses
 
 -- the uses ask for this
 pub record IsRequest (uses : List Use) (r : Request) : Type 0 where

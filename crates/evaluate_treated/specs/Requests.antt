@@ -6,6 +6,7 @@ use Rattle.replies.specs.Vocabulary.{format_of}
 use Rattle.told.specs.Vocabulary.{plain_form}
 use Rattle.treated_command.specs.Requests as treated
 use Rattle.evaluate_command.specs.Vocabulary.{evaluate_row}
+use Rattle.paired_values.specs.Vocabulary.{HaveNoPlainFlag}
 use Rattle.evaluate_treated.specs.declared.request.Request.{Request as CodeRequest}
 
 -- a request: what `treated` is asked for, and over which counts
@@ -24,19 +25,12 @@ request_of r = record {
   exact = r.exact;
 }
 
--- no flag is there that isn't understood beside `--treated`
-pub record HaveNoOtherFlag (uses : List Use) : Type 0 where
-  pub back_door : has_flag uses (codes "back-door") ≡ false
-  pub zero : has_flag uses (codes "zero") ≡ false
-  pub matched : has_flag uses (codes "matched") ≡ false
-  pub short : has_flag uses (codes "short") ≡ false
-  pub natural : has_flag uses (codes "natural") ≡ false
-
--- nothing is asked for that isn't
+-- nothing is asked for that isn't understood beside `--treated`
 pub record AskNoOther (uses : List Use) : Type 0 where
   pub set : value_of uses (codes "set") ≡ None
   pub through : value_of uses (codes "through") ≡ None
-  pub flags : HaveNoOtherFlag uses
+  pub natural : has_flag uses (codes "natural") ≡ false
+  pub flags : HaveNoPlainFlag uses
 
 -- the uses ask for this
 pub record IsRequest (uses : List Use) (r : Request) : Type 0 where

@@ -4,39 +4,20 @@ ghost use Rattle.std.specs.Prelude.{List};
 ghost use Rattle.std.specs.Bool.{OnTrue, OnFalse};
 ghost use Rattle.command_words.specs.Vocabulary.{Use, HoldsCall};
 ghost use Rattle.evaluate_command.specs.Vocabulary.{evaluate_row};
-ghost use Rattle.evaluate_treated.specs.Requests.{AskNoOther, HaveNoOtherFlag};
+ghost use Rattle.evaluate_treated.specs.Requests.{AskNoOther};
 
 use command_words::values::Values;
-
-/// Whether a flag is there that isn't understood beside `--treated`.
-fn has_other_flag(values: &Values<'_>) -> bool
-    ensures yes { (uses : List Use) → HoldsCall evaluate_row uses values.now → OnTrue result (HaveNoOtherFlag uses → ⊥) }
-    ensures no { (uses : List Use) → HoldsCall evaluate_row uses values.now → OnFalse result (HaveNoOtherFlag uses) }
-{
-    if values.flag("back-door") {
-        return true;
-    }
-    if values.flag("zero") {
-        return true;
-    }
-    if values.flag("matched") {
-        return true;
-    }
-    if values.flag("short") {
-        return true;
-    }
-    if values.flag("natural") {
-        return true;
-    }
-    false
-}
+use paired_values::has_plain_flag;
 
 /// Whether nothing is asked for that isn't understood beside `--treated`.
 pub fn is_alone(values: &Values<'_>) -> bool
     ensures yes { (uses : List Use) → HoldsCall evaluate_row uses values.now → OnTrue result (AskNoOther uses) }
     ensures no { (uses : List Use) → HoldsCall evaluate_row uses values.now → OnFalse result (AskNoOther uses → ⊥) }
 {
-    if has_other_flag(values) {
+    if has_plain_flag(values) {
+        return false;
+    }
+    if values.flag("natural") {
         return false;
     }
     if values.option("set").is_some() {

@@ -5,4 +5,5 @@ pub mod Walking
 pub mod Bytes
 pub mod Lines
 pub mod Objects
+pub mod Flags
 pub mod Vocabulary

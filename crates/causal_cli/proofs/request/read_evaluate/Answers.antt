@@ -14,7 +14,7 @@ returns-in_err-asked-clause-none c = λ uses g e.
     neither_asked evaluate_command (one_of evaluate_treated_command evaluate_natural_command) uses
     (record { nothing = λ q is. false≢true (sym is.plain.treated ∙ there) })
     (neither_asked evaluate_treated_command evaluate_natural_command uses (c.in_err-asked.ensures.none uses g (search rules))
-    (record { nothing = λ q is. false≢true (sym is.alone.flags.treated ∙ there) }))
+    (record { nothing = λ q is. false≢true (sym is.alone.treated ∙ there) }))
 
 -- `--natural` is there and `--treated` isn't
 pub returns-in_err-asked-2-clause-none : goal.returns-in_err-asked-2-clause-none
