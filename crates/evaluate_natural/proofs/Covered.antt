@@ -1,5 +1,5 @@
 -- What values from factors cover.
-use Rattle.std.proofs.Common.{◌≡◌, ℕ, Bool, true, false, List, All, Some, Ok, Err, refl, subst}
+use Rattle.std.proofs.Common.{◌≡◌, ℕ, Bool, true, false, List, Some, Ok, Err, refl, subst}
 use Rattle.std.specs.Global.{Vec}
 use Rattle.std.proofs.lemmas.List.Elements.{All-weaker}
 use Rattle.quantity.specs.Exacts.{exact}

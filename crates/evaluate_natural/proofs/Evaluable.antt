@@ -1,7 +1,7 @@
 -- The factors of an identified effect can be evaluated over a table of the vertices that are read for it.
-use Rattle.std.proofs.Common.{◌≡◌, ◌<◌, ◌≤◌, ℕ, Bool, true, List, [], ◌∷◌, All, map, sym, subst, arith, length}
+use Rattle.std.proofs.Common.{◌≡◌, ◌<◌, ◌≤◌, ℕ, Bool, true, List, [], ◌∷◌, All, map, sym, subst, arith}
 use Rattle.std.proofs.lemmas.List.Elements.{All-nil, All-cons}
-use Rattle.mixed_graph.specs.Vocabulary.{has, members_below, union}
+use Rattle.mixed_graph.specs.Vocabulary.{has, union}
 use Rattle.mixed_graph.proofs.Masks.{positive_from_has}
 use Rattle.do_rules.specs.Vocabulary.{AreFourSets, AreThreeSets}
 use Rattle.replies.proofs.OneTarget.{some_member}
@@ -13,7 +13,7 @@ use Rattle.table_cells.proofs.Tables.{member_used, used_member}
 use Rattle.natural_id.specs.Vocabulary.{AreFoundParts, PlainPart}
 use Rattle.factor_values.specs.Vocabulary.{AreEvaluable, PlainFactor, PlainFactors}
 use Rattle.natural_values.specs.Factors.{factor_of_part}
-use Rattle.natural_values.specs.Vocabulary.{mentioned_in_factors, natural_factors}
+use Rattle.natural_values.specs.Vocabulary.{mentioned_in_factors}
 use Rattle.evaluate_command.proofs.Mentions.{in_left, in_right, used_tree, used_defs}
 use Rattle.paired_values.specs.Vocabulary.{read_in, sets_of}
 use Rattle.paired_values.specs.Readings as readings

@@ -1,6 +1,6 @@
 -- From the answer of `natural` to an effect that is identified.
-use Rattle.std.proofs.Common.{◌≡◌, ◌<◌, ◌≤◌, ℕ, Bool, true, false, List, [], ◌∷◌, Ok, length, map, sym, ap, subst, ◌∙◌, not, ◌&&◌, arith}
-use Rattle.mixed_graph.specs.Vocabulary.{has, MixedGraph, IsMixedGraph, IsAncestor, Within, graph_of, union, minus}
+use Rattle.std.proofs.Common.{◌≡◌, ◌<◌, ◌≤◌, ℕ, Bool, true, false, List, [], ◌∷◌, Ok, map, sym, ap, subst, ◌∙◌, not, ◌&&◌, arith}
+use Rattle.mixed_graph.specs.Vocabulary.{has, MixedGraph, IsMixedGraph, IsAncestor, graph_of, union}
 use Rattle.mixed_graph.proofs.MaskLaws.{has_minus}
 use Rattle.do_rules.specs.Vocabulary.{AreFourSets}
 use Rattle.prob_expr.specs.Mentioned.{mentioned}
@@ -11,16 +11,15 @@ use Rattle.natural_id.specs.declared.answers.NaturalFormula.{NaturalFormula}
 use Rattle.natural_id.specs.Vocabulary.{AreFoundParts, EqualsNatural, IsFormulaByParts, IsNaturalTarget, PlainPart, parts_view}
 use Rattle.natural_id.proofs.Districts.{d_low}
 use Rattle.natural_command.specs.Requests.{Request}
-use Rattle.natural_command.specs.Right.{AreBefore}
 use Rattle.natural_command.specs.declared.asking.Question.{Question}
 use Rattle.natural_command.specs.declared.answer.Asked.{Asked}
 use Rattle.natural_command.specs.declared.answer.Answer.TheVariants as natural
 use Rattle.natural_command.specs.Vocabulary.{IsNaturalAnswer, natural_lists}
 use Rattle.natural_command.proofs.Naming.{four_sets}
 use Rattle.natural_command.proofs.Ways.{target_of}
-use Rattle.factor_values.specs.Vocabulary.{PlainFactor, PlainFactors, factors_view}
+use Rattle.factor_values.specs.Vocabulary.{PlainFactors, factors_view}
 use Rattle.natural_values.specs.Factors.{factor_of_part}
-use Rattle.natural_values.specs.Vocabulary.{AreFactorsNested, mentioned_in_factors, natural_factors}
+use Rattle.natural_values.specs.Vocabulary.{mentioned_in_factors, natural_factors}
 use Rattle.evaluate_command.proofs.Mentions.{in_either, in_none, mentioned_only}
 use Rattle.evaluate_natural.specs.Effects.{PlainNested, nested_in, IsIdentified, Identifies}
 use Rattle.evaluate_natural.specs.declared.identified.Identified.{Identified}

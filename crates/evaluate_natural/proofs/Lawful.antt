@@ -9,7 +9,7 @@ use Rattle.command_words.proofs.OneValue.{one_listed, one_listed_or_empty, one_n
 use Rattle.diagram.specs.declared.diagram.Diagram.{Diagram}
 use Rattle.diagram.proofs.OneDiagram.{AreSameDiagrams}
 use Rattle.replies.specs.declared.outcome.Outcome.{Outcome}
-use Rattle.replies.specs.declared.outcome.Outcome.TheVariants.{Yes, No}
+use Rattle.replies.specs.declared.outcome.Outcome.TheVariants.{Yes}
 use Rattle.replies.specs.Vocabulary.{IsAnswered, IsAnswerOn, IsLeft}
 use Rattle.replies.specs.OneOutcome.{OneOutcome}
 use Rattle.replies.specs.Told.{Told}
@@ -18,7 +18,7 @@ use Rattle.replies.proofs.OneOutcome.{one_on_diagram}
 use Rattle.told.specs.Vocabulary.{Tells, outcome_in}
 use Rattle.told.proofs.ToldOnce.{told_answered}
 use Rattle.natural_command.specs.Requests as asking
-use Rattle.natural_command.specs.Vocabulary.{IsNaturalAnswer, natural_lists, natural_refusal, natural_telling}
+use Rattle.natural_command.specs.Vocabulary.{natural_lists, natural_refusal, natural_telling}
 use Rattle.natural_command.specs.declared.answer.Answer.{Answer as Found}
 use Rattle.natural_command.specs.declared.answer.Answer.TheVariants as natural
 use Rattle.natural_command.specs.declared.fault.NaturalFault.{NaturalFault}

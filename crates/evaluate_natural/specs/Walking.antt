@@ -1,5 +1,5 @@
 -- Of which table values are had.
-use Rattle.std.specs.Prelude.{ℕ, ◌≡◌}
+use Rattle.std.specs.Prelude.{◌≡◌}
 use Rattle.mixed_graph.specs.Vocabulary.{has, members_below}
 use Rattle.count_rows.specs.Vocabulary.{Table}
 use Rattle.count_table.specs.Vocabulary.{AreCounts}

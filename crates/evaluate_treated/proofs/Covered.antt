@@ -1,10 +1,9 @@
 -- What the values at the printed cells stand for, and what follows where there is none.
-use Rattle.std.proofs.Common.{◌≡◌, ℕ, Bool, true, false, ◌||◌, List, All, Some, None, Ok, Err, Result, IfOk, IfErr, refl, sym, ap, subst, if◌then◌else◌}
+use Rattle.std.proofs.Common.{◌≡◌, ℕ, Bool, true, false, ◌||◌, List, Some, None, Ok, Err, Result, IfOk, IfErr, refl, sym, ap, subst, if◌then◌else◌}
 use Rattle.std.proofs.lemmas.List.Elements.{All-weaker}
 use Rattle.mixed_graph.specs.Vocabulary.{has}
-use Rattle.finite_models.specs.Vocabulary.{FiniteModel, Fits, IsPositiveModel}
+use Rattle.finite_models.specs.Vocabulary.{FiniteModel, Fits}
 use Rattle.prob_expr.specs.Vocabulary.{PlainFormula}
-use Rattle.quantity.specs.Kinds.{Pair}
 use Rattle.count_rows.specs.Vocabulary.{Table}
 use Rattle.count_table.specs.Vocabulary.{total}
 use Rattle.count_eval.specs.Vocabulary.{IsMatched, cell_of, is_used, weights_in}
@@ -18,13 +17,11 @@ use Rattle.split_values.specs.Vocabulary.{AreObservedAt, IsObservedSplit}
 use Rattle.evaluate_command.specs.Vocabulary.{CellValue}
 use Rattle.evaluate_command.specs.declared.answer.Values.{Values}
 use Rattle.paired_values.specs.Readings.{read_by}
-use Rattle.paired_values.specs.Values.{IsBelow}
-use Rattle.paired_values.specs.Vocabulary.{AreValuesOver, IsNameCell, IsWhyNone, PlainPaired, PlainReading, below, by_factors, by_split, covers_in, encloses_in, is_wanting, kind_in, minus_in, plain_values, printed_cells, second_levels, sets_of, value_in, values_at}
+use Rattle.paired_values.specs.Vocabulary.{AreValuesOver, IsNameCell, IsWhyNone, PlainPaired, PlainReading, by_factors, by_split, covers_in, encloses_in, is_wanting, kind_in, minus_in, plain_values, second_levels, sets_of, value_in}
 use Rattle.paired_values.specs.declared.fault.PairFault.{PairFault}
-use Rattle.paired_values.specs.declared.fault.PairFault.TheVariants.{Stopped, Below}
 use Rattle.paired_values.proofs.NameModels.{assigned, first_within, second_within}
 use Rattle.paired_values.proofs.ValuedCells.{each_below, each_value, from_factors, from_split, never_below, why_below}
-use Rattle.evaluate_treated.specs.Effects.{AreRightFactors, IsRightJoint, IsRightReading, PlainAmong, paired_in}
+use Rattle.evaluate_treated.specs.Effects.{IsRightJoint, IsRightReading, PlainAmong, paired_in}
 use Rattle.evaluate_treated.specs.Right.{AreTwoLevels, CoversAmong, HasItsLevels, NoModelHas, ShowsCounts, shown_in}
 use Rattle.evaluate_treated.specs.Walking.{AreShown, IsNone, IsOver}
 use Rattle.evaluate_treated.proofs.Evaluable.{factors_evaluable, joint_evaluable, over_paired, used}

@@ -1,5 +1,5 @@
 -- Right answers end alike: an answer without counts, refused lists, values, counts that no model has, a path and a stop exclude each other.
-use Rattle.std.proofs.Common.{◌≡◌, ◌<◌, ◌≤◌, ℕ, Bool, true, false, List, Option, Some, Result, Ok, Err, refl, sym, subst, ap, ◌∙◌, arith}
+use Rattle.std.proofs.Common.{◌≡◌, ℕ, Bool, true, false, List, Option, Some, Result, Ok, Err, refl, sym, ap, ◌∙◌, arith}
 use Rattle.std.proofs.lemmas.Bool.{true≢false}
 use Rattle.mixed_graph.specs.Vocabulary.{has, graph_of}
 use Rattle.count_rows.specs.Vocabulary.{Field, Table}
@@ -8,26 +8,24 @@ use Rattle.count_eval.specs.declared.failure.EvalFault.{EvalFault}
 use Rattle.diagram.specs.declared.diagram.Diagram.{Diagram}
 use Rattle.diagram.specs.Vocabulary.{query_lists}
 use Rattle.diagram.proofs.OneDiagram.{AreSameDiagrams}
-use Rattle.replies.specs.declared.outcome.Outcome.{Outcome}
-use Rattle.replies.specs.declared.outcome.Outcome.TheVariants.{Yes, No}
+use Rattle.replies.specs.declared.outcome.Outcome.TheVariants.{Yes}
 use Rattle.told.specs.Vocabulary.{outcome_in}
 use Rattle.treated_command.specs.Requests.{Request}
 use Rattle.treated_command.specs.Sentences.{is_single}
 use Rattle.treated_command.specs.Vocabulary.{treated_refusal, treated_telling}
-use Rattle.treated_command.specs.declared.answer.Asked.{Asked}
 use Rattle.treated_command.specs.declared.answer.Answer.{Answer}
 use Rattle.treated_command.specs.declared.answer.Answer.TheVariants.{Formula, Certified, Excluded, Unfixed}
 use Rattle.treated_command.specs.declared.fault.TreatedFault.{TreatedFault}
 use Rattle.treated_command.proofs.Lawful.{treated_alike}
-use Rattle.evaluate_command.specs.Vocabulary.{CellValue, values_refusal}
+use Rattle.evaluate_command.specs.Vocabulary.{values_refusal}
 use Rattle.evaluate_command.specs.declared.faults.ValuesFault.{ValuesFault}
-use Rattle.paired_values.specs.Vocabulary.{PlainReading, by_factors, by_split, paired_view, read_in}
+use Rattle.paired_values.specs.Vocabulary.{PlainReading, by_factors, by_split, read_in}
 use Rattle.paired_values.specs.declared.fault.PairFault.TheVariants.{Stopped}
 use Rattle.paired_values.proofs.Counted.{bytes_alike}
 use Rattle.paired_values.proofs.OneTable.{all_or_below, all_or_why, below_or_stop, same_levels}
 use Rattle.evaluate_treated.specs.Effects.{IsFoundBy, PlainAmong, Identifies, paired_in}
 use Rattle.evaluate_treated.specs.First.{HasNoFormula, IsForDiagram}
-use Rattle.evaluate_treated.specs.Right.{AreMoreLevels, AreTwoLevels, HasItsLevels, HasMoreLevels, HasNoValue, IsForCounts, IsOverTable}
+use Rattle.evaluate_treated.specs.Right.{HasItsLevels, HasMoreLevels, HasNoValue, IsForCounts, IsOverTable}
 use Rattle.evaluate_treated.specs.Telling.{among_telling}
 use Rattle.evaluate_treated.specs.declared.answer.Answer.{Answer as AmongAnswer}
 use Rattle.evaluate_treated.specs.declared.answer.Answer.TheVariants as answers

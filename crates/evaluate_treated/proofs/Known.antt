@@ -1,5 +1,5 @@
 -- What is known of an effect for which `treated` has a formula.
-use Rattle.std.proofs.Common.{ℕ, ◌≡◌, ◌==◌, ◌<◌, ◌≤◌, true, false, refl, sym, ap, ◌∙◌, subst, List, [], ◌∷◌, All, Ok, inl, inr, length, get_or, arith}
+use Rattle.std.proofs.Common.{ℕ, ◌≡◌, ◌==◌, ◌<◌, ◌≤◌, true, false, sym, ap, ◌∙◌, subst, List, [], ◌∷◌, All, Ok, inl, inr, length, get_or, arith}
 use Rattle.std.specs.Prelude.{None}
 use Rattle.std.proofs.lemmas.Bool.{cases_Bool, eqb-true, eq-eqb, ne_eqb, false≢true}
 use Rattle.std.proofs.lemmas.List.Elements.{All-head, All-tail, All-get_or}
@@ -7,9 +7,9 @@ use Rattle.mixed_graph.specs.Vocabulary.{has, MixedGraph, IsAncestor, graph_of, 
 use Rattle.mixed_graph.proofs.MaskLaws.{below_has}
 use Rattle.finite_models.proofs.Bools.{and_first, and_second}
 use Rattle.do_rules.specs.Vocabulary.{AreThreeSets}
-use Rattle.prob_expr.specs.Tree.{Tree, prob}
+use Rattle.prob_expr.specs.Tree.{Tree}
 use Rattle.prob_expr.specs.Mentioned.{mentioned}
-use Rattle.prob_expr.specs.Vocabulary.{EqualsEffect, PlainFormula, effect_on, fault_in, formula_view, is_do_free, is_term}
+use Rattle.prob_expr.specs.Vocabulary.{EqualsEffect, PlainFormula, effect_on, fault_in, formula_view, is_do_free}
 use Rattle.identification_theory.specs.Names.{FormulaNamesOnly}
 use Rattle.table_cells.proofs.Tables.{all_members, member_stands}
 use Rattle.prob_expr.specs.View.{view}

@@ -1,5 +1,5 @@
 -- Lists name one effect, whose values are had in one way.
-use Rattle.std.proofs.Common.{◌≡◌, ℕ, false, Some, Ok, sym, ap, ◌∙◌, subst}
+use Rattle.std.proofs.Common.{◌≡◌, false, Some, Ok, sym, ap, ◌∙◌, subst}
 use Rattle.mixed_graph.specs.Vocabulary.{MixedGraph, graph_of, union}
 use Rattle.prob_expr.specs.declared.expr.Formula.{Formula}
 use Rattle.prob_expr.specs.Vocabulary.{PlainFormula, formula_view}
@@ -11,11 +11,9 @@ use Rattle.diagram.specs.declared.diagram.Diagram.{Diagram}
 use Rattle.diagram.specs.Vocabulary.{query_lists}
 use Rattle.diagram.proofs.OneDiagram.{AreSameDiagrams, same_drawing, same_query_lists}
 use Rattle.replies.proofs.OneTarget.{one_set}
-use Rattle.hedge.specs.Vocabulary.{IsHedge}
 use Rattle.treated_command.specs.Requests.{Request}
-use Rattle.treated_command.specs.Right.{IsAskedFor, IsExcluded, IsForNames, IsForSets, IsOfSets, IsUnfixed}
-use Rattle.treated_command.specs.Sentences.{is_single}
-use Rattle.treated_command.specs.Vocabulary.{IsTreatedAnswer, treated_refusal, treated_telling}
+use Rattle.treated_command.specs.Right.{IsAskedFor, IsForNames, IsForSets, IsOfSets}
+use Rattle.treated_command.specs.Vocabulary.{IsTreatedAnswer}
 use Rattle.treated_command.specs.declared.answer.Asked.{Asked}
 use Rattle.treated_command.specs.declared.answer.Answer.{Answer}
 use Rattle.treated_command.specs.declared.answer.Answer.TheVariants as treated
@@ -23,10 +21,9 @@ use Rattle.treated_command.proofs.Lawful.{treated_alike}
 use Rattle.treated_id.specs.declared.answers.Confounding.{Confounding}
 use Rattle.hedge.specs.declared.hedge.Hedge.{Hedge}
 use Rattle.counter_models.specs.declared.counter_pair.CounterPair.{CounterPair}
-use Rattle.factor_values.specs.Vocabulary.{PlainFactors}
 use Rattle.named_factors.specs.Vocabulary.{AreNamedFactors}
 use Rattle.paired_values.specs.Vocabulary.{PlainReading, by_factors, by_split}
-use Rattle.evaluate_treated.specs.Effects.{IsByFormula, IsByJoint, IsFoundBy, PlainAmong, Identifies}
+use Rattle.evaluate_treated.specs.Effects.{IsFoundBy, PlainAmong, Identifies}
 use Rattle.evaluate_treated.proofs.OneFormula.{one_formula, one_list, one_names}
 
 -- ---- what is asked for

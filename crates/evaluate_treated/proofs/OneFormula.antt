@@ -1,6 +1,6 @@
 -- An effect among the treated has one formula, and that one list of factors.
-use Rattle.std.proofs.Common.{ℕ, ◌≡◌, ◌≢◌, ◌⊎◌, Bool, true, false, refl, sym, ap, ap₂, ◌∙◌, subst, List, [], ◌∷◌}
-use Rattle.mixed_graph.specs.Vocabulary.{has, MixedGraph, IsAncestor, minus, one, common, union, IsOrder}
+use Rattle.std.proofs.Common.{ℕ, ◌≡◌, ◌≢◌, ◌⊎◌, true, refl, sym, ap₂, ◌∙◌, subst, List, [], ◌∷◌}
+use Rattle.mixed_graph.specs.Vocabulary.{has, MixedGraph, IsAncestor, minus, one, common, union}
 use Rattle.mixed_graph.proofs.Masks.{same_from_has}
 use Rattle.finite_models.proofs.Bools.{not_both}
 use Rattle.hedge.specs.Vocabulary.{IsLinked, IsSetOf}
@@ -11,9 +11,9 @@ use Rattle.identification_theory.specs.Vocabulary.{sum_if}
 use Rattle.identification_theory.proofs.Orders.{one_order}
 use Rattle.identification_theory.proofs.Unique.{one_set}
 use Rattle.treated_id.specs.Terms.{name_of, AreNames, IsParentOf, IsTerm, AreTerms, with_first, IsFormula, IsFormulaBy}
-use Rattle.treated_id.specs.Terms.AreTerms.{none, skip, take}
+use Rattle.treated_id.specs.Terms.AreTerms.{skip, take}
 use Rattle.factor_values.specs.Vocabulary.{PlainFactor, PlainFactors}
-use Rattle.named_factors.specs.Named.{IsFactorOfTerm, IsFactorOf, AreFactorsOf, AreNamedFactors, factors_in, body_in, summed_in}
+use Rattle.named_factors.specs.Named.{IsFactorOfTerm, IsFactorOf, AreFactorsOf, AreNamedFactors, factors_in, body_in}
 
 -- ---- terms
 

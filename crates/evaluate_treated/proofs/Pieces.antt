@@ -1,5 +1,5 @@
 -- Five texts that are appended one after another.
-use Rattle.std.proofs.Common.{◌≡◌, ◌∙◌, ◌++◌, ℕ, List, [], sym, ap, append_assoc}
+use Rattle.std.proofs.Common.{◌≡◌, ◌∙◌, ◌++◌, ℕ, List, [], ap, append_assoc}
 
 pub five : (o a b c d e v w x y z : List ℕ) → o ≡ [] → v ≡ o ++ a → w ≡ v ++ b → x ≡ w ++ c → y ≡ x ++ d → z ≡ y ++ e
     → z ≡ a ++ (b ++ (c ++ (d ++ e)))

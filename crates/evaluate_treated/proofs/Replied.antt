@@ -1,7 +1,6 @@
 -- The reply tells the answer, or the fault.
 use Rattle.std.proofs.Common.{◌≡◌, ℕ, false, List, Some, Result, Ok, Err, IfOk, ap}
 use Rattle.std.specs.Prelude.{OnOk}
-use Rattle.mixed_graph.specs.Vocabulary.{graph_of}
 use Rattle.targets.specs.Vocabulary.{IsListFault}
 use Rattle.targets.proofs.Faults.{not_memory}
 use Rattle.diagram.specs.declared.diagram.Diagram.{Diagram}

@@ -1,11 +1,11 @@
 -- The factors of a formula over names are terms of vertices.
-use Rattle.std.proofs.Common.{ℕ, zero, suc, ◌+◌, ◌-◌, ◌≡◌, ◌<◌, ◌≤◌, Bool, true, false, cond, not, ◌||◌, ◌&&◌, refl, sym, ap, ◌∙◌, subst, arith}
+use Rattle.std.proofs.Common.{ℕ, zero, suc, ◌+◌, ◌-◌, ◌≡◌, ◌<◌, Bool, true, false, cond, ◌||◌, ◌&&◌, refl, sym, ap, ◌∙◌, subst, arith}
 use Rattle.std.proofs.Common.{List, [], ◌∷◌, ◌++◌, length, get_or, inl, inr, All, nat_lt, ltb-true, length-append}
 use Rattle.std.specs.Prelude.{None}
 use Rattle.std.proofs.lemmas.Bool.{cases_lt, lt-ltb, or_left, or_right}
 use Rattle.std.proofs.lemmas.List.{get_or_append_left, get_or_at}
 use Rattle.std.proofs.lemmas.List.Elements.{All-nil, All-cons, All-get_or}
-use Rattle.mixed_graph.specs.Vocabulary.{has, members_below, is_apart, is_below, is_empty}
+use Rattle.mixed_graph.specs.Vocabulary.{has, members_below, is_apart, is_below}
 use Rattle.mixed_graph.proofs.MaskLaws.{apart_has, below_has, has_none, filled_from}
 use Rattle.finite_models.proofs.Bools.{and_first, and_second, either, not_both}
 use Rattle.prob_expr.specs.Tree.{Tree, prob, sum, product, quotient, named, tree}

@@ -1,5 +1,5 @@
 -- Which answers of `evaluate --treated` are right over the bytes of counts, for an effect whose values are had from factors or by two levels.
-use Rattle.std.specs.Prelude.{ℕ, ◌≡◌, ◌<◌, ◌≤◌, ◌||◌, Bool, true, List, All, Option, Some, Result, Ok, Err}
+use Rattle.std.specs.Prelude.{ℕ, ◌≡◌, ◌<◌, ◌≤◌, ◌||◌, Bool, true, List, All, Option, Result, Err}
 use Rattle.fractions.specs.Vocabulary.{Fraction}
 use Rattle.mixed_graph.specs.Vocabulary.{has, MixedGraph}
 use Rattle.finite_models.specs.Vocabulary.{FiniteModel, Fits, IsPositiveModel}

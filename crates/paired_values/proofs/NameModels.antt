@@ -1,5 +1,5 @@
 -- A cell of names in a model that has the counts.
-use Rattle.std.proofs.Common.{◌≡◌, ◌<◌, ℕ, List, inl, inr, subst, sym, arith}
+use Rattle.std.proofs.Common.{◌<◌, ℕ, List, inl, inr, subst, sym, arith}
 use Rattle.std.proofs.lemmas.Bool.{cases_Bool}
 use Rattle.mixed_graph.specs.Vocabulary.{MixedGraph}
 use Rattle.finite_models.specs.Vocabulary.{FiniteModel, Fits, IsAssignment}

@@ -5,11 +5,10 @@ use Rattle.quantity.specs.Kinds.{Pair}
 use Rattle.quantity.specs.Vocabulary.{Kind}
 use Rattle.differences.specs.Vocabulary.{Subtraction}
 use Rattle.count_rows.specs.Vocabulary.{Table}
-use Rattle.count_eval.specs.Vocabulary.{is_used}
 use Rattle.table_cells.proofs.CellLists.{numbers_more, numbers_around}
 use Rattle.evaluate_command.specs.Vocabulary.{CellValue}
 use Rattle.paired_values.specs.Readings.{PlainPaired}
-use Rattle.paired_values.specs.Values.{IsBelow, Says, below, is_wanting, value_by, values_at}
+use Rattle.paired_values.specs.Values.{IsBelow, below, is_wanting, value_by, values_at}
 use Rattle.paired_values.specs.Walking.{Appends, IsFaultAt}
 use Rattle.paired_values.specs.declared.fault.PairFault.{PairFault}
 use Rattle.paired_values.specs.declared.fault.PairFault.TheVariants.{Stopped, Below}

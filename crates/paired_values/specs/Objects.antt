@@ -1,5 +1,5 @@
 -- The objects of values: one for each cell.
-use Rattle.std.specs.Prelude.{ℕ, Bool, true, false, List, [], ◌∷◌, ◌++◌, map, codes}
+use Rattle.std.specs.Prelude.{ℕ, Bool, true, false, List, [], ◌∷◌, ◌++◌, map}
 use Rattle.json.specs.Json.{Json}
 use Rattle.mixed_graph.specs.Vocabulary.{has, members_below}
 use Rattle.quantity.specs.Kinds.{Pair}

@@ -1,5 +1,5 @@
 -- The values at cells, in order; or the first cell that has none, and why.
-use Rattle.std.specs.Prelude.{ℕ, ◌≡◌, Bool, true, false, List, [], ◌∷◌, ◌++◌, Option, Some, None, Result, Ok, Err}
+use Rattle.std.specs.Prelude.{ℕ, ◌≡◌, Bool, true, false, List, [], ◌∷◌, Option, Some, None, Result, Ok, Err}
 use Rattle.fractions.specs.Vocabulary.{Fraction}
 use Rattle.quantity.specs.Exacts.{exact}
 use Rattle.quantity.specs.Intervals.{Encloses, bounds}

@@ -1,6 +1,6 @@
 //! The objects of values.
 
-ghost use Rattle.std.specs.Prelude.{◌≡◌, ◌∷◌, [], map, OnOk, codes, List, ℕ};
+ghost use Rattle.std.specs.Prelude.{◌≡◌, [], map, OnOk, codes};
 ghost use Rattle.count_eval.specs.Vocabulary.{cell_of};
 ghost use Rattle.answer_json.specs.Vocabulary.{with_value, with_values, with_member, array_of};
 ghost use Rattle.primed_names.specs.Vocabulary.{primed_names};

@@ -1,6 +1,6 @@
 use Rattle.std.proofs.Common.{sym, subst}
 use Rattle.paired_values.specs.Readings.{IsOver}
-use Rattle.paired_values.specs.Vocabulary.{AreValuesOver, IsWhyNone, PlainPaired, is_wanting}
+use Rattle.paired_values.specs.Vocabulary.{AreValuesOver, IsWhyNone, PlainPaired}
 use Rattle.evaluate_natural.specs.Effects.{nested_in}
 use Rattle.evaluate_natural.proofs.Covered.{nothing_left, values_covered}
 use Rattle.evaluate_natural.proofs.Evaluable.{over_paired}

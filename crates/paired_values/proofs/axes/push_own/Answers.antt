@@ -1,6 +1,6 @@
-use Rattle.std.proofs.Common.{◌≡◌, ◌∙◌, ℕ, sym, ap, subst, List, ◌++◌, map}
+use Rattle.std.proofs.Common.{◌∙◌, ℕ, sym, ap}
 use Rattle.std.specs.Global.{Vec}
-use Rattle.mixed_graph.specs.Vocabulary.{has, members_below}
+use Rattle.mixed_graph.specs.Vocabulary.{has}
 use Rattle.paired_values.specs.declared.axes.Axis.{Axis}
 use Rattle.paired_values.proofs.AxisLists.{entries_begun, entries_more, entries_same}
 use Rattle.paired_values.proofs.axes.push_own.Goals as goal

@@ -1,7 +1,6 @@
-use Rattle.std.proofs.Common.{◌≡◌, ◌∙◌, ◌<◌, ◌≤◌, ℕ, true, false, List, All, OnOk, IfErr, length, set, get_or, take, drop, ◌-◌, refl, sym, ap, subst, arith, rules}
+use Rattle.std.proofs.Common.{◌≡◌, ◌<◌, ◌≤◌, ℕ, true, false, List, All, OnOk, IfErr, length, set, get_or, take, drop, ◌-◌, refl, sym, ap, subst, arith, rules}
 use Rattle.std.proofs.lemmas.List.{length-drop, take_rest}
 use Rattle.std.proofs.lemmas.List.Elements.{All-drop, All-take, All-get_or}
-use Rattle.count_rows.specs.Vocabulary.{Table}
 use Rattle.table_cells.specs.Vocabulary.{level_count}
 use Rattle.evaluate_command.specs.Vocabulary.{plain_in}
 use Rattle.paired_values.specs.Cells.{cells_at, IsAxis, IsNameCell}

@@ -1,4 +1,4 @@
-use Rattle.std.proofs.Common.{◌≡◌, ℕ, length, set}
+use Rattle.std.proofs.Common.{length, set}
 use Rattle.std.specs.List.{flat_map, range_with_len}
 use Rattle.evaluate_command.specs.Vocabulary.{plain_in}
 use Rattle.paired_values.specs.Cells.{cells_at}

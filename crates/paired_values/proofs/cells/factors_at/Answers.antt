@@ -1,4 +1,4 @@
-use Rattle.std.proofs.Common.{Ok, Some, sym, ap, ◌∙◌}
+use Rattle.std.proofs.Common.{Ok, Some, sym, ap}
 use Rattle.quantity.specs.Kinds.{Pair}
 use Rattle.count_eval.specs.Programs.{stop_of}
 use Rattle.count_eval.specs.Vocabulary.{after}

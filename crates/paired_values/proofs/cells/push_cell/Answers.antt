@@ -1,4 +1,4 @@
-use Rattle.std.proofs.Common.{◌∙◌, Ok, Some, OnOk, IfErr, Result, Err, ap, subst}
+use Rattle.std.proofs.Common.{◌∙◌, Ok, ap}
 use Rattle.count_eval.specs.Programs.{seen_so_far}
 use Rattle.evaluate_command.specs.Vocabulary.{plain_in}
 use Rattle.paired_values.specs.Readings.{paired_view}

@@ -1,4 +1,4 @@
-use Rattle.std.proofs.Common.{◌≡◌, List, All, sym, ap, subst, ◌∙◌}
+use Rattle.std.proofs.Common.{List, All, sym, ap, subst, ◌∙◌}
 use Rattle.table_cells.specs.Vocabulary.{first_cell}
 use Rattle.evaluate_command.specs.Vocabulary.{plain_in}
 use Rattle.paired_values.specs.Cells.{cells_at, IsAxis}
