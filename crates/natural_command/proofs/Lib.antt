@@ -1,4 +1,4 @@
-pub mod Counting
+mod Pairs
 pub mod Naming
 mod Pieces
 mod Places

@@ -1,8 +1,8 @@
 -- What the lists of `natural` ask for.
-use Rattle.std.specs.Prelude.{ℕ, ◌≡◌, ◌⊎◌, List, [], ◌++◌, Option, Some, None}
-use Rattle.mixed_graph.specs.Vocabulary.{is_named}
+use Rattle.std.specs.Prelude.{ℕ, ◌≡◌, List, [], Option, Some, None}
 use Rattle.targets.specs.declared.fault.TargetFault.{TargetFault}
-use Rattle.targets.specs.Vocabulary.{Lists, NameFault, first_fault, IsFaultOfTarget, IsListedSet, AreSets, IsTargetFault, OrMemory}
+use Rattle.targets.specs.Vocabulary.{Lists, NameFault, IsListedSet, AreSets, OrMemory}
+use Rattle.further_lists.specs.Vocabulary.{IsFaultOfAll, further_fault}
 use Rattle.diagram.specs.declared.diagram.Diagram.{Diagram}
 use Rattle.diagram.specs.Vocabulary.{Names, query_lists}
 use Rattle.natural_command.specs.declared.asking.Question.{Question}
@@ -20,7 +20,7 @@ natural_lists d x y through given = record { query = query_lists d.read d.observ
 
 -- the first name at fault of the mediators, where x, y and given were walked before
 abbrev pub through_fault : NaturalLists → Option NameFault
-through_fault l = first_fault l.query.all l.query.observed (is_named (l.query.x ++ (l.query.y ++ l.query.given))) l.through
+through_fault l = further_fault l.query l.through
 
 -- the question asks for the sets that the lists name
 pub record AreNamed (l : NaturalLists) (q : Question) : Type 0 where
@@ -28,14 +28,6 @@ pub record AreNamed (l : NaturalLists) (q : Question) : Type 0 where
   pub no_fault : through_fault l ≡ None
   pub some : l.through ≡ [] → ⊥
   pub through : IsListedSet l.query.observed l.through q.through.bits
-
--- the lists x, y and given name sets, and the fault is that of the first name at fault of the mediators
-pub record IsThroughFault (l : NaturalLists) (fault : TargetFault) : Type 0 where
-  pub x : ℕ
-  pub y : ℕ
-  pub given : ℕ
-  pub query : AreSets l.query x y given
-  pub named : IsFaultOfTarget (through_fault l) l.query.y l.query.x fault
 
 -- the lists x, y and given name sets, and that of the mediators names none
 pub record HaveNoMediator (l : NaturalLists) : Type 0 where
@@ -48,7 +40,7 @@ pub record HaveNoMediator (l : NaturalLists) : Type 0 where
 
 -- the fault of a name that is listed: that of x, y and given, or else of the mediators
 abbrev pub IsNamesFault : NaturalLists → TargetFault → Type 0
-IsNamesFault l fault = IsTargetFault l.query fault ⊎ IsThroughFault l fault
+IsNamesFault l = IsFaultOfAll l.query l.through
 
 -- the fault of lists that ask for no sets
 abbrev pub IsListsFault : NaturalLists → NaturalFault → Type 0

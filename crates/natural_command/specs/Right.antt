@@ -116,6 +116,12 @@ Decides certified g q (Split a s other) = IsAskedFor g q a × IsParted g q s oth
 abbrev pub AreBefore : MixedGraph → Question → Type 0
 AreBefore g q = (v : ℕ) → IsTrue (has q.given.bits v) → IsDescendant g (has q.x.bits) v → ⊥
 
+-- the question may be asked, and this is what is asked: x acts on none of what is given, and there are at most 64 names with the second names of x
+pub record MayBeAsked (g : MixedGraph) (q : Question) (a : Asked) : Type 0 where
+  pub before : AreBefore g q
+  pub few : name_count g.vertices q.x.bits ≤ 64
+  pub asked : IsAskedFor g q a
+
 -- the answer where x acts on none of what is given, and there are at most 64 names with the second names of x
 pub record IsForQuestion (certified : Bool) (g : MixedGraph) (q : Question) (a : Answer) : Type 0 where
   pub before : AreBefore g q

@@ -8,6 +8,7 @@ ghost use Rattle.natural_command.specs.Asking.{natural_lists, AreNamed, IsListsF
 
 use crate::fault::NaturalFault;
 use diagram::{Diagram, asked_query};
+use further_lists::walked;
 use mixed_graph::VSet;
 use std::alloc::Global;
 use targets::walk;
@@ -40,7 +41,7 @@ pub fn question_of(
         Ok(sets) => sets,
         Err(fault) => return Err(NaturalFault::Listed(fault)),
     };
-    let walked = sets.x.union(sets.y).union(sets.given);
+    let walked = walked(sets);
     let names = &diagram.observed.names;
     let set = match walk(alloc, &diagram.read.names, names, walked, through) {
         Ok(set) => set,

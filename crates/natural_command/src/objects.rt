@@ -4,9 +4,7 @@ ghost use Rattle.std.specs.Prelude.{◌≡◌, ◌∷◌, ◌++◌, codes, map, 
 ghost use Rattle.json.specs.Json.{boolean};
 ghost use Rattle.prob_expr.specs.Vocabulary.{formula_view};
 ghost use Rattle.answer_json.specs.Vocabulary.{with_member, with_members, with_value, with_values, array_of};
-ghost use Rattle.effect_answers.specs.Vocabulary.{joint_json};
 ghost use Rattle.natural_command.specs.Second.{names_read};
-ghost use Rattle.natural_command.specs.Sentences.{joint_of};
 ghost use Rattle.natural_command.specs.Objects.{question_members, way_members, asked_members, part_members, part_json, body_members, natural_members_of, hedge_members_of, excluded_members, witness_members, split_members};
 
 use crate::answer::Asked;
@@ -21,6 +19,7 @@ use hedge::Hedge;
 use mixed_graph::{Names, VSet};
 use natural_id::{NaturalFormula, Part, Split, Witness};
 use primed_names::primed_names;
+use primed_questions::push_joint;
 use std::alloc::AllocError;
 
 /// The answer's word, and the sets.
@@ -166,18 +165,6 @@ pub fn push_formula_of(
 
 // ---- no formula
 
-/// The member of the joint effect.
-fn push_joint(object: &mut Object, names: &Names, asked: Asked) -> Result<(), AllocError>
-    ensures { OnOk result (object.new ≡ with_member (codes "joint") (joint_json names.now asked.question.x.bits (joint_of asked)) object.old) }
-{
-    object.key("joint")?;
-    object.begin_object()?;
-    object.set_at("y", names, joint_of(asked))?;
-    object.set_at("x", names, asked.question.x)?;
-    object.end_object()?;
-    Ok(())
-}
-
 /// The members of a hedge of the joint effect.
 fn push_hedge_of(
     object: &mut Object,
@@ -188,7 +175,7 @@ fn push_hedge_of(
 ) -> Result<(), AllocError>
     ensures { OnOk result (object.new ≡ with_members (hedge_members_of names.now asked h.now pair.now) object.old) }
 {
-    push_joint(object, names, asked)?;
+    push_joint(object, names, asked.question.x, joint_of(asked))?;
     push_pair(object, names, h, pair)
 }
 
@@ -216,7 +203,7 @@ pub fn push_witness(
     ensures { OnOk result (object.new ≡ with_members (witness_members names.now asked w) object.old) }
 {
     push_asked(object, "witness", names, asked)?;
-    push_joint(object, names, asked)?;
+    push_joint(object, names, asked.question.x, joint_of(asked))?;
     object.vertex_at("treatment", names, w.treatment)?;
     object.vertex_at("witness", names, w.child)
 }
@@ -231,7 +218,7 @@ pub fn push_split(
     ensures { OnOk result (object.new ≡ with_members (split_members names.now asked s) object.old) }
 {
     push_asked(object, "district", names, asked)?;
-    push_joint(object, names, asked)?;
+    push_joint(object, names, asked.question.x, joint_of(asked))?;
     object.vertex_at("treatment", names, s.treatment)?;
     object.set_at("district", names, s.district)?;
     object.vertex_at("direct_child", names, s.first)?;

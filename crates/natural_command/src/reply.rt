@@ -10,7 +10,7 @@ ghost use Rattle.nested_models.specs.Vocabulary.{HasNoIndirectPath, HasNoDirectP
 ghost use Rattle.natural_command.specs.Asking.{natural_lists};
 ghost use Rattle.natural_command.specs.Faults.{natural_refusal};
 ghost use Rattle.natural_command.specs.Requests.{request_of};
-ghost use Rattle.natural_command.specs.Right.{AreBefore, Decides, IsAskedFor, IsForQuestion, IsOfQuestion, IsQuestionFaultOrMemory, IsFaultOrMemory, IsNaturalAnswer};
+ghost use Rattle.natural_command.specs.Right.{AreBefore, Decides, IsAskedFor, MayBeAsked, IsForQuestion, IsOfQuestion, IsQuestionFaultOrMemory, IsFaultOrMemory, IsNaturalAnswer};
 ghost use Rattle.natural_command.specs.Telling.{natural_telling};
 
 use crate::answer::{Answer, Asked};
@@ -23,6 +23,7 @@ use diagram::Diagram;
 use interventional_id::interventional;
 use mixed_graph::{Graph, joined};
 use natural_id::{Natural, leading_past, leading_through, natural};
+use primed_questions::are_too_many;
 use replies::Reply;
 use std::alloc::{AllocError, Global};
 use told::reply;
@@ -80,23 +81,33 @@ fn decide(
     ensures answer { IfOk result (IsForQuestion certified (graph_of seen.now.graph) question) }
     ensures fault { IfErr result (IsQuestionFaultOrMemory (graph_of seen.now.graph) seen.now.names question) }
 {
+    let asked = asked_by(alloc, seen, question)?;
+    match identified(alloc, &seen.graph, question, asked, certified) {
+        Ok(answer) => Ok(answer),
+        Err(_) => Err(NaturalFault::NoMemory),
+    }
+}
+
+/// What is asked by this question, with the second names of x; or why it can't be asked.
+pub fn asked_by(alloc: Global, seen: &ReadGraph, question: Question) -> Result<Asked, NaturalFault>
+    requires { let q = question in AreFourSets seen.now.graph.n (has q.x.bits) (has q.y.bits) (has q.through.bits) (has q.given.bits) }
+    ensures asked { IfOk result (MayBeAsked (graph_of seen.now.graph) question) }
+    ensures fault { IfErr result (IsQuestionFaultOrMemory (graph_of seen.now.graph) seen.now.names question) }
+{
     let acted = question
         .given
         .intersection(seen.graph.descendants(question.x));
     if !acted.is_empty() {
         return Err(after(alloc, seen.names.name(acted.lowest())));
     }
-    if seen.graph.n + question.x.count() > 64 {
+    if are_too_many(&seen.graph, question.x) {
         return Err(NaturalFault::TooMany);
     }
-    match identified(alloc, &seen.graph, question, certified) {
-        Ok(answer) => Ok(answer),
-        Err(_) => Err(NaturalFault::NoMemory),
-    }
+    Ok(asked_of(&seen.graph, question))
 }
 
 /// The question with the primed names of x, and with the ways that lead from x to y.
-pub fn asked_of(g: &Graph, question: Question) -> Asked
+fn asked_of(g: &Graph, question: Question) -> Asked
     requires sets { let q = question in AreFourSets g.now.n (has q.x.bits) (has q.y.bits) (has q.through.bits) (has q.given.bits) }
     requires before { AreBefore (graph_of g.now) question }
     requires few { name_count g.now.n question.x.bits ≤ 64 }
@@ -119,17 +130,17 @@ fn identified(
     alloc: Global,
     g: &Graph,
     question: Question,
+    asked: Asked,
     certified: bool,
 ) -> Result<Answer, AllocError>
+    requires asked { IsAskedFor (graph_of g.now) question asked }
     requires sets { let q = question in AreFourSets g.now.n (has q.x.bits) (has q.y.bits) (has q.through.bits) (has q.given.bits) }
     requires some { 0 < question.x.bits }
     requires outcome { 0 < question.y.bits }
     requires mediator { 0 < question.through.bits }
     requires before { AreBefore (graph_of g.now) question }
-    requires few { name_count g.now.n question.x.bits ≤ 64 }
     ensures { IfOk result (Decides certified (graph_of g.now) question) }
 {
-    let asked = asked_of(g, question);
     let Question {
         x,
         through,

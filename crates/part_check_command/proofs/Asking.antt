@@ -6,14 +6,14 @@ use Rattle.do_rules.specs.Vocabulary.{AreThreeSets, AreFourSets}
 use Rattle.treated_command.specs.declared.answer.Asked.{Asked as AskedAmong}
 use Rattle.treated_command.specs.declared.fault.TreatedFault.{TreatedFault}
 use Rattle.treated_command.specs.declared.fault.TreatedFault.TheVariants as treated_faults
-use Rattle.treated_command.specs.Vocabulary.{IsSetsFaultOrMemory}
+use Rattle.treated_command.specs.Vocabulary.{IsSetsFaultOrMemory, MayBeAsked as MayBeAskedAmong}
 use Rattle.treated_command.proofs.Sets.{target_of}
 use Rattle.natural_command.specs.declared.answer.Asked.{Asked as AskedNested}
 use Rattle.natural_command.specs.declared.fault.NaturalFault.{NaturalFault}
 use Rattle.natural_command.specs.declared.fault.NaturalFault.TheVariants as natural_faults
-use Rattle.natural_command.specs.Vocabulary.{IsQuestionFaultOrMemory}
+use Rattle.natural_command.specs.Vocabulary.{IsQuestionFaultOrMemory, MayBeAsked as MayBeAskedNested}
 use Rattle.natural_command.proofs.Ways.{target_of as nested_target_of}
-use Rattle.part_check_command.specs.Decisions.{IsFaultAmong, IsFaultNested, MayBeAskedAmong, MayBeAskedNested, UnlessWanting}
+use Rattle.part_check_command.specs.Decisions.{IsFaultAmong, IsFaultNested, UnlessWanting}
 use Rattle.part_check_command.specs.Right.{IsNestedQuestion, IsTreatedQuestion, question_of, sets_of}
 use Rattle.part_check_command.specs.declared.fault.Fault.TheVariants as faults
 

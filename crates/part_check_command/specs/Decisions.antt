@@ -1,40 +1,22 @@
 -- What the parts of a check decide. Words for code inside this crate.
-use Rattle.std.specs.Prelude.{ℕ, ◌≡◌, ◌≤◌, Bool, true, false, List, Err}
+use Rattle.std.specs.Prelude.{ℕ, ◌≡◌, Bool, true, false, List, Err}
 use Rattle.mixed_graph.specs.Vocabulary.{MixedGraph}
 use Rattle.prob_expr.specs.Vocabulary.{PlainTarget}
 use Rattle.derived_parts.specs.Vocabulary.{PlainDerivedPart}
-use Rattle.treated_models.specs.Vocabulary.{name_count}
-use Rattle.treated_id.specs.Vocabulary.{AreBefore}
-use Rattle.targets.specs.declared.query.Sets.{Sets}
 use Rattle.certificate.specs.declared.fault.CertFault.{CertFault}
 use Rattle.certificate.specs.declared.fault.CertFault.TheVariants as certificates
 use Rattle.certificate.specs.Vocabulary.{certificate_in}
 use Rattle.check_command.specs.declared.fault.CertificateFault.{CertificateFault}
 use Rattle.check_command.specs.declared.fault.CertificateFault.TheVariants.{TooLong, Faulty, NoMemory}
 use Rattle.check_command.specs.Vocabulary.{IsCertificateFault as IsWholeFault, certificate_refusal}
-use Rattle.natural_command.specs.declared.asking.Question.{Question}
-use Rattle.natural_command.specs.declared.answer.Asked.{Asked as AskedNested}
-use Rattle.natural_command.specs.Vocabulary.{AreBefore as AreBeforeNested, IsFaultOfQuestion, IsAskedFor as IsAskedNested}
-use Rattle.treated_command.specs.declared.answer.Asked.{Asked as AskedAmong}
-use Rattle.treated_command.specs.Vocabulary.{IsFaultOfSets, IsAskedFor as IsAskedAmong}
+use Rattle.natural_command.specs.Vocabulary.{IsFaultOfQuestion}
+use Rattle.treated_command.specs.Vocabulary.{IsFaultOfSets}
 use Rattle.part_check_command.specs.Faults.{is_memory}
 use Rattle.part_check_command.specs.Right.{IsAcceptedAmong, IsAcceptedNested, IsRefusedAmong, IsRefusedNested, question_of, sets_of}
 use Rattle.part_check_command.specs.declared.answer.Answer.{Answer}
 use Rattle.part_check_command.specs.declared.answer.Answer.TheVariants.{Whole, Treated, Natural, RefusedTreated, RefusedNatural}
 use Rattle.part_check_command.specs.declared.fault.Fault.{Fault}
 use Rattle.part_check_command.specs.declared.fault.Fault.TheVariants as faults
-
--- the sets of an effect among the treated may be asked for, and this is what is asked
-pub record MayBeAskedAmong (q : MixedGraph) (s : Sets) (a : AskedAmong) : Type 0 where
-  pub before : AreBefore q s.x.bits s.given.bits
-  pub few : name_count q.vertices s.x.bits ≤ 64
-  pub asked : IsAskedAmong q s a
-
--- and so may a nested effect
-pub record MayBeAskedNested (g : MixedGraph) (q : Question) (a : AskedNested) : Type 0 where
-  pub before : AreBeforeNested g q
-  pub few : name_count g.vertices q.x.bits ≤ 64
-  pub asked : IsAskedNested g q a
 
 -- the answer for the parts of an effect among the treated
 abbrev pub DecidesAmong : MixedGraph → PlainTarget → List PlainDerivedPart → Answer → Type 0

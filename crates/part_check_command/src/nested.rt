@@ -5,8 +5,7 @@ ghost use Rattle.mixed_graph.specs.Vocabulary.{has, graph_of};
 ghost use Rattle.prob_expr.specs.Vocabulary.{target_view};
 ghost use Rattle.do_rules.specs.Vocabulary.{AreFourSets};
 ghost use Rattle.derived_parts.specs.Vocabulary.{AreSound, derived_views};
-ghost use Rattle.natural_command.specs.Vocabulary.{IsQuestionFaultOrMemory};
-ghost use Rattle.part_check_command.specs.Decisions.{DecidesNested, IsFaultNested, MayBeAskedNested, UnlessWanting};
+ghost use Rattle.part_check_command.specs.Decisions.{DecidesNested, IsFaultNested, UnlessWanting};
 ghost use Rattle.part_check_command.specs.Faults.{is_memory};
 ghost use Rattle.part_check_command.specs.Right.{nested_lemmas};
 
@@ -17,28 +16,10 @@ use check_command::CertificateFault;
 use dag_reader::ReadGraph;
 use derived_parts::DerivedPart;
 use mixed_graph::VSet;
-use natural_command::{Asked, NaturalFault, Question, after, asked_of};
+use natural_command::{Question, asked_by};
 use part_checks::{NaturalPartsFault, check_natural_parts};
 use prob_expr::Target;
 use std::alloc::Global;
-
-/// What is asked by this question, with the second names of x; or why it can't be asked.
-fn asked_by(alloc: Global, seen: &ReadGraph, question: Question) -> Result<Asked, NaturalFault>
-    requires { let q = question in AreFourSets seen.now.graph.n (has q.x.bits) (has q.y.bits) (has q.through.bits) (has q.given.bits) }
-    ensures asked { IfOk result (MayBeAskedNested (graph_of seen.now.graph) question) }
-    ensures fault { IfErr result (IsQuestionFaultOrMemory (graph_of seen.now.graph) seen.now.names question) }
-{
-    let acted = question
-        .given
-        .intersection(seen.graph.descendants(question.x));
-    if !acted.is_empty() {
-        return Err(after(alloc, seen.names.name(acted.lowest())));
-    }
-    if seen.graph.n + question.x.count() > 64 {
-        return Err(NaturalFault::TooMany);
-    }
-    Ok(asked_of(&seen.graph, question))
-}
 
 /// The number of lemmas that is told with a fault; nothing where memory was refused.
 fn lemmas_told(counts: &[usize], fault: NaturalPartsFault) -> Option<usize>

@@ -5,8 +5,7 @@ ghost use Rattle.mixed_graph.specs.Vocabulary.{has, graph_of};
 ghost use Rattle.prob_expr.specs.Vocabulary.{target_view};
 ghost use Rattle.do_rules.specs.Vocabulary.{AreThreeSets};
 ghost use Rattle.derived_parts.specs.Vocabulary.{AreSound, derived_views};
-ghost use Rattle.treated_command.specs.Vocabulary.{IsSetsFaultOrMemory};
-ghost use Rattle.part_check_command.specs.Decisions.{DecidesAmong, IsFaultAmong, MayBeAskedAmong, UnlessWanting};
+ghost use Rattle.part_check_command.specs.Decisions.{DecidesAmong, IsFaultAmong, UnlessWanting};
 ghost use Rattle.part_check_command.specs.Faults.{is_memory};
 ghost use Rattle.part_check_command.specs.Right.{treated_lemmas};
 
@@ -20,25 +19,7 @@ use part_checks::{TreatedPartsFault, check_treated_parts};
 use prob_expr::Target;
 use std::alloc::Global;
 use targets::Sets;
-use treated_command::{Asked, TreatedFault, after};
-use treated_id::{acted_on, names_of};
-
-/// What is asked of these sets, with the primed names of x; or why it can't be asked for.
-fn asked_of(alloc: Global, seen: &ReadGraph, sets: Sets) -> Result<Asked, TreatedFault>
-    requires { AreThreeSets seen.now.graph.n (has sets.x.bits) (has sets.y.bits) (has sets.given.bits) }
-    ensures asked { IfOk result (MayBeAskedAmong (graph_of seen.now.graph) sets) }
-    ensures fault { IfErr result (IsSetsFaultOrMemory (graph_of seen.now.graph) seen.now.names sets) }
-{
-    let acted = acted_on(&seen.graph, sets.x, sets.given);
-    if !acted.is_empty() {
-        return Err(after(alloc, seen.names.name(acted.lowest())));
-    }
-    if seen.graph.n + sets.x.count() > 64 {
-        return Err(TreatedFault::TooMany);
-    }
-    let primes = names_of(seen.graph.n, sets.x, sets.x, sets.x);
-    Ok(Asked { sets, primes })
-}
+use treated_command::{Asked, primes_of};
 
 /// The number of lemmas that is told with a fault; nothing where memory was refused.
 fn lemmas_told(counts: &[usize], fault: TreatedPartsFault) -> Option<usize>
@@ -78,8 +59,8 @@ pub fn decide_treated(
         y: target.y,
         given: target.given,
     };
-    let asked = match asked_of(alloc, seen, sets) {
-        Ok(asked) => asked,
+    let asked = match primes_of(alloc, seen, sets) {
+        Ok(primes) => Asked { sets, primes },
         Err(fault) => return Err(Fault::Treated(fault)),
     };
     let counts = lemma_counts(alloc, &parts)?;

@@ -1,15 +1,11 @@
 -- What the sets that lists name have.
-use Rattle.std.proofs.Common.{◌≡◌, ◌≤◌, ◌<◌, ◌+◌, ◌&&◌, ◌||◌, ℕ, zero, suc, Bool, true, false, refl, length, sym, ap, ◌∙◌, arith, inl, inr}
-use Rattle.std.specs.Prelude.{nat_lt}
-use Rattle.std.proofs.lemmas.Bool.{cases_Bool}
-use Rattle.mixed_graph.specs.Vocabulary.{has, members_below, MixedGraph, union, Within, Apart}
+use Rattle.std.proofs.Common.{◌≡◌, ◌<◌, ◌||◌, ℕ, zero, suc, Bool, true, false, refl, length, sym, ◌∙◌, arith}
+use Rattle.mixed_graph.specs.Vocabulary.{has, MixedGraph, union, Within, Apart}
 use Rattle.mixed_graph.proofs.MaskLaws.{has_join, join_filled}
 use Rattle.finite_models.proofs.Bools.{either, not_both}
-use Rattle.latent_projection.proofs.Numbering.{length-members-cut}
 use Rattle.do_rules.specs.Vocabulary.{AreThreeSets}
 use Rattle.targets.specs.Vocabulary.{Lists, AreListedSets}
 use Rattle.targets.proofs.Disjoint.{disjoint_listed_sets}
-use Rattle.treated_models.specs.Vocabulary.{name_count}
 use Rattle.treated_id.specs.Vocabulary.{IsTreatedTarget, AreBefore}
 
 -- they are within the observed vertices, and no two of them meet
@@ -17,16 +13,6 @@ pub three_sets : (l : Lists) (n x y given : ℕ) → length l.observed ≡ n →
 three_sets l n x y given e s =
     let d = disjoint_listed_sets l n x y given e s in
     record { x_within = d.x_within; y_within = d.y_within; w_within = d.w_within; x_y = d.x_y; x_w = d.x_w; y_w = d.y_w }
-
--- so many names there are with the primed ones
-pub counted_names : (n x : ℕ) → n ≤ 64 → Within n (has x) → name_count n x ≡ n + length (members_below (has x) 64)
-counted_names n x few within = ap (λ k. n + k) (sym (length-members-cut (has x) (has x) n 64 few cut))
-  where
-    cut : (v : ℕ) → has x v ≡ (nat_lt v n && has x v)
-    cut v = elim (cases_Bool (has x v)) [
-      | inl e ↦ let l = within v e in rw e (grind (arith, l))
-      | inr e ↦ rw e (grind arith)
-    ]
 
 positive : (k : ℕ) → (k ≡ 0 → ⊥) → 0 < k
 positive zero h = absurd (h refl)

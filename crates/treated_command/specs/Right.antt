@@ -27,6 +27,13 @@ pub record IsAskedFor (q : MixedGraph) (s : Sets) (a : Asked) : Type 0 where
   pub sets : a.sets ≡ s
   pub primes : AreNames q.vertices s.x.bits s.x.bits s.x.bits a.primes.bits
 
+-- the effect of these sets may be asked for, and this is what is asked: x acts on none of x and what is given, and there are at most 64 names with those of
+-- x as observed
+pub record MayBeAsked (q : MixedGraph) (s : Sets) (a : Asked) : Type 0 where
+  pub before : AreBefore q s.x.bits s.given.bits
+  pub few : name_count q.vertices s.x.bits ≤ 64
+  pub asked : IsAskedFor q s a
+
 -- no treatment is confounded with a child of its own, and the formula equals P(y under do(x) | x and z as observed) in each positive model of q, at each
 -- assignment of values to names and primed names; it is that of the criterion, and its terms are observed
 pub record IsFormulaFor (q : MixedGraph) (s : Sets) (f : PlainFormula) : Type 0 where

@@ -10,8 +10,8 @@ mod texts;
 mod theory;
 
 pub use answer::{Answer, Asked};
-pub use fault::{TreatedFault, after};
-pub use reply::{treated_answer, treated_reply};
+pub use fault::TreatedFault;
+pub use reply::{primes_of, treated_answer, treated_reply};
 pub use request::{ROW, Request};
 pub use texts::effect_text;
 pub use theory::laws;

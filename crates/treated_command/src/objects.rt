@@ -4,9 +4,9 @@ ghost use Rattle.std.specs.Prelude.{◌≡◌, ◌∷◌, codes, map, OnOk};
 ghost use Rattle.json.specs.Json.{string};
 ghost use Rattle.prob_expr.specs.Vocabulary.{formula_view};
 ghost use Rattle.answer_json.specs.Vocabulary.{with_member, with_members, with_values, array_of, set_json, vertices_json};
-ghost use Rattle.effect_answers.specs.Vocabulary.{effect_json, joint_json};
+ghost use Rattle.effect_answers.specs.Vocabulary.{effect_json};
 ghost use Rattle.primed_names.specs.Vocabulary.{primed_names};
-ghost use Rattle.treated_command.specs.Sentences.{target_of, joint_of};
+ghost use Rattle.treated_command.specs.Sentences.{target_of};
 ghost use Rattle.treated_command.specs.Objects.{asked_members, certified_members, path_object, formula_object, confounding_members, reason_members, excluded_members, two_values_json, unfixed_members};
 
 use crate::answer::Asked;
@@ -17,6 +17,7 @@ use effect_answers::objects::{push_effect as push_target_effect, push_formula, p
 use hedge::Hedge;
 use mixed_graph::Names;
 use primed_names::primed_names;
+use primed_questions::push_joint;
 use prob_expr::Formula;
 use std::alloc::AllocError;
 use treated_id::Confounding;
@@ -126,18 +127,6 @@ fn push_confounding(object: &mut Object, names: &Names, c: &Confounding) -> Resu
     push_path(object, names, c)
 }
 
-/// The member of the joint effect.
-fn push_joint(object: &mut Object, names: &Names, asked: Asked) -> Result<(), AllocError>
-    ensures { OnOk result (object.new ≡ with_member (codes "joint") (joint_json names.now asked.sets.x.bits (joint_of asked)) object.old) }
-{
-    object.key("joint")?;
-    object.begin_object()?;
-    object.set_at("y", names, joint_of(asked))?;
-    object.set_at("x", names, asked.sets.x)?;
-    object.end_object()?;
-    Ok(())
-}
-
 /// The members that are those of both answers without a formula.
 fn push_reason(
     object: &mut Object,
@@ -151,7 +140,7 @@ fn push_reason(
     push_asked(object, word, names, asked)?;
     push_effect(object, names, asked)?;
     push_confounding(object, names, c)?;
-    push_joint(object, names, asked)
+    push_joint(object, names, asked.sets.x, joint_of(asked))
 }
 
 /// The members where the joint effect has a hedge.

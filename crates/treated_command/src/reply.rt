@@ -11,7 +11,7 @@ ghost use Rattle.treated_models.specs.Vocabulary.{name_count};
 ghost use Rattle.treated_id.specs.Vocabulary.{AreBefore};
 ghost use Rattle.treated_command.specs.Faults.{treated_refusal};
 ghost use Rattle.treated_command.specs.Requests.{request_of};
-ghost use Rattle.treated_command.specs.Right.{Decides, IsAskedFor, IsConfoundedBy, IsFormulaFor, IsForSets, IsOfSets, IsSetsFaultOrMemory, IsFaultOrMemory, IsTreatedAnswer};
+ghost use Rattle.treated_command.specs.Right.{Decides, IsAskedFor, MayBeAsked, IsConfoundedBy, IsFormulaFor, IsForSets, IsOfSets, IsSetsFaultOrMemory, IsFaultOrMemory, IsTreatedAnswer};
 ghost use Rattle.treated_command.specs.Telling.{treated_telling};
 
 use crate::answer::{Answer, Asked};
@@ -22,7 +22,8 @@ use dag_reader::ReadGraph;
 use derived_certificates::treated_certificate;
 use diagram::{Diagram, asked_condition};
 use identify::{FormulaAnswer, identify_formula};
-use mixed_graph::Graph;
+use mixed_graph::{Graph, VSet};
+use primed_questions::are_too_many;
 use prob_expr::Formula;
 use replies::Reply;
 use std::alloc::{AllocError, Global};
@@ -65,6 +66,22 @@ pub fn treated_answer(
     }
 }
 
+/// The primed names of x by their numbers, where the effect may be asked for; or why it can't be.
+pub fn primes_of(alloc: Global, seen: &ReadGraph, sets: Sets) -> Result<VSet, TreatedFault>
+    requires { AreThreeSets seen.now.graph.n (has sets.x.bits) (has sets.y.bits) (has sets.given.bits) }
+    ensures primes { IfOk result (λ v. MayBeAsked (graph_of seen.now.graph) sets (record { sets = sets; primes = v })) }
+    ensures fault { IfErr result (IsSetsFaultOrMemory (graph_of seen.now.graph) seen.now.names sets) }
+{
+    let acted = acted_on(&seen.graph, sets.x, sets.given);
+    if !acted.is_empty() {
+        return Err(after(alloc, seen.names.name(acted.lowest())));
+    }
+    if are_too_many(&seen.graph, sets.x) {
+        return Err(TreatedFault::TooMany);
+    }
+    Ok(names_of(seen.graph.n, sets.x, sets.x, sets.x))
+}
+
 /// The answer for sets of a graph.
 fn decide(
     alloc: Global,
@@ -77,30 +94,24 @@ fn decide(
     ensures answer { IfOk result (IsForSets certified (graph_of seen.now.graph) sets) }
     ensures fault { IfErr result (IsSetsFaultOrMemory (graph_of seen.now.graph) seen.now.names sets) }
 {
-    let acted = acted_on(&seen.graph, sets.x, sets.given);
-    if !acted.is_empty() {
-        return Err(after(alloc, seen.names.name(acted.lowest())));
-    }
-    if seen.graph.n + sets.x.count() > 64 {
-        return Err(TreatedFault::TooMany);
-    }
-    match identified(alloc, &seen.graph, sets, certified) {
+    let primes = primes_of(alloc, seen, sets)?;
+    match identified(alloc, &seen.graph, Asked { sets, primes }, certified) {
         Ok(answer) => Ok(answer),
         Err(_) => Err(TreatedFault::NoMemory),
     }
 }
 
 /// The answer where x acts on none of x and what is given.
-fn identified(alloc: Global, g: &Graph, sets: Sets, certified: bool) -> Result<Answer, AllocError>
-    requires sets { AreThreeSets g.now.n (has sets.x.bits) (has sets.y.bits) (has sets.given.bits) }
-    requires some { 0 < sets.y.bits }
-    requires before { AreBefore (graph_of g.now) sets.x.bits sets.given.bits }
-    requires few { name_count g.now.n sets.x.bits ≤ 64 }
-    ensures { IfOk result (Decides certified (graph_of g.now) sets) }
+fn identified(alloc: Global, g: &Graph, asked: Asked, certified: bool) -> Result<Answer, AllocError>
+    requires asked { IsAskedFor (graph_of g.now) asked.sets asked }
+    requires sets { AreThreeSets g.now.n (has asked.sets.x.bits) (has asked.sets.y.bits) (has asked.sets.given.bits) }
+    requires some { 0 < asked.sets.y.bits }
+    requires before { AreBefore (graph_of g.now) asked.sets.x.bits asked.sets.given.bits }
+    requires few { name_count g.now.n asked.sets.x.bits ≤ 64 }
+    ensures { IfOk result (Decides certified (graph_of g.now) asked.sets) }
 {
-    let primes = names_of(g.n, sets.x, sets.x, sets.x);
-    let asked = Asked { sets, primes };
-    match treated(alloc, g, sets.x, sets.y, sets.given)? {
+    let Sets { x, y, given } = asked.sets;
+    match treated(alloc, g, x, y, given)? {
         Treated::Formula(formula) => found(alloc, g, asked, formula, certified),
         Treated::Confounded(confounding) => unidentified(alloc, g, asked, confounding),
     }

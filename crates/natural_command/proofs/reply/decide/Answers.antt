@@ -1,60 +1,11 @@
-use Rattle.std.proofs.Common.{◌≡◌, ap, ◌∙◌, rules, arith}
-use Rattle.mixed_graph.specs.Vocabulary.{has, graph_of}
-use Rattle.mixed_graph.proofs.Masks.{has-zero}
-use Rattle.mixed_graph.proofs.Members.{length-members-le}
-use Rattle.finite_models.proofs.Bools.{not_both}
-use Rattle.natural_command.specs.Right.{AreBefore}
-use Rattle.natural_command.proofs.Counting.{counted_names, pair_of, pair_from}
-use Rattle.natural_command.proofs.Replying.{lowest_named}
 use Rattle.natural_command.proofs.reply.decide.Goals as goal
-use Rattle.natural_command.proofs.reply.decide.Goals.{After-is_empty}
 
--- where no member of what is given comes after x
-before : (c : After-is_empty) → c.intersection-acted.result.bits ≡ 0 → AreBefore (graph_of c.args.seen.now.graph) c.args.question
-before c none v i d =
-    not_both (has c.intersection-acted.result.bits v)
-    (pair_from (has c.args.question.given.bits v) (has c.descendants.result.bits v) (has c.intersection-acted.result.bits v)
-    (c.intersection-acted.ensures.members v) i ((c.descendants.ensures v).1 d))
-    (ap (λ n. has n v) none ∙ has-zero v)
-
-pub overflow_add-seen : goal.overflow_add-seen
-overflow_add-seen c =
-    let few = c.args.seen.now.graph.small in let most = length-members-le (has c.args.question.x.bits) 64 in let count = c.count.ensures in
-    omega (arith, few, most, count)
-
-pub returns-then-not-is_empty-clause-fault : goal.returns-then-not-is_empty-clause-fault
-returns-then-not-is_empty-clause-fault c =
-    let at = pair_of (has c.args.question.given.bits c.lowest.result) (has c.descendants.result.bits c.lowest.result)
-    (has c.intersection-acted.result.bits c.lowest.result) (c.intersection-acted.ensures.members c.lowest.result) c.lowest.ensures.member in
-    lowest_named (graph_of c.args.seen.now.graph) c.args.seen.now.names c.args.question c.lowest.result c.name.result.now
-    (record {
-      member = at.0;
-      after = (c.descendants.ensures c.lowest.result).0 at.1;
-      least = λ u i d. c.lowest.ensures.least u (pair_from (has c.args.question.given.bits u) (has c.descendants.result.bits u)
-          (has c.intersection-acted.result.bits u) (c.intersection-acted.ensures.members u) i ((c.descendants.ensures u).1 d));
-    })
-    c.name.ensures c.after.result c.after.ensures
-
-pub returns-then-seen-count-gt64-clause-fault : goal.returns-then-seen-count-gt64-clause-fault
-returns-then-seen-count-gt64-clause-fault c = record {
-  before = before (goal.at.returns-then-seen-count-gt64-clause-fault c).After-is_empty (search rules);
-  many = let count = c.count.ensures in
-      let all = counted_names c.args.seen.now.graph.n c.args.question.x.bits c.args.seen.now.graph.small c.requires.sets.x_within in
-      omega (arith, count, all);
-}
+pub identified-requires-clause-asked : goal.identified-requires-clause-asked
+identified-requires-clause-asked c = c.in_ok-asked.ensures.asked.asked
 
 pub identified-requires-clause-before : goal.identified-requires-clause-before
-identified-requires-clause-before c = before (goal.at.identified-requires-clause-before c).After-is_empty (search rules)
-
-pub identified-requires-clause-few : goal.identified-requires-clause-few
-identified-requires-clause-few c =
-    let count = c.count.ensures in
-    let all = counted_names c.args.seen.now.graph.n c.args.question.x.bits c.args.seen.now.graph.small c.requires.sets.x_within in omega (arith, count, all)
+identified-requires-clause-before c = c.in_ok-asked.ensures.asked.before
 
 pub returns-in-Ok-clause-answer : goal.returns-in-Ok-clause-answer
-returns-in-Ok-clause-answer c = record {
-  before = before (goal.at.returns-in-Ok-clause-answer c).After-is_empty (search rules);
-  few = let count = c.count.ensures in
-      let all = counted_names c.args.seen.now.graph.n c.args.question.x.bits c.args.seen.now.graph.small c.requires.sets.x_within in omega (arith, count, all);
-  decided = c.in-Ok.ensures;
-}
+returns-in-Ok-clause-answer c =
+    let may = c.in_ok-asked.ensures.asked in record { before = may.before; few = may.few; decided = c.in-Ok.ensures }

@@ -31,8 +31,8 @@ pub returns-then-not-certified : goal.returns-then-not-certified
 returns-then-not-certified c =
     let at = (goal.at.returns-then-not-certified c).In_ok-formula in
     let r = right at _ c.in-Formula.is in
-    subst (λ (b : Bool). DecidesPlain b (graph_of c.args.g.now) c.args.question c.asked_of-asked.result c.in-Formula.formula) (sym c.if-not-certified.true)
-    (c.asked_of-asked.ensures, record { equals = r.0; found = found at _ c.in-Formula.is; clear = r.1; no_hedge = no_hedge at (ap is_hedge c.in-Formula.is) })
+    subst (λ (b : Bool). DecidesPlain b (graph_of c.args.g.now) c.args.question c.args.asked c.in-Formula.formula) (sym c.if-not-certified.true)
+    (c.requires.asked, record { equals = r.0; found = found at _ c.in-Formula.is; clear = r.1; no_hedge = no_hedge at (ap is_hedge c.in-Formula.is) })
 
 pub natural_certificate-requires-clause-no_hedge : goal.natural_certificate-requires-clause-no_hedge
 natural_certificate-requires-clause-no_hedge c =
@@ -41,9 +41,9 @@ natural_certificate-requires-clause-no_hedge c =
 pub returns-in_ok-certificate-in-Formula : goal.returns-in_ok-certificate-in-Formula
 returns-in_ok-certificate-in-Formula c =
     let at = (goal.at.returns-in_ok-certificate-in-Formula c).In_ok-formula in
-    subst (λ (b : Bool). DecidesCertified b (graph_of c.args.g.now) c.args.question c.asked_of-asked.result c.in_ok-certificate-in-Formula.certificate)
+    subst (λ (b : Bool). DecidesCertified b (graph_of c.args.g.now) c.args.question c.args.asked c.in_ok-certificate-in-Formula.certificate)
     (sym c.if-not-certified.false) (
-      c.asked_of-asked.ensures,
+      c.requires.asked,
       record {
         clear = (right at _ c.in-Formula.is).1;
         no_hedge = no_hedge at (ap is_hedge c.in-Formula.is);
@@ -55,16 +55,16 @@ pub returns-in-Hedge : goal.returns-in-Hedge
 returns-in-Hedge c =
     let at = (goal.at.returns-in-Hedge c).In_ok-formula in
     let r = right at _ c.in-Hedge.is in
-    (c.asked_of-asked.ensures, record { right = r.0; evidence = c.in_ok-formula.ensures.exact.0 (ap is_hedge c.in-Hedge.is); no_formula = r.1 })
+    (c.requires.asked, record { right = r.0; evidence = c.in_ok-formula.ensures.exact.0 (ap is_hedge c.in-Hedge.is); no_formula = r.1 })
 
 pub returns-in_ok-other-in-Witness : goal.returns-in_ok-other-in-Witness
 returns-in_ok-other-in-Witness c =
     let at = (goal.at.returns-in_ok-other-in-Witness c).In_ok-formula in
     let r = right at _ c.in-Witness.is in
-    (c.asked_of-asked.ensures, record { witness = r.0; lost = r.1; no_hedge = no_hedge at (ap is_hedge c.in-Witness.is); another = c.in_ok-other-in-Witness.ensures })
+    (c.requires.asked, record { witness = r.0; lost = r.1; no_hedge = no_hedge at (ap is_hedge c.in-Witness.is); another = c.in_ok-other-in-Witness.ensures })
 
 pub returns-in_ok-other-in-Split : goal.returns-in_ok-other-in-Split
 returns-in_ok-other-in-Split c =
     let at = (goal.at.returns-in_ok-other-in-Split c).In_ok-formula in
     let r = right at _ c.in-Split.is in
-    (c.asked_of-asked.ensures, record { split = r.0; lost = r.1; no_hedge = no_hedge at (ap is_hedge c.in-Split.is); another = c.in_ok-other-in-Split.ensures })
+    (c.requires.asked, record { split = r.0; lost = r.1; no_hedge = no_hedge at (ap is_hedge c.in-Split.is); another = c.in_ok-other-in-Split.ensures })

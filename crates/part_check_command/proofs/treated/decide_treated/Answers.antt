@@ -13,12 +13,12 @@ returns-in-Err-clause-fault c =
 
 pub check_treated_parts-requires-clause-target : goal.check_treated_parts-requires-clause-target
 check_treated_parts-requires-clause-target c =
-    (among_question (graph_of c.args.seen.now.graph) (target_view c.args.target) c.in-Ok.asked c.requires.sets c.in-Ok.ensures.asked).target
+    (among_question (graph_of c.args.seen.now.graph) (target_view c.args.target) _ c.requires.sets c.in-Ok.ensures.primes).target
 
 pub returns-in-Ok-check_treated_parts-clause-answer : goal.returns-in-Ok-check_treated_parts-clause-answer
 returns-in-Ok-check_treated_parts-clause-answer c = record {
-  question = among_question (graph_of c.args.seen.now.graph) (target_view c.args.target) c.in-Ok.asked c.requires.sets c.in-Ok.ensures.asked;
-  asked = c.in-Ok.ensures.asked.asked;
+  question = among_question (graph_of c.args.seen.now.graph) (target_view c.args.target) _ c.requires.sets c.in-Ok.ensures.primes;
+  asked = c.in-Ok.ensures.primes.asked;
   accepted = c.in-Ok-check_treated_parts.ensures.accepted;
   equals = c.in-Ok-check_treated_parts.ensures.effect;
 }
@@ -27,7 +27,7 @@ pub returns-clause-answer : goal.returns-clause-answer
 returns-clause-answer c =
     let q = graph_of c.args.seen.now.graph in let t = target_view c.args.target in
     refused_among q t (derived_views c.args.parts.items) c.as_slice.result.now c.in-Err-check_treated_parts.fault
-    (among_question q t c.in-Ok.asked c.requires.sets c.in-Ok.ensures.asked) (c.as_slice.ensures.value ∙ c.in_ok-counts.ensures)
+    (among_question q t _ c.requires.sets c.in-Ok.ensures.primes) (c.as_slice.ensures.value ∙ c.in_ok-counts.ensures)
     c.in-Err-check_treated_parts.ensures.fault c.refused.result c.refused.ensures.answer
 
 pub returns-clause-fault : goal.returns-clause-fault

@@ -1,13 +1,12 @@
-use Rattle.std.proofs.Common.{◌≡◌, ap, ◌∙◌, rules, arith}
+use Rattle.std.proofs.Common.{◌≡◌, ap, ◌∙◌, rules}
 use Rattle.mixed_graph.specs.Vocabulary.{has, graph_of}
 use Rattle.mixed_graph.proofs.Masks.{has-zero}
-use Rattle.mixed_graph.proofs.Members.{length-members-le}
 use Rattle.finite_models.proofs.Bools.{not_both}
-use Rattle.natural_command.specs.Vocabulary.{AreBefore}
-use Rattle.natural_command.proofs.Counting.{counted_names, pair_of, pair_from}
+use Rattle.natural_command.specs.Right.{AreBefore}
+use Rattle.natural_command.proofs.Pairs.{pair_of, pair_from}
 use Rattle.natural_command.proofs.Replying.{lowest_named}
-use Rattle.part_check_command.proofs.nested.asked_by.Goals as goal
-use Rattle.part_check_command.proofs.nested.asked_by.Goals.{After-is_empty}
+use Rattle.natural_command.proofs.reply.asked_by.Goals as goal
+use Rattle.natural_command.proofs.reply.asked_by.Goals.{After-is_empty}
 
 -- where no member of what is given comes after x
 before : (c : After-is_empty) → c.intersection-acted.result.bits ≡ 0 → AreBefore (graph_of c.args.seen.now.graph) c.args.question
@@ -16,11 +15,6 @@ before c none v i d =
     (pair_from (has c.args.question.given.bits v) (has c.descendants.result.bits v) (has c.intersection-acted.result.bits v)
     (c.intersection-acted.ensures.members v) i ((c.descendants.ensures v).1 d))
     (ap (λ n. has n v) none ∙ has-zero v)
-
-pub overflow_add-seen : goal.overflow_add-seen
-overflow_add-seen c =
-    let few = c.args.seen.now.graph.small in let most = length-members-le (has c.args.question.x.bits) 64 in let count = c.count.ensures in
-    omega (arith, few, most, count)
 
 pub returns-then-not-is_empty-clause-fault : goal.returns-then-not-is_empty-clause-fault
 returns-then-not-is_empty-clause-fault c =
@@ -35,26 +29,21 @@ returns-then-not-is_empty-clause-fault c =
     })
     c.name.ensures c.after.result c.after.ensures
 
-pub returns-then-seen-count-gt64-clause-fault : goal.returns-then-seen-count-gt64-clause-fault
-returns-then-seen-count-gt64-clause-fault c = record {
-  before = before (goal.at.returns-then-seen-count-gt64-clause-fault c).After-is_empty (search rules);
-  many = let count = c.count.ensures in
-      let all = counted_names c.args.seen.now.graph.n c.args.question.x.bits c.args.seen.now.graph.small c.requires.x_within in
-      omega (arith, count, all);
+pub returns-then-are_too_many-clause-fault : goal.returns-then-are_too_many-clause-fault
+returns-then-are_too_many-clause-fault c = record {
+  before = before (goal.at.returns-then-are_too_many-clause-fault c).After-is_empty (search rules);
+  many = c.are_too_many.ensures.many c.if-are_too_many.true;
 }
 
 pub asked_of-requires-clause-before : goal.asked_of-requires-clause-before
 asked_of-requires-clause-before c = before (goal.at.asked_of-requires-clause-before c).After-is_empty (search rules)
 
 pub asked_of-requires-clause-few : goal.asked_of-requires-clause-few
-asked_of-requires-clause-few c =
-    let count = c.count.ensures in
-    let all = counted_names c.args.seen.now.graph.n c.args.question.x.bits c.args.seen.now.graph.small c.requires.x_within in omega (arith, count, all)
+asked_of-requires-clause-few c = c.are_too_many.ensures.few c.if-are_too_many.false
 
 pub returns-clause-asked : goal.returns-clause-asked
 returns-clause-asked c = record {
   before = before (goal.at.returns-clause-asked c).After-is_empty (search rules);
-  few = let count = c.count.ensures in
-      let all = counted_names c.args.seen.now.graph.n c.args.question.x.bits c.args.seen.now.graph.small c.requires.x_within in omega (arith, count, all);
+  few = c.are_too_many.ensures.few c.if-are_too_many.false;
   asked = c.asked_of.ensures;
 }

@@ -1,5 +1,5 @@
--- Numbers of names, and members of two sets.
-use Rattle.std.proofs.Common.{◌≡◌, ◌≤◌, ◌+◌, ◌&&◌, ℕ, Bool, true, length, sym, ap, arith, inl, inr}
+-- How many names there are.
+use Rattle.std.proofs.Common.{◌≡◌, ◌≤◌, ◌+◌, ◌&&◌, ℕ, length, sym, ap, arith, inl, inr}
 use Rattle.std.specs.Prelude.{nat_lt}
 use Rattle.std.proofs.lemmas.Bool.{cases_Bool}
 use Rattle.mixed_graph.specs.Vocabulary.{has, members_below, Within}
@@ -15,10 +15,3 @@ counted_names n x few within = ap (λ k. n + k) (sym (length-members-cut (has x)
       | inl e ↦ let l = within v e in rw e (grind (arith, l))
       | inr e ↦ rw e (grind arith)
     ]
-
--- a member of both is a member of each, and the other way round
-pub pair_of : (a b c : Bool) → c ≡ (a && b) → c ≡ true → (a ≡ true) × (b ≡ true)
-pair_of a b c h i = (grind (arith, h, i), grind (arith, h, i))
-
-pub pair_from : (a b c : Bool) → c ≡ (a && b) → a ≡ true → b ≡ true → c ≡ true
-pair_from a b c h i j = grind (arith, h, i, j)
