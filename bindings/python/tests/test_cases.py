@@ -4,13 +4,11 @@ import re
 import tempfile
 import threading
 import unittest
-from fractions import Fraction
 
-from worked import all_cases, cases_in_text, asks_nested
+from worked import all_cases, asks_nested, cases_in_text, in_bounds
 
 import causal
 from causal.bounds import BoundsQuestion
-from causal.effects import digits
 from causal.evaluation import Evaluation
 
 LISTS = ("x", "y", "z", "do", "given", "set", "instrument", "strata", "through")
@@ -50,12 +48,6 @@ def options_of(words):
 def with_number(options):
     """The options, with how many sets are wanted as a number."""
     return {name: int(value) if name == "most" else value for name, value in options.items()}
-
-
-def in_digits(value):
-    """An exact value as its bounds are printed."""
-    number = digits(Fraction(int(value[1]), int(value[2])))
-    return f"from {number} to {number}"
 
 
 class Words(unittest.TestCase):
@@ -209,8 +201,7 @@ class Questions(unittest.TestCase):
             printed = f"{self.ask(case, folder)}\n"
         except causal.CausalError as error:
             return error.printed.replace("causal: graph", "causal: second graph" if case.status == 4 else "causal: graph") + "\n"
-        # (bounds that are equal are told as the fraction that they are)
-        return printed if "--exact" in case.words else re.sub(r"= (\d+)/(\d+)$", in_digits, printed, flags=re.M)
+        return printed if "--exact" in case.words else in_bounds(printed)
 
 
 if __name__ == "__main__":

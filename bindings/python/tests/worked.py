@@ -2,7 +2,10 @@
 import json
 import os
 import re
+from fractions import Fraction
 from typing import Dict, Iterator, List, NamedTuple, Tuple
+
+from causal.effects import digits
 
 TOP = os.path.dirname(os.path.dirname(os.path.dirname(os.path.dirname(os.path.abspath(__file__)))))
 CASES = os.path.join(TOP, "crates", "worked_cases")
@@ -75,3 +78,13 @@ def cases_in_text() -> List[Case]:
 def asks_nested(case: Case) -> bool:
     """Whether values of a natural effect are asked for over counts: `causal.run` asks this, and `mediate` asks for three worlds of it."""
     return case.words[:1] == ["evaluate"] and "--natural" in case.words
+
+
+def in_bounds(text: str) -> str:
+    """A text of the package as the program prints it: bounds that are equal are told there as the fraction that they are."""
+
+    def bounds(value: "re.Match[str]") -> str:
+        number = digits(Fraction(int(value[1]), int(value[2])))
+        return f"from {number} to {number}"
+
+    return re.sub(r"= (\d+)/(\d+)$", bounds, text, flags=re.M)
