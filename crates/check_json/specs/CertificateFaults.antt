@@ -22,7 +22,7 @@ key_message key = codes "the value of this key is missing or has another form"
 abbrev pub certificate_fault_json : CertFault → Json
 certificate_fault_json NotJson = bare_fault_json stage 1 (codes "the text is no JSON, or it nests too deep")
 certificate_fault_json (Member key) = text_fault_json stage 2 (key_message key) (codes "key") (key_text key)
-certificate_fault_json (Version n) = text_fault_json stage 3 (codes "the version is neither 1 nor 2") (codes "version") (decimal n)
+certificate_fault_json (Version n) = text_fault_json stage 3 (codes "this version is not read") (codes "version") (decimal n)
 certificate_fault_json TooDeep = bare_fault_json stage 4 (codes "steps nest more than 60 deep")
 certificate_fault_json (Name name) = text_fault_json stage 5 (codes "the name is not that of an observed vertex") (codes "name") name
 certificate_fault_json NoMemory = null

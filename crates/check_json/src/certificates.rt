@@ -73,7 +73,7 @@ fn version_fault(alloc: Global, n: u64) -> Result<Vec<u8>, AllocError>
         alloc,
         "certificate",
         3,
-        "the version is neither 1 nor 2",
+        "this version is not read",
         "version",
         digits.as_bytes(),
     )
