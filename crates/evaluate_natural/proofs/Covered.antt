@@ -8,7 +8,7 @@ use Rattle.quantity.specs.Vocabulary.{Covers, Equals}
 use Rattle.count_rows.specs.Vocabulary.{Table}
 use Rattle.count_table.specs.Vocabulary.{total}
 use Rattle.count_eval.specs.Vocabulary.{cell_of, is_used, weights_in}
-use Rattle.treated_values.proofs.Levels.{are_observed}
+use Rattle.paired_values.proofs.Levels.{are_observed}
 use Rattle.factor_values.specs.Laws.{FactorsAreCovered}
 use Rattle.natural_values.specs.Right.{FactorsCoverNested}
 use Rattle.evaluate_command.specs.Vocabulary.{CellValue}

@@ -8,7 +8,7 @@ use Rattle.count_rows.specs.Vocabulary.{Table}
 use Rattle.count_table.specs.Vocabulary.{total}
 use Rattle.count_eval.specs.Vocabulary.{IsMatched, cell_of, is_used, weights_in}
 use Rattle.treated_models.specs.Vocabulary.{as_observed, effect_among, prime_of}
-use Rattle.treated_values.proofs.Levels.{are_observed}
+use Rattle.paired_values.proofs.Levels.{are_observed}
 use Rattle.factor_values.specs.Laws.{FactorsAreCovered}
 use Rattle.factor_values.specs.Vocabulary.{PlainFactors}
 use Rattle.named_factors.specs.Covers.{FactorsCoverAmong}

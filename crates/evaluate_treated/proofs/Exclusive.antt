@@ -1,7 +1,7 @@
 -- Right answers end alike: an answer without counts, refused lists, values, counts that no model has, a path and a stop exclude each other.
-use Rattle.std.proofs.Common.{◌≡◌, ℕ, Bool, true, false, List, Option, Some, Result, Ok, Err, refl, sym, ap, ◌∙◌, arith}
+use Rattle.std.proofs.Common.{◌≡◌, ℕ, Bool, false, List, Option, Some, Result, Ok, Err, refl, sym, ap, ◌∙◌, arith}
 use Rattle.std.proofs.lemmas.Bool.{true≢false}
-use Rattle.mixed_graph.specs.Vocabulary.{has, graph_of}
+use Rattle.mixed_graph.specs.Vocabulary.{graph_of}
 use Rattle.count_rows.specs.Vocabulary.{Field, Table}
 use Rattle.count_table.specs.Vocabulary.{IsTableOf}
 use Rattle.count_eval.specs.declared.failure.EvalFault.{EvalFault}

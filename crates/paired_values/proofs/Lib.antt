@@ -1,3 +1,4 @@
+pub mod Levels
 mod AxisLists
 pub mod NameCells
 pub mod CellLists

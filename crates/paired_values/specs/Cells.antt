@@ -1,12 +1,11 @@
 -- The cells at which there are values: levels of names and primed names.
-use Rattle.std.specs.Prelude.{ℕ, ◌≡◌, ◌<◌, false, List, ◌++◌, map, length, slice_index}
+use Rattle.std.specs.Prelude.{ℕ, ◌≡◌, ◌<◌, true, false, List, ◌++◌, map, length, slice_index}
 use Rattle.mixed_graph.specs.Vocabulary.{has, members_below}
 use Rattle.count_rows.specs.Vocabulary.{Table}
-use Rattle.count_table.specs.Vocabulary.{cells_of}
+use Rattle.count_table.specs.Vocabulary.{cells_of, levels_in}
 use Rattle.count_eval.specs.Vocabulary.{cell_of, is_used}
 use Rattle.table_cells.specs.Vocabulary.{first_cell, level_count, with_levels}
 use Rattle.treated_models.specs.Vocabulary.{as_observed, name_count, prime_of, vertex_of}
-use Rattle.treated_values.specs.Right.{HaveLevels}
 use Rattle.paired_values.specs.Readings.{PlainPaired}
 use Rattle.paired_values.specs.declared.axes.Axis.{Axis}
 
@@ -33,6 +32,11 @@ printed_cells e t = cells_at t (first_cell 64) (varied e.vertices e.x e.given e.
 -- the second levels in a cell of names: x has those at its primed names
 abbrev pub second_levels : PlainPaired → List ℕ → ℕ → ℕ
 second_levels e cell = as_observed e.vertices e.x (cell_of cell)
+
+-- the names' own levels, and at primed names those that were observed: each name whose vertex is used has a level of it
+abbrev pub HaveLevels : (n x : ℕ) → Table → List ℕ → Type 0
+HaveLevels n x t cell = (k : ℕ) → k < name_count n x → is_used t (vertex_of n x k) ≡ true
+    → slice_index cell k < length (levels_in t.vertices t.levels (vertex_of n x k))
 
 -- a cell of names: a level for each whose vertex is used, and 0 for each other
 pub record IsNameCell (n x : ℕ) (t : Table) (cell : List ℕ) : Type 0 where

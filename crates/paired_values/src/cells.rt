@@ -14,6 +14,7 @@ ghost use Rattle.paired_values.specs.Walking.{Appends, IsFaultAt};
 
 use crate::axes::Axis;
 use crate::fault::PairFault;
+use crate::observed::as_observed;
 use crate::readings::{PairedEffect, Reading};
 use count_eval::{EvalFault, fault_of};
 use count_table::Counts;
@@ -24,7 +25,6 @@ use prob_expr::Formula;
 use quantity::Quantity;
 use std::alloc::Global;
 use targets::Sets;
-use treated_values::as_observed;
 
 /// The value of factors at two cells.
 fn factors_at<Q: Quantity>(

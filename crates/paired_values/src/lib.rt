@@ -10,6 +10,7 @@ mod fault;
 mod flags;
 mod lines;
 mod objects;
+mod observed;
 mod readings;
 mod shown;
 

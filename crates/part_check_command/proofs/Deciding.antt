@@ -7,7 +7,7 @@ use Rattle.derived_parts.specs.Vocabulary.{PlainDerivedPart}
 use Rattle.certificate.specs.declared.fault.CertFault.{CertFault}
 use Rattle.certificate.specs.declared.fault.CertFault.TheVariants.{NotJson, Member, Version, TooDeep, Name}
 use Rattle.certificate.specs.declared.fault.CertFault.TheVariants as certificates
-use Rattle.certificate.specs.Vocabulary.{Fails, PlainCertificate, PlainPartCertificate, treated, natural, certificate_in, part_certificate_in}
+use Rattle.certificate.specs.Vocabulary.{Fails, PlainCertificate, PlainPartCertificate, treated, natural, part_certificate_in}
 use Rattle.part_checks.specs.declared.answers.NaturalPartsFault.{NaturalPartsFault}
 use Rattle.part_checks.specs.declared.answers.TreatedPartsFault.{TreatedPartsFault}
 use Rattle.part_checks.specs.Vocabulary.{IsNaturalFault, IsTreatedFault}

@@ -1,5 +1,5 @@
 -- Numbers of lemmas, one more each time.
-use Rattle.std.proofs.Common.{◌≡◌, ℕ, ◌+◌, ◌<◌, List, ◌∷◌, [], ◌++◌, length, map, take, get_or, sym, ap, ◌∙◌}
+use Rattle.std.proofs.Common.{◌≡◌, ℕ, ◌+◌, ◌<◌, List, ◌∷◌, [], ◌++◌, length, take, get_or, sym, ap, ◌∙◌}
 use Rattle.std.proofs.lemmas.List.{take_more, map-append}
 use Rattle.derived_parts.specs.declared.part.DerivedPart.{DerivedPart}
 use Rattle.derived_parts.specs.Vocabulary.{derived_view, derived_views}

@@ -1,5 +1,5 @@
 -- The sets and the lemmas of a certificate in parts that was read are as the checks ask them; and its version is neither 1 nor 2.
-use Rattle.std.proofs.Common.{◌≡◌, ℕ, Bool, true, false, ◌||◌, List, [], ◌∷◌, ◌++◌, length, Result, Ok, Err, if◌then◌else◌, refl, sym, ap, subst, ◌∙◌, codes, arith}
+use Rattle.std.proofs.Common.{◌≡◌, ℕ, Bool, true, false, ◌||◌, List, [], ◌∷◌, ◌++◌, length, Result, Ok, Err, if◌then◌else◌, sym, ap, subst, ◌∙◌, codes, arith}
 use Rattle.std.specs.Prelude.{◌==◌}
 use Rattle.mixed_graph.specs.Vocabulary.{has, union, Apart}
 use Rattle.mixed_graph.proofs.MaskLaws.{has_join}
@@ -13,9 +13,9 @@ use Rattle.derived_parts.specs.Vocabulary.{AreSound, IsSound, PlainDerivedPart}
 use Rattle.certificate.specs.declared.fault.Key.TheVariants as keys
 use Rattle.certificate.specs.declared.fault.CertFault.{CertFault}
 use Rattle.certificate.specs.declared.fault.CertFault.TheVariants.{NotJson, Member, Version}
-use Rattle.certificate.specs.Vocabulary.{◌>>=◌, or_fault, PlainCertificate, PlainPartCertificate, treated, natural, member_by, member_count, is_answer, is_version, version_in, answer_in, formula_in, derivation_in, json_of, part_in, more_parts, part_list_in, parts_in, part_target_in, treated_certificate_in, natural_certificate_in, part_answer_in, value_certificate, part_value_certificate, certificate_in, part_certificate_in}
+use Rattle.certificate.specs.Vocabulary.{◌>>=◌, or_fault, PlainPartCertificate, treated, natural, member_by, member_count, is_answer, is_version, version_in, answer_in, formula_in, derivation_in, json_of, part_in, more_parts, part_list_in, parts_in, part_target_in, treated_certificate_in, natural_certificate_in, part_answer_in, value_certificate, part_value_certificate, certificate_in, part_certificate_in}
 use Rattle.natural_command.proofs.Naming.{turned}
-use Rattle.check_command.proofs.ReadTargets.{AreNew, IsFilled, ok_is, then_ok, bind_ok, member_ok, set_new, filled_new}
+use Rattle.check_command.proofs.ReadTargets.{AreNew, ok_is, then_ok, bind_ok, member_ok, set_new, filled_new}
 use Rattle.check_command.proofs.ReadFormulas.{derivation_sound}
 
 -- ---- parts

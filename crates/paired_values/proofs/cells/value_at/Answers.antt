@@ -3,7 +3,7 @@ use mathlib.Core.Path.{fun_ext}
 use Rattle.count_eval.specs.Vocabulary.{cell_of, weights_in}
 use Rattle.factor_values.specs.Vocabulary.{factors_view}
 use Rattle.prob_expr.specs.Vocabulary.{formula_view}
-use Rattle.treated_values.proofs.Levels as levels
+use Rattle.paired_values.proofs.Levels as levels
 use Rattle.paired_values.specs.Cells.{second_levels}
 use Rattle.paired_values.specs.Readings.{by_factors, by_split, paired_view, reading_view}
 use Rattle.paired_values.specs.Values.{MayAnswer, outcome_at}

@@ -1,4 +1,4 @@
-use Rattle.std.proofs.Common.{◌++◌, ◌∷◌, [], sym, ap, ap₂, ◌∙◌}
+use Rattle.std.proofs.Common.{◌++◌, ◌∷◌, [], sym, ap₂, ◌∙◌}
 use Rattle.part_check_command.proofs.LemmaCounts.{counts_more}
 use Rattle.part_check_command.proofs.counting.lemma_counts.Goals as goal
 

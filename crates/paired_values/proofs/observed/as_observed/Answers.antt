@@ -3,8 +3,8 @@ use Rattle.count_eval.specs.Vocabulary.{cell_of}
 use Rattle.treated_models.specs.Vocabulary.{prime_of}
 use Rattle.treated_models.proofs.Primes.{prime_low}
 use Rattle.factor_values.proofs.Walking.{IsReadTo, read_none, read_second, read_first, read_all}
-use Rattle.treated_values.proofs.values.as_observed.Goals as goal
-use Rattle.treated_values.proofs.values.as_observed.Goals.{then-has, else-has}
+use Rattle.paired_values.proofs.observed.as_observed.Goals as goal
+use Rattle.paired_values.proofs.observed.as_observed.Goals.{then-has, else-has}
 
 pub loop-v-init : goal.loop-v-init
 loop-v-init c = read_none c.args.x.bits c.args.cell.now (λ v. cell_of c.args.cell.now (prime_of c.args.n c.args.x.bits v)) (omega arith)

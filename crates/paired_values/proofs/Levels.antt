@@ -7,7 +7,7 @@ use Rattle.count_eval.specs.Vocabulary.{cell_of, is_used}
 use Rattle.treated_models.specs.Vocabulary.{as_observed, prime_of}
 use Rattle.treated_models.proofs.Primes.{vertex_plain, vertex_primed, prime_low}
 use Rattle.factor_values.specs.Vocabulary.{AreEvaluable, AreObserved, PlainFactors}
-use Rattle.treated_values.specs.Right.{HaveLevels}
+use Rattle.paired_values.specs.Cells.{HaveLevels}
 
 module _ (n x : ℕ) (t : Table) (cell : List ℕ) (long : length cell ≡ 64) (few : n ≤ 64) (within : (v : ℕ) → has x v ≡ true → v < n)
     (below : (v : ℕ) → is_used t v ≡ true → v < n) (have : HaveLevels n x t cell) where

@@ -1,1 +1,0 @@
-use Rattle.evaluate_treated.proofs.reply.over_table.Goals as goal

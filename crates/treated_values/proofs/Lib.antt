@@ -1,2 +1,0 @@
-pub mod Levels
-mod Covering
