@@ -1,7 +1,7 @@
 /* The code of the proved library, made by portable/make. Change nothing here: what it is made from stands in crates/.
  *
  * kit: rattle-kit-13f
- * sources: 5af17219abc7d213613d853f170d5d2d5522820de7d3b2cccd30f18d74c2239c
+ * sources: 90dd5dc6d44e92e6178bb3e4e922e9c6441a36cb5ad4fe358fc55fbd5eed35a9
  * parts: 8
  */
 #define WORDS 3239
@@ -492,76 +492,75 @@ N(0x4f534a206f6e2073),N(0x746920726f202c4e),N(0x7420737473656e20),N(0x6b70656564
 N(0x726f6d207473656e),N(0x36206e6168742065),N(0x6874706565642030),N(0x6920656d616e2065),N(0x687420746f6e2073),
 N(0x6e6120666f207461),N(0x6576726573626f20),N(0x7865747265762064),N(0x7369206572656874),N(0x6874727566206120),
 N(0x687479656b207265),N(0x2065756c61762065),N(0x207369687420666f),N(0x6d2073692079656b),N(0x6f20676e69737369),
-N(0x6e61207361682072),N(0x6f6620726568746f),N(0x6576206568746d72),N(0x7369206e6f697372),N(0x7265687469656e20),
-N(0x3220726f6e203120),N(0x662073746e756f63),N(0x203a3820746c7561),N(0x313736207265766f),N(0x7962203436383830),
-N(0x746e756f63736574),N(0x20746c7561662073),N(0x6320776f72203a31),N(0x61662073746e756f),N(0x63203a3220746c75),
-N(0x61662073746e756f),N(0x63203a3320746c75),N(0x61662073746e756f),N(0x72203a3420746c75),N(0x746e756f6320776f),
-N(0x20746c7561662073),N(0x2073746e756f6335),N(0x633620746c756166),N(0x61662073746e756f),N(0x776f723720746c75),
-N(0x6365722073696874),N(0x207361682064726f),N(0x20726568746f6e61),N(0x6f207265626d756e),N(0x73646c6569662066),
-N(0x6874206e61687420),N(0x7265646165682065),N(0x7369206572656874),N(0x756c6f63206f6e20),N(0x687420666f206e6d),
-N(0x74656d616e207369),N(0x6572612065726568),N(0x6c6f63206f777420),N(0x20666f20736e6d75),N(0x6d616e2073696874),
-N(0x756f632065687465),N(0x687420666f20746e),N(0x726f636572207369),N(0x206f6e2073692064),N(0x756e20656c6f6877),
-N(0x207075207265626d),N(0x35315e3031206f74),N(0x6576656c20656874),N(0x20656b616d20736c),N(0x6168742065726f6d),
-N(0x632030325e32206e),N(0x20656874736c6c65),N(0x732073746e756f63),N(0x6f6d206f74206d75),N(0x206e616874206572),
-N(0x65687435315e3031),N(0x2073746e756f6320),N(0x30206f74206d7573),N(0x697461756c617665),N(0x746c756166206e6f),
-N(0x6c617665203a3120),N(0x66206e6f69746175),N(0x203a3220746c7561),N(0x697461756c617665),N(0x746c756166206e6f),
-N(0x6e69616d203a3320),N(0x6e202065646f6e20),N(0x65646f6e2065646f),N(0x697461756c617665),N(0x6976696420616e6f),
-N(0x3020736920726f73),N(0x6874207265766f20),N(0x6e756f6320657365),N(0x626d756e20617374),N(0x6573736170207265),
-N(0x203732315e322073),N(0x766964206131202d),N(0x65696c20726f7369),N(0x6565777465622073),N(0x20646e612030206e),
-N(0x6f6e38312d5e3031),N(0x6f206c65646f6d20),N(0x6420736968742066),N(0x68206d6172676169),N(0x6573656874207361),
-N(0xa73746e756f6320),N(0x7373656c20736920),N(0x6f6e206e61687420),N(0x656c6c65646f6d20),N(0x6e6e6e6e3d5d7373),
-N(0x6e62626e6e6e6e6e),N(0x6e6e6e6e6e6e626e),N(0x6e6e6e6e6e6e6e6e),N(0x6f616e626e6e6e6e),N(0x6e6e6e6e6e6e6e6e),
-N(0x6e6e6e6e6f6e6563),N(0x636e6e6e6e6e6e6e),N(0x6e6e6e656e656365),N(0x6e6e6e6e6e6e6e6e),N(0x6e6e6e6e6e6e6e6e),
-N(0x636e6e6e6e6e6e6e),N(0x6e6e6e6e6e6e636e),N(0x6e6e6e6e6e6e6e6e),N(0x6e6e6e6e6e6e6e6e),N(0x636e6e6e6e6e6e6e),
-N(0x6e6e6e6e6e6e636e),N(0x6e6e6e6e6e6e6e6e),N(0x6e6e6e6e6e6e6e6e),N(0x6e6e6e6e6e6e6e6e),N(0x6e6e6e6e6e6e6e6e),
+N(0x6e61207361682072),N(0x6f6620726568746f),N(0x7620736968746d72),N(0x69206e6f69737265),N(0x657220746f6e2073),
+N(0x73746e756f636461),N(0x3820746c75616620),N(0x36207265766f203a),N(0x2034363838303137),N(0x756f637365747962),
+N(0x6c7561662073746e),N(0x776f72203a312074),N(0x2073746e756f6320),N(0x3a3220746c756166),N(0x2073746e756f6320),
+N(0x3a3320746c756166),N(0x2073746e756f6320),N(0x3a3420746c756166),N(0x756f6320776f7220),N(0x6c7561662073746e),
+N(0x746e756f63352074),N(0x20746c7561662073),N(0x2073746e756f6336),N(0x723720746c756166),N(0x722073696874776f),
+N(0x61682064726f6365),N(0x6568746f6e612073),N(0x7265626d756e2072),N(0x6c65696620666f20),N(0x206e616874207364),
+N(0x6461656820656874),N(0x2065726568747265),N(0x6f63206f6e207369),N(0x20666f206e6d756c),N(0x6d616e2073696874),
+N(0x6120657265687465),N(0x63206f7774206572),N(0x6f20736e6d756c6f),N(0x6e20736968742066),N(0x6320656874656d61),
+N(0x20666f20746e756f),N(0x6365722073696874),N(0x6e2073692064726f),N(0x20656c6f6877206f),N(0x75207265626d756e),
+N(0x5e3031206f742070),N(0x656c206568743531),N(0x6b616d20736c6576),N(0x742065726f6d2065),N(0x30325e32206e6168),
+N(0x6874736c6c656320),N(0x73746e756f632065),N(0x206f74206d757320),N(0x6168742065726f6d),N(0x7435315e3031206e),
+N(0x746e756f63206568),N(0x6f74206d75732073),N(0x61756c6176653020),N(0x756166206e6f6974),N(0x7665203a3120746c),
+N(0x6e6f697461756c61),N(0x3220746c75616620),N(0x61756c617665203a),N(0x756166206e6f6974),N(0x616d203a3320746c),
+N(0x2065646f6e206e69),N(0x6f6e2065646f6e20),N(0x61756c6176656564),N(0x696420616e6f6974),N(0x736920726f736976),
+N(0x207265766f203020),N(0x6f63206573656874),N(0x756e206173746e75),N(0x736170207265626d),N(0x32315e3220736573),
+N(0x64206131202d2037),N(0x6c20726f73697669),N(0x7774656220736569),N(0x6e612030206e6565),N(0x38312d5e30312064),
+N(0x6c65646f6d206f6e),N(0x7369687420666f20),N(0x6d61726761696420),N(0x6568742073616820),N(0x746e756f63206573),
+N(0x656c207369200a73),N(0x206e616874207373),N(0x6c65646f6d206f6e),N(0x6e6e3d5d7373656c),N(0x626e6e6e6e6e6e6e),
+N(0x6e6e6e6e626e6e62),N(0x6e6e6e6e6e6e6e6e),N(0x6e626e6e6e6e6e6e),N(0x6e6e6e6e6e6e6f61),N(0x6e6e6f6e65636e6e),
+N(0x6e6e6e6e6e6e6e6e),N(0x6e656e656365636e),N(0x6e6e6e6e6e6e6e6e),N(0x6e6e6e6e6e6e6e6e),N(0x6e6e6e6e6e6e6e6e),
+N(0x6e6e6e6e636e636e),N(0x6e6e6e6e6e6e6e6e),N(0x6e6e6e6e6e6e6e6e),N(0x6e6e6e6e6e6e6e6e),N(0x6e6e6e6e636e636e),
 N(0x6e6e6e6e6e6e6e6e),N(0x6e6e6e6e6e6e6e6e),N(0x6e6e6e6e6e6e6e6e),N(0x6e6e6e6e6e6e6e6e),N(0x6e6e6e6e6e6e6e6e),
-N(0x6e6e6e6e6e6e6e6e),N(0x6e6e6e6e6e6e6e6e),N(0x6e6f6e6e6e6e6e6e),N(0x6e6e6e6e6e6e6e6e),N(0x6e6e6e6e6e6e6e6e),
-N(0x6e6e6e6e6e6e6e6e),N(0x656c65736e6e6e6e),N(0x7571654064657463),N(0xa746e656c617669),N(0x6574617261706573),
-N(0x746f62206e692064),N(0x206e65706f203a68),N(0x6e20656874206e69),N(0x766975716520746f),N(0x65203a746e656c61),
-N(0x206e692020656764),N(0x6170657320656874),N(0x6e69206465746172),N(0x6c61202065687420),N(0x746f6e203a656e6f),
-N(0x6c61766975716520),N(0x6c6f63203a746e65),N(0x646520726564696c),N(0x64696c6c6f636567),N(0x716520746f6e7265),
-N(0x746e656c61766975),N(0x6574617261706573),N(0x646e696b6e695f64),N(0x6172617065736e69),N(0x6f6365736e6f6974),
-N(0x687061726720646e),N(0x6166206870617267),N(0x203a323120746c75),N(0x343031207265766f),N(0x7479622036373538),
-N(0x6c61737561637365),N(0x646e6f636573203a),N(0x7865742065687420),N(0x6f6d207361682074),N(0x206e616874206572),
-N(0x2036373538343031),N(0x6172677365747962),N(0x746c756166206870),N(0x65747962203a3120),N(0x6620687061726720),
-N(0x203a3220746c7561),N(0x6172672065747962),N(0x746c756166206870),N(0x65747962203a3320),N(0x6620687061726720),
-N(0x72673420746c7561),N(0x6c75616620687061),N(0x747962203a352074),N(0x2068706172672065),N(0x3a3620746c756166),
-N(0x7267206574796220),N(0x6c75616620687061),N(0x617267203a372074),N(0x746c756166206870),N(0x70617267203a3820),
-N(0x20746c7561662068),N(0x6620687061726739),N(0x3a303120746c7561),N(0x6620687061726720),N(0x3a313120746c7561),
-N(0x6874656c63796320),N(0x6920747865742065),N(0x545520746f6e2073),N(0x6d6f726620382d46),N(0x6e6f206572656820),
-N(0x6e656b6f74206f6e),N(0x2073646e61747320),N(0x7461687765726568),N(0x2073646e61747320),N(0x656f642065726568),
-N(0x696620746f6e2073),N(0x7267206568742074),N(0x6f202c72616d6d61),N(0x6574206568742072),N(0x2073646e65207478),
-N(0x6c726165206f6f74),N(0x7865742065687479),N(0x6e2073656f642074),N(0x6e6967656220746f),N(0x6164206874697720),
-N(0x6465207369687467),N(0x6e20736168206567),N(0x746365726964206f),N(0x20736968746e6f69),N(0x7475626972747461),
-N(0x6e6f6e2073692065),N(0x70786520666f2065),N(0x6f202c657275736f),N(0x202c656d6f637475),N(0x64657473756a6461),
-N(0x74616c20646e6120),N(0x20726f202c746e65),N(0x646e617473207469),N(0x206e61206e6f2073),N(0x2065687465676465),
-N(0x6920786574726576),N(0x7463656c65732073),N(0x676465206e616465),N(0x20736e696f6a2065),N(0x7472657620656874),
-N(0x7469206f74207865),N(0x72656874666c6573),N(0x6f6d206572612065),N(0x206e616874206572),N(0x73656d616e203436),
-N(0x7472657620656874),N(0x7420736168207865),N(0x73656c6f72206f77),N(0x6572696420656874),N(0x6764652064657463),
-N(0x2065766168207365),N(0x62656c6379632061),N(0x63656e696c657479),N(0x6365736e6d756c6f),N(0x6772617420646e6f),
-N(0x656c207461207465),N(0x7461202c20747361),N(0x74612074736f6d20),N(0x7461747361656c5f),N(0x6f726374736f6d5f),
-N(0x7375616364657373),N(0x6c617665203a6c61),N(0x66206e6f69746175),N(0x203a3220746c7561),N(0x646f6e206e69616d),
-N(0x6c6176650a302065),N(0x66206e6f69746175),N(0x203a3120746c7561),N(0x646f6e206e69616d),N(0x6d20746120302065),
-N(0x6c7078650a6e6961),N(0x61747364656e6961),N(0x617365766f6d7472),N(0x7375616372657466),N(0x64616572203a6c61),
-N(0xa64656c69616620),N(0x203a6c6173756163),N(0x6166206574697277),N(0x7561630a64656c69),N(0x206f6e203a6c6173),
-N(0x630a79726f6d656d),N(0x77203a6c61737561),N(0x746f6e207364726f),N(0x74737265646e7520),N(0x6d6f63203b646f6f),
-N(0x72612073646e616d),N(0x2068706172672065),N(0x6574617261706573),N(0x646920656c757220),N(0x6320796669746e65),
-N(0x6a6461206b636568),N(0x6c61766520747375),N(0x7571652065746175),N(0x20746e656c617669),N(0x6920796576727573),
-N(0x69746163696c706d),N(0x7272757320736e6f),N(0x6f6220657461676f),N(0x6572742073646e75),N(0x736e692064657461),
-N(0x73746e656d757274),N(0x6c61727574616e20),N(0xa737065747320),N(0x5),N(0x8),N(0x4),N(0x8),N(0x5),N(0x6),N(0x8),
-N(0xa),N(0x6),N(0xc),N(0x9),N(0x6),N(0x7),N(0xb),N(0x7),N(0x5),A(16709),A(16714),A(16722),A(16726),A(16734),A(16739),
-A(16745),A(16753),A(16763),A(16769),A(16781),A(16790),A(16796),A(16803),A(16814),A(16821),N(0x0),N(0x0),N(0x2),N(0x2),
-N(0x5),N(0x0),N(0x0),N(0x0),N(0x0),N(0x0),N(0x0),N(0x0),N(0x0),N(0xff),N(0x0),N(0x0),N(0x0),N(0x0),N(0x26),N(0x1d),
-N(0x26),N(0x26),A(15161),A(15199),A(15228),A(15266),N(0x4),N(0x4),N(0x5),A(18303),A(18515),A(18307),N(0x2),N(0x2),
-N(0x3),A(18550),A(18552),A(18554),A(3947),A(20658),A(20659),A(20660),A(20661),A(20662),A(20663),A(20664),A(3947),
-A(20658),A(20659),A(20660),A(20661),A(20662),N(0x15),N(0x1e),N(0x20),N(0x1f),N(0x14),N(0x16),N(0x16),N(0x20),A(20896),
-A(20917),A(20947),A(20979),A(21010),A(21030),A(21052),A(21074),N(0x61),N(0x21),N(0x21),N(0x22),N(0x2e),N(0x2d),
-A(21193),A(21290),A(21323),A(21356),A(21390),A(21436),N(0x6),N(0x7),N(0x1),N(0x1),N(0x5),N(0x7),N(0x4),N(0x6),N(0x4),
-N(0x3),N(0x5),N(0x5),N(0x6),N(0x5),N(0x5),N(0x5),N(0x7),N(0x8),A(18047),A(3205),A(16846),A(3940),A(16841),A(19080),
-A(19087),A(19110),A(19106),A(19220),A(19239),A(19234),A(19223),A(19229),A(22041),A(19774),A(16916),A(19779),N(0x2),
-N(0x3),N(0x1),N(0x19),N(0x23),N(0x20),A(22802),A(22827),A(22770),N(0x7),N(0x8),N(0x8),N(0x7),N(0x7),N(0x8),N(0x5),
-A(19116),A(19123),A(19131),A(19139),A(19146),A(19153),A(19161),N(0x7),N(0x6),N(0x5),N(0x6),A(19166),A(19173),A(19179),
-A(19184),
+N(0x6e6e6e6e6e6e6e6e),N(0x6e6e6e6e6e6e6e6e),N(0x6e6e6e6e6e6e6e6e),N(0x6e6e6e6e6e6e6e6e),N(0x6e6e6e6e6e6e6e6e),
+N(0x6e6e6e6e6e6e6e6e),N(0x6e6e6e6e6e6e6e6e),N(0x6e6e6e6e6e6e6e6f),N(0x6e6e6e6e6e6e6e6e),N(0x6e6e6e6e6e6e6e6e),
+N(0x65736e6e6e6e6e6e),N(0x654064657463656c),N(0x6e656c6176697571),N(0x6172617065730a74),N(0x62206e6920646574),
+N(0x65706f203a68746f),N(0x656874206e69206e),N(0x75716520746f6e20),N(0x3a746e656c617669),N(0x6920206567646520),
+N(0x657320656874206e),N(0x2064657461726170),N(0x2020656874206e69),N(0x6e203a656e6f6c61),N(0x766975716520746f),
+N(0x63203a746e656c61),N(0x20726564696c6c6f),N(0x6c6c6f6365676465),N(0x20746f6e72656469),N(0x656c617669757165),
+N(0x617261706573746e),N(0x696b6e695f646574),N(0x617065736e69646e),N(0x65736e6f69746172),N(0x61726720646e6f63),
+N(0x2068706172676870),N(0x323120746c756166),N(0x31207265766f203a),N(0x6220363735383430),N(0x7375616373657479),
+N(0x6f636573203a6c61),N(0x742065687420646e),N(0x2073616820747865),N(0x6168742065726f6d),N(0x373538343031206e),
+N(0x6773657479622036),N(0x7561662068706172),N(0x7962203a3120746c),N(0x6870617267206574),N(0x3220746c75616620),
+N(0x672065747962203a),N(0x7561662068706172),N(0x7962203a3320746c),N(0x6870617267206574),N(0x3420746c75616620),
+N(0x6166206870617267),N(0x62203a3520746c75),N(0x7061726720657479),N(0x20746c7561662068),N(0x2065747962203a36),
+N(0x6166206870617267),N(0x67203a3720746c75),N(0x7561662068706172),N(0x7267203a3820746c),N(0x6c75616620687061),
+N(0x6870617267392074),N(0x3120746c75616620),N(0x6870617267203a30),N(0x3120746c75616620),N(0x656c637963203a31),
+N(0x7478657420656874),N(0x20746f6e20736920),N(0x726620382d465455),N(0x2065726568206d6f),N(0x6b6f74206f6e6e6f),
+N(0x646e617473206e65),N(0x6877657265682073),N(0x646e617473207461),N(0x6420657265682073),N(0x20746f6e2073656f),
+N(0x2065687420746966),N(0x2c72616d6d617267),N(0x2065687420726f20),N(0x646e652074786574),N(0x6165206f6f742073),
+N(0x7420656874796c72),N(0x73656f6420747865),N(0x67656220746f6e20),N(0x2068746977206e69),N(0x2073696874676164),
+N(0x7361682065676465),N(0x65726964206f6e20),N(0x6968746e6f697463),N(0x6269727474612073),N(0x6e20736920657475),
+N(0x6520666f20656e6f),N(0x2c657275736f7078),N(0x656d6f6374756f20),N(0x7473756a6461202c),N(0x6c20646e61206465),
+N(0x6f202c746e657461),N(0x6174732074692072),N(0x61206e6f2073646e),N(0x687465676465206e),N(0x7865747265762065),
+N(0x656c657320736920),N(0x65206e6164657463),N(0x6e696f6a20656764),N(0x6576206568742073),N(0x206f742078657472),
+N(0x6874666c65737469),N(0x2065726120657265),N(0x6168742065726f6d),N(0x6d616e203436206e),N(0x6576206568747365),
+N(0x7361682078657472),N(0x6c6f72206f777420),N(0x6964206568747365),N(0x6520646574636572),N(0x7661682073656764),
+N(0x6c63796320612065),N(0x6e696c6574796265),N(0x736e6d756c6f6365),N(0x617420646e6f6365),N(0x2074612074656772),
+N(0x202c20747361656c),N(0x2074736f6d207461),N(0x747361656c5f7461),N(0x6374736f6d5f7461),N(0x6163646573736f72),
+N(0x7665203a6c617375),N(0x6e6f697461756c61),N(0x3220746c75616620),N(0x6e206e69616d203a),N(0x76650a302065646f),
+N(0x6e6f697461756c61),N(0x3120746c75616620),N(0x6e206e69616d203a),N(0x746120302065646f),N(0x78650a6e69616d20),
+N(0x7364656e69616c70),N(0x65766f6d74726174),N(0x6163726574666173),N(0x6572203a6c617375),N(0x656c696166206461),
+N(0x6c61737561630a64),N(0x206574697277203a),N(0x630a64656c696166),N(0x6e203a6c61737561),N(0x79726f6d656d206f),
+N(0x3a6c61737561630a),N(0x6e207364726f7720),N(0x7265646e7520746f),N(0x63203b646f6f7473),N(0x2073646e616d6d6f),
+N(0x7061726720657261),N(0x6172617065732068),N(0x20656c7572206574),N(0x796669746e656469),N(0x61206b6365686320),
+N(0x7665207473756a64),N(0x6520657461756c61),N(0x6e656c6176697571),N(0x7965767275732074),N(0x6163696c706d6920),
+N(0x757320736e6f6974),N(0x20657461676f7272),N(0x742073646e756f62),N(0x6920646574616572),N(0x6e656d757274736e),
+N(0x727574616e207374),N(0x7370657473206c61),N(0xa),N(0x5),N(0x8),N(0x4),N(0x8),N(0x5),N(0x6),N(0x8),N(0xa),N(0x6),
+N(0xc),N(0x9),N(0x6),N(0x7),N(0xb),N(0x7),N(0x5),A(16709),A(16714),A(16722),A(16726),A(16734),A(16739),A(16745),
+A(16753),A(16763),A(16769),A(16781),A(16790),A(16796),A(16803),A(16814),A(16821),N(0x0),N(0x0),N(0x2),N(0x2),N(0x5),
+N(0x0),N(0x0),N(0x0),N(0x0),N(0x0),N(0x0),N(0x0),N(0x0),N(0xff),N(0x0),N(0x0),N(0x0),N(0x0),N(0x26),N(0x1d),N(0x26),
+N(0x26),A(15161),A(15199),A(15228),A(15266),N(0x4),N(0x4),N(0x5),A(18303),A(18515),A(18307),N(0x2),N(0x2),N(0x3),
+A(18550),A(18552),A(18554),A(3947),A(20658),A(20659),A(20660),A(20661),A(20662),A(20663),A(20664),A(3947),A(20658),
+A(20659),A(20660),A(20661),A(20662),N(0x15),N(0x1e),N(0x20),N(0x1f),N(0x14),N(0x16),N(0x16),N(0x20),A(20896),A(20917),
+A(20947),A(20979),A(21010),A(21030),A(21052),A(21074),N(0x61),N(0x21),N(0x21),N(0x22),N(0x2e),N(0x2d),A(21193),
+A(21290),A(21323),A(21356),A(21390),A(21436),N(0x6),N(0x7),N(0x1),N(0x1),N(0x5),N(0x7),N(0x4),N(0x6),N(0x4),N(0x3),
+N(0x5),N(0x5),N(0x6),N(0x5),N(0x5),N(0x5),N(0x7),N(0x8),A(18047),A(3205),A(16846),A(3940),A(16841),A(19080),A(19087),
+A(19110),A(19106),A(19220),A(19239),A(19234),A(19223),A(19229),A(22041),A(19774),A(16916),A(19779),N(0x2),N(0x3),
+N(0x1),N(0x19),N(0x23),N(0x20),A(22796),A(22821),A(22764),N(0x7),N(0x8),N(0x8),N(0x7),N(0x7),N(0x8),N(0x5),A(19116),
+A(19123),A(19131),A(19139),A(19146),A(19153),A(19161),N(0x7),N(0x6),N(0x5),N(0x6),A(19166),A(19173),A(19179),A(19184),
 };
 DATA_END
 #endif
@@ -2432,10 +2431,10 @@ if(!R1(k+3536))goto z73;
 if(!a35)goto z77;
 rattle_dealloc(a31);z77:;P4(k+1984,0);P4(k+1987,0);PV(k+5584,m);a34=8u;a48=0ull;a35=0ull;a31=k+22351;a49=a31;goto z70;
 z75:;switch((I)Z1(k+2504)){case 1:goto z82;case 2:goto z81;default:goto z83;}z83:;PV(k+14432,m);f=k+22351;l=0ull;a34=6u;
-goto z79;z82:;PV(k+14448,m);PV(k+14432,m);r_lines_line_behind(k+14432,D(18685),8ull,D(23384),34ull);
+goto z79;z82:;PV(k+14448,m);PV(k+14432,m);r_lines_line_behind(k+14432,D(18685),8ull,D(23378),34ull);
 if(R1(k+14432))goto z84;
 c=R8(k+14456);l=R8(k+14448);f=R8(k+14440);PV(k+14448,m);PV(k+14432,m);
-r_faults_bare_fault(k+14432,D(16709),5ull,12ull,D(23433),36ull);PV(k+19704,RV(k+14448));
+r_faults_bare_fault(k+14432,D(16709),5ull,12ull,D(23427),36ull);PV(k+19704,RV(k+14448));
 if(!R1(k+14432))goto z72;
 if(!c)goto z84;
 rattle_dealloc(f);z84:;PV(k+14432,m);f=k+22351;goto z80;z81:;PV(k+14432,m);f=k+22351;z80:;l=0ull;a34=8u;z79:;c=0ull;b=f;
@@ -3563,7 +3562,7 @@ r_SecondFaultRefuses_refuse(h+1384,h+2384);P4(h+2152,R4(h+1393));P4(h+2155,R4(h+
 PV(h+2616,RV(h+1432));goto z28;z31:;PV(h+1384,l);PV(h+1400,l);PV(h+1416,l);PV(h+1432,l);P8(h+2384,0);PV(h+2392,l);
 PV(h+2408,l);r_CountsFaultRefuses_refuse(h+1384,h+2384);P4(h+2152,R4(h+1393));P4(h+2155,R4(h+1396));
 P8(h+2608,R8(h+1424));PV(h+2616,RV(h+1432));goto z28;z30:;PV(h+1400,l);PV(h+1384,l);
-r_lines_line_behind(h+1384,D(18685),8ull,D(22264),35ull);
+r_lines_line_behind(h+1384,D(18685),8ull,D(22258),35ull);
 if(R1(h+1384))goto z37;
 d=R8(h+1408);e=R8(h+1400);f=R8(h+1392);PV(h+1400,l);PV(h+1384,l);
 r_faults_bare_fault(h+1384,D(16900),6ull,8ull,D(21903),37ull);P8(h+2391,R8(h+1392));PV(h+2399,RV(h+1400));
@@ -3669,10 +3668,10 @@ i=c;a36=0ull;a37=0ull;a38=0ull;k=0ull;e=0u;z9:a39=s;s=(I)(!(a35&255));a40=e;z10:
 if(!((1u<<(a40&255&31))&3096))goto z15;
 if(!(s&1))goto z15;
 if(!!i)goto z16;
-a41=10u;a42=0u;i=0ull;j=0ull;h=0ull;g=0ull;p=c;a35=0u;goto z14;z16:;g=0ull;z17:m=b+g;e=R1(Z1(m)+D(22932));
+a41=10u;a42=0u;i=0ull;j=0ull;h=0ull;g=0ull;p=c;a35=0u;goto z14;z16:;g=0ull;z17:m=b+g;e=R1(Z1(m)+D(22926));
 if(e==98)goto z18;
 j=g-i;o=i-g;n=0ull;l=0ull;z20:h=Z1(m+l);
-if(R1(h+D(22932))<110)goto z19;
+if(R1(h+D(22926))<110)goto z19;
 n=(n<<8)|h;l+=1;
 if((j+l)!=0)goto z20;
 l=o;z19:;
@@ -3680,7 +3679,7 @@ if(!l)goto z15;
 if(e!=110)goto z15;
 if((i-l)==g)goto z15;
 a43=l>7?0ull:(l<<56)+n;n=l+g;z22:h=b+n;e=R1(h);
-if(R1((L)e+D(22932))!=98)goto z21;
+if(R1((L)e+D(22926))!=98)goto z21;
 n+=1;
 if(i!=n)goto z22;
 goto z15;z21:;j=i-n;
@@ -3698,11 +3697,11 @@ z26:;n=j-2;j=h+2;a44=1u;goto z23;z25:;
 if(R1(h+1)!=62)goto z15;
 z24:;n=j-2;j=h+2;a44=0u;z23:;
 if(!n)goto z15;
-if(R1(Z1(j)+D(22932))==101)goto z15;
-h=0-n;n=j;z31:e=R1(Z1(n)+D(22932));
+if(R1(Z1(j)+D(22926))==101)goto z15;
+h=0-n;n=j;z31:e=R1(Z1(n)+D(22926));
 if(e==98)goto z32;
 p=0ull;a45=0-h;o=0ull;z34:q=Z1(n+o);
-if(R1(q+D(22932))<110)goto z33;
+if(R1(q+D(22926))<110)goto z33;
 p=(p<<8)|q;o+=1;
 if((h+o)!=0)goto z34;
 o=a45;z33:;
@@ -3797,7 +3796,7 @@ goto z15;z18:;g+=1;
 if(i!=g)goto z17;
 z15:;a41=10u;a35=0u;
 if(!!i)goto z70;
-i=0ull;goto z69;z70:;m=b+1;h=b+i;g=b;l=i;z72:n=g+1;e=R1(g);a44=R1((L)e+D(22932));
+i=0ull;goto z69;z70:;m=b+1;h=b+i;g=b;l=i;z72:n=g+1;e=R1(g);a44=R1((L)e+D(22926));
 if(a44!=98)goto z71;
 m+=1;g=n;l-=1;
 if(!!l)goto z72;
@@ -3825,7 +3824,7 @@ if(m!=0)goto z95;
 z92:;j=l-o;g=n;goto z14;z87:;
 if(a44!=101)goto z96;
 m=0ull;z98:
-if(R1(Z1(g+m)+D(22932))!=101)goto z97;
+if(R1(Z1(g+m)+D(22926))!=101)goto z97;
 m+=1;
 if(l!=m)goto z98;
 m=l;z97:;
@@ -3844,7 +3843,7 @@ if(R1(g+2)!=62)goto z84;
 a41=7u;a42=2u;j=0ull;goto z80;z96:;
 if(a44<110)goto z102;
 i=0ull;h=0ull;z104:b=Z1(g+h);
-if(R1(b+D(22932))<110)goto z103;
+if(R1(b+D(22926))<110)goto z103;
 i=(i<<8)|b;h+=1;
 if(l!=h)goto z104;
 h=l;z103:;PV(d+11240,f);PV(d+11256,f);m=(h<<56)+i;i=l-h;b=g+h;
@@ -3872,7 +3871,7 @@ case 15:goto z78;default:goto z118;}z118:;
 if(e==93)goto z77;
 if(e!=125)goto z117;
 a41=1u;goto z76;z117:;h=0ull;z120:e=R1(g+h);
-if(R1((L)e+D(22932))==98)goto z119;
+if(R1((L)e+D(22926))==98)goto z119;
 a44=e-34;
 if(a44>59)goto z121;
 if(((1ull<<((L)a44&63))&576460752336978945ull)!=0)goto z119;
@@ -3882,7 +3881,7 @@ h+=1;
 if(l!=h)goto z120;
 h=l;z119:;i=l-h;b=g+h;a41=9u;j=0ull;a42=0u;goto z14;z85:;
 if(e==45)goto z82;
-z84:;y0=r_T_contains(g,m,D(23196));
+z84:;y0=r_T_contains(g,m,D(23190));
 if(y0)goto z82;
 z83:;m=0ull;e=0u;a46=1u;h=p;goto z12;z82:;m=0ull;e=3u;a46=1u;h=p;goto z12;z81:;a35=1u;a41=5u;j=0ull;b=n;z80:;h=0ull;
 g=0ull;goto z14;z79:;a41=6u;goto z76;z78:;a41=4u;goto z76;z77:;a41=3u;z76:;j=0ull;b=n;goto z73;z75:;j=0ull;b=n;h=0ull;
@@ -4233,7 +4232,7 @@ switch((I)h){case 1:goto z311;default:goto z309;}z311:;
 if(R1(g)!=45)goto z309;
 goto z304;z310:;
 if(R1(g)!=45)goto z309;
-if(R1(Z1(g+1)+D(22932))<110)goto z304;
+if(R1(Z1(g+1)+D(22926))<110)goto z304;
 z309:;PV(x+16,f);PV(x,f);e=3u;a44=1u;goto z303;z307:;
 if(((1ull<<((L)a44&63))&9223372036854775813ull)!=0)goto z304;
 z306:;l+=1;
@@ -4394,13 +4393,13 @@ rattle_dealloc(R8(c+6024));z13:;P1(a,1);fill(a+8,0u,5264ull);z1:;}
 PRIVATE void r_GraphFault_text(L a,L b){I y0;L c=0,e=0,f=0;V d={0,0};FRAME_OF(12);
 c=FRAME;d=words(0x0ull,0x0ull);PV(c+24,d);PV(c+8,d);switch((I)Z1(b)){case 1:goto z13;case 2:goto z12;case 3:goto z11;
 case 4:goto z10;case 5:goto z9;case 6:goto z8;case 7:goto z7;case 8:goto z6;case 9:goto z5;case 10:goto z4;
-case 11:goto z3;default:goto z14;}z14:;r_lines_with_number(c+8,D(23469),20ull,R8(b+8));goto z1;z13:;
-r_lines_with_number(c+8,D(23489),20ull,R8(b+8));goto z1;z12:;r_lines_with_number(c+8,D(23509),20ull,R8(b+8));goto z1;z11:;
-r_Vec_from_slice_14(c+8,D(23529),13ull);goto z1;z10:;r_lines_with_number(c+8,D(23542),20ull,R8(b+8));goto z1;z9:;
-r_lines_with_number(c+8,D(23562),20ull,R8(b+8));goto z1;z8:;r_lines_with_name(c+8,D(23582),15ull,R8(b+8),R8(b+16));
-goto z1;z7:;r_lines_with_name(c+8,D(23597),15ull,R8(b+8),R8(b+16));goto z1;z6:;r_Vec_from_slice_14(c+8,D(23612),13ull);
-goto z1;z5:;r_lines_with_name(c+8,D(23625),16ull,R8(b+8),R8(b+16));goto z1;z4:;e=R8(b+16);b=R8(b+8);PV(c+56,d);
-PV(c+40,d);r_Vec_from_slice_14(c+40,D(23641),21ull);
+case 11:goto z3;default:goto z14;}z14:;r_lines_with_number(c+8,D(23463),20ull,R8(b+8));goto z1;z13:;
+r_lines_with_number(c+8,D(23483),20ull,R8(b+8));goto z1;z12:;r_lines_with_number(c+8,D(23503),20ull,R8(b+8));goto z1;z11:;
+r_Vec_from_slice_14(c+8,D(23523),13ull);goto z1;z10:;r_lines_with_number(c+8,D(23536),20ull,R8(b+8));goto z1;z9:;
+r_lines_with_number(c+8,D(23556),20ull,R8(b+8));goto z1;z8:;r_lines_with_name(c+8,D(23576),15ull,R8(b+8),R8(b+16));
+goto z1;z7:;r_lines_with_name(c+8,D(23591),15ull,R8(b+8),R8(b+16));goto z1;z6:;r_Vec_from_slice_14(c+8,D(23606),13ull);
+goto z1;z5:;r_lines_with_name(c+8,D(23619),16ull,R8(b+8),R8(b+16));goto z1;z4:;e=R8(b+16);b=R8(b+8);PV(c+56,d);
+PV(c+40,d);r_Vec_from_slice_14(c+40,D(23635),21ull);
 if(R1(c+40))goto z16;
 P8(c+88,R8(c+64));PV(c+72,RV(c+48));
 if(!!e)goto z15;
@@ -4436,16 +4435,16 @@ P8(a+16,b);P8(a+8,c);P1(a,0);P8(f+48,b);z1:;}
 PRIVATE void r_graphs_graph_fault(L a,L b,L c,L d,L e,L f){L g=0;V h={0,0};FRAME_OF(4);
 g=FRAME;h=words(0x0ull,0x0ull);PV(g+16,h);PV(g,h);switch((I)Z1(f)){case 1:goto z12;case 2:goto z11;case 3:goto z10;
 case 4:goto z9;case 5:goto z8;case 6:goto z7;case 7:goto z6;case 8:goto z5;case 9:goto z4;case 10:goto z3;
-case 11:goto z2;default:goto z13;}z13:;r_faults_placed_fault(g,b,c,1ull,D(23662),34ull,d,e,R8(f+8));goto z1;z12:;
-r_faults_placed_fault(g,b,c,2ull,D(23696),20ull,d,e,R8(f+8));goto z1;z11:;
-r_faults_placed_fault(g,b,c,3ull,D(23716),69ull,d,e,R8(f+8));goto z1;z10:;r_faults_bare_fault(g,b,c,4ull,D(23785),32ull);
-goto z1;z9:;r_faults_placed_fault(g,b,c,5ull,D(23817),26ull,d,e,R8(f+8));goto z1;z8:;
-r_faults_placed_fault(g,b,c,6ull,D(23843),89ull,d,e,R8(f+8));goto z1;z7:;
-r_faults_text_fault(g,b,c,7ull,D(23932),22ull,D(18359),4ull,R8(f+8),R8(f+16));goto z1;z6:;
-r_faults_text_fault(g,b,c,8ull,D(23954),34ull,D(18359),4ull,R8(f+8),R8(f+16));goto z1;z5:;
-r_faults_bare_fault(g,b,c,9ull,D(23988),28ull);goto z1;z4:;
-r_faults_text_fault(g,b,c,10ull,D(24016),24ull,D(18359),4ull,R8(f+8),R8(f+16));goto z1;z3:;
-r_faults_names_fault(g,b,c,D(24040),31ull,f+8);goto z1;z2:;P1(g,1);z1:;P1(a,R1(g));P8(a+8,R8(g+8));PV(a+16,RV(g+16));}
+case 11:goto z2;default:goto z13;}z13:;r_faults_placed_fault(g,b,c,1ull,D(23656),34ull,d,e,R8(f+8));goto z1;z12:;
+r_faults_placed_fault(g,b,c,2ull,D(23690),20ull,d,e,R8(f+8));goto z1;z11:;
+r_faults_placed_fault(g,b,c,3ull,D(23710),69ull,d,e,R8(f+8));goto z1;z10:;r_faults_bare_fault(g,b,c,4ull,D(23779),32ull);
+goto z1;z9:;r_faults_placed_fault(g,b,c,5ull,D(23811),26ull,d,e,R8(f+8));goto z1;z8:;
+r_faults_placed_fault(g,b,c,6ull,D(23837),89ull,d,e,R8(f+8));goto z1;z7:;
+r_faults_text_fault(g,b,c,7ull,D(23926),22ull,D(18359),4ull,R8(f+8),R8(f+16));goto z1;z6:;
+r_faults_text_fault(g,b,c,8ull,D(23948),34ull,D(18359),4ull,R8(f+8),R8(f+16));goto z1;z5:;
+r_faults_bare_fault(g,b,c,9ull,D(23982),28ull);goto z1;z4:;
+r_faults_text_fault(g,b,c,10ull,D(24010),24ull,D(18359),4ull,R8(f+8),R8(f+16));goto z1;z3:;
+r_faults_names_fault(g,b,c,D(24034),31ull,f+8);goto z1;z2:;P1(g,1);z1:;P1(a,R1(g));P8(a+8,R8(g+8));PV(a+16,RV(g+16));}
 PRIVATE void r_faults_bare_fault(L a,L b,L c,L d,L e,L f){I y0;L g=0;V h={0,0};FRAME_OF(18);
 g=FRAME;h=words(0x0ull,0x0ull);PV(g+128,h);PV(g+112,h);P8(g+8,0);PV(g+16,h);PV(g+32,h);PV(g+48,h);
 r_faults_begin_fault(g+8,b,c,d,e,f);
@@ -4463,8 +4462,8 @@ g=0ull;h=D(19056);i=R1(b);j=1u<<(i&31);
 if(j&452)goto z3;
 if(!(j&56))goto z2;
 if(!R1(b+56))goto z3;
-g=R8(b+40);h=R8(b+32);z3:;k=20ull;l=D(24244);switch(i-2){case 1:case 2:case 3:goto z4;case 4:goto z1;case 5:goto z6;
-case 6:goto z5;default:goto z7;}z7:;k=176ull;l=D(24303);goto z1;z6:;k=21ull;l=D(24264);goto z1;z5:;k=18ull;l=D(24285);
+g=R8(b+40);h=R8(b+32);z3:;k=20ull;l=D(24238);switch(i-2){case 1:case 2:case 3:goto z4;case 4:goto z1;case 5:goto z6;
+case 6:goto z5;default:goto z7;}z7:;k=176ull;l=D(24297);goto z1;z6:;k=21ull;l=D(24258);goto z1;z5:;k=18ull;l=D(24279);
 goto z1;z4:;k=R8(b+16);l=R8(b+8);goto z1;z2:;g=R8(b+16);h=R8(b+8);k=0ull;l=D(19056);z1:;b=d<g?d:g;
 if((c-h)>=b)goto z9;
 m=b&3;d=0ull;
@@ -17776,7 +17775,7 @@ PV(f+2712,g);P8(f+2704,f+20560);t=R8(f+4376);
 if(!t)goto z328;
 u=R8(f+4368);p=f+12108;h=f+12137;s=f+12080+8;e=0ull;z334:j=u+e*72;l=R1(j);m=R8(j+8);PV(f+17360,g);PV(f+17344,g);
 if(l)goto z336;
-r_Vec_from_slice_7(f+17344,D(24215),5ull);goto z335;z336:;PV(s,g);P4(h,0);P4(h+3,0);P8(p,0);P4(p+8,0);P1(f+12136,0);
+r_Vec_from_slice_7(f+17344,D(24209),5ull);goto z335;z336:;PV(s,g);P4(h,0);P4(h+3,0);P8(p,0);P4(p+8,0);P1(f+12136,0);
 P8(f+12128,0);P4(f+12104,32);P8(f+12120,18446744073709551615ull);P8(f+12080,f+20560);
 y0=r_Vec_extend_from_slice_24(f+12080,D(20665),6ull);
 if(y0&255)goto z338;
@@ -17982,7 +17981,7 @@ j=R8(f+17368);b=R8(f+17360);m=R8(f+17352);a64=RV(f+4656);PV(f+2368,RV(f+4640));P
 PV(f+17360,g);P8(f+19928,1);P8(f+19920,D(19685));P8(f+19936,f+2048);P8(f+19912,f+2368);
 r_String_format_6(f+17344,f+19912);
 if(R1(f+17344))goto z408;
-e=R8(f+17368);c=R8(f+17360);d=R8(f+17352);r_Vec_from_slice(f+19400,D(22862),42ull);
+e=R8(f+17368);c=R8(f+17360);d=R8(f+17352);r_Vec_from_slice(f+19400,D(22856),42ull);
 if(R1(f+19400))goto z407;
 P8(f+2720,R8(f+19424));PV(f+2704,RV(f+19408));y0=r_lines_push_effect_2(f+2704,a50,r,f+9440,p|h,f+4352);
 if(y0&255)goto z406;
@@ -18021,7 +18020,7 @@ P8(f+12424,a33);P8(f+12416,a62);P8(f+12408,a54);P4(f+12444,R4(f+20443));P4(f+124
 P4(f+2048,0);P4(f+2051,0);PV(f+2368,g);PV(f+9440,g);PV(f+9456,g);PV(f+17344,g);PV(f+17360,g);PV(f+19912,g);
 PV(f+19928,g);PV(f+19416,g);PV(f+19400,g);PV(f+18904,g);PV(f+18888,g);PV(f+3872,g);PV(f+3856,g);j=f+12080+8;i=1u;h=0ull;
 d=0ull;c=0ull;e=0ull;switch((I)Z1(f+12080)){case 1:goto z422;case 2:goto z421;case 3:goto z420;case 4:goto z387;
-default:goto z423;}z423:;PV(f+4176,g);PV(f+4160,g);r_lines_line_behind(f+4160,D(18685),8ull,D(22264),35ull);
+default:goto z423;}z423:;PV(f+4176,g);PV(f+4160,g);r_lines_line_behind(f+4160,D(18685),8ull,D(22258),35ull);
 if(R1(f+4160))goto z386;
 e=R8(f+4184);c=R8(f+4176);d=R8(f+4168);r_faults_count_size(f+9440);
 if(R1(f+9440))goto z424;
@@ -18035,7 +18034,7 @@ i=0u;P4(f+2051,0);P4(f+2048,0);PV(f+2368,RV(f+19928));x=4u;h=R8(f+19920);goto z3
 if(!e)goto z386;
 rattle_dealloc(d);goto z386;z421:;PV(f+4176,g);PV(f+4160,g);r_Vec_from_slice(f+4160,D(18685),8ull);
 if(R1(f+4160))goto z426;
-P8(f+2720,R8(f+4184));PV(f+2704,RV(f+4168));y0=r_Vec_extend_from_slice_7(f+2704,D(24180),35ull);
+P8(f+2720,R8(f+4184));PV(f+2704,RV(f+4168));y0=r_Vec_extend_from_slice_7(f+2704,D(24174),35ull);
 if(y0&255)goto z430;
 w=r_cells_push_assignments(f+2704,a50,j,m,f+12200,64ull);e=R8(f+2720);
 if(w&255)goto z428;
@@ -18050,7 +18049,7 @@ if(!e)goto z426;
 rattle_dealloc(R8(f+2704));goto z426;z427:;
 if(!R8(f+2720))goto z426;
 rattle_dealloc(R8(f+2704));z426:;x=0u;P4(f+20424,0);P4(f+20427,0);goto z385;z420:;
-r_Vec_from_slice(f+18888,D(24140),40ull);
+r_Vec_from_slice(f+18888,D(24134),40ull);
 if(R1(f+18888))goto z386;
 e=R8(f+18912);c=R8(f+18904);d=R8(f+18896);r_faults_wide_object(f+3856);
 if(R1(f+3856))goto z431;
@@ -18107,10 +18106,10 @@ b=c+2632;P8(f+19912,0);PV(f+19920,g);P8(f+19935,0);P8(f+19400,0);PV(f+19408,g);P
 PV(f+17344,g);
 if(v&255)goto z458;
 d=j>>8;w=(I)d;p=f+3872;PV(f+9456,g);PV(f+9440,g);switch(l){case 1:goto z462;case 2:goto z461;case 3:goto z460;
-case 4:goto z459;default:goto z463;}z463:;r_Vec_from_slice_8(f+9440,D(23197),11ull);w=R1(f+9440);goto z451;z462:;
-PV(f+12096,g);PV(f+12080,g);r_Vec_from_slice_8(f+12080,D(23197),11ull);
+case 4:goto z459;default:goto z463;}z463:;r_Vec_from_slice_8(f+9440,D(23191),11ull);w=R1(f+9440);goto z451;z462:;
+PV(f+12096,g);PV(f+12080,g);r_Vec_from_slice_8(f+12080,D(23191),11ull);
 if(R1(f+12080))goto z468;
-P8(f+18904,R8(f+12104));PV(f+18888,RV(f+12088));y0=r_Vec_extend_from_slice_25(f+18888,D(23208),19ull);
+P8(f+18904,R8(f+12104));PV(f+18888,RV(f+12088));y0=r_Vec_extend_from_slice_25(f+18888,D(23202),19ull);
 if(y0&255)goto z467;
 w=r_query_push_query(f+18888,b,p);j=R8(f+18904);
 if(w&255)goto z465;
@@ -18125,7 +18124,7 @@ if(!j)goto z470;
 rattle_dealloc(R8(f+18888));z470:;P8(f+9464,0);goto z453;z464:;
 if(!R8(f+18904))goto z471;
 rattle_dealloc(R8(f+18888));z471:;P8(f+9464,0);goto z453;z461:;PV(f+12096,g);PV(f+12080,g);
-r_Vec_from_slice_8(f+12080,D(23197),11ull);
+r_Vec_from_slice_8(f+12080,D(23191),11ull);
 if(R1(f+12080))goto z456;
 P8(f+18904,R8(f+12104));PV(f+18888,RV(f+12088));y0=r_texts_push_open_in(f+18888,0u,b,f+3896);
 if(y0&255)goto z473;
@@ -18136,7 +18135,7 @@ if(!R8(f+18904))goto z474;
 rattle_dealloc(R8(f+18888));z474:;P8(f+9464,0);goto z453;z472:;
 if(!R8(f+18904))goto z475;
 rattle_dealloc(R8(f+18888));z475:;P8(f+9464,0);goto z453;z460:;PV(f+12096,g);PV(f+12080,g);
-r_Vec_from_slice_8(f+12080,D(23239),21ull);
+r_Vec_from_slice_8(f+12080,D(23233),21ull);
 if(R1(f+12080))goto z455;
 P8(f+18904,R8(f+12104));PV(f+18888,RV(f+12088));l=y&255;
 if(R4(c+3424)>l)goto z477;
@@ -18171,7 +18170,7 @@ if(!R8(f+18904))goto z493;
 rattle_dealloc(R8(f+18888));z493:;P8(f+9464,0);goto z453;z480:;
 if(!R8(f+18904))goto z494;
 rattle_dealloc(R8(f+18888));z494:;P8(f+9464,0);goto z453;z459:;PV(f+12096,g);PV(f+12080,g);
-r_Vec_from_slice_8(f+12080,D(23293),25ull);
+r_Vec_from_slice_8(f+12080,D(23287),25ull);
 if(R1(f+12080))goto z454;
 P8(f+18904,R8(f+12104));PV(f+18888,RV(f+12088));l=y&255;
 if(R4(c+3424)>l)goto z496;
@@ -18450,7 +18449,7 @@ if(!e)goto z593;
 rattle_dealloc(d);goto z593;z605:;
 if(!e)goto z594;
 rattle_dealloc(d);goto z594;z600:;P8(f+19936,0);goto z592;z598:;PV(f+17352,g);P8(f+17344,f+20560);
-y0=r_Vec_extend_from_slice_26(f+17344,D(22862),42ull);
+y0=r_Vec_extend_from_slice_26(f+17344,D(22856),42ull);
 if(y0&255)goto z612;
 m=R8(f+12112);b=R8(f+12104);p=R8(f+12096);y0=r_Vec_extend_from_slice_26(f+17344,D(19023),2ull);
 if(y0&255)goto z611;
@@ -18460,7 +18459,7 @@ P8(f+4176,m);P8(f+4168,b);P8(f+4160,p);y0=r_lines_push_doing(f+17344,n,f+4160,j,
 if(y0&255)goto z611;
 y0=r_Vec_extend_from_slice_26(f+17344,D(18500),1ull);
 if(y0&255)goto z611;
-y0=r_Vec_extend_from_slice_26(f+17344,D(22904),14ull);
+y0=r_Vec_extend_from_slice_26(f+17344,D(22898),14ull);
 if(y0&255)goto z610;
 m=R8(f+12112);b=R8(f+12104);p=R8(f+12096);y0=r_Vec_extend_from_slice_26(f+17344,D(19023),2ull);
 if(y0&255)goto z609;
@@ -18997,7 +18996,7 @@ r_int_decimal_text(c+8,0u,b,c+256);y0=r_StringWrite_write_str_3(c+192,R8(c+8),R8
 if(!(y0&255))goto z26;
 if(!R8(c+208))goto z27;
 rattle_dealloc(R8(c+192));z27:;P8(c+136,0);P1(c+128,1);PV(c+144,f);goto z20;z26:;b=R8(c+208);k=R8(c+192);
-r_faults_text_fault(c+160,D(16852),11ull,3ull,D(22234),30ull,D(3205),7ull,k,R8(c+200));
+r_faults_text_fault(c+160,D(16852),11ull,3ull,D(22234),24ull,D(3205),7ull,k,R8(c+200));
 if(!b)goto z28;
 rattle_dealloc(k);z28:;P1(c+128,R1(c+160));P8(c+136,R8(c+168));PV(c+144,RV(c+176));goto z20;z23:;
 r_faults_bare_fault(c+128,D(16852),11ull,4ull,D(22090),28ull);goto z20;z22:;
@@ -19012,7 +19011,7 @@ PRIVATE void r_ValuesFaultRefuses_refuse(L a,L b){I d=0,g=0,y0;L c=0,e=0,h=0,i=0
 c=FRAME;d=0u;P4(c+179,0);P4(c+176,0);e=0ull;P8(c+152,0);f=words(0x0ull,0x0ull);PV(c+160,f);PV(c+120,f);PV(c+136,f);
 PV(c+88,f);PV(c+104,f);PV(c+56,f);PV(c+72,f);PV(c+24,f);P8(c+47,0);P8(c+40,0);P4(c+16,0);P4(c+19,0);g=1u;h=0ull;i=0ull;
 switch((I)Z1(b)){case 1:goto z16;case 2:goto z15;case 3:goto z5;default:goto z17;}z17:;PV(c+280,f);PV(c+264,f);
-r_lines_line_behind(c+264,D(18685),8ull,D(22264),35ull);
+r_lines_line_behind(c+264,D(18685),8ull,D(22258),35ull);
 if(R1(c+264))goto z14;
 i=R8(c+288);h=R8(c+280);e=R8(c+272);r_faults_count_size(c+120);
 if(R1(c+120))goto z18;
@@ -19032,7 +19031,7 @@ if(!(y0&255))goto z22;
 if(!R8(c+336))goto z2;
 rattle_dealloc(R8(c+320));goto z2;z22:;j=b+16;e=R8(c+336);P8(c+287,e);h=R8(c+328);P8(c+279,h);k=R8(c+320);P8(c+271,k);
 P8(c+368,k);P8(c+376,h);P8(c+384,e);switch((I)Z1(b+120)){case 1:goto z25;case 2:goto z24;case 3:goto z3;
-default:goto z26;}z26:;y0=r_Vec_extend_from_slice_17(c+368,D(22680),20ull);
+default:goto z26;}z26:;y0=r_Vec_extend_from_slice_17(c+368,D(22674),20ull);
 if(y0&255)goto z3;
 P4(c+320,R1(b+380));P8(c+324,R8(b+384));y0=r_faults_push_place(c+368,c+320);
 if(y0&255)goto z3;
@@ -19040,11 +19039,11 @@ y0=r_Vec_extend_from_slice_17(c+368,D(20385),4ull);
 if(y0&255)goto z3;
 y0=r_cells_push_assignments(c+368,i,j,R8(j),b+124,64ull);
 if(y0&255)goto z3;
-goto z23;z25:;y0=r_Vec_extend_from_slice_17(c+368,D(22700),20ull);
+goto z23;z25:;y0=r_Vec_extend_from_slice_17(c+368,D(22694),20ull);
 if(y0&255)goto z3;
 P4(c+232,R1(b+124));P8(c+236,R8(b+128));y0=r_faults_push_place(c+368,c+232);
 if(!(y0&255))goto z23;
-goto z3;z24:;y0=r_Vec_extend_from_slice_17(c+368,D(22720),20ull);
+goto z3;z24:;y0=r_Vec_extend_from_slice_17(c+368,D(22714),20ull);
 if(y0&255)goto z3;
 P4(c+184,R1(b+124));P8(c+188,R8(b+128));y0=r_faults_push_place(c+368,c+184);
 if(y0&255)goto z3;
@@ -19130,33 +19129,33 @@ rattle_dealloc(R8(c+368));z2:;P8(a+8,0);P1(a,1);PV(a+16,f);PV(a+32,f);PV(a+48,f)
 PRIVATE void r_SecondFaultRefuses_refuse(L a,L b){I d=0,g=0;L c=0,e=0,h=0,i=0,j=0,k=0,l=0,m=0;V f={0,0};FRAME_OF(16);
 c=FRAME;d=0u;P4(c+27,0);P4(c+24,0);e=0ull;P8(c,0);f=words(0x0ull,0x0ull);PV(c+8,f);g=1u;h=0ull;i=0ull;
 switch((I)Z1(b)){case 1:goto z6;case 2:goto z3;case 3:goto z1;default:goto z7;}z7:;PV(c+112,f);PV(c+96,f);
-r_lines_line_behind(c+96,D(23418),15ull,D(23384),34ull);
+r_lines_line_behind(c+96,D(23412),15ull,D(23378),34ull);
 if(R1(c+96))goto z4;
-i=R8(c+120);h=R8(c+112);e=R8(c+104);PV(c+112,f);PV(c+96,f);r_faults_bare_fault(c+96,D(23372),12ull,12ull,D(23433),36ull);
+i=R8(c+120);h=R8(c+112);e=R8(c+104);PV(c+112,f);PV(c+96,f);r_faults_bare_fault(c+96,D(23366),12ull,12ull,D(23427),36ull);
 P8(c+71,R8(c+104));PV(c+79,RV(c+112));
 if(R1(c+96))goto z8;
 g=0u;P4(c+27,0);P4(c+24,0);b=c+71;P8(c,R8(b));PV(c+8,RV(b+8));d=4u;goto z1;z8:;
 if(!!i)goto z5;
 goto z4;z6:;j=R8(b+8);k=R8(b+16);PV(c+48,f);PV(c+32,f);PV(c+80,f);PV(c+64,f);b+=24;r_GraphFault_text(c+64,b);
 if(R1(c+64))goto z4;
-l=R8(c+88);i=R8(c+80);m=R8(c+72);PV(c+112,f);PV(c+96,f);r_lines_line_behind(c+96,D(23418),15ull,m,i);i=R8(c+120);
+l=R8(c+88);i=R8(c+80);m=R8(c+72);PV(c+112,f);PV(c+96,f);r_lines_line_behind(c+96,D(23412),15ull,m,i);i=R8(c+120);
 h=R8(c+112);e=R8(c+104);d=R1(c+96);
 if(!l)goto z9;
 rattle_dealloc(m);z9:;
 if(d&255)goto z4;
-r_graphs_graph_fault(c+32,D(23372),12ull,j,k,b);
+r_graphs_graph_fault(c+32,D(23366),12ull,j,k,b);
 if(R1(c+32))goto z10;
 g=0u;P4(c+27,0);P4(c+24,0);P8(c,R8(c+40));PV(c+8,RV(c+48));d=4u;goto z1;z10:;
 if(!i)goto z4;
 z5:;rattle_dealloc(e);z4:;d=0u;P4(c+27,0);P4(c+24,0);e=0ull;P8(c,0);PV(c+8,f);goto z2;z3:;PV(c+48,f);PV(c+32,f);
 PV(c+80,f);PV(c+64,f);b+=8;r_TargetFault_text(c+64,b);
 if(R1(c+64))goto z11;
-k=R8(c+88);i=R8(c+80);j=R8(c+72);PV(c+112,f);PV(c+96,f);r_lines_line_behind(c+96,D(23418),15ull,j,i);i=R8(c+120);
+k=R8(c+88);i=R8(c+80);j=R8(c+72);PV(c+112,f);PV(c+96,f);r_lines_line_behind(c+96,D(23412),15ull,j,i);i=R8(c+120);
 h=R8(c+112);e=R8(c+104);d=R1(c+96);
 if(!k)goto z12;
 rattle_dealloc(j);z12:;
 if(d&255)goto z11;
-r_lists_target_fault(c+32,D(24085),13ull,b);
+r_lists_target_fault(c+32,D(24079),13ull,b);
 if(R1(c+32))goto z13;
 g=0u;P4(c+27,0);P4(c+24,0);P8(c,R8(c+40));PV(c+8,RV(c+48));d=4u;goto z1;z13:;
 if(!i)goto z11;
@@ -19165,7 +19164,7 @@ P4(a+9,R4(c+24));P4(a+12,R4(c+27));P8(a+32,i);P8(a+24,h);P8(a+16,e);P8(a+40,R8(c
 PRIVATE void r_CountsFaultRefuses_refuse(L a,L b){I d=0,g=0;L c=0,e=0,h=0,i=0;V f={0,0};FRAME_OF(20);
 c=FRAME;d=0u;P4(c+123,0);P4(c+120,0);e=0ull;P8(c+96,0);f=words(0x0ull,0x0ull);PV(c+104,f);PV(c+64,f);PV(c+80,f);
 PV(c+32,f);PV(c+48,f);PV(c,f);PV(c+16,f);g=1u;h=0ull;i=0ull;switch((I)Z1(b)){case 1:goto z7;case 2:goto z5;
-default:goto z8;}z8:;PV(c+144,f);PV(c+128,f);r_lines_line_behind(c+128,D(18685),8ull,D(22264),35ull);
+default:goto z8;}z8:;PV(c+144,f);PV(c+128,f);r_lines_line_behind(c+128,D(18685),8ull,D(22258),35ull);
 if(R1(c+128))goto z2;
 i=R8(c+152);h=R8(c+144);e=R8(c+136);r_faults_count_size(c+64);
 if(R1(c+64))goto z9;
@@ -34475,7 +34474,7 @@ PV(d+144,RV(d+96));PV(d+128,RV(d+80));PV(d+112,RV(d+64));f=c+8;
 if(R1(c))goto z4;
 y0=r_put_put_key(d+112,R1(d+152),D(18047),6ull);
 if(y0&255)goto z3;
-P1(d+152,0);y0=r_put_put_string(d+112,0u,D(24220),9ull);
+P1(d+152,0);y0=r_put_put_string(d+112,0u,D(24214),9ull);
 if(y0&255)goto z3;
 P1(d+152,1);y0=r_objects_push_target(d+112,b,f);
 if(y0&255)goto z3;
@@ -34502,11 +34501,11 @@ y0=r_Object_null(d+112);
 if(!(y0&255))goto z10;
 goto z3;z11:;y0=r_Object_number(d+112,R8(c+8));
 if(y0&255)goto z3;
-z10:;y0=r_put_put_key(d+112,R1(d+152),D(24229),5ull);
+z10:;y0=r_put_put_key(d+112,R1(d+152),D(24223),5ull);
 if(y0&255)goto z3;
 P1(d+152,0);y0=r_objects_push_expression(d+112,b,c+16);
 if(y0&255)goto z3;
-j=R8(c+56);k=R8(c+48);y0=r_put_put_key(d+112,R1(d+152),D(24234),5ull);
+j=R8(c+56);k=R8(c+48);y0=r_put_put_key(d+112,R1(d+152),D(24228),5ull);
 if(y0&255)goto z3;
 P1(d+152,0);c=R8(d+136);
 if((R8(d+120)-c)>1)goto z12;
@@ -34562,7 +34561,7 @@ f=R8(d+136);
 if((R8(d+120)-f)>1)goto z19;
 y0=r_Sink_grow(d+112,2ull);
 if(y0&255)goto z3;
-f=R8(d+136);z19:;P1(R8(d+112)+f,125);m=1u;P1(d+152,1);P8(d+136,f+1);z16:;y0=r_put_put_key(d+112,m&1,D(24239),5ull);
+f=R8(d+136);z19:;P1(R8(d+112)+f,125);m=1u;P1(d+152,1);P8(d+136,f+1);z16:;y0=r_put_put_key(d+112,m&1,D(24233),5ull);
 if(y0&255)goto z3;
 P1(d+152,0);y0=r_objects_push_expression(d+112,b,c);
 if(y0&255)goto z3;
@@ -34667,11 +34666,11 @@ y0=r_lines_push_given_2(a,b,c,e,f);
 if(y0&255)goto z1;
 y0=r_Vec_push_7(a,41u);h=(I)((y0&255)!=0);z1:;return h;}
 PRIVATE I r_lines_push_ends(L a,L b,L c,L d,L e){I f=0,y0;
-f=1u;y0=r_Vec_extend_from_slice_7(a,D(24098),10ull);
+f=1u;y0=r_Vec_extend_from_slice_7(a,D(24092),10ull);
 if(y0&255)goto z1;
 y0=r_Vec_extend_from_slice_7(a,b,c);
 if(y0&255)goto z1;
-y0=r_Vec_extend_from_slice_7(a,D(24108),10ull);
+y0=r_Vec_extend_from_slice_7(a,D(24102),10ull);
 if(y0&255)goto z1;
 y0=r_Vec_extend_from_slice_7(a,d,e);
 if(y0&255)goto z1;
@@ -34766,11 +34765,11 @@ if(y0&255)goto z3;
 j=R8(d+64);f=R8(d+88);z24:;P1(j+f,93);P1(d+104,1);P8(d+88,f+1);goto z2;z5:;P1(a,1);P8(a+8,0);PV(a+16,e);goto z1;z4:;
 PV(d+256,RV(f+32));PV(d+240,RV(f+16));PV(d+224,RV(f));y0=r_put_put_key(d+64,R1(d+104),D(18047),6ull);
 if(y0&255)goto z3;
-P1(d+104,0);y0=r_put_put_string(d+64,0u,D(22918),8ull);
+P1(d+104,0);y0=r_put_put_string(d+64,0u,D(22912),8ull);
 if(y0&255)goto z3;
 P1(d+104,1);y0=r_objects_push_asked_3(d+64,b,d+224);
 if(y0&255)goto z3;
-y0=r_put_put_key(d+64,R1(d+104),D(24133),7ull);
+y0=r_put_put_key(d+64,R1(d+104),D(24127),7ull);
 if(y0&255)goto z3;
 P1(d+104,0);t=RV(c+448);f=R8(d+256);PV(d+192,RV(c+432));PV(d+304,t);PV(d+144,e);PV(d+160,e);P8(d+288,1);
 P8(d+280,D(19685));P8(d+296,d+304);P8(d+272,d+192);r_String_format_6(d+144,d+272);
@@ -34831,10 +34830,10 @@ P8(a+8,R8(b+8));PV(a+16,RV(b+16));}
 PRIVATE void r_CountFault_line(L a,L b){I g=0;L c=0,e=0,f=0;V d={0,0};FRAME_OF(8);
 c=FRAME;d=words(0x0ull,0x0ull);PV(c+48,d);PV(c+32,d);switch((I)Z1(b)){case 1:goto z10;case 2:goto z9;case 3:goto z8;
 case 4:goto z7;case 5:goto z6;case 6:goto z5;case 7:goto z2;default:goto z4;}z10:;
-r_lines_with_name(c+32,D(22319),16ull,R8(b+8),R8(b+16));goto z3;z9:;
-r_lines_with_name(c+32,D(22335),16ull,R8(b+8),R8(b+16));goto z3;z8:;r_lines_with_number(c+32,D(22351),20ull,R8(b+8));
-goto z3;z7:;r_Vec_from_slice_12(c+32,D(22371),14ull);goto z3;z6:;r_Vec_from_slice_12(c+32,D(22385),14ull);goto z3;z5:;
-r_Vec_from_slice_12(c+32,D(22399),14ull);goto z3;z4:;r_lines_with_number(c+32,D(22299),20ull,R8(b+8));z3:;
+r_lines_with_name(c+32,D(22313),16ull,R8(b+8),R8(b+16));goto z3;z9:;
+r_lines_with_name(c+32,D(22329),16ull,R8(b+8),R8(b+16));goto z3;z8:;r_lines_with_number(c+32,D(22345),20ull,R8(b+8));
+goto z3;z7:;r_Vec_from_slice_12(c+32,D(22365),14ull);goto z3;z6:;r_Vec_from_slice_12(c+32,D(22379),14ull);goto z3;z5:;
+r_Vec_from_slice_12(c+32,D(22393),14ull);goto z3;z4:;r_lines_with_number(c+32,D(22293),20ull,R8(b+8));z3:;
 if(R1(c+32))goto z2;
 e=R8(c+56);f=R8(c+48);b=R8(c+40);PV(c+48,d);PV(c+32,d);r_lines_line_behind(c+32,D(18685),8ull,b,f);P8(c+8,R8(c+40));
 PV(c+16,RV(c+48));g=R1(c+32);
@@ -34844,16 +34843,16 @@ PRIVATE void r_faults_count_fault(L a,L b){I e=0;L c=0;V d={0,0};FRAME_OF(4);
 c=FRAME;d=words(0x0ull,0x0ull);PV(c+16,d);PV(c,d);e=R1(b);
 if(e==7)goto z2;
 switch(e){case 1:goto z8;case 2:goto z7;case 3:goto z6;case 4:goto z5;case 5:goto z4;case 6:goto z3;default:goto z9;
-}z9:;r_faults_number_fault(c,1ull,D(22416),56ull,R8(b+8));goto z1;z8:;
-r_faults_text_fault(c,D(16900),6ull,2ull,D(22472),31ull,D(18359),4ull,R8(b+8),R8(b+16));goto z1;z7:;
-r_faults_text_fault(c,D(16900),6ull,3ull,D(22503),34ull,D(18359),4ull,R8(b+8),R8(b+16));goto z1;z6:;
-r_faults_number_fault(c,4ull,D(22537),55ull,R8(b+8));goto z1;z5:;r_faults_bare_fault(c,D(16900),6ull,5ull,D(22592),36ull);
-goto z1;z4:;r_faults_bare_fault(c,D(16900),6ull,6ull,D(22628),33ull);goto z1;z3:;
-r_faults_bare_fault(c,D(16900),6ull,7ull,D(22661),19ull);goto z1;z2:;P1(c,1);z1:;P1(a,R1(c));P8(a+8,R8(c+8));
+}z9:;r_faults_number_fault(c,1ull,D(22410),56ull,R8(b+8));goto z1;z8:;
+r_faults_text_fault(c,D(16900),6ull,2ull,D(22466),31ull,D(18359),4ull,R8(b+8),R8(b+16));goto z1;z7:;
+r_faults_text_fault(c,D(16900),6ull,3ull,D(22497),34ull,D(18359),4ull,R8(b+8),R8(b+16));goto z1;z6:;
+r_faults_number_fault(c,4ull,D(22531),55ull,R8(b+8));goto z1;z5:;r_faults_bare_fault(c,D(16900),6ull,5ull,D(22586),36ull);
+goto z1;z4:;r_faults_bare_fault(c,D(16900),6ull,6ull,D(22622),33ull);goto z1;z3:;
+r_faults_bare_fault(c,D(16900),6ull,7ull,D(22655),19ull);goto z1;z2:;P1(c,1);z1:;P1(a,R1(c));P8(a+8,R8(c+8));
 PV(a+16,RV(c+16));}
 PRIVATE void r_faults_wide_object(L a){I y0;L b=0,d=0,e=0;V c={0,0};FRAME_OF(18);
 b=FRAME;c=words(0x0ull,0x0ull);PV(b+128,c);PV(b+112,c);P8(b+8,0);PV(b+16,c);PV(b+32,c);PV(b+48,c);
-r_faults_begin_stop(b+8,2ull,D(22802),25ull);
+r_faults_begin_stop(b+8,2ull,D(22796),25ull);
 if(R1(b+8))goto z3;
 PV(b+96,RV(b+48));d=R8(b+40);P8(b+88,d);P8(b+80,R8(b+32));e=R8(b+24);P8(b+72,e);P8(b+64,R8(b+16));
 if((e-d)>1)goto z4;
@@ -34865,7 +34864,7 @@ if(!R8(b+80))goto z5;
 rattle_dealloc(R8(b+64));z5:;P1(a,1);P8(a+8,0);PV(a+16,c);z1:;}
 PRIVATE void r_faults_records_object(L a,L b,L c,L d,L e){I y0;L f=0,h=0;V g={0,0};FRAME_OF(18);
 f=FRAME;g=words(0x0ull,0x0ull);PV(f+128,g);PV(f+112,g);P8(f+8,0);PV(f+16,g);PV(f+32,g);PV(f+48,g);
-r_faults_begin_stop(f+8,1ull,D(22770),32ull);
+r_faults_begin_stop(f+8,1ull,D(22764),32ull);
 if(R1(f+8))goto z7;
 P8(f+96,R8(f+48));PV(f+80,RV(f+32));PV(f+64,RV(f+16));h=R8(f+56);P8(f+104,h);
 y0=r_put_put_key(f+64,(I)h&255,D(20404),4ull);
@@ -34921,7 +34920,7 @@ e=R8(c+24);goto z2;z3:;rattle_alloc(c,g,1ull);
 if(!((I)R8(c)&1))goto z1;
 e=R8(c+8);z2:;P8(a+16,b);P8(a,e);d=1u;z1:;return d;}
 PRIVATE I r_texts_push_open_in(L a,I b,L c,L d){I e=0,y0;
-e=1u;y0=r_Vec_extend_from_slice_25(a,D(23227),12ull);
+e=1u;y0=r_Vec_extend_from_slice_25(a,D(23221),12ull);
 if(y0&255)goto z1;
 b&=255;y0=r_Vec_extend_from_slice_25(a,b?D(16934):D(19289),b?6ull:5ull);
 if(y0&255)goto z1;
@@ -34931,7 +34930,7 @@ y0=r_answer_text_push_path(a,c,d,d+64,R4(d+128));
 if(y0&255)goto z1;
 y0=r_Vec_push_8(a,10u);e=(I)((y0&255)!=0);z1:;return e;}
 PRIVATE I r_texts_push_place(L a,L b){I c=0,d=0,y0;L e=0;
-c=R1(b+16);d=1u;y0=r_Vec_extend_from_slice_25(a,D(23260),8ull);
+c=R1(b+16);d=1u;y0=r_Vec_extend_from_slice_25(a,D(23254),8ull);
 if(y0&255)goto z1;
 c&=255;y0=r_Vec_extend_from_slice_25(a,c?D(19289):D(16934),c?5ull:6ull);
 if(y0&255)goto z1;
@@ -34941,11 +34940,11 @@ y0=r_Vec_grow_amortized_96(a,1ull);
 if(!y0)goto z1;
 b=R8(a+8);z2:;P1(R8(a)+b,10);P8(e,b+1);d=0u;z1:;return d;}
 PRIVATE I r_texts_push_separation(L a,L b,L c){I d=0,f=0,g=0,h=0,y0;L e=0;
-d=R1(c+16);e=R8(c+8);f=R1(c+1);g=R1(c);h=1u;y0=r_Vec_extend_from_slice_25(a,D(23268),17ull);
+d=R1(c+16);e=R8(c+8);f=R1(c+1);g=R1(c);h=1u;y0=r_Vec_extend_from_slice_25(a,D(23262),17ull);
 if(y0&255)goto z1;
 d&=255;y0=r_Vec_extend_from_slice_25(a,d?D(16934):D(19289),d?6ull:5ull);
 if(y0&255)goto z1;
-y0=r_Vec_extend_from_slice_25(a,D(23285),8ull);
+y0=r_Vec_extend_from_slice_25(a,D(23279),8ull);
 if(y0&255)goto z1;
 y0=r_texts_push_braced(a,b,g);
 if(y0&255)goto z1;
@@ -34979,10 +34978,10 @@ if(y0&255)goto z3;
 y0=r_Object_path_at(d+64,D(16934),6ull,b,c+164);
 if(!(y0&255))goto z2;
 goto z3;z7:;P1(d+175,R1(c+9));P1(d+174,R1(c+32));f=c+8;P1(d+173,R1(f));P8(d+144,R8(f));PV(d+152,RV(c+16));
-y0=r_objects_push_different(d+64,D(23322),8ull,b,d+173,3ull,d+144);
+y0=r_objects_push_different(d+64,D(23316),8ull,b,d+173,3ull,d+144);
 if(!(y0&255))goto z2;
 goto z3;z6:;P1(a,1);P8(a+8,0);PV(a+16,e);goto z1;z5:;f=c+8;P2(d+206,R2(f));P8(d+176,R8(f));PV(d+184,RV(c+16));
-y0=r_objects_push_different(d+64,D(23318),4ull,b,d+206,2ull,d+176);
+y0=r_objects_push_different(d+64,D(23312),4ull,b,d+206,2ull,d+176);
 if(y0&255)goto z3;
 goto z2;z4:;P8(d+248,R8(c+24));PV(d+232,RV(c+8));y0=r_objects_push_asked_4(d+64,b,d+232,1u);
 if(!(y0&255))goto z2;
@@ -35084,7 +35083,7 @@ y0=r_Vec_extend_from_slice_32(b,D(3351),1ull);
 if(y0&255)goto z17;
 y0=r_Vec_extend_from_slice_32(b,o,n);
 if(y0&255)goto z17;
-y0=r_Vec_extend_from_slice_32(b,D(22930),2ull);
+y0=r_Vec_extend_from_slice_32(b,D(22924),2ull);
 if(y0&255)goto z17;
 r_cells_level_text(g+8,j,l,p);y0=r_cells_push_level(b,R8(g+8),R8(g+16));
 if(y0&255)goto z17;
@@ -35301,7 +35300,7 @@ y0=r_objects_push_cells_of(d+112,b,f,g);
 if(y0&255)goto z3;
 goto z2;z8:;y0=r_put_put_key(d+112,R1(d+152),D(18047),6ull);
 if(y0&255)goto z3;
-P1(d+152,0);y0=r_put_put_string(d+112,0u,D(22918),8ull);
+P1(d+152,0);y0=r_put_put_string(d+112,0u,D(22912),8ull);
 if(y0&255)goto z3;
 P1(d+152,1);PV(d+192,RV(f));PV(d+208,RV(f+16));y0=r_objects_push_effect_sets(d+112,b,d+192);
 if(y0&255)goto z3;
@@ -35311,7 +35310,7 @@ P1(d+152,0);h=c+72;y0=r_cells_push_cell(d+112,b,h,g,D(19056),0ull);
 if(y0&255)goto z3;
 fill(d+224,0u,1064ull);r_primes_primed_names(d+224,b,R8(f));
 if(R1(d+224))goto z3;
-i=R8(c+184);j=R8(c+176);k=R8(c+48);l=R8(c+40);f=R8(d+248);g=R8(d+232);y0=r_put_put_key(d+112,R1(d+152),D(22926),4ull);
+i=R8(c+184);j=R8(c+176);k=R8(c+48);l=R8(c+40);f=R8(d+248);g=R8(d+232);y0=r_put_put_key(d+112,R1(d+152),D(22920),4ull);
 if(y0&255)goto z5;
 P1(d+152,0);m=R8(d+136);
 if((R8(d+120)-m)>1)goto z13;
@@ -40344,8 +40343,8 @@ PRIVATE I r_faults_push_place(L a,L b){I d=0,y0;L c=0,e=0;FRAME_OF(16);
 c=FRAME;P4(c+4,R4(b+8));
 if(R1(b))goto z4;
 PV(c+16,words(0x0ull,0x0ull));P4(c+65,0);P4(c+68,0);P1(c+64,0);P8(c+56,0);P8(c+36,0);P4(c+32,32);P4(c+44,0);
-P8(c+48,18446744073709551615ull);P8(c+8,c+127);P8(c+80,10);P8(c+72,D(22740));P8(c+88,c+4);
-y0=r_Vec_extend_from_slice_17(c+8,D(22740),10ull);
+P8(c+48,18446744073709551615ull);P8(c+8,c+127);P8(c+80,10);P8(c+72,D(22734));P8(c+88,c+4);
+y0=r_Vec_extend_from_slice_17(c+8,D(22734),10ull);
 if(y0&255)goto z6;
 y0=r_Formatter_write_piece_8(c+8,c+88);
 if(!(y0&255))goto z5;
@@ -40354,16 +40353,16 @@ if(!R8(c+24))goto z3;
 rattle_dealloc(R8(c+8));d=1u;goto z1;z5:;b=R8(c+24);e=R8(c+8);y0=r_Vec_extend_from_slice_17(a,e,R8(c+16));d=y0&255;
 if(!b)goto z1;
 rattle_dealloc(e);goto z1;z4:;P4(c,R4(b+4));PV(c+16,words(0x0ull,0x0ull));P4(c+65,0);P4(c+68,0);P1(c+64,0);P8(c+56,0);
-P8(c+36,0);P4(c+32,32);P4(c+44,0);P8(c+48,18446744073709551615ull);P8(c+8,c+127);P8(c+104,6);P8(c+96,D(22750));
+P8(c+36,0);P4(c+32,32);P4(c+44,0);P8(c+48,18446744073709551615ull);P8(c+8,c+127);P8(c+104,6);P8(c+96,D(22744));
 P8(c+80,1);P8(c+72,D(19102));P8(c+112,c+4);P8(c+88,c);y0=r_Vec_extend_from_slice_17(c+8,D(19102),1ull);
 if(y0&255)goto z7;
 y0=r_Formatter_write_piece_8(c+8,c+88);
 if(y0&255)goto z7;
 b=c+36;P8(b,0);P4(b+8,0);P4(c+32,32);P8(c+48,18446744073709551615ull);
 if(!R8(c+56))goto z9;
-y0=r_Formatter_write_indented_8(c+8,D(22750),6ull);
+y0=r_Formatter_write_indented_8(c+8,D(22744),6ull);
 if(!(y0&255))goto z8;
-goto z7;z9:;y0=r_Vec_extend_from_slice_17(c+8,D(22750),6ull);
+goto z7;z9:;y0=r_Vec_extend_from_slice_17(c+8,D(22744),6ull);
 if(y0&255)goto z7;
 z8:;y0=r_Formatter_write_piece_8(c+8,c+112);
 if(!(y0&255))goto z2;
@@ -40374,7 +40373,7 @@ if(!b)goto z1;
 rattle_dealloc(e);z1:;return d;}
 PRIVATE void r_stops_begin_stop(L a,I b,L c){I h=0,y0;L d=0,f=0,g=0;V e={0,0};FRAME_OF(14);
 d=FRAME;P8(d+8,0);e=words(0x0ull,0x0ull);PV(d+16,e);PV(d+32,e);PV(d+48,e);f=Z4(c+8);g=Z4(c+4);h=R1(c);c=((L)b&255)<<3;
-r_faults_begin_fault(d+8,D(22760),10ull,R8(c+D(25664)),R8(c+D(25712)),R8(c+D(25688)));
+r_faults_begin_fault(d+8,D(22754),10ull,R8(c+D(25664)),R8(c+D(25712)),R8(c+D(25688)));
 if(R1(d+8))goto z3;
 P8(d+96,R8(d+48));PV(d+80,RV(d+32));PV(d+64,RV(d+16));c=R8(d+56);P8(d+104,c);
 y0=r_put_put_key(d+64,(I)c&255,D(19473),10ull);
@@ -40390,7 +40389,7 @@ if(!(y0&255))goto z5;
 z6:;
 if(!R8(d+80))goto z8;
 rattle_dealloc(R8(d+64));z8:;P1(a,1);PV(a+8,e);PV(a+24,e);PV(a+40,e);goto z1;z5:;
-y0=r_put_put_key(d+64,R1(d+104),D(22756),4ull);
+y0=r_put_put_key(d+64,R1(d+104),D(22750),4ull);
 if(y0&255)goto z9;
 P1(d+104,0);y0=r_Object_number(d+64,f);
 if(y0&255)goto z9;
@@ -40402,7 +40401,7 @@ f=FRAME;g=words(0x0ull,0x0ull);PV(f+128,g);PV(f+112,g);P8(f+8,0);PV(f+16,g);PV(f
 r_faults_begin_fault(f+8,D(16900),6ull,b,c,d);
 if(R1(f+8))goto z6;
 P8(f+96,R8(f+48));PV(f+80,RV(f+32));PV(f+64,RV(f+16));d=R8(f+56);P8(f+104,d);
-y0=r_put_put_key(f+64,(I)d&255,D(22413),3ull);
+y0=r_put_put_key(f+64,(I)d&255,D(22407),3ull);
 if(y0&255)goto z4;
 P1(f+104,0);y0=r_Object_number(f+64,e);
 if(y0&255)goto z4;
@@ -41490,7 +41489,7 @@ if(j!=115)goto z3;
 if((i&255)!=101)goto z3;
 if((h&255)!=108)goto z3;
 if((g&255)!=101)goto z3;
-f=R8(c+16);c=R8(c+8);y0=r_slices_groups_equal(e,8ull,D(23188),8ull);
+f=R8(c+16);c=R8(c+8);y0=r_slices_groups_equal(e,8ull,D(23182),8ull);
 if(!y0)goto z3;
 P1(a,1);P8(a+32,f);P8(a+24,c);P8(a+16,5);P8(a+8,1);return;z6:;P1(a,1);P8(a+32,0);P8(a+24,d);P8(a+16,4);P8(a+8,1);return;
 z5:;
@@ -41667,7 +41666,7 @@ P1(a+40,0);y0=r_Object_boolean(a,d);h=y0&255;z1:;return h;}
 PRIVATE I r_objects_push_different(L a,L b,L c,L d,L e,L f,L g){I i=0,k=0,l=0,m=0,p=0,y0;L h=0,j=0,n=0,o=0;FRAME_OF(2);
 h=FRAME;i=R1(g+16);j=R8(g+8);k=R1(g+1);l=R1(g);m=1u;g=a+40;y0=r_put_put_key(a,R1(g),D(18047),6ull);
 if(y0&255)goto z1;
-P1(g,0);y0=r_put_put_string(a,0u,D(23330),14ull);
+P1(g,0);y0=r_put_put_string(a,0u,D(23324),14ull);
 if(y0&255)goto z1;
 m=1u;g=a+40;P1(g,1);y0=r_put_put_key(a,1u,D(20394),10ull);
 if(y0&255)goto z1;
@@ -41675,7 +41674,7 @@ P1(g,0);n=a+24;g=R8(n);
 if((R8(a+8)-g)>1)goto z2;
 y0=r_Sink_grow(a,2ull);
 if(y0&255)goto z1;
-g=R8(a+24);z2:;P1(R8(a)+g,123);o=a+40;P1(o,0);P8(n,g+1);y0=r_put_put_key(a,0u,D(23356),4ull);
+g=R8(a+24);z2:;P1(R8(a)+g,123);o=a+40;P1(o,0);P8(n,g+1);y0=r_put_put_key(a,0u,D(23350),4ull);
 if(y0&255)goto z1;
 P1(o,0);y0=r_put_put_string(a,0u,b,c);
 if(y0&255)goto z1;
@@ -41683,15 +41682,15 @@ m=1u;g=a+40;P1(g,1);y0=r_put_put_key(a,1u,D(18057),8ull);
 if(y0&255)goto z1;
 P1(g,0);y0=r_Object_vertices(a,d,e,f);
 if(y0&255)goto z1;
-p=i&255;y0=r_Object_word_at(a,D(23360),2ull,p?D(19289):D(16934),p?5ull:6ull);
+p=i&255;y0=r_Object_word_at(a,D(23354),2ull,p?D(19289):D(16934),p?5ull:6ull);
 if(y0&255)goto z1;
 y0=r_Object_end_object(a);
 if(y0&255)goto z1;
-g=a+40;y0=r_put_put_key(a,R1(g),D(23344),12ull);
+g=a+40;y0=r_put_put_key(a,R1(g),D(23338),12ull);
 if(y0&255)goto z1;
 P1(g,0);i&=255;y0=r_put_put_string(a,0u,i?D(16934):D(19289),i?6ull:5ull);
 if(y0&255)goto z1;
-m=1u;g=a+40;P1(g,1);y0=r_put_put_key(a,1u,D(23362),10ull);
+m=1u;g=a+40;P1(g,1);y0=r_put_put_key(a,1u,D(23356),10ull);
 if(y0&255)goto z1;
 P1(g,0);c=a+24;g=R8(c);
 if((R8(a+8)-g)>1)goto z3;
@@ -41736,15 +41735,15 @@ if(!q)goto z1;
 z6:;r=S1(g+h);n=(r&255)==10?1ull:n+(L)((SI)r>-65);z1:;r_faults_begin_fault(j+8,b,c,d,e,f);
 if(R1(j+8))goto z13;
 P8(j+96,R8(j+48));PV(j+80,RV(j+32));PV(j+64,RV(j+16));h=R8(j+56);P8(j+104,h);
-y0=r_put_put_key(j+64,(I)h&255,D(24071),4ull);
+y0=r_put_put_key(j+64,(I)h&255,D(24065),4ull);
 if(y0&255)goto z11;
 P1(j+104,0);y0=r_Object_number(j+64,i);
 if(y0&255)goto z11;
-y0=r_put_put_key(j+64,R1(j+104),D(24075),4ull);
+y0=r_put_put_key(j+64,R1(j+104),D(24069),4ull);
 if(y0&255)goto z11;
 P1(j+104,0);y0=r_Object_number(j+64,m);
 if(y0&255)goto z11;
-y0=r_put_put_key(j+64,R1(j+104),D(24079),6ull);
+y0=r_put_put_key(j+64,R1(j+104),D(24073),6ull);
 if(y0&255)goto z11;
 P1(j+104,0);y0=r_Object_number(j+64,n);
 if(y0&255)goto z11;
@@ -42392,24 +42391,24 @@ d=a+40;y0=r_put_put_key(a,R1(d),D(16841),5ull);
 if(y0&255)goto z1;
 P1(d,0);y0=r_cells_push_cell(a,b,c,f,e,64ull);h=y0&255;z1:;return h;}
 PRIVATE I r_objects_push_ends(L a,L b,L c,L d,L e){I f=0,y0;L g=0;
-f=1u;g=a+40;y0=r_put_put_key(a,R1(g),D(24118),8ull);
+f=1u;g=a+40;y0=r_put_put_key(a,R1(g),D(24112),8ull);
 if(y0&255)goto z1;
 P1(g,0);y0=r_put_put_string(a,0u,b,c);
 if(y0&255)goto z1;
-f=1u;c=a+40;P1(c,1);y0=r_put_put_key(a,1u,D(24126),7ull);
+f=1u;c=a+40;P1(c,1);y0=r_put_put_key(a,1u,D(24120),7ull);
 if(y0&255)goto z1;
 P1(c,0);y0=r_put_put_string(a,0u,d,e);
 if(y0&255)goto z1;
 P1(a+40,1);f=0u;z1:;return f;}
 PRIVATE void r_faults_begin_stop(L a,L b,L c,L d){I y0;L e=0;V f={0,0};FRAME_OF(14);
-e=FRAME;P8(e+56,0);f=words(0x0ull,0x0ull);PV(e+40,f);PV(e+24,f);PV(e+8,f);r_faults_begin_fault(e+8,D(22760),10ull,b,c,d);
+e=FRAME;P8(e+56,0);f=words(0x0ull,0x0ull);PV(e+40,f);PV(e+24,f);PV(e+8,f);r_faults_begin_fault(e+8,D(22754),10ull,b,c,d);
 if(R1(e+8))goto z5;
 P8(e+96,R8(e+48));PV(e+80,RV(e+32));PV(e+64,RV(e+16));d=R8(e+56);P8(e+104,d);
 y0=r_put_put_key(e+64,(I)d&255,D(19473),10ull);
 if(y0&255)goto z4;
 P1(e+104,0);y0=r_Object_null(e+64);
 if(y0&255)goto z3;
-y0=r_put_put_key(e+64,R1(e+104),D(22756),4ull);
+y0=r_put_put_key(e+64,R1(e+104),D(22750),4ull);
 if(y0&255)goto z2;
 P1(e+104,0);y0=r_Object_number(e+64,0ull);
 if(y0&255)goto z2;
